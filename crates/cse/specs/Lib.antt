@@ -1,0 +1,6 @@
+pub mod Extract
+pub mod Answer
+pub mod Order
+pub mod Scope
+pub mod Read
+pub mod Demand

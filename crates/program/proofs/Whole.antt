@@ -1,0 +1,34 @@
+-- Demand 3, whole: one theorem over both answers together, for any list that passes 9, and so for any sheet that load accepts. Assumes nothing.
+use Prim.Native.Nat.{ℕ}
+use mathlib.Core.Path.{_≡_}
+use mathlib.Core.Bool.{Bool, false}
+use mathlib.Core.List.{List}
+use lib.Dec.{T}
+use Rattle.tree.specs.Outcome.{refused}
+use Rattle.tree.specs.Tree.{Tree}
+use Rattle.cse.specs.Scope.{answer}
+use Rattle.tree.specs.Rows.{Table, trees}
+use Rattle.sheet.specs.Sheet.{loaded, load}
+use Rattle.cse.specs.Demand.{Demand3}
+use Rattle.tree.specs.Passes.{passes}
+use Rattle.cse.proofs.PassesLaws.{passes-formed, passes-unmade}
+use Rattle.sheet.proofs.SheetPasses.{accepted-passes}
+use Rattle.cse.proofs.FlatCount.{flat-no-repeats, flat-counted, flat-count}
+use Rattle.cse.proofs.Refusals as refusals
+use Rattle.cse.proofs.Both as both
+
+pub demand3 : (es : List Tree) → T (passes es) → Demand3 es
+demand3 es h =
+    let formed = passes-formed es h in
+    let known = passes-unmade es h in
+    both.demand3 es known (flat-no-repeats es formed known) (flat-counted es formed known) (flat-count es formed known)
+
+pub sheet-demand3 : (row-places root-places : ℕ) (s : List ℕ) (t : Table) → load row-places root-places s ≡ loaded t → Demand3 (trees t)
+sheet-demand3 row-places root-places s t e = demand3 (trees t) (accepted-passes row-places root-places s t e)
+
+-- the flat form refuses by 10 alone, never by 11
+pub flat-refused-by-10 : (es : List Tree) → T (passes es) → (i : ℕ) → answer false es ≡ refused i → i ≡ 10
+flat-refused-by-10 es h i e = refusals.flat-refused-by-10 es (passes-unmade es h) i e
+
+pub flat-never-11 : (es : List Tree) → T (passes es) → answer false es ≡ refused 11 → ⊥
+flat-never-11 es h e = refusals.flat-never-11 es (passes-unmade es h) e

@@ -1,0 +1,9 @@
+pub mod Residues
+pub mod ReplaceValue
+pub mod Coefficient
+pub mod DivisorValue
+pub mod Operations
+pub mod Savings
+pub mod Weight
+pub mod Plain
+pub mod Names

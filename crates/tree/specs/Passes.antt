@@ -1,0 +1,46 @@
+-- A list that passes 9, as far as trees go: operand counts, names, constants and limits of 01. Assumes nothing.
+use Prim.Native.Nat.{ℕ, zero, suc, _^_}
+use mathlib.Core.Bool.{Bool, true, false, _&&_, _||_, cond}
+use mathlib.Core.List.{List, [], _∷_}
+use lib.IntN.{ℤ, pos, negsuc}
+use lib.ListN.{length}
+use lib.Dec.{T, eqb, leb, ltb}
+use Rattle.tree.specs.Tree.{Name, input, xname, mname, Tree, fold, arity-ok, Neg, SelectOr}
+use Rattle.tree.specs.Symbol.{is-name}
+use Rattle.tree.specs.Rows.{within-limits}
+
+unfoldable pub all-of : List Bool → Bool
+all-of [] = true
+all-of (b ∷ l) = b && all-of l
+
+-- a symbol of a list, spelled like no name of an answer
+unfoldable pub of-list : Name → Bool
+unfolding is-name
+of-list (input s) = is-name s
+of-list (xname i) = false
+of-list (mname i) = false
+
+-- below 10^15 in magnitude
+unfoldable pub of-paper : ℤ → Bool
+of-paper (pos n) = ltb n (10 ^ 15)
+of-paper (negsuc n) = ltb (suc n) (10 ^ 15)
+
+-- an operation's kind is one of 01's, with as many operands as it has there
+unfoldable pub operands-ok : ℕ → ℕ → Bool
+unfolding arity-ok
+operands-ok k n = leb Neg k && (leb k SelectOr && arity-ok k n)
+
+-- an expression of 01
+unfoldable pub expression : Tree → Bool
+unfolding fold of-list of-paper operands-ok all-of
+expression = fold of-list of-paper (λ k tests. operands-ok k (length tests) && all-of tests)
+
+unfoldable pub expressions : List Tree → Bool
+unfolding expression
+expressions [] = true
+expressions (t ∷ l) = expression t && expressions l
+
+-- at most 64 roots, within the limits, each an expression of 01
+unfoldable pub passes : List Tree → Bool
+unfolding expressions within-limits
+passes es = leb (length es) 64 && (within-limits es && expressions es)
