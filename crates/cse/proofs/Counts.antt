@@ -8,7 +8,9 @@ use native.Mathlib.Omega.{arith}
 use native.Mathlib.Nat.{zero-add}
 use lib.IntN.{ℤ}
 use lib.Dec.{T, eqb}
-use Rattle.tree.specs.Tree.{Name, Tree, Forest, Sym, Const, Op, nil, _◂_, Mul, eq-tree, eq-forest, well-formed, well-formed-each, arity-ok, operand-count}
+use Rattle.tree.specs.Tree.{Name, Tree, Forest, Sym, Const, Op, nil, _◂_, eq-tree, eq-forest}
+use Rattle.tree.specs.Kinds.{Mul, arity-ok}
+use Rattle.tree.proofs.Formed.{well-formed, well-formed-each, operand-count}
 use Rattle.tree.proofs.TreeLaws.{eq-tree-sound}
 use Rattle.tree.specs.Facts.{size, operations, nodes, nodes-of, all-nodes, count}
 use Rattle.cse.specs.Extract.{all-operations}

@@ -7,11 +7,12 @@ use mathlib.Core.List.{List, [], _∷_}
 use native.Mathlib.Omega.{arith}
 use lib.IntN.{ℤ}
 use lib.Dec.{T, eqb}
-use Rattle.tree.specs.Tree.{Name, Tree, Forest, Sym, Const, Op, nil, _◂_, folds, Mul, Div, eq-name}
+use Rattle.tree.specs.Tree.{Name, Tree, Forest, Sym, Const, Op, nil, _◂_, folds, eq-name}
+use Rattle.tree.specs.Kinds.{Mul, Div}
 use Rattle.tree.proofs.TreeLaws.{eq-tree-sound, eq-name-sound}
 use Rattle.tree.specs.Facts.{nodes, nodes-of, count, has-symbol, some-of}
 use Rattle.rewrite.specs.Rewrite.{divides-by, replace-divisor, replace-divisors, dividend}
-use Rattle.cse.specs.Answer.{Stmt, bind, fuse, block}
+use Rattle.cse.specs.Answer.{Intermediate, Let, Match, block}
 use Rattle.tree.proofs.Logic.{and-left, and-right}
 use Rattle.rewrite.proofs.Savings.{one-of}
 use Rattle.rewrite.proofs.Names.{holds, holds-each}
@@ -192,19 +193,19 @@ module _ (σ : Name → Bool) (d : Tree) (n : Name) (only : T (σ n) → T (depe
 -- ---- statements
 
 -- a name depends where its expression does
-abbrev pub Closed : (Name → Bool) → Stmt → Type 0
-Closed σ (bind n e) = T (depends σ e) → T (σ n)
-Closed σ (fuse k key ns arms) = Unit {0}
+abbrev pub Closed : (Name → Bool) → Intermediate → Type 0
+Closed σ (Let n e) = T (depends σ e) → T (σ n)
+Closed σ (Match k key ns arms) = Unit {0}
 
 -- what depends after the statements does by any test under which they are closed
 pub dependent-within :
-    (σ : Name → Bool) (l : List Stmt) → Every (Closed σ) l → (δ : Name → Bool) → ((n : Name) → T (δ n) → T (σ n)) → (n : Name) → T (dependent (block l) δ n) → T (σ n)
+    (σ : Name → Bool) (l : List Intermediate) → Every (Closed σ) l → (δ : Name → Bool) → ((n : Name) → T (δ n) → T (σ n)) → (n : Name) → T (dependent (block l) δ n) → T (σ n)
 unfolding dependent block
 dependent-within σ [] h δ f n t = f n t
-dependent-within σ (bind m e ∷ l) h δ f n t =
+dependent-within σ (Let m e ∷ l) h δ f n t =
     dependent-within σ l (h .1) (λ s. cond (eq-name s m) (depends δ e) (δ s)) (λ s u. go s (eq-name s m) (eq-name-sound s m) u) n t
   where
     go : (s : Name) (b : Bool) → (T b → s ≡ m) → T (cond b (depends δ e) (δ s)) → T (σ s)
     go s true q u = subst (λ (x : Name). T (σ x)) (sym (q tt)) (h .0 (depends-up δ σ f e u))
     go s false q u = f s u
-dependent-within σ (fuse k key ns arms ∷ l) h δ f n t = dependent-within σ l (h .1) δ f n t
+dependent-within σ (Match k key ns arms ∷ l) h δ f n t = dependent-within σ l (h .1) δ f n t

@@ -6,7 +6,9 @@ use mathlib.Core.Logic.{_⊎_, inl, inr}
 use mathlib.Core.Bool.{Bool, true, false, _&&_, _||_, cond}
 use native.Mathlib.Omega.{arith}
 use lib.Dec.{T, eqb, eqb→eq}
-use Rattle.tree.specs.Tree.{Name, Tree, Forest, Sym, Const, Op, nil, _◂_, Mul, Div, eq-tree, eq-name, arity-ok, operand-count, well-formed, well-formed-each}
+use Rattle.tree.specs.Tree.{Name, Tree, Forest, Sym, Const, Op, nil, _◂_, eq-tree, eq-name}
+use Rattle.tree.specs.Kinds.{Mul, Div, arity-ok}
+use Rattle.tree.proofs.Formed.{arity-div, operand-count, well-formed, well-formed-each}
 use Rattle.tree.proofs.TreeLaws.{eq-tree-sound, eq-tree-refl, eq-name-sound, eq-name-refl}
 use Rattle.tree.specs.Facts.{operations, size, nodes, nodes-of, count}
 use Rattle.rewrite.specs.Rewrite.{divides-by, replace-divisor, replace-divisors, dividend}
@@ -212,10 +214,6 @@ module _ (d : Tree) (n : Name) where
     no-name-made (a ◂ nil) h = refl
     no-name-made (a ◂ (b ◂ nil)) h = not-made b (and-left (holds p b) true (and-right (holds p a) (holds p b && true) h))
     no-name-made (a ◂ (b ◂ (c ◂ f))) h = refl
-
-    arity-div : (k m : ℕ) → k ≡ Div → T (arity-ok k m) → m ≡ 2
-    unfolding arity-ok
-    arity-div k m e t = eqb→eq m 2 (subst (λ (j : ℕ). T (arity-ok j m)) e t)
 
     -- a division by d
     restore-name : restore (Sym n) ≡ d

@@ -12,8 +12,8 @@ use Rattle.tree.specs.Outcome.{Outcome, ok, refused, _>>=_}
 use Rattle.tree.specs.Tree.{Name, input, xname, mname, Tree, Forest, Sym, Const, Op, nil, _◂_, folds, eq-name}
 use Rattle.tree.proofs.TreeLaws.{eq-name-sound, eq-name-refl}
 use Rattle.tree.specs.Facts.{cost, operations, nodes, all-nodes, count}
-use Rattle.cse.specs.Extract.{Binding, State, bound, roots, all-operations, extract-all, reciprocal, reciprocal-each, reciprocals}
-use Rattle.cse.specs.Answer.{Stmt, Stmts, Answer, bind, fuse, block, concat, symbols, all-symbols, elem}
+use Rattle.cse.specs.Extract.{Binding, State, bound, roots, all-operations, extract-all, bind-reciprocal, bind-reciprocals, reciprocals}
+use Rattle.cse.specs.Answer.{Intermediate, Intermediates, Answer, Let, Match, block, concat, symbols, all-symbols, elem}
 use Rattle.cse.specs.Order.{topo-sort-intermediates}
 use Rattle.cse.specs.Scope.{Scoped, binds, unfused, finish, cse-scope, as-answer, answer}
 use Rattle.tree.specs.Value.{Reading, Env, values}
@@ -33,7 +33,7 @@ use Rattle.cse.proofs.ReciprocalsCount.{operation-costs, Once, bound-di
 
 pub record Parts (es : List Tree) (a : Answer) : Type 0 where
   pub state : State
-  pub stmts : List Stmt
+  pub stmts : List Intermediate
   pub rounds : extract-all false 0 es ≡ ok state
   pub sorted : topo-sort-intermediates (binds (reciprocals false state .lets)) ≡ ok stmts
   pub inters : a .inters ≡ block stmts
@@ -46,7 +46,7 @@ module _ (es : List Tree) where
   Parted (refused i) = Unit {0}
 
   sorted-parts :
-      (s : State) → extract-all false 0 es ≡ ok s → (q : Outcome (List Stmt)) → topo-sort-intermediates (binds (reciprocals false s .lets)) ≡ q
+      (s : State) → extract-all false 0 es ≡ ok s → (q : Outcome (List Intermediate)) → topo-sort-intermediates (binds (reciprocals false s .lets)) ≡ q
       → Parted
       ((q >>= λ l. ok (record { inters = l; results = reciprocals false s .results; next = reciprocals false s .next; extracted = length (s .lets) }))
       >>= λ (b : Scoped). ok (as-answer b))
@@ -67,30 +67,30 @@ module _ (es : List Tree) where
 
 -- ---- sums over statements
 
-pub extracted-sum : (x : ℕ) (l : List Stmt) → all-operations (extracted-exprs x (block l)) ≡ summed (from-rounds operations x) l
+pub extracted-sum : (x : ℕ) (l : List Intermediate) → all-operations (extracted-exprs x (block l)) ≡ summed (from-rounds operations x) l
 unfolding extracted-exprs block all-operations summed
 extracted-sum x [] = refl
-extracted-sum x (bind (input s) e ∷ l) = (let q = extracted-sum x l in omega arith)
-extracted-sum x (bind (xname i) e ∷ l) = go (ltb i x) (extracted-sum x l)
+extracted-sum x (Let (input s) e ∷ l) = (let q = extracted-sum x l in omega arith)
+extracted-sum x (Let (xname i) e ∷ l) = go (ltb i x) (extracted-sum x l)
   where
     go : (b : Bool) → all-operations (extracted-exprs x (block l)) ≡ summed (from-rounds operations x) l
         → all-operations (elim b [ true ↦ e ∷ extracted-exprs x (block l) | false ↦ extracted-exprs x (block l) ])
         ≡ elim b as (λ _. ℕ) [ true ↦ operations e | false ↦ 0 ] + summed (from-rounds operations x) l
     go true h = omega arith
     go false h = omega arith
-extracted-sum x (bind (mname i) e ∷ l) = (let q = extracted-sum x l in omega arith)
-extracted-sum x (fuse k key ns arms ∷ l) = (let q = extracted-sum x l in omega arith)
+extracted-sum x (Let (mname i) e ∷ l) = (let q = extracted-sum x l in omega arith)
+extracted-sum x (Match k key ns arms ∷ l) = (let q = extracted-sum x l in omega arith)
 
 -- how often an expression stands in a statement's
-abbrev standing : Tree → Stmt → ℕ
-standing y (bind n e) = count y (nodes e)
-standing y (fuse k key ns arms) = 0
+abbrev standing : Tree → Intermediate → ℕ
+standing y (Let n e) = count y (nodes e)
+standing y (Match k key ns arms) = 0
 
-bound-sum : (y : Tree) (l : List Stmt) → count y (all-nodes (bound-exprs (block l))) ≡ summed (standing y) l
+bound-sum : (y : Tree) (l : List Intermediate) → count y (all-nodes (bound-exprs (block l))) ≡ summed (standing y) l
 unfolding bound-exprs block summed
 bound-sum y [] = (unfold all-nodes count in refl)
-bound-sum y (bind n e ∷ l) = (let q = bound-sum y l in let c = all-nodes-cons y e (bound-exprs (block l)) in omega arith)
-bound-sum y (fuse k key ns arms ∷ l) = (let q = bound-sum y l in omega arith)
+bound-sum y (Let n e ∷ l) = (let q = bound-sum y l in let c = all-nodes-cons y e (bound-exprs (block l)) in omega arith)
+bound-sum y (Match k key ns arms ∷ l) = (let q = bound-sum y l in omega arith)
 
 binds-sum : (y : Tree) (l : List Binding) → summed (standing y) (binds l) ≡ count y (all-nodes (bound l))
 unfolding binds bound summed
@@ -123,7 +123,7 @@ module _ (es : List Tree) (formed : T (well-formed-all es)) (known : T (holds-al
       let i = operations-append (a .results) (extracted-exprs (a .extracted) (a .inters)) in
       let j : all-operations (a .results) ≡ sum-of operations (t .results) = ap all-operations (P .results) ∙ operations-sum (t .results) in
       let k : all-operations (extracted-exprs (a .extracted) (a .inters)) ≡ summed (from-rounds operations x) (P .stmts) =
-      ap₂ (λ (m : ℕ) (l : Stmts). all-operations (extracted-exprs m l)) (P .extracted) (P .inters) ∙ extracted-sum x (P .stmts) in
+      ap₂ (λ (m : ℕ) (l : Intermediates). all-operations (extracted-exprs m l)) (P .extracted) (P .inters) ∙ extracted-sum x (P .stmts) in
       let m = P .extracted in
       let n = E .2 in
       omega arith)
@@ -233,7 +233,7 @@ module _ (es : List Tree) (formed : T (well-formed-all es)) (known : T (holds-al
       let dep : T (depends σ y) =
       depends-up (dependent (a .inters) (λ n. elem n (all-symbols es))) σ
       (λ n v. dependent-within σ (P .stmts) D (λ n. elem n (all-symbols es)) (λ m w. input-tells (s .next) ds m (held-all (made-before 0) m es (list-made es known) w)) n
-      (subst (λ (l : Stmts). T (dependent l (λ n. elem n (all-symbols es)) n)) (P .inters) v)) y t in
+      (subst (λ (l : Intermediates). T (dependent l (λ n. elem n (all-symbols es)) n)) (P .inters) v)) y t in
       let o = once y (costs-operation y (leb→le 1 (cost y) c)) dep in
       let r : count y (all-nodes (roots u)) ≡ count y (all-nodes (u .results)) + count y (all-nodes (bound (u .lets))) = (unfold roots in all-nodes-append y (u .results) (bound (u .lets))) in
       let g = sorted-sum (standing y) (binds (u .lets)) (P .stmts) (P .sorted) in
@@ -241,34 +241,34 @@ module _ (es : List Tree) (formed : T (well-formed-all es)) (known : T (holds-al
       let i = all-nodes-append y (a .results) (bound-exprs (a .inters)) in
       let j : count y (all-nodes (a .results)) ≡ count y (all-nodes (u .results)) = ap (λ (l : List Tree). count y (all-nodes l)) (P .results) in
       let k : count y (all-nodes (bound-exprs (a .inters))) ≡ summed (standing y) (P .stmts) =
-      ap (λ (l : Stmts). count y (all-nodes (bound-exprs l))) (P .inters) ∙ bound-sum y (P .stmts) in
+      ap (λ (l : Intermediates). count y (all-nodes (bound-exprs l))) (P .inters) ∙ bound-sum y (P .stmts) in
       omega arith)
 
 -- ---- the count is that of the bindings that are not reciprocals
 
-counting : (x : ℕ) (l : List Stmt) → length (extracted-exprs x (block l)) ≡ summed (from-rounds (λ e. 1) x) l
+counting : (x : ℕ) (l : List Intermediate) → length (extracted-exprs x (block l)) ≡ summed (from-rounds (λ e. 1) x) l
 unfolding extracted-exprs block summed
 counting x [] = refl
-counting x (bind (input s) e ∷ l) = (let q = counting x l in omega arith)
-counting x (bind (xname i) e ∷ l) = go (ltb i x) (counting x l)
+counting x (Let (input s) e ∷ l) = (let q = counting x l in omega arith)
+counting x (Let (xname i) e ∷ l) = go (ltb i x) (counting x l)
   where
     go : (b : Bool) → length (extracted-exprs x (block l)) ≡ summed (from-rounds (λ e. 1) x) l
         → length {A = Tree} (elim b [ true ↦ e ∷ extracted-exprs x (block l) | false ↦ extracted-exprs x (block l) ])
         ≡ elim b as (λ _. ℕ) [ true ↦ 1 | false ↦ 0 ] + summed (from-rounds (λ e. 1) x) l
     go true h = omega arith
     go false h = omega arith
-counting x (bind (mname i) e ∷ l) = (let q = counting x l in omega arith)
-counting x (fuse k key ns arms ∷ l) = (let q = counting x l in omega arith)
+counting x (Let (mname i) e ∷ l) = (let q = counting x l in omega arith)
+counting x (Match k key ns arms ∷ l) = (let q = counting x l in omega arith)
 
-one-or-none : (x : ℕ) (s : Stmt) → from-rounds (λ e. 1) x s + (1 - from-rounds (λ e. 1) x s) ≡ 1
-one-or-none x (bind (input s) e) = refl
-one-or-none x (bind (xname i) e) = go (ltb i x)
+one-or-none : (x : ℕ) (s : Intermediate) → from-rounds (λ e. 1) x s + (1 - from-rounds (λ e. 1) x s) ≡ 1
+one-or-none x (Let (input s) e) = refl
+one-or-none x (Let (xname i) e) = go (ltb i x)
   where
     go : (b : Bool) → (elim b as (λ _. ℕ) [ true ↦ 1 | false ↦ 0 ]) + (1 - (elim b as (λ _. ℕ) [ true ↦ 1 | false ↦ 0 ])) ≡ 1
     go true = refl
     go false = refl
-one-or-none x (bind (mname i) e) = refl
-one-or-none x (fuse k key ns arms) = refl
+one-or-none x (Let (mname i) e) = refl
+one-or-none x (Match k key ns arms) = refl
 
 -- of bindings numbered from k, those with a number below x
 numbered-count :
@@ -277,8 +277,8 @@ unfolding let-names binds summed
 numbered-count x k top [] h = ((omega (arith, h)), (omega (arith, h)))
 numbered-count x k top (b ∷ l) h =
     let q = numbered-count x (suc k) top l (h .1) in
-    let v : from-rounds (λ e. 1) x (bind (b .name) (b .expr)) ≡ from-rounds (λ e. 1) x (bind (xname k) (b .expr)) =
-    ap (λ (n : Name). from-rounds (λ e. 1) x (bind n (b .expr))) (h .0) in
+    let v : from-rounds (λ e. 1) x (Let (b .name) (b .expr)) ≡ from-rounds (λ e. 1) x (Let (xname k) (b .expr)) =
+    ap (λ (n : Name). from-rounds (λ e. 1) x (Let n (b .expr))) (h .0) in
     let w = go (ltb k x) (ltb→lt k x) (lt→ltb k x) in
     ((let a = q .0 in omega arith), (let a = q .0 in let c = q .1 in omega arith))
   where
@@ -286,10 +286,10 @@ numbered-count x k top (b ∷ l) h =
     go true f g = (let q = f tt in omega arith)
     go false f g = (let q : suc k ≤ x → ⊥ = g in omega arith)
 
-reciprocal-each-later : (l : List Tree) (s : State) → s .next ≤ reciprocal-each l s .next
-unfolding reciprocal-each
+reciprocal-each-later : (l : List Tree) (s : State) → s .next ≤ bind-reciprocals l s .next
+unfolding bind-reciprocals
 reciprocal-each-later [] s = omega arith
-reciprocal-each-later (d ∷ l) s = (let q = reciprocal-each-later l (reciprocal d s) in let n : reciprocal d s .next ≡ suc (s .next) = (unfold reciprocal in refl) in omega arith)
+reciprocal-each-later (d ∷ l) s = (let q = reciprocal-each-later l (bind-reciprocal d s) in let n : bind-reciprocal d s .next ≡ suc (s .next) = (unfold bind-reciprocal in refl) in omega arith)
 
 module _ (es : List Tree) (formed : T (well-formed-all es)) (known : T (holds-all (below (λ s. true) 0 0) es)) where
   pub flat-counted : (a : Answer) → answer false es ≡ ok a → length (extracted-exprs (a .extracted) (a .inters)) ≡ a .extracted
@@ -304,7 +304,7 @@ module _ (es : List Tree) (formed : T (well-formed-all es)) (known : T (holds-al
       let c = n .1 in
       let g = sorted-same (from-rounds (λ e. 1) x) (λ u. 1 - from-rounds (λ e. 1) x u) (one-or-none x) (binds (t .lets)) (P .stmts) (P .sorted) in
       let k : length (extracted-exprs (a .extracted) (a .inters)) ≡ summed (from-rounds (λ e. 1) x) (P .stmts) =
-      ap₂ (λ (m : ℕ) (l : Stmts). length (extracted-exprs m l)) (P .extracted) (P .inters) ∙ counting x (P .stmts) in
+      ap₂ (λ (m : ℕ) (l : Intermediates). length (extracted-exprs m l)) (P .extracted) (P .inters) ∙ counting x (P .stmts) in
       let later : s .next ≤ t .next = subst (λ (u : State). s .next ≤ u .next) (sym (reciprocals-are false s)) (reciprocal-each-later (bound-divisors false s) s) in
       let r = E .3 in
       let m = P .extracted in

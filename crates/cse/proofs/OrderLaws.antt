@@ -9,7 +9,7 @@ use native.Mathlib.Omega.{arith}
 use native.Mathlib.Nat.{add-zero, add-suc, suc-add}
 use lib.ListN.{length, getD}
 use lib.Dec.{T, eqb, eqb→eq, eqb-refl}
-use Rattle.cse.specs.Order.{member, within, free-from, joining, push, take-all, taken}
+use Rattle.cse.specs.Order.{member, within, free-from, joining, push, take-all, positions-taken}
 use Rattle.tree.proofs.Logic.{and-left, and-right, and-both}
 
 -- ---- members
@@ -117,7 +117,7 @@ module _ (table : List (List ℕ)) where
   row-later : (i : ℕ) (ns : List ℕ) (rows : List (List ℕ)) → ((k : ℕ) → getD (ns ∷ rows) k [] ≡ getD table (i + k) []) → (k : ℕ) → getD rows k [] ≡ getD table (suc i + k) []
   row-later i ns rows same k = same (suc k) ∙ ap (λ (n : ℕ). getD table n []) (let e : i + suc k ≡ suc i + k = omega arith in e)
 
-  -- what joins the stack: it needs the one just taken
+  -- what joins the stack: it needs the one just positions-taken
   joining-from :
       (i t : ℕ) (done : List ℕ) (rows : List (List ℕ)) → ((k : ℕ) → getD rows k [] ≡ getD table (i + k) []) → i + length rows ≡ length table
       → From i (λ j. T (member t (getD table j [])) × Ready done j) (joining i t done rows)
@@ -170,7 +170,7 @@ module _ (table : List (List ℕ)) where
         keep l (λ t. f (member-later j k l t)) (h .1),
       )
 
-  -- the top is taken
+  -- the top is positions-taken
   popped : (i : ℕ) (stack done : List ℕ) → Inv (i ∷ stack) done → Inv stack (i ∷ done)
   popped i stack done v =
       record {
@@ -189,7 +189,7 @@ module _ (table : List (List ℕ)) where
         away l (λ t. f (member-later i j l t)) (h .1),
       )
 
-  -- of a position taken, the needs were taken too
+  -- of a position positions-taken, the needs were positions-taken too
   ordered-at : (done : List ℕ) (j t : ℕ) → Ordered done → T (member j done) → T (member t (getD table j [])) → T (member t done)
   unfolding member
   ordered-at [] j t o m u = absurd m
@@ -217,7 +217,7 @@ module _ (table : List (List ℕ)) where
       not-waiting : (k : ℕ) → T (member i (getD table k [])) → T (member k stack) → ⊥
       not-waiting k u t = v .apart .0 (within-member (getD table k []) done i (all-at (Ready done) stack k (v .ready .1) t .0) u)
 
-  -- what was taken
+  -- what was positions-taken
   pub record Taken (done : List ℕ) : Type 0 where
     pub distinct : Distinct done
     pub ordered : Ordered done
@@ -233,8 +233,8 @@ module _ (table : List (List ℕ)) where
   take-all-taken (suc fuel) (i ∷ stack) done v =
       take-all-taken fuel (push (joining 0 i (i ∷ done) table) stack) (i ∷ done) (stepped i stack done v)
 
-  pub taken-ok : Taken (taken table)
-  unfolding taken
+  pub taken-ok : Taken (positions-taken table)
+  unfolding positions-taken
   taken-ok =
       take-all-taken (length table) (push (free-from 0 table) []) []
       (pushed (free-from 0 table) [] []

@@ -7,7 +7,7 @@ use mathlib.Core.List.{List, [], _∷_}
 use native.Mathlib.Omega.{arith}
 use lib.ListN.{length, getD}
 use lib.Dec.{T, eqb, eqb→eq}
-use Rattle.cse.specs.Order.{member, within, free-from, joining, push, take-all, taken}
+use Rattle.cse.specs.Order.{member, within, free-from, joining, push, take-all, positions-taken}
 use Rattle.cse.proofs.OrderLaws.{member-cases, member-later, member-here, within-both, then-both, All, Distinct, Taken, taken-ok, remove, at-most}
 use Rattle.tree.proofs.Logic.{and-both}
 
@@ -117,7 +117,7 @@ as-many (suc n) l f =
 -- ---- the order
 
 module _ (table : List (List ℕ)) where
-  -- each position whose needs are met is taken or waits
+  -- each position whose needs are met is positions-taken or waits
   Complete : List ℕ → List ℕ → Type 0
   Complete stack done = (j : ℕ) → j < length table → T (within (getD table j []) done) → T (member j done) ⊎ T (member j stack)
 
@@ -159,8 +159,8 @@ module _ (table : List (List ℕ)) where
           | inr u ↦ absurd (unfold member in u)
         ]
 
-    pub all-taken : length (taken table) ≡ length table
-    unfolding taken Complete
+    pub all-taken : length (positions-taken table) ≡ length table
+    unfolding positions-taken Complete
     all-taken =
         elim (complete-end (length table) (push (free-from 0 table) []) []
         (λ j h w. inr (push-member (free-from 0 table) [] j (inl (subst (λ (k : ℕ). T (member k (free-from 0 table))) (let e : 0 + j ≡ j = omega arith in e) (free-member 0 table j h w)))))) [

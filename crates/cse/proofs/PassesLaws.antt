@@ -5,11 +5,13 @@ use mathlib.Core.Bool.{Bool, true, false, _&&_}
 use mathlib.Core.List.{List, [], _∷_}
 use lib.ListN.{length}
 use lib.Dec.{T, leb}
-use Rattle.tree.specs.Tree.{Name, input, xname, mname, Tree, Forest, Sym, Const, Op, nil, _◂_, folds, arity-ok, operand-count, well-formed, well-formed-each, Neg, SelectOr}
+use Rattle.tree.specs.Tree.{Name, input, xname, mname, Tree, Forest, Sym, Const, Op, nil, _◂_, folds}
+use Rattle.tree.specs.Kinds.{arity-ok, Neg, SelectOr}
+use Rattle.tree.proofs.Formed.{operand-count, well-formed, well-formed-each}
 use Rattle.tree.specs.Symbol.{is-name}
 use Rattle.tree.specs.Rows.{within-limits}
 use Rattle.tree.specs.Passes.{all-of, of-list, of-paper, operands-ok, expression, expressions, passes}
-use Rattle.tree.proofs.Logic.{tests, tests-length}
+use Rattle.tree.proofs.Formed.{tests, tests-length}
 use Rattle.tree.proofs.Logic.{and-left, and-right, and-both}
 use Rattle.rewrite.proofs.Operations.{well-formed-all}
 use Rattle.rewrite.proofs.Names.{holds, holds-each, holds-all, below}
@@ -17,7 +19,7 @@ use Rattle.cse.proofs.ScopeValue.{under}
 
 arity-of : (k n : ℕ) → T (operands-ok k n) → T (arity-ok k n)
 unfolding operands-ok
-arity-of k n h = and-right (leb k SelectOr) (arity-ok k n) (and-right (leb Neg k) (leb k SelectOr && arity-ok k n) h)
+arity-of k n h = and-right (leb Neg k) (arity-ok k n) h
 
 mutual
   unfolding expression well-formed

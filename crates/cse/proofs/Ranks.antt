@@ -10,10 +10,11 @@ use lib.IntN.{pos}
 use lib.ListN.{length}
 use lib.Dec.{T, eqb, ltb, eqb→eq, eqb-refl, ltb→lt, lt→ltb}
 use Rattle.tree.specs.Outcome.{Outcome, ok, refused, _>>=_, each}
-use Rattle.tree.specs.Tree.{Name, input, xname, mname, Tree, Forest, Sym, Const, Op, nil, _◂_, Div}
+use Rattle.tree.specs.Tree.{Name, input, xname, mname, Tree, Forest, Sym, Const, Op, nil, _◂_}
+use Rattle.tree.specs.Kinds.{Div}
 use Rattle.tree.specs.Facts.{all-nodes}
 use Rattle.rewrite.specs.Rewrite.{replace, replace-divisor}
-use Rattle.cse.specs.Extract.{Binding, State, Candidate, bound, roots, best, replace-bound, extract, rounds, extract-all, all-operations, divisors, distinct, shared-divisors, sort-by-text, replace-divisor-each, replace-divisor-bound, reciprocal, reciprocal-each, reciprocals}
+use Rattle.cse.specs.Extract.{Binding, State, Candidate, bound, roots, best, replace-bound, extract, rounds, extract-all, all-operations, divisors, distinct, shared-divisors, sort-by-text, replace-divisor-each, replace-divisor-bound, bind-reciprocal, bind-reciprocals, reciprocals}
 use Rattle.tree.proofs.Logic.{and-left, and-right, and-both}
 use Rattle.rewrite.proofs.Names.{holds, holds-each, holds-all, holds-append, weaken, weaken-all, all-nodes-hold, Holds, replace-holds, divisor-holds}
 use Rattle.cse.proofs.RoundsValue.{Chosen, chosen, divisors-known, distinct-known, shared-known, sort-known}
@@ -308,8 +309,8 @@ one-over : (p : Name → Bool) (d : Tree) → T (holds p d) → T (holds p (Op D
 unfolding holds
 one-over p d h = and-both (holds p d) true h tt
 
-reciprocal-ranks : (d : Tree) (s : State) → T (holds (made-before (s .next)) d) → Ranks s → Ranks (reciprocal d s)
-unfolding reciprocal
+reciprocal-ranks : (d : Tree) (s : State) → T (holds (made-before (s .next)) d) → Ranks s → Ranks (bind-reciprocal d s)
+unfolding bind-reciprocal
 reciprocal-ranks d s known K =
     let R = next-rank (K .rank) (s .next) d known in
     let D = divided-after (K .rank) (s .next) d known 0 (s .lets) (let a = K .long in omega arith) (K .lets) in
@@ -323,12 +324,12 @@ reciprocal-ranks d s known K =
       long = (let a = length-append (replace-divisor-bound d (xname (s .next)) (s .lets)) (b ∷ []) in let c = D .1 in omega arith);
     }
 
-reciprocal-each-ranks : (l : List Tree) (s : State) → T (holds-all (made-before (s .next)) l) → Ranks s → Ranks (reciprocal-each l s)
-unfolding reciprocal-each holds-all
+reciprocal-each-ranks : (l : List Tree) (s : State) → T (holds-all (made-before (s .next)) l) → Ranks s → Ranks (bind-reciprocals l s)
+unfolding bind-reciprocals holds-all
 reciprocal-each-ranks [] s h K = K
 reciprocal-each-ranks (d ∷ l) s h K =
-    reciprocal-each-ranks l (reciprocal d s)
-    (unfold reciprocal in weaken-all (made-before (s .next)) (made-before (suc (s .next))) (made-suc (s .next)) l (and-right (holds (made-before (s .next)) d) (holds-all (made-before (s .next)) l) h))
+    reciprocal-each-ranks l (bind-reciprocal d s)
+    (unfold bind-reciprocal in weaken-all (made-before (s .next)) (made-before (suc (s .next))) (made-suc (s .next)) l (and-right (holds (made-before (s .next)) d) (holds-all (made-before (s .next)) l) h))
     (reciprocal-ranks d s (and-left (holds (made-before (s .next)) d) (holds-all (made-before (s .next)) l) h) K)
 
 pub reciprocals-ranks : (scoped : Bool) (s : State) → Ranks s → Ranks (reciprocals scoped s)

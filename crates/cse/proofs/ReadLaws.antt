@@ -11,8 +11,8 @@ use lib.ListN.{length, getD}
 use lib.Dec.{T}
 use Rattle.tree.specs.Tree.{Name, Tree, eq-name}
 use Rattle.tree.proofs.TreeLaws.{eq-name-sound, eq-name-refl}
-use Rattle.cse.specs.Answer.{Stmt, Stmts, Arms, bind, fuse, end, step, no-arm, arm, block, names, symbols, all-symbols, free, free-stmts, free-arms, elem}
-use Rattle.cse.specs.Order.{meets, needs-from, needs, member, within, taken, nothing, at-each}
+use Rattle.cse.specs.Answer.{Intermediate, Intermediates, Arms, Let, Match, end, step, no-arm, arm, block, names, symbols, all-symbols, free, free-stmts, free-arms, elem}
+use Rattle.cse.specs.Order.{meets, needs-from, needs, member, within, positions-taken, nothing, at-each}
 use Rattle.cse.proofs.OrderLaws.{member-cases, member-later, member-here, within-member, All, Ordered, Taken, taken-ok, none-missing}
 use Rattle.tree.specs.Value.{Reading, Env, value, values, choice}
 use Rattle.cse.specs.Read.{set, set-each, arm-count, read-stmt, read-stmts, read-arm}
@@ -32,19 +32,19 @@ needs-later b i j l t = go b (subst (λ (n : ℕ). T (member n l)) (let e : suc 
     go true u = member-later (i + suc j) i l u
     go false u = u
 
-pub needs-member : (i : ℕ) (read : List Name) (l : List Stmt) (j : ℕ) → j < length l → T (meets (names (getD l j nothing)) read) → T (member (i + j) (needs-from i read l))
+pub needs-member : (i : ℕ) (read : List Name) (l : List Intermediate) (j : ℕ) → j < length l → T (meets (names (getD l j nothing)) read) → T (member (i + j) (needs-from i read l))
 unfolding needs-from
 needs-member i read [] j h t = absurd (omega arith)
 needs-member i read (s ∷ l) zero h t = needs-first (meets (names s) read) i (needs-from (suc i) read l) t
 needs-member i read (s ∷ l) (suc j) h t = needs-later (meets (names s) read) i j (needs-from (suc i) read l) (needs-member (suc i) read l j (omega arith) t)
 
-pub needs-at : (all l : List Stmt) (i : ℕ) → i < length l → getD (needs all l) i [] ≡ needs-from 0 (free (getD l i nothing)) all
+pub needs-at : (all l : List Intermediate) (i : ℕ) → i < length l → getD (needs all l) i [] ≡ needs-from 0 (free (getD l i nothing)) all
 unfolding needs
 needs-at all [] i h = absurd (omega arith)
 needs-at all (s ∷ l) zero h = refl
 needs-at all (s ∷ l) (suc i) h = needs-at all l i (omega arith)
 
-pub needs-length : (all l : List Stmt) → length (needs all l) ≡ length l
+pub needs-length : (all l : List Intermediate) → length (needs all l) ≡ length l
 unfolding needs
 needs-length all [] = refl
 needs-length all (s ∷ l) = ap suc (needs-length all l)
@@ -57,11 +57,11 @@ module _ (R : Reading) where
   Like a b = a % R .modulus ≡ b % R .modulus
 
   -- from the latest back
-  read-back : List Stmt → Env → Env
+  read-back : List Intermediate → Env → Env
   read-back [] ρ = ρ
   read-back (s ∷ l) ρ = read-stmt R s (read-back l ρ)
 
-  read-reversed : (l r : List Stmt) (ρ : Env) → read-stmts R (block (reverseAux l r)) ρ ≡ read-stmts R (block r) (read-back l ρ)
+  read-reversed : (l r : List Intermediate) (ρ : Env) → read-stmts R (block (reverseAux l r)) ρ ≡ read-stmts R (block r) (read-back l ρ)
   unfolding read-back read-stmts block
   read-reversed [] r ρ = refl
   read-reversed (s ∷ l) r ρ = read-reversed l (s ∷ r) ρ
@@ -127,10 +127,10 @@ module _ (R : Reading) where
 
   -- ---- what is read turns on the free symbols
 
-  pub read-apart : (s : Stmt) (τ : Env) (n : Name) → (T (elem n (names s)) → ⊥) → read-stmt R s τ n ≡ τ n
+  pub read-apart : (s : Intermediate) (τ : Env) (n : Name) → (T (elem n (names s)) → ⊥) → read-stmt R s τ n ≡ τ n
   unfolding read-stmt names
-  read-apart (bind x e) τ n f = set-apart τ x _ n (λ q. f (subst (λ (y : Name). T (elem n (y ∷ []))) q (elem-here n [])))
-  read-apart (fuse k key ns arms) τ n f = set-each-apart ns _ τ n f
+  read-apart (Let x e) τ n f = set-apart τ x _ n (λ q. f (subst (λ (y : Name). T (elem n (y ∷ []))) q (elem-here n [])))
+  read-apart (Match k key ns arms) τ n f = set-each-apart ns _ τ n f
 
   module _ (p : Name → Bool) where
     abbrev pub Likes : Env → Env → Type 0
@@ -140,17 +140,17 @@ module _ (R : Reading) where
       unfolding read-stmt names free
 
       pub stmt-like :
-          (s : Stmt) (τ σ : Env) → Sub p (free s) → Likes τ σ → (n : Name) → ((T (elem n (names s)) → ⊥) → Like (τ n) (σ n))
+          (s : Intermediate) (τ σ : Env) → Sub p (free s) → Likes τ σ → (n : Name) → ((T (elem n (names s)) → ⊥) → Like (τ n) (σ n))
           → Like (read-stmt R s τ n) (read-stmt R s σ n)
-      stmt-like (bind x e) τ σ u l n f =
+      stmt-like (Let x e) τ σ u l n f =
           set-like τ σ x (value R τ e) (value R σ e) n (ap (λ (v : ℕ). v % R .modulus) (value-like R p τ σ l e (holds-by p e u))) (λ b. f (not-elem n x [] b (no-elem n)))
-      stmt-like (fuse k key ns arms) τ σ u l n f =
+      stmt-like (Match k key ns arms) τ σ u l n f =
           subst (λ (vs : List ℕ). Like (set-each τ ns (read-arm R arms (choice R k (arm-count arms) (value R τ key)) τ) n) (set-each σ ns vs n))
           (ap (λ (q : ℕ). read-arm R arms (choice R k (arm-count arms) q) τ) (value-like R p τ σ l key (holds-by p key (sub-left p (symbols key) (free-arms arms) u)))
           ∙ arm-like arms (choice R k (arm-count arms) (value R σ key)) τ σ (sub-right p (symbols key) (free-arms arms) u) l)
           (set-each-like ns (read-arm R arms (choice R k (arm-count arms) (value R τ key)) τ) τ σ n f)
 
-      pub stmts-like : (s : Stmts) (τ σ : Env) → Sub p (free-stmts s) → Likes τ σ → Likes (read-stmts R s τ) (read-stmts R s σ)
+      pub stmts-like : (s : Intermediates) (τ σ : Env) → Sub p (free-stmts s) → Likes τ σ → Likes (read-stmts R s τ) (read-stmts R s σ)
       stmts-like end τ σ u l n t = l n t
       stmts-like (step s r) τ σ u l n t =
           stmts-like r (read-stmt R s τ) (read-stmt R s σ) (sub-right p (free s) (free-stmts r) u)
@@ -166,7 +166,7 @@ module _ (R : Reading) where
 
 -- ---- names and places
 
-pub name-place : (l : List Stmt) (n : Name) → T (elem n (all-names l)) → (j : ℕ) × (j < length l) × T (elem n (names (getD l j nothing)))
+pub name-place : (l : List Intermediate) (n : Name) → T (elem n (all-names l)) → (j : ℕ) × (j < length l) × T (elem n (names (getD l j nothing)))
 unfolding all-names
 name-place [] n t = absurd (no-elem n t)
 name-place (s ∷ l) n t =
@@ -175,7 +175,7 @@ name-place (s ∷ l) n t =
       | inr b ↦ (let r = name-place l n b in let h = r .1 in (suc (r .0), (omega arith), r .2))
     ]
 
-pub place-name : (l : List Stmt) (done : List ℕ) (j : ℕ) (n : Name) → T (member j done) → T (elem n (names (getD l j nothing))) → T (elem n (all-names (at-each l done)))
+pub place-name : (l : List Intermediate) (done : List ℕ) (j : ℕ) (n : Name) → T (member j done) → T (elem n (names (getD l j nothing))) → T (elem n (all-names (at-each l done)))
 unfolding all-names at-each
 place-name l [] j n t h = absurd (unfold member in t)
 place-name l (i ∷ done) j n t h =
@@ -196,7 +196,7 @@ meets-at n (x ∷ ns) read t h = go (elem x read) (elem-cases n x ns t) (λ e. s
 
 -- what a statement reads was bound before it, if by any of the list
 pub bound-before :
-    (l : List Stmt) (i : ℕ) (done : List ℕ) → i < length l → T (within (getD (needs l l) i []) done) → (n : Name)
+    (l : List Intermediate) (i : ℕ) (done : List ℕ) → i < length l → T (within (getD (needs l l) i []) done) → (n : Name)
     → T (elem n (free (getD l i nothing))) → T (elem n (all-names l)) → T (elem n (all-names (at-each l done)))
 bound-before l i done h w n f t =
     let r = name-place l n t in
@@ -210,7 +210,7 @@ bound-before l i done h w n f t =
     (r .2)
 
 -- the statements in order read what the list's statements read
-pub free-back : (p : Name → Bool) (l : List Stmt) (done : List ℕ) (acc : List Stmt) → All (λ j. j < length l) done
+pub free-back : (p : Name → Bool) (l : List Intermediate) (done : List ℕ) (acc : List Intermediate) → All (λ j. j < length l) done
     → ((i : ℕ) → i < length l → Sub p (free (getD l i nothing))) → Sub p (free-stmts (block acc))
     → Sub p (free-stmts (block (reverseAux (at-each l done) acc)))
 unfolding at-each
@@ -220,7 +220,7 @@ free-back p l (i ∷ done) acc a f u =
 
 -- ---- an order gives the environment that every statement leaves as it is
 
-module _ (R : Reading) (l : List Stmt) (ρ σ : Env)
+module _ (R : Reading) (l : List Intermediate) (ρ σ : Env)
     (fixed : (i : ℕ) → i < length l → (n : Name) → Like R (read-stmt R (getD l i nothing) σ n) (σ n))
     (apart : (n : Name) → (T (elem n (all-names l)) → ⊥) → σ n ≡ ρ n) where
   -- bound by the statements done, or by none
@@ -261,11 +261,11 @@ module _ (R : Reading) (l : List Stmt) (ρ σ : Env)
 
   -- where none is missing, every symbol holds what σ says
   pub sorted-reads :
-      length (taken (needs l l)) ≡ length l → (results : List Tree)
-      → values R (read-stmts R (block (reverse (at-each l (taken (needs l l))))) ρ) results ≡ values R σ results
+      length (positions-taken (needs l l)) ≡ length l → (results : List Tree)
+      → values R (read-stmts R (block (reverse (at-each l (positions-taken (needs l l))))) ρ) results ≡ values R σ results
   unfolding read-stmts block
   sorted-reads e results =
-      let done = taken (needs l l) in
+      let done = positions-taken (needs l l) in
       let k : Taken (needs l l) done = taken-ok (needs l l) in
       let inside : All (λ j. j < length l) done = subst (λ (m : ℕ). All (λ j. j < m) done) (needs-length l l) (k .inside) in
       ap (λ (τ : Env). values R τ results) (read-reversed R (at-each l done) [] ρ)

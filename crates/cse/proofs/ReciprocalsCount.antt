@@ -9,12 +9,14 @@ use native.Mathlib.Omega.{arith}
 use lib.IntN.{ℤ, pos}
 use lib.ListN.{getD}
 use lib.Dec.{T, eqb, leb, ltb, leb→le, ltb→lt}
-use Rattle.tree.specs.Tree.{Name, input, xname, mname, Tree, Forest, Sym, Const, Op, nil, _◂_, Div, well-formed}
+use Rattle.tree.specs.Tree.{Name, input, xname, mname, Tree, Forest, Sym, Const, Op, nil, _◂_}
+use Rattle.tree.specs.Kinds.{Div}
+use Rattle.tree.proofs.Formed.{well-formed}
 use Rattle.tree.specs.Facts.{cost, has-symbol, operations, nodes, nodes-of, all-nodes, outside, count}
 use Rattle.text.specs.Text.{display, before}
 use Rattle.rewrite.specs.Rewrite.{replace-divisor}
-use Rattle.cse.specs.Extract.{Binding, State, bound, roots, best, divisor-of, divisors, distinct, shared-divisors, insert-by-text, sort-by-text, replace-divisor-each, replace-divisor-bound, reciprocal, reciprocal-each, reciprocals}
-use Rattle.cse.specs.Answer.{Stmt, bind, fuse}
+use Rattle.cse.specs.Extract.{Binding, State, bound, roots, best, divisor-of, divisors, distinct, shared-divisors, insert-by-text, sort-by-text, replace-divisor-each, replace-divisor-bound, bind-reciprocal, bind-reciprocals, reciprocals}
+use Rattle.cse.specs.Answer.{Intermediate, Let, Match}
 use Rattle.cse.specs.Scope.{binds}
 use Rattle.tree.proofs.Logic.{and-left, and-right, and-both}
 use Rattle.rewrite.proofs.Operations.{well-formed-all, all-append}
@@ -162,7 +164,7 @@ bindable s S e =
     })
     (bound-divisors false s) (bound-twice false s)
 
--- ---- one reciprocal, on the roots
+-- ---- one bind-reciprocal, on the roots
 
 unfoldable pub inverse : Tree → Tree
 inverse d = Op Div (Const (pos 1) ◂ d ◂ nil)
@@ -177,8 +179,8 @@ unfolding replace-divisor-each
 divided-append d n [] t = refl
 divided-append d n (e ∷ s) t = ap (λ (x : List Tree). replace-divisor d n e ∷ x) (divided-append d n s t)
 
-pub roots-reciprocal : (d : Tree) (s : State) → roots (reciprocal d s) ≡ replace-divisor-each d (xname (s .next)) (roots s) ++ (inverse d ∷ [])
-unfolding reciprocal roots inverse bound
+pub roots-reciprocal : (d : Tree) (s : State) → roots (bind-reciprocal d s) ≡ replace-divisor-each d (xname (s .next)) (roots s) ++ (inverse d ∷ [])
+unfolding bind-reciprocal roots inverse bound
 roots-reciprocal d s =
     let n = xname (s .next) in
     ap (λ (x : List Tree). replace-divisor-each d n (s .results) ++ x)
@@ -209,7 +211,7 @@ inverse-known : (p : Name → Bool) (d : Tree) → T (holds p d) → T (holds-al
 unfolding holds-all holds inverse
 inverse-known p d h = and-both (holds p d && true) true (and-both (holds p d) true h tt) tt
 
-pub reciprocal-sound : (d : Tree) (s : State) → Bindable (s .next) d → Sound s → Sound (reciprocal d s)
+pub reciprocal-sound : (d : Tree) (s : State) → Bindable (s .next) d → Sound s → Sound (bind-reciprocal d s)
 reciprocal-sound d s B S =
     let k = s .next in
     let up = made-suc k in
@@ -218,7 +220,7 @@ reciprocal-sound d s B S =
           subst (λ (l : List Tree). T (well-formed-all l)) (sym (roots-reciprocal d s))
           (all-append (replace-divisor-each d (xname k) (roots s)) (inverse d ∷ []) (divided-formed d (xname k) (roots s) (S .formed)) (inverse-formed d (B .formed)));
       known =
-          (unfold reciprocal in
+          (unfold bind-reciprocal in
           (subst (λ (l : List Tree). T (holds-all (made-before (suc k)) l)) (sym (roots-reciprocal d s))
           (holds-append (made-before (suc k)) (replace-divisor-each d (xname k) (roots s)) (inverse d ∷ [])
           (divided-known (made-before (suc k)) d (xname k) (made-new k) (roots s) (weaken-all (made-before k) (made-before (suc k)) up (roots s) (S .known)))
@@ -322,24 +324,24 @@ module _ (σ : Name → Bool) (d : Tree) (s : State) (B : Bindable (s .next) d) 
   reciprocal-each-tree (Const c) o t = absurd (unfold operations in omega (arith, o))
   reciprocal-each-tree (Op j g) o t = reciprocal-op j g t o
 
-  pub reciprocal-once : Once σ (roots (reciprocal d s))
+  pub reciprocal-once : Once σ (roots (bind-reciprocal d s))
   reciprocal-once y o t =
       (let a = reciprocal-each-tree y o t in
-      let b : count y (all-nodes (roots (reciprocal d s)))
+      let b : count y (all-nodes (roots (bind-reciprocal d s)))
       ≡ count y (all-nodes (replace-divisor-each d (xname (s .next)) (roots s))) + count y (all-nodes (inverse d ∷ [])) =
       ap (λ (l : List Tree). count y (all-nodes l)) (roots-reciprocal d s) ∙ all-nodes-append y (replace-divisor-each d (xname (s .next)) (roots s)) (inverse d ∷ []) in
       omega arith)
 
 -- ---- names depend where their expressions do
 
-every-append : (P : Stmt → Type 0) (l r : List Stmt) → Every P l → Every P r → Every P (l ++ r)
+every-append : (P : Intermediate → Type 0) (l r : List Intermediate) → Every P l → Every P r → Every P (l ++ r)
 every-append P [] r g h = h
 every-append P (s ∷ l) r g h = (g .0, every-append P l r (g .1) h)
 
 pub binds-append : (l r : List Binding) → binds (l ++ r) ≡ binds l ++ binds r
 unfolding binds
 binds-append [] r = refl
-binds-append (b ∷ l) r = ap (λ (x : List Stmt). bind (b .name) (b .expr) ∷ x) (binds-append l r)
+binds-append (b ∷ l) r = ap (λ (x : List Intermediate). Let (b .name) (b .expr) ∷ x) (binds-append l r)
 
 module _ (σ : Name → Bool) (d : Tree) (n : Name) (only : T (σ n) → T (depends σ d)) where
   divided-closed : (l : List Binding) → Every (Closed σ) (binds l) → Every (Closed σ) (binds (replace-divisor-bound d n l))
@@ -357,8 +359,8 @@ inverse-depends σ d t = go (depends σ d) t
 
 pub reciprocal-closed :
     (σ : Name → Bool) (d : Tree) (s : State) → (T (σ (xname (s .next))) → T (depends σ d)) → (T (depends σ d) → T (σ (xname (s .next))))
-    → Every (Closed σ) (binds (s .lets)) → Every (Closed σ) (binds (reciprocal d s .lets))
-unfolding reciprocal
+    → Every (Closed σ) (binds (s .lets)) → Every (Closed σ) (binds (bind-reciprocal d s .lets))
+unfolding bind-reciprocal
 reciprocal-closed σ d s only all h =
     subst (Every (Closed σ)) (sym (binds-append (replace-divisor-bound d (xname (s .next)) (s .lets)) (record { name = xname (s .next); expr = Op Div (Const (pos 1) ◂ d ◂ nil) } ∷ [])))
     (every-append (Closed σ) (binds (replace-divisor-bound d (xname (s .next)) (s .lets))) _
@@ -378,11 +380,11 @@ bindable-later k =
 
 pub reciprocal-each-once :
     (σ : Name → Bool) (l : List Tree) (s : State) → AllTrees (Bindable (s .next)) l → Tells σ (s .next) l → Sound s → Once σ (roots s) → Every (Closed σ) (binds (s .lets))
-    → Once σ (roots (reciprocal-each l s)) × Every (Closed σ) (binds (reciprocal-each l s .lets))
-unfolding reciprocal-each
+    → Once σ (roots (bind-reciprocals l s)) × Every (Closed σ) (binds (bind-reciprocals l s .lets))
+unfolding bind-reciprocals
 reciprocal-each-once σ [] s B t S o c = (o, c)
 reciprocal-each-once σ (d ∷ l) s B t S o c =
-    reciprocal-each-once σ l (reciprocal d s) (unfold reciprocal in bindable-later (s .next) l (B .1)) (unfold reciprocal in t .2) (reciprocal-sound d s (B .0) S)
+    reciprocal-each-once σ l (bind-reciprocal d s) (unfold bind-reciprocal in bindable-later (s .next) l (B .1)) (unfold bind-reciprocal in t .2) (reciprocal-sound d s (B .0) S)
     (reciprocal-once σ d s (B .0) S (t .0) o) (reciprocal-closed σ d s (t .0) (t .1) c)
 
 -- ---- the test
@@ -429,20 +431,20 @@ module _ (x : ℕ) (ds : List Tree) where
 
 -- ---- what stands outside reciprocals, by a measure that no replaced divisor raises
 
--- of a binding that is not a reciprocal's
-abbrev pub from-rounds : (Tree → ℕ) → ℕ → Stmt → ℕ
-from-rounds μ x (bind (input s) e) = μ e
-from-rounds μ x (bind (xname i) e) = elim (ltb i x) [ true ↦ μ e | false ↦ 0 ]
-from-rounds μ x (bind (mname i) e) = μ e
-from-rounds μ x (fuse k key ns arms) = 0
+-- of a binding that is not a bind-reciprocal's
+abbrev pub from-rounds : (Tree → ℕ) → ℕ → Intermediate → ℕ
+from-rounds μ x (Let (input s) e) = μ e
+from-rounds μ x (Let (xname i) e) = elim (ltb i x) [ true ↦ μ e | false ↦ 0 ]
+from-rounds μ x (Let (mname i) e) = μ e
+from-rounds μ x (Match k key ns arms) = 0
 
-pub summed-append : (v : Stmt → ℕ) (l r : List Stmt) → summed v (l ++ r) ≡ summed v l + summed v r
+pub summed-append : (v : Intermediate → ℕ) (l r : List Intermediate) → summed v (l ++ r) ≡ summed v l + summed v r
 unfolding summed
 summed-append v [] r = omega arith
 summed-append v (s ∷ l) r = (let q = summed-append v l r in omega arith)
 
 module _ (μ : Tree → ℕ) (x : ℕ) where
-  binding-falls : (n : Name) (e r : Tree) → μ r ≤ μ e → from-rounds μ x (bind n r) ≤ from-rounds μ x (bind n e)
+  binding-falls : (n : Name) (e r : Tree) → μ r ≤ μ e → from-rounds μ x (Let n r) ≤ from-rounds μ x (Let n e)
   binding-falls (input s) e r h = h
   binding-falls (xname i) e r h = go (ltb i x)
     where
@@ -451,7 +453,7 @@ module _ (μ : Tree → ℕ) (x : ℕ) where
       go false = omega arith
   binding-falls (mname i) e r h = h
 
-  binding-most : (n : Name) (e : Tree) → from-rounds μ x (bind n e) ≤ μ e
+  binding-most : (n : Name) (e : Tree) → from-rounds μ x (Let n e) ≤ μ e
   binding-most (input s) e = omega arith
   binding-most (xname i) e = go (ltb i x)
     where
@@ -460,7 +462,7 @@ module _ (μ : Tree → ℕ) (x : ℕ) where
       go false = omega arith
   binding-most (mname i) e = omega arith
 
-  binding-new : (i : ℕ) (e : Tree) → x ≤ i → from-rounds μ x (bind (xname i) e) ≡ 0
+  binding-new : (i : ℕ) (e : Tree) → x ≤ i → from-rounds μ x (Let (xname i) e) ≡ 0
   binding-new i e h = go (ltb i x) (λ t. let q = ltb→lt i x t in omega arith)
     where
       go : (b : Bool) → (T b → ⊥) → _≡_ {A = ℕ} (elim b [ true ↦ μ e | false ↦ 0 ]) 0
@@ -486,16 +488,16 @@ module _ (μ : Tree → ℕ) (x : ℕ) where
 
     pub reciprocal-falls :
         (d : Tree) (s : State) → x ≤ s .next
-        → (sum-of μ (reciprocal d s .results) ≤ sum-of μ (s .results))
-        × (summed (from-rounds μ x) (binds (reciprocal d s .lets)) ≤ summed (from-rounds μ x) (binds (s .lets)))
-    unfolding reciprocal
+        → (sum-of μ (bind-reciprocal d s .results) ≤ sum-of μ (s .results))
+        × (summed (from-rounds μ x) (binds (bind-reciprocal d s .lets)) ≤ summed (from-rounds μ x) (binds (s .lets)))
+    unfolding bind-reciprocal
     reciprocal-falls d s h = (
       divided-falls d (xname (s .next)) (s .results),
       (let l = replace-divisor-bound d (xname (s .next)) (s .lets) in
           let a = ap (summed (from-rounds μ x)) (binds-append l (record { name = xname (s .next); expr = Op Div (Const (pos 1) ◂ d ◂ nil) } ∷ [])) in
           let b = summed-append (from-rounds μ x) (binds l) (binds (record { name = xname (s .next); expr = Op Div (Const (pos 1) ◂ d ◂ nil) } ∷ [])) in
           let c : summed (from-rounds μ x) (binds (record { name = xname (s .next); expr = Op Div (Const (pos 1) ◂ d ◂ nil) } ∷ []))
-          ≡ from-rounds μ x (bind (xname (s .next)) (Op Div (Const (pos 1) ◂ d ◂ nil))) + 0 =
+          ≡ from-rounds μ x (Let (xname (s .next)) (Op Div (Const (pos 1) ◂ d ◂ nil))) + 0 =
           (unfold summed binds in refl) in
           let z = binding-new (s .next) (Op Div (Const (pos 1) ◂ d ◂ nil)) h in
           let y = divided-bindings d (xname (s .next)) (s .lets) in
@@ -504,16 +506,16 @@ module _ (μ : Tree → ℕ) (x : ℕ) where
 
     pub reciprocal-each-falls :
         (l : List Tree) (s : State) → x ≤ s .next
-        → (sum-of μ (reciprocal-each l s .results) ≤ sum-of μ (s .results))
-        × (summed (from-rounds μ x) (binds (reciprocal-each l s .lets)) ≤ summed (from-rounds μ x) (binds (s .lets)))
-    unfolding reciprocal-each
+        → (sum-of μ (bind-reciprocals l s .results) ≤ sum-of μ (s .results))
+        × (summed (from-rounds μ x) (binds (bind-reciprocals l s .lets)) ≤ summed (from-rounds μ x) (binds (s .lets)))
+    unfolding bind-reciprocals
     reciprocal-each-falls [] s h = (omega arith, omega arith)
     reciprocal-each-falls (d ∷ l) s h =
         let a = reciprocal-falls d s h in
-        let b = reciprocal-each-falls l (reciprocal d s) (unfold reciprocal in omega arith) in
+        let b = reciprocal-each-falls l (bind-reciprocal d s) (unfold bind-reciprocal in omega arith) in
         ((let u = a .0 in let v = b .0 in omega arith), (let u = a .1 in let v = b .1 in omega arith))
 
 -- the definition's list of divisors
-pub reciprocals-are : (scoped : Bool) (s : State) → reciprocals scoped s ≡ reciprocal-each (bound-divisors scoped s) s
+pub reciprocals-are : (scoped : Bool) (s : State) → reciprocals scoped s ≡ bind-reciprocals (bound-divisors scoped s) s
 unfolding reciprocals bound-divisors
 reciprocals-are scoped s = refl

@@ -10,13 +10,14 @@ use lib.IntN.{ℤ, pos, negsuc}
 use lib.ListN.{length, getD}
 use lib.Dec.{T, eqb, ltb, eqb-refl, ltb→lt}
 use lib.Ieee.{Float, nan, inf, fin, up, down}
-use Rattle.tree.specs.Outcome.{Outcome, ok, refused, _>>=_, each}
-use Rattle.tree.specs.Tree.{Name, xname, Tree, Forest, Sym, Const, Op, nil, _◂_, Mul, eq-tree}
+use Rattle.tree.specs.Outcome.{Refusal, Outcome, ok, refused, _>>=_, each, by}
+use Rattle.tree.specs.Tree.{Name, xname, Tree, Forest, Sym, Const, Op, nil, _◂_, eq-tree}
+use Rattle.tree.specs.Kinds.{Mul}
 use Rattle.tree.specs.Facts.{size}
 use Rattle.rewrite.specs.Rewrite.{Factors, whole, constant-of, built, build-mul-from-factors, match-factors, each-operand, replace-within, replace}
 use Rattle.cse.specs.Extract.{Binding, State, Candidate, roots, best, all-operations, replace-bound, extract, rounds, extract-all, reciprocals}
-use Rattle.cse.specs.Answer.{Stmt, Answer, bind, fuse, arm, block, names, symbols, free, elem}
-use Rattle.cse.specs.Order.{meets, needs-from, needs, member, taken, nothing, at-each, topo-sort-intermediates}
+use Rattle.cse.specs.Answer.{Intermediate, Answer, Let, Match, arm, block, names, symbols, free, elem}
+use Rattle.cse.specs.Order.{meets, needs-from, needs, member, positions-taken, nothing, at-each, topo-sort-intermediates}
 use Rattle.cse.specs.Scope.{Switch, Group, Work, Scoped, Armed, members, collect-switches, groups-from, name-members, member-names, columns, arms-of-members, scope-arms, fuse-group, fuse-groups, fuse-all, binds, unfused, finish, cse-scope, deepest, as-answer, answer}
 use Rattle.tree.specs.Value.{values}
 use Rattle.tree.proofs.Logic.{and-right}
@@ -32,7 +33,7 @@ use Rattle.cse.proofs.Ranks.{low, Ranked, Ranks, All-ranks, extract-all
 
 -- ---- refusals by some numbers alone
 
-module _ (P : ℕ → Type 0) where
+module _ (P : Refusal → Type 0) where
   pub Only : {A : Type 0} → Outcome A → Type 0
   Only (ok a) = Unit {0}
   Only (refused i) = P i
@@ -51,19 +52,19 @@ module _ (P : ℕ → Type 0) where
   each-only f g [] = only-ok []
   each-only f g (a ∷ l) = then-only (f a) (g a) (λ b. each f l >>= λ r. ok (b ∷ r)) (λ b. then-only (each f l) (each-only f g l) (λ r. ok (b ∷ r)) (λ r. only-ok (b ∷ r)))
 
-pub only-more : (P Q : ℕ → Type 0) → ((i : ℕ) → P i → Q i) → {A : Type 0} (o : Outcome A) → Only P o → Only Q o
+pub only-more : (P Q : Refusal → Type 0) → ((i : Refusal) → P i → Q i) → {A : Type 0} (o : Outcome A) → Only P o → Only Q o
 unfolding Only
 only-more P Q f (ok a) h = tt
 only-more P Q f (refused i) h = f i h
 
-pub only-at : (P : ℕ → Type 0) {A : Type 0} (o : Outcome A) (i : ℕ) → o ≡ refused i → Only P o → P i
+pub only-at : (P : Refusal → Type 0) {A : Type 0} (o : Outcome A) (i : Refusal) → o ≡ refused i → Only P o → P i
 unfolding Only
 only-at P o i e h = subst (Only P) e h
 
 -- ---- rounds: 10
 
-abbrev pub Ten : ℕ → Type 0
-Ten i = i ≡ 10
+abbrev pub Ten : Refusal → Type 0
+Ten i = i ≡ by 10
 
 whole-ten : (s : Bool) (n : ℕ) → Only Ten (whole s n)
 unfolding whole Only
@@ -77,7 +78,7 @@ constant-ten nan = refl
 constant-ten (inf s) = refl
 constant-ten (fin s m e) = go (eqb (m * up e % down e) 0 && ltb (m * up e / down e) (10 ^ 15))
   where
-    go : (b : Bool) → Only Ten {A = ℤ} (elim b [ true ↦ whole s (m * up e / down e) | false ↦ refused 10 ])
+    go : (b : Bool) → Only Ten {A = ℤ} (elim b [ true ↦ whole s (m * up e / down e) | false ↦ refused (by 10) ])
     go true = whole-ten s (m * up e / down e)
     go false = (unfold Only in refl)
 
@@ -154,15 +155,15 @@ extract-all-ten scoped next es = rounds-ten (all-operations es) scoped (record {
 
 -- ---- scopes: 10 or 11
 
-abbrev pub Ten-or-eleven : ℕ → Type 0
-Ten-or-eleven i = (i ≡ 10) ⊎ (i ≡ 11)
+abbrev pub Ten-or-eleven : Refusal → Type 0
+Ten-or-eleven i = (i ≡ by 10) ⊎ (i ≡ by 11)
 
-sort-only : (l : List Stmt) → Only Ten-or-eleven (topo-sort-intermediates l)
+sort-only : (l : List Intermediate) → Only Ten-or-eleven (topo-sort-intermediates l)
 unfolding topo-sort-intermediates
-sort-only l = go (eqb (length (taken (needs l l))) (length l))
+sort-only l = go (eqb (length (positions-taken (needs l l))) (length l))
   where
-    go : (b : Bool) → Only Ten-or-eleven {A = (List Stmt)} (elim b [ true ↦ ok (reverse (at-each l (taken (needs l l)))) | false ↦ refused 11 ])
-    go true = only-ok Ten-or-eleven (reverse (at-each l (taken (needs l l))))
+    go : (b : Bool) → Only Ten-or-eleven {A = (List Intermediate)} (elim b [ true ↦ ok (reverse (at-each l (positions-taken (needs l l)))) | false ↦ refused (by 11) ])
+    go true = only-ok Ten-or-eleven (reverse (at-each l (positions-taken (needs l l))))
     go false = (unfold Only in inr refl)
 
 finish-only : (w : Work) → Only Ten-or-eleven (finish w)
@@ -212,18 +213,18 @@ answer-only scoped es =
     then-only Ten-or-eleven (cse-scope (suc (deepest es)) scoped 0 es) (scope-only (suc (deepest es)) scoped 0 es) _ (λ a. only-ok Ten-or-eleven (as-answer a))
 
 -- Whatever the list, an answer is refused by 10 or 11 alone.
-pub refused-by-10-or-11 : (scoped : Bool) (es : List Tree) (i : ℕ) → answer scoped es ≡ refused i → (i ≡ 10) ⊎ (i ≡ 11)
+pub refused-by-10-or-11 : (scoped : Bool) (es : List Tree) (i : Refusal) → answer scoped es ≡ refused i → (i ≡ by 10) ⊎ (i ≡ by 11)
 refused-by-10-or-11 scoped es i e = only-at Ten-or-eleven (answer scoped es) i e (answer-only scoped es)
 
 -- ---- the flat form: never 11
 
-record Need (read : List Name) (l : List Stmt) (i j : ℕ) : Type 0 where
+record Need (read : List Name) (l : List Intermediate) (i j : ℕ) : Type 0 where
   place : ℕ
   there : j ≡ i + place
   inside : place < length l
   reads : T (meets (names (getD l place nothing)) read)
 
-needs-back : (i : ℕ) (read : List Name) (l : List Stmt) (j : ℕ) → T (member j (needs-from i read l)) → Need read l i j
+needs-back : (i : ℕ) (read : List Name) (l : List Intermediate) (j : ℕ) → T (member j (needs-from i read l)) → Need read l i j
 unfolding needs-from
 needs-back i read [] j t = absurd (unfold member in t)
 needs-back i read (s ∷ l) j t = go (meets (names s) read) (λ u. u) t (λ u. later (needs-back (suc i) read l j u))
@@ -242,9 +243,9 @@ needs-back i read (s ∷ l) j t = go (meets (names s) read) (λ u. u) t (λ u. l
 
 module _ (r : ℕ → ℕ) (n : ℕ) where
   -- a binding at its place, over names of lower rank
-  Placed : ℕ → Stmt → Type 0
-  Placed m (bind a e) = (a ≡ xname m) × T (holds (low r n (r m)) e)
-  Placed m (fuse k key ns arms) = ⊥
+  Placed : ℕ → Intermediate → Type 0
+  Placed m (Let a e) = (a ≡ xname m) × T (holds (low r n (r m)) e)
+  Placed m (Match k key ns arms) = ⊥
 
   placed : (k top : ℕ) (l : List Binding) → Numbered k top (let-names l) → Ranked r n k l → (i : ℕ) → i < length (binds l) → Placed (k + i) (getD (binds l) i nothing)
   unfolding let-names binds Placed
@@ -254,9 +255,9 @@ module _ (r : ℕ → ℕ) (n : ℕ) where
   placed k top (b ∷ l) g h (suc i) q =
       subst (λ (m : ℕ). Placed m (getD (binds l) i nothing)) (let e : suc k + i ≡ k + suc i = omega arith in e) (placed (suc k) top l (g .1) (h .1) i (omega arith))
 
-  falls-at : (s u : Stmt) (i j : ℕ) → Placed i s → Placed j u → T (meets (names u) (free s)) → r j < r i
+  falls-at : (s u : Intermediate) (i j : ℕ) → Placed i s → Placed j u → T (meets (names u) (free s)) → r j < r i
   unfolding Placed names free meets low
-  falls-at (bind a e) (bind b f) i j p q t =
+  falls-at (Let a e) (Let b f) i j p q t =
       (let m : T (elem (xname j) (symbols e)) = subst (λ (x : Name). T (elem x (symbols e))) (q .0) (go (elem b (symbols e)) t) in
       let w : T (ltb j n && ltb (r j) (r i)) = holds-at (low r n (r i)) e (xname j) (p .1) m in
       ltb→lt (r j) (r i) (and-right (ltb j n) (ltb (r j) (r i)) w))
@@ -264,16 +265,16 @@ module _ (r : ℕ → ℕ) (n : ℕ) where
       go : (c : Bool) → T (elim c [ true ↦ true | false ↦ false ]) → T c
       go true t = tt
       go false t = t
-  falls-at (bind a e) (fuse k key ns arms) i j p q t = absurd q
-  falls-at (fuse k key ns arms) u i j p q t = absurd p
+  falls-at (Let a e) (Match k key ns arms) i j p q t = absurd q
+  falls-at (Match k key ns arms) u i j p q t = absurd p
 
--- bindings with ranks are all taken
+-- bindings with ranks are all positions-taken
 sort-ten : (s : State) → Ranks s → Numbered 0 (s .next) (let-names (s .lets)) → Only Ten (topo-sort-intermediates (binds (s .lets)))
 unfolding topo-sort-intermediates
 sort-ten s K N =
-    go (eqb (length (taken (needs l l))) (length l)) (subst (λ (m : ℕ). T (eqb (length (taken (needs l l))) m)) all (eqb-refl (length (taken (needs l l)))))
+    go (eqb (length (positions-taken (needs l l))) (length l)) (subst (λ (m : ℕ). T (eqb (length (positions-taken (needs l l))) m)) all (eqb-refl (length (positions-taken (needs l l)))))
   where
-    l : List Stmt
+    l : List Intermediate
     l = binds (s .lets)
 
     at : (i : ℕ) → i < length l → Placed (K .rank) (s .next) i (getD l i nothing)
@@ -288,11 +289,11 @@ sort-ten s K N =
         let w = falls-at (K .rank) (s .next) (getD l i nothing) (getD l (D .place) nothing) i (D .place) (at i q) (at (D .place) (D .inside)) (D .reads) in
         ((let a = D .inside in omega arith), subst (λ (m : ℕ). K .rank m < K .rank i) e w)
 
-    all : length (taken (needs l l)) ≡ length l
+    all : length (positions-taken (needs l l)) ≡ length l
     all = all-taken (needs l l) (K .rank) falls ∙ needs-length l l
 
-    go : (b : Bool) → T b → Only Ten {A = (List Stmt)} (elim b [ true ↦ ok (reverse (at-each l (taken (needs l l)))) | false ↦ refused 11 ])
-    go true t = only-ok Ten (reverse (at-each l (taken (needs l l))))
+    go : (b : Bool) → T b → Only Ten {A = (List Intermediate)} (elim b [ true ↦ ok (reverse (at-each l (positions-taken (needs l l)))) | false ↦ refused (by 11) ])
+    go true t = only-ok Ten (reverse (at-each l (positions-taken (needs l l))))
     go false t = absurd t
 
 module _ (es : List Tree) (known : T (holds-all (under 0) es)) where
@@ -315,8 +316,8 @@ module _ (es : List Tree) (known : T (holds-all (under 0) es)) where
       (rounds-then (extract-all false 0 es) refl (extract-all-ten false 0 es) (extract-all-ranks false es (list-made es known))) _ (λ a. only-ok Ten (as-answer a))
 
   -- for a list with no name of an answer among its symbols
-  pub flat-refused-by-10 : (i : ℕ) → answer false es ≡ refused i → i ≡ 10
+  pub flat-refused-by-10 : (i : Refusal) → answer false es ≡ refused i → i ≡ by 10
   flat-refused-by-10 i e = only-at Ten (answer false es) i e flat-ten
 
-  pub flat-never-11 : answer false es ≡ refused 11 → ⊥
-  flat-never-11 e = (let q = flat-refused-by-10 11 e in omega arith)
+  pub flat-never-11 : answer false es ≡ refused (by 11) → ⊥
+  flat-never-11 e = (let q : _≡_ {A = ℕ} 11 10 = ap (λ (r : Refusal). r .number) (flat-refused-by-10 (by 11) e) in omega arith)

@@ -13,7 +13,9 @@ use lib.ListN.{length}
 use lib.Dec.{T, eqb, leb, ltb, eqb→eq, leb→le, le→leb, nleb→lt, ltb→lt, lt→ltb}
 use lib.Ieee as Ieee
 use Rattle.tree.specs.Outcome.{Outcome, ok, refused, _>>=_, each}
-use Rattle.tree.specs.Tree.{Name, input, xname, mname, Tree, Forest, Sym, Const, Op, nil, _◂_, folds, Neg, Mul, well-formed}
+use Rattle.tree.specs.Tree.{Name, input, xname, mname, Tree, Forest, Sym, Const, Op, nil, _◂_, folds}
+use Rattle.tree.specs.Kinds.{Neg, Mul}
+use Rattle.tree.proofs.Formed.{well-formed}
 use Rattle.tree.specs.Facts.{cost, has-symbol, some-of, operations, nodes, nodes-of, all-nodes, outside, count, uses, uses-outside}
 use Rattle.rewrite.specs.Rewrite.{Factors, one, flatten-mul-factors, flatten-operands, negated, is-mul, replace}
 use Rattle.cse.specs.Extract.{Binding, State, Candidate, bound, roots, all-operations, is-candidate, candidate, beats, best-from, best, replace-bound, extract, rounds, extract-all}

@@ -8,10 +8,11 @@ use native.Mathlib.Omega.{arith}
 use lib.IntN.{pos}
 use lib.Dec.{T}
 use Rattle.tree.specs.Outcome.{Outcome, ok, refused, _>>=_, each}
-use Rattle.tree.specs.Tree.{Name, xname, Tree, Const, Op, nil, _◂_, Div}
+use Rattle.tree.specs.Tree.{Name, xname, Tree, Const, Op, nil, _◂_}
+use Rattle.tree.specs.Kinds.{Div}
 use Rattle.tree.specs.Facts.{all-nodes}
 use Rattle.rewrite.specs.Rewrite.{replace, replace-divisor}
-use Rattle.cse.specs.Extract.{Binding, State, Candidate, bound, roots, best, replace-bound, extract, rounds, extract-all, all-operations, divisors, distinct, shared-divisors, sort-by-text, replace-divisor-each, replace-divisor-bound, reciprocal, reciprocal-each, reciprocals}
+use Rattle.cse.specs.Extract.{Binding, State, Candidate, bound, roots, best, replace-bound, extract, rounds, extract-all, all-operations, divisors, distinct, shared-divisors, sort-by-text, replace-divisor-each, replace-divisor-bound, bind-reciprocal, bind-reciprocals, reciprocals}
 use Rattle.tree.proofs.Logic.{and-left, and-right, and-both}
 use Rattle.rewrite.proofs.Names.{holds, holds-all, holds-append, all-nodes-hold, Holds, replace-holds, divisor-holds}
 use Rattle.cse.proofs.RoundsValue.{Chosen, chosen, divisors-known, distinct-known, shared-known, sort-known}
@@ -139,8 +140,8 @@ module _ (q : Name → Bool) (start : ℕ) (new : (i : ℕ) → start ≤ i → 
   unfolding holds
   one-over d h = and-both (holds q d) true h tt
 
-  reciprocal-held : (d : Tree) (s : State) → T (holds q d) → Held s → Held (reciprocal d s)
-  unfolding reciprocal
+  reciprocal-held : (d : Tree) (s : State) → T (holds q d) → Held s → Held (bind-reciprocal d s)
+  unfolding bind-reciprocal
   reciprocal-held d s h H =
       let g = new (s .next) (H .later) in
       record {
@@ -149,11 +150,11 @@ module _ (q : Name → Bool) (start : ℕ) (new : (i : ℕ) → start ≤ i → 
         later = (let x = H .later in omega arith);
       }
 
-  reciprocal-each-held : (l : List Tree) (s : State) → T (holds-all q l) → Held s → Held (reciprocal-each l s)
-  unfolding reciprocal-each holds-all
+  reciprocal-each-held : (l : List Tree) (s : State) → T (holds-all q l) → Held s → Held (bind-reciprocals l s)
+  unfolding bind-reciprocals holds-all
   reciprocal-each-held [] s h H = H
   reciprocal-each-held (d ∷ l) s h H =
-      reciprocal-each-held l (reciprocal d s) (and-right (holds q d) (holds-all q l) h) (reciprocal-held d s (and-left (holds q d) (holds-all q l) h) H)
+      reciprocal-each-held l (bind-reciprocal d s) (and-right (holds q d) (holds-all q l) h) (reciprocal-held d s (and-left (holds q d) (holds-all q l) h) H)
 
   pub reciprocals-held : (scoped : Bool) (s : State) → Held s → Held (reciprocals scoped s)
   unfolding reciprocals

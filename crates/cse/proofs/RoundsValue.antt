@@ -9,11 +9,12 @@ use native.Mathlib.Omega.{arith}
 use lib.IntN.{pos}
 use lib.Dec.{T, eqb, leb, ltb, ltb→lt, lt→ltb, eqb→eq, eqb-refl}
 use Rattle.tree.specs.Outcome.{Outcome, ok, refused, _>>=_, each}
-use Rattle.tree.specs.Tree.{Name, input, xname, mname, Tree, Forest, Sym, Const, Op, nil, _◂_, Div, eq-name}
+use Rattle.tree.specs.Tree.{Name, input, xname, mname, Tree, Forest, Sym, Const, Op, nil, _◂_, eq-name}
+use Rattle.tree.specs.Kinds.{Div}
 use Rattle.tree.specs.Facts.{all-nodes, outside, count, size}
 use Rattle.text.specs.Text.{display, before}
 use Rattle.rewrite.specs.Rewrite.{replace, replace-within, replace-divisor}
-use Rattle.cse.specs.Extract.{Binding, State, Candidate, bound, roots, is-candidate, candidate, beats, best-from, best, replace-bound, extract, rounds, extract-all, all-operations, divisor-of, divisors, distinct, shared-divisors, insert-by-text, sort-by-text, replace-divisor-each, replace-divisor-bound, reciprocal, reciprocal-each, reciprocals}
+use Rattle.cse.specs.Extract.{Binding, State, Candidate, bound, roots, is-candidate, candidate, beats, best-from, best, replace-bound, extract, rounds, extract-all, all-operations, divisor-of, divisors, distinct, shared-divisors, insert-by-text, sort-by-text, replace-divisor-each, replace-divisor-bound, bind-reciprocal, bind-reciprocals, reciprocals}
 use Rattle.tree.specs.Value.{Reading, Env, value, values}
 use Rattle.cse.specs.Read.{set}
 use Rattle.tree.proofs.Logic.{and-left, and-right, and-both}
@@ -69,7 +70,7 @@ module _ (p : Name → Bool) where
   unfolding best Chosen
   chosen scoped rs w = chosen-from scoped rs (all-nodes rs) none tt (all-nodes-hold p rs w)
 
-  -- the divisors to bind
+  -- the divisors to Let
   Divides : Option Tree → Type 0
   Divides none = Unit {0}
   Divides (some d) = T (holds p d)
@@ -388,8 +389,8 @@ module _ (R : Reading) (inp : List ℕ → Bool) (start : ℕ) where
     unfolding holds
     one-over k d h = and-both (holds (below inp start k) d) true h tt
 
-    reciprocal-keeps : (d : Tree) (s : State) → T (holds (below inp start (s .next)) d) → Model ρ vs s → Model ρ vs (reciprocal d s)
-    unfolding reciprocal
+    reciprocal-keeps : (d : Tree) (s : State) → T (holds (below inp start (s .next)) d) → Model ρ vs s → Model ρ vs (bind-reciprocal d s)
+    unfolding bind-reciprocal
     reciprocal-keeps d s h M =
         let x = Op Div (Const (pos 1) ◂ d ◂ nil) in
         let w = one-over (s .next) d h in
@@ -406,11 +407,11 @@ module _ (R : Reading) (inp : List ℕ → Bool) (start : ℕ) where
           numbered = numbered-more start (s .next) (s .lets) (replace-divisor-bound d (xname (s .next)) (s .lets)) x (M .numbered) (divided-names d (xname (s .next)) (s .lets));
         }
 
-    reciprocal-each-keeps : (l : List Tree) (s : State) → T (holds-all (below inp start (s .next)) l) → Model ρ vs s → Model ρ vs (reciprocal-each l s)
-    unfolding reciprocal-each holds-all reciprocal
+    reciprocal-each-keeps : (l : List Tree) (s : State) → T (holds-all (below inp start (s .next)) l) → Model ρ vs s → Model ρ vs (bind-reciprocals l s)
+    unfolding bind-reciprocals holds-all bind-reciprocal
     reciprocal-each-keeps [] s h M = M
     reciprocal-each-keeps (d ∷ l) s h M =
-        reciprocal-each-keeps l (reciprocal d s)
+        reciprocal-each-keeps l (bind-reciprocal d s)
         (weaken-all (below inp start (s .next)) (below inp start (suc (s .next))) (below-suc inp start (s .next)) l (and-right (holds (below inp start (s .next)) d) (holds-all (below inp start (s .next)) l) h))
         (reciprocal-keeps d s (and-left (holds (below inp start (s .next)) d) (holds-all (below inp start (s .next)) l) h) M)
 

@@ -9,11 +9,11 @@ use mathlib.Core.List.{List, [], _∷_, _++_, reverse, reverseAux, append-assoc}
 use native.Mathlib.Omega.{arith}
 use lib.ListN.{length, getD}
 use lib.Dec.{T, eqb, ltb, ltb→lt, lt→ltb, nltb→le, T-not, not-T, eqb→eq}
-use Rattle.tree.specs.Outcome.{Outcome, ok, refused, _>>=_}
+use Rattle.tree.specs.Outcome.{Outcome, ok, refused, _>>=_, by}
 use Rattle.tree.specs.Tree.{Name, input, xname, mname, Tree}
 use Rattle.cse.specs.Extract.{Binding, State, extract-all, reciprocals, roots}
-use Rattle.cse.specs.Answer.{Stmt, Arms, Answer, bind, fuse, arm, block, names, symbols, all-symbols, free, free-stmts, free-arms, elem}
-use Rattle.cse.specs.Order.{needs, member, taken, nothing, at-each, topo-sort-intermediates}
+use Rattle.cse.specs.Answer.{Intermediate, Arms, Answer, Let, Match, arm, block, names, symbols, all-symbols, free, free-stmts, free-arms, elem}
+use Rattle.cse.specs.Order.{needs, member, positions-taken, nothing, at-each, topo-sort-intermediates}
 use Rattle.cse.proofs.OrderLaws.{member-cases, member-later, member-here, All, Distinct, Ordered, Taken, taken-ok, none-missing}
 use Rattle.cse.specs.Scope.{Switch, Group, Work, Scoped, Armed, members, collect-switches, groups-from, replace-in-stmts, name-members, member-names, columns, arms-of-members, scope-arms, fuse-group, fuse-groups, fuse-all, binds, unfused, finish, cse-scope, deepest, as-answer, answer}
 use Rattle.tree.specs.Value.{Reading, Env, values}
@@ -54,32 +54,32 @@ different-append (x ∷ s) t a b f =
     (different-append s t (and-right (not (elem x s)) (all-different s) a) b (λ n u v. f n (elem-later n x s u) v))
 
 -- a statement's names, arms included, lie after those of the statements before it
-abbrev Spans : ℕ → ℕ → List Stmt → Type 0
+abbrev Spans : ℕ → ℕ → List Intermediate → Type 0
 Spans k top [] = k ≤ top
 Spans k top (s ∷ l) = (mid : ℕ) × (k ≤ mid) × Made k mid (bound-stmt s) × T (all-different (bound-stmt s)) × Spans mid top l
 
-spans-later : (k top : ℕ) (l : List Stmt) → Spans k top l → k ≤ top
+spans-later : (k top : ℕ) (l : List Intermediate) → Spans k top l → k ≤ top
 spans-later k top [] h = h
 spans-later k top (s ∷ l) h = (let x = h .1 in let y = spans-later (h .0) top l (h .4) in omega arith)
 
-spans-lower : (j k top : ℕ) (l : List Stmt) → j ≤ k → Spans k top l → Spans j top l
+spans-lower : (j k top : ℕ) (l : List Intermediate) → j ≤ k → Spans k top l → Spans j top l
 spans-lower j k top [] a h = omega arith
 spans-lower j k top (s ∷ l) a h = (h .0, (let x = h .1 in omega arith), made-more k (h .0) j (h .0) a (omega arith) (bound-stmt s) (h .2), h .3, h .4)
 
-spans-append : (k mid top : ℕ) (l r : List Stmt) → Spans k mid l → Spans mid top r → Spans k top (l ++ r)
+spans-append : (k mid top : ℕ) (l r : List Intermediate) → Spans k mid l → Spans mid top r → Spans k top (l ++ r)
 spans-append k mid top [] r g h = spans-lower k mid top r g h
 spans-append k mid top (s ∷ l) r g h = (g .0, g .1, g .2, g .3, spans-append (g .0) mid top l r (g .4) h)
 
-spans-at : (k top : ℕ) (l : List Stmt) → Spans k top l → (i : ℕ) → i < length l → Made k top (bound-stmt (getD l i nothing)) × T (all-different (bound-stmt (getD l i nothing)))
+spans-at : (k top : ℕ) (l : List Intermediate) → Spans k top l → (i : ℕ) → i < length l → Made k top (bound-stmt (getD l i nothing)) × T (all-different (bound-stmt (getD l i nothing)))
 spans-at k top [] h i a = absurd (omega arith)
 spans-at k top (s ∷ l) h zero a = (made-more k (h .0) k top (omega arith) (spans-later (h .0) top l (h .4)) (bound-stmt s) (h .2), h .3)
 spans-at k top (s ∷ l) h (suc i) a =
     let r = spans-at (h .0) top l (h .4) i (omega arith) in
     (made-more (h .0) top k top (h .1) (omega arith) (bound-stmt (getD l i nothing)) (r .0), r .1)
 
--- two statements bind different names
+-- two statements Let different names
 spans-apart :
-    (k top : ℕ) (l : List Stmt) → Spans k top l → (i j : ℕ) → i < length l → j < length l → (i ≡ j → ⊥) → (n : Name)
+    (k top : ℕ) (l : List Intermediate) → Spans k top l → (i j : ℕ) → i < length l → j < length l → (i ≡ j → ⊥) → (n : Name)
     → T (elem n (bound-stmt (getD l i nothing))) → T (elem n (bound-stmt (getD l j nothing))) → ⊥
 spans-apart k top [] h i j a b f n s t = omega arith
 spans-apart k top (x ∷ l) h zero zero a b f n s t = f refl
@@ -89,11 +89,11 @@ spans-apart k top (x ∷ l) h (suc i) zero a b f n s t =
     made-apart k (h .0) top (bound-stmt x) (bound-stmt (getD l i nothing)) (h .2) (spans-at (h .0) top l (h .4) i (omega arith) .0) n t s
 spans-apart k top (x ∷ l) h (suc i) (suc j) a b f n s t = spans-apart (h .0) top l (h .4) i j (omega arith) (omega arith) (λ e. f (ap suc e)) n s t
 
-spans-replaced : (m : Tree) (n : Name) (k top : ℕ) (l : List Stmt) → Spans k top l → Spans k top (replace-in-stmts m n l)
+spans-replaced : (m : Tree) (n : Name) (k top : ℕ) (l : List Intermediate) → Spans k top l → Spans k top (replace-in-stmts m n l)
 unfolding replace-in-stmts bound-stmt
 spans-replaced m n k top [] h = h
-spans-replaced m n k top (bind a e ∷ l) h = (h .0, h .1, h .2, h .3, spans-replaced m n (h .0) top l (h .4))
-spans-replaced m n k top (fuse c key ns arms ∷ l) h = (h .0, h .1, h .2, h .3, spans-replaced m n (h .0) top l (h .4))
+spans-replaced m n k top (Let a e ∷ l) h = (h .0, h .1, h .2, h .3, spans-replaced m n (h .0) top l (h .4))
+spans-replaced m n k top (Match c key ns arms ∷ l) h = (h .0, h .1, h .2, h .3, spans-replaced m n (h .0) top l (h .4))
 
 spans-named : (ms : List Switch) (w : Work) (k top : ℕ) → Spans k top (w .inters) → Spans k top (name-members ms w .inters)
 unfolding name-members
@@ -104,7 +104,7 @@ spans-named (s ∷ ms) w k top h =
 -- ---- in order: names are different still, and in the same range
 
 different-back :
-    (k top : ℕ) (l : List Stmt) → Spans k top l → (done : List ℕ) (acc : List Stmt) → Distinct done → All (λ j. j < length l) done → T (all-different (bound-stmts (block acc)))
+    (k top : ℕ) (l : List Intermediate) → Spans k top l → (done : List ℕ) (acc : List Intermediate) → Distinct done → All (λ j. j < length l) done → T (all-different (bound-stmts (block acc)))
     → ((i : ℕ) → T (member i done) → (n : Name) → T (elem n (bound-stmt (getD l i nothing))) → T (elem n (bound-stmts (block acc))) → ⊥)
     → T (all-different (bound-stmts (block (reverseAux (at-each l done) acc))))
 unfolding at-each bound-stmts block
@@ -123,19 +123,19 @@ different-back k top l h (i ∷ done) acc d a t f =
     all-in (i ∷ done) a j m = elim (member-cases j i done m) [ inl e ↦ subst (λ (y : ℕ). y < length l) e (a .0) | inr u ↦ all-in done (a .1) j u ]
 
 made-back :
-    (k top : ℕ) (l : List Stmt) → Spans k top l → (done : List ℕ) (acc : List Stmt) → All (λ j. j < length l) done → Made k top (bound-stmts (block acc))
+    (k top : ℕ) (l : List Intermediate) → Spans k top l → (done : List ℕ) (acc : List Intermediate) → All (λ j. j < length l) done → Made k top (bound-stmts (block acc))
     → Made k top (bound-stmts (block (reverseAux (at-each l done) acc)))
 unfolding at-each bound-stmts block
 made-back k top l h [] acc a m = m
 made-back k top l h (i ∷ done) acc a m =
     made-back k top l h done (getD l i nothing ∷ acc) (a .1) (made-append k top (bound-stmt (getD l i nothing)) (bound-stmts (block acc)) (spans-at k top l h i (a .0) .0) m)
 
-free-on : (xs acc : List Stmt) (n : Name) → T (elem n (free-stmts (block acc))) → T (elem n (free-stmts (block (reverseAux xs acc))))
+free-on : (xs acc : List Intermediate) (n : Name) → T (elem n (free-stmts (block acc))) → T (elem n (free-stmts (block (reverseAux xs acc))))
 free-on [] acc n t = t
 free-on (s ∷ xs) acc n t = free-on xs (s ∷ acc) n (unfold free-stmts block in (elem-right n (free s) (free-stmts (block acc)) t))
 
 free-placed :
-    (l : List Stmt) (done : List ℕ) (acc : List Stmt) (i : ℕ) (n : Name) → T (member i done) → T (elem n (free (getD l i nothing)))
+    (l : List Intermediate) (done : List ℕ) (acc : List Intermediate) (i : ℕ) (n : Name) → T (member i done) → T (elem n (free (getD l i nothing)))
     → T (elem n (free-stmts (block (reverseAux (at-each l done) acc))))
 unfolding at-each
 free-placed l [] acc i n m t = absurd (unfold member in m)
@@ -148,7 +148,7 @@ free-placed l (j ∷ done) acc i n m t =
 
 -- ---- what statements read
 
--- a name bound before and in scope, or an input symbol that the answer does not bind
+-- a name bound before and in scope, or an input symbol that the answer does not Let
 abbrev Known : List Name → List Name → List Name → Name → Type 0
 Known inputs bound scope n = T (elem n scope || (elem n inputs && not (elem n bound)))
 
@@ -168,27 +168,27 @@ known-by inputs bound scope (n ∷ ns) f =
     (known-by inputs bound scope ns (λ s t. f s (elem-later s n ns t)))
 
 -- symbols of bound expressions and keys pass a test, and arms have a property
-abbrev Each : (Name → Bool) → (Arms → Type 0) → List Stmt → Type 0
+abbrev Each : (Name → Bool) → (Arms → Type 0) → List Intermediate → Type 0
 Each p A [] = Unit {0}
-Each p A (bind n e ∷ l) = T (holds p e) × Each p A l
-Each p A (fuse k key ns arms ∷ l) = (T (holds p key) × A arms) × Each p A l
+Each p A (Let n e ∷ l) = T (holds p e) × Each p A l
+Each p A (Match k key ns arms ∷ l) = (T (holds p key) × A arms) × Each p A l
 
-each-more : (p q : Name → Bool) (A B : Arms → Type 0) → ((n : Name) → T (p n) → T (q n)) → ((a : Arms) → A a → B a) → (l : List Stmt) → Each p A l → Each q B l
+each-more : (p q : Name → Bool) (A B : Arms → Type 0) → ((n : Name) → T (p n) → T (q n)) → ((a : Arms) → A a → B a) → (l : List Intermediate) → Each p A l → Each q B l
 each-more p q A B f g [] h = tt
-each-more p q A B f g (bind n e ∷ l) h = (weaken p q f e (h .0), each-more p q A B f g l (h .1))
-each-more p q A B f g (fuse k key ns arms ∷ l) h = ((weaken p q f key (h .0 .0), g arms (h .0 .1)), each-more p q A B f g l (h .1))
+each-more p q A B f g (Let n e ∷ l) h = (weaken p q f e (h .0), each-more p q A B f g l (h .1))
+each-more p q A B f g (Match k key ns arms ∷ l) h = ((weaken p q f key (h .0 .0), g arms (h .0 .1)), each-more p q A B f g l (h .1))
 
-each-append : (p : Name → Bool) (A : Arms → Type 0) (l r : List Stmt) → Each p A l → Each p A r → Each p A (l ++ r)
+each-append : (p : Name → Bool) (A : Arms → Type 0) (l r : List Intermediate) → Each p A l → Each p A r → Each p A (l ++ r)
 each-append p A [] r g h = h
-each-append p A (bind n e ∷ l) r g h = (g .0, each-append p A l r (g .1) h)
-each-append p A (fuse k key ns arms ∷ l) r g h = (g .0, each-append p A l r (g .1) h)
+each-append p A (Let n e ∷ l) r g h = (g .0, each-append p A l r (g .1) h)
+each-append p A (Match k key ns arms ∷ l) r g h = (g .0, each-append p A l r (g .1) h)
 
 module _ (p : Name → Bool) (A : Arms → Type 0) where
-  each-replaced : (m : Tree) (n : Name) → T (p n) → (l : List Stmt) → Each p A l → Each p A (replace-in-stmts m n l)
+  each-replaced : (m : Tree) (n : Name) → T (p n) → (l : List Intermediate) → Each p A l → Each p A (replace-in-stmts m n l)
   unfolding replace-in-stmts
   each-replaced m n new [] h = tt
-  each-replaced m n new (bind a e ∷ l) h = (outside-holds p m n new e (h .0), each-replaced m n new l (h .1))
-  each-replaced m n new (fuse k key ns arms ∷ l) h = ((outside-holds p m n new key (h .0 .0), h .0 .1), each-replaced m n new l (h .1))
+  each-replaced m n new (Let a e ∷ l) h = (outside-holds p m n new e (h .0), each-replaced m n new l (h .1))
+  each-replaced m n new (Match k key ns arms ∷ l) h = ((outside-holds p m n new key (h .0 .0), h .0 .1), each-replaced m n new l (h .1))
 
   -- naming members keeps this for a test that the new names pass
   each-named :
@@ -211,25 +211,25 @@ closed-more p q f a h inputs bound scope g = h inputs bound scope (λ n t u. g n
 
 -- such a statement is in scope where what it reads is known
 each-scoped :
-    (p : Name → Bool) (l : List Stmt) → Each p (Closed p) l → (i : ℕ) → i < length l → (inputs bound scope : List Name)
+    (p : Name → Bool) (l : List Intermediate) → Each p (Closed p) l → (i : ℕ) → i < length l → (inputs bound scope : List Name)
     → ((n : Name) → T (elem n (free (getD l i nothing))) → T (p n) → Known inputs bound scope n) → T (stmt-in-scope inputs bound (getD l i nothing) scope)
 unfolding stmt-in-scope free
 each-scoped p [] h i a inputs bound scope f = absurd (omega arith)
-each-scoped p (bind x e ∷ l) h zero a inputs bound scope f = known-by inputs bound scope (symbols e) (λ n t. f n t (holds-at p e n (h .0) t))
-each-scoped p (fuse k key ns arms ∷ l) h zero a inputs bound scope f =
+each-scoped p (Let x e ∷ l) h zero a inputs bound scope f = known-by inputs bound scope (symbols e) (λ n t. f n t (holds-at p e n (h .0) t))
+each-scoped p (Match k key ns arms ∷ l) h zero a inputs bound scope f =
     and-both (known inputs bound scope (symbols key)) (arms-in-scope inputs bound arms scope)
     (known-by inputs bound scope (symbols key) (λ n t. f n (elem-left n (symbols key) (free-arms arms) t) (holds-at p key n (h .0 .0) t)))
     (h .0 .1 inputs bound scope (λ n t u. f n (elem-right n (symbols key) (free-arms arms) t) u))
-each-scoped p (bind x e ∷ l) h (suc i) a inputs bound scope f = each-scoped p l (h .1) i (omega arith) inputs bound scope f
-each-scoped p (fuse k key ns arms ∷ l) h (suc i) a inputs bound scope f = each-scoped p l (h .1) i (omega arith) inputs bound scope f
+each-scoped p (Let x e ∷ l) h (suc i) a inputs bound scope f = each-scoped p l (h .1) i (omega arith) inputs bound scope f
+each-scoped p (Match k key ns arms ∷ l) h (suc i) a inputs bound scope f = each-scoped p l (h .1) i (omega arith) inputs bound scope f
 
-each-free : (q : Name → Bool) (l : List Stmt) → Each q (λ a. Sub q (free-arms a)) l → (i : ℕ) → i < length l → Sub q (free (getD l i nothing))
+each-free : (q : Name → Bool) (l : List Intermediate) → Each q (λ a. Sub q (free-arms a)) l → (i : ℕ) → i < length l → Sub q (free (getD l i nothing))
 unfolding free
 each-free q [] h i a = absurd (omega arith)
-each-free q (bind x e ∷ l) h zero a = λ n t. holds-at q e n (h .0) t
-each-free q (fuse k key ns arms ∷ l) h zero a = sub-append q (symbols key) (free-arms arms) (λ n t. holds-at q key n (h .0 .0) t) (h .0 .1)
-each-free q (bind x e ∷ l) h (suc i) a = each-free q l (h .1) i (omega arith)
-each-free q (fuse k key ns arms ∷ l) h (suc i) a = each-free q l (h .1) i (omega arith)
+each-free q (Let x e ∷ l) h zero a = λ n t. holds-at q e n (h .0) t
+each-free q (Match k key ns arms ∷ l) h zero a = sub-append q (symbols key) (free-arms arms) (λ n t. holds-at q key n (h .0 .0) t) (h .0 .1)
+each-free q (Let x e ∷ l) h (suc i) a = each-free q l (h .1) i (omega arith)
+each-free q (Match k key ns arms ∷ l) h (suc i) a = each-free q l (h .1) i (omega arith)
 
 -- ---- what a scope gives
 
@@ -365,7 +365,7 @@ module _ (start low : ℕ) (from : start ≤ low) where
         (o >>= λ a.
         ok (record {
           results = name-members (members g) w .results;
-          inters = name-members (members g) w .inters ++ (fuse (g .first .kind) (g .first .key) (member-names (w .next) (members g)) (a .arms) ∷ []);
+          inters = name-members (members g) w .inters ++ (Match (g .first .kind) (g .first .key) (member-names (w .next) (members g)) (a .arms) ∷ []);
           next = a .next;
           extracted = name-members (members g) w .extracted + a .extracted;
         }))
@@ -380,7 +380,7 @@ module _ (start low : ℕ) (from : start ≤ low) where
         record {
           results = N .0;
           stmts =
-              each-append q (λ a. Sub q (free-arms a)) (v .inters) (fuse (g .first .kind) (g .first .key) (member-names (w .next) (members g)) (a .arms) ∷ []) (N .1) (
+              each-append q (λ a. Sub q (free-arms a)) (v .inters) (Match (g .first .kind) (g .first .key) (member-names (w .next) (members g)) (a .arms) ∷ []) (N .1) (
                 (
                   first-key-known q g f,
                   (λ n t.
@@ -412,12 +412,12 @@ module _ (start low : ℕ) (from : start ≤ low) where
   Staged (ok w) = Stage w
   Staged (refused i) = Unit {0}
 
-  match-names : (l : List Stmt) (k : ℕ) (key : Tree) (ns : List Name) (arms : Arms) (n : Name) → T (elem n (all-names l ++ ns)) → T (elem n (all-names (l ++ (fuse k key ns arms ∷ []))))
+  match-names : (l : List Intermediate) (k : ℕ) (key : Tree) (ns : List Name) (arms : Arms) (n : Name) → T (elem n (all-names l ++ ns)) → T (elem n (all-names (l ++ (Match k key ns arms ∷ []))))
   match-names l k key ns arms n t =
-      subst (λ (x : List Name). T (elem n x)) (sym (all-names-append l (fuse k key ns arms ∷ [])))
+      subst (λ (x : List Name). T (elem n x)) (sym (all-names-append l (Match k key ns arms ∷ [])))
       (elim (elem-append n (all-names l) ns t) [
-        | inl a ↦ elem-left n (all-names l) (all-names (fuse k key ns arms ∷ [])) a
-        | inr b ↦ elem-right n (all-names l) (all-names (fuse k key ns arms ∷ [])) (unfold all-names names in (elem-left n ns [] b))
+        | inl a ↦ elem-left n (all-names l) (all-names (Match k key ns arms ∷ [])) a
+        | inr b ↦ elem-right n (all-names l) (all-names (Match k key ns arms ∷ [])) (unfold all-names names in (elem-left n ns [] b))
       ])
 
   stage-step :
@@ -427,7 +427,7 @@ module _ (start low : ℕ) (from : start ≤ low) where
       (o >>= λ a.
       ok (record {
         results = name-members (members g) w .results;
-        inters = name-members (members g) w .inters ++ (fuse (g .first .kind) (g .first .key) (member-names (w .next) (members g)) (a .arms) ∷ []);
+        inters = name-members (members g) w .inters ++ (Match (g .first .kind) (g .first .key) (member-names (w .next) (members g)) (a .arms) ∷ []);
         next = a .next;
         extracted = name-members (members g) w .extracted + a .extracted;
       }))
@@ -436,7 +436,7 @@ module _ (start low : ℕ) (from : start ≤ low) where
   stage-step g w f S (ok a) A =
       let v = name-members (members g) w in
       let ns = member-names (w .next) (members g) in
-      let st : Stmt = fuse (g .first .kind) (g .first .key) ns (a .arms) in
+      let st : Intermediate = Match (g .first .kind) (g .first .key) ns (a .arms) in
       let later : w .next ≤ v .next = name-members-later (members g) w in
       -- with the new names, before their match stands
       let p : Name → Bool = here (all-names (w .inters) ++ ns) in
@@ -532,12 +532,12 @@ module _ (scope : ℕ → List Tree → Outcome Scoped) (ih : (start : ℕ) (es 
 
 module _ (inputs bound scope : List Name) where
   -- each statement of a list, the latest first, reads what is known after those behind it
-  Fine : List Stmt → Type 0
+  Fine : List Intermediate → Type 0
   Fine [] = Unit {0}
   Fine (s ∷ l) = T (stmt-in-scope inputs bound s (all-names l ++ scope)) × Fine l
 
   scope-back :
-      (xs acc : List Stmt) (vs : List Tree) → Fine xs → T (in-scope inputs bound (block acc) (all-names xs ++ scope) vs)
+      (xs acc : List Intermediate) (vs : List Tree) → Fine xs → T (in-scope inputs bound (block acc) (all-names xs ++ scope) vs)
       → T (in-scope inputs bound (block (reverseAux xs acc)) scope vs)
   unfolding Fine all-names
   scope-back [] acc vs f h = h
@@ -551,7 +551,7 @@ module _ (inputs bound scope : List Name) where
   unfolding in-scope block
   results-scoped s vs h = h
 
-  module _ (start : ℕ) (l : List Stmt) (closed : Each (λ n. under start n || elem n (all-names l)) (Closed (λ n. under start n || elem n (all-names l))) l) where
+  module _ (start : ℕ) (l : List Intermediate) (closed : Each (λ n. under start n || elem n (all-names l)) (Closed (λ n. under start n || elem n (all-names l))) l) where
     fine :
         (done : List ℕ) → Ordered (needs l l) done → All (λ j. j < length l) done
         → ((i : ℕ) → T (member i done) → (n : Name) → T (elem n (free (getD l i nothing))) → T (under start n) → Known inputs bound scope n) → Fine (at-each l done)
@@ -569,11 +569,11 @@ module _ (inputs bound scope : List Name) where
 
     -- where none is missing
     sorted-scoped :
-        (results : List Tree) → T (holds-all (λ n. under start n || elem n (all-names l)) results) → length (taken (needs l l)) ≡ length l
-        → ((n : Name) → T (elem n (free-stmts (block (reverse (at-each l (taken (needs l l))))) ++ all-symbols results)) → T (under start n) → Known inputs bound scope n)
-        → T (in-scope inputs bound (block (reverse (at-each l (taken (needs l l))))) scope results)
+        (results : List Tree) → T (holds-all (λ n. under start n || elem n (all-names l)) results) → length (positions-taken (needs l l)) ≡ length l
+        → ((n : Name) → T (elem n (free-stmts (block (reverse (at-each l (positions-taken (needs l l))))) ++ all-symbols results)) → T (under start n) → Known inputs bound scope n)
+        → T (in-scope inputs bound (block (reverse (at-each l (positions-taken (needs l l))))) scope results)
     sorted-scoped results h e f =
-        let done = taken (needs l l) in
+        let done = positions-taken (needs l l) in
         let k : Taken (needs l l) done = taken-ok (needs l l) in
         let inside : All (λ j. j < length l) done = subst (λ (m : ℕ). All (λ j. j < m) done) (needs-length l l) (k .inside) in
         let stmts = free-stmts (block (reverse (at-each l done))) in
@@ -597,9 +597,9 @@ outside p start n = p n || not (under start n)
 
 module _ (start : ℕ) (es : List Tree) where
   sorted-step :
-      (w : Work) (x : ℕ) (l : List Stmt) (b : Bool) → (T b → Scope-names start es (record { inters = l; results = w .results; next = w .next; extracted = x }))
+      (w : Work) (x : ℕ) (l : List Intermediate) (b : Bool) → (T b → Scope-names start es (record { inters = l; results = w .results; next = w .next; extracted = x }))
       → Named start es
-      ((elim b as (λ _. Outcome (List Stmt)) [ true ↦ ok l | false ↦ refused 11 ])
+      ((elim b as (λ _. Outcome (List Intermediate)) [ true ↦ ok l | false ↦ refused (by 11) ])
       >>= λ l. ok (record { inters = l; results = w .results; next = w .next; extracted = x }))
   unfolding Named
   sorted-step w x l true h = h tt
@@ -619,7 +619,7 @@ module _ (start : ℕ) (es : List Tree) where
   unfolding finish topo-sort-intermediates here
   finished low from w H S =
       let l = w .inters in
-      let done = taken (needs l l) in
+      let done = positions-taken (needs l l) in
       let k : Taken (needs l l) done = taken-ok (needs l l) in
       let inside : All (λ j. j < length l) done = subst (λ (m : ℕ). All (λ j. j < m) done) (needs-length l l) (k .inside) in
       sorted-step w (w .extracted) (reverse (at-each l done)) (eqb (length done) (length l))

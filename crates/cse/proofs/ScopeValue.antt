@@ -8,11 +8,11 @@ use mathlib.Core.List.{List, [], _∷_, _++_, reverse, append-assoc}
 use native.Mathlib.Omega.{arith}
 use lib.ListN.{length, getD, List·getD-eq-default}
 use lib.Dec.{T, eqb, ltb, ltb→lt, lt→ltb, nltb→le, not-T, eqb→eq, eqb-refl}
-use Rattle.tree.specs.Outcome.{Outcome, ok, refused, _>>=_}
+use Rattle.tree.specs.Outcome.{Outcome, ok, refused, _>>=_, by}
 use Rattle.tree.specs.Tree.{Name, input, xname, mname, Tree, Sym}
 use Rattle.cse.specs.Extract.{Binding, State, extract-all, reciprocals, roots}
-use Rattle.cse.specs.Answer.{Stmt, Arms, Answer, bind, fuse, arm, block, names, symbols, all-symbols, free, free-stmts, free-arms, elem}
-use Rattle.cse.specs.Order.{needs, taken, nothing, at-each, topo-sort-intermediates}
+use Rattle.cse.specs.Answer.{Intermediate, Arms, Answer, Let, Match, arm, block, names, symbols, all-symbols, free, free-stmts, free-arms, elem}
+use Rattle.cse.specs.Order.{needs, positions-taken, nothing, at-each, topo-sort-intermediates}
 use Rattle.cse.proofs.OrderLaws.{All, Taken, taken-ok}
 use Rattle.rewrite.specs.Rewrite.{replace-outside-arms}
 use Rattle.cse.specs.Scope.{Switch, Group, Work, Scoped, Armed, members, collect-switches, groups-from, replace-in-results, replace-in-stmts, name-members, member-names, columns, arms-of-members, scope-arms, fuse-group, fuse-groups, fuse-all, binds, unfused, finish, cse-scope, deepest, as-answer, answer}
@@ -66,16 +66,16 @@ names-to-come k j (s ∷ ms) n h t u =
       | inr v ↦ names-to-come k (suc j) ms n (omega arith) v u
     ]
 
-pub all-names-append : (l r : List Stmt) → all-names (l ++ r) ≡ all-names l ++ all-names r
+pub all-names-append : (l r : List Intermediate) → all-names (l ++ r) ≡ all-names l ++ all-names r
 unfolding all-names
 all-names-append [] r = refl
 all-names-append (s ∷ l) r = ap {B = List Name} (λ x. names s ++ x) (all-names-append l r) ∙ sym (append-assoc (names s) (all-names l) (all-names r))
 
-names-replaced : (m : Tree) (n : Name) (l : List Stmt) → all-names (replace-in-stmts m n l) ≡ all-names l
+names-replaced : (m : Tree) (n : Name) (l : List Intermediate) → all-names (replace-in-stmts m n l) ≡ all-names l
 unfolding all-names replace-in-stmts names
 names-replaced m n [] = refl
-names-replaced m n (bind a e ∷ l) = ap {B = List Name} (λ x. a ∷ x) (names-replaced m n l)
-names-replaced m n (fuse k key ns arms ∷ l) = ap {B = List Name} (λ x. ns ++ x) (names-replaced m n l)
+names-replaced m n (Let a e ∷ l) = ap {B = List Name} (λ x. a ∷ x) (names-replaced m n l)
+names-replaced m n (Match k key ns arms ∷ l) = ap {B = List Name} (λ x. ns ++ x) (names-replaced m n l)
 
 -- the work after one member is named
 abbrev pub one-named : Switch → Work → Work
@@ -105,7 +105,7 @@ names-made (s ∷ ms) w n t =
       | inr u ↦ names-made ms w1 n u
     ]
 
-match-name : (k : ℕ) (key : Tree) (arms : Arms) (n : Name) (ns : List Name) → T (elem n ns) → T (elem n (all-names (fuse k key ns arms ∷ [])))
+match-name : (k : ℕ) (key : Tree) (arms : Arms) (n : Name) (ns : List Name) → T (elem n ns) → T (elem n (all-names (Match k key ns arms ∷ [])))
 unfolding all-names names
 match-name k key arms n ns t = elem-left n ns [] t
 
@@ -144,32 +144,32 @@ module _ (R : Reading) where
 
   -- ---- statements that leave an environment as it is
 
-  abbrev Fixed : Env → Stmt → Type 0
+  abbrev Fixed : Env → Intermediate → Type 0
   Fixed σ s = (n : Name) → Like R (read-stmt R s σ n) (σ n)
 
-  abbrev Good : ℕ → Env → List Stmt → Type 0
+  abbrev Good : ℕ → Env → List Intermediate → Type 0
   Good k σ [] = Unit {0}
   Good k σ (s ∷ l) = (Fixed σ s × Sub (under k) (free s) × Sub (under k) (names s)) × Good k σ l
 
-  fixed-more : (p : Name → Bool) (s : Stmt) (σ τ : Env) → Sub p (free s) → Sub p (names s) → ((n : Name) → T (p n) → τ n ≡ σ n) → Fixed σ s → Fixed τ s
+  fixed-more : (p : Name → Bool) (s : Intermediate) (σ τ : Env) → Sub p (free s) → Sub p (names s) → ((n : Name) → T (p n) → τ n ≡ σ n) → Fixed σ s → Fixed τ s
   fixed-more p s σ τ u v same f n =
       elim (decide (elem n (names s))) [
         | inl t ↦ stmt-like R p s τ σ u (λ x h. reduce (same x h)) n (λ g. absurd (g t)) ∙ f n ∙ reduce (sym (same n (v n t)))
         | inr t ↦ reduce (read-apart R s τ n t)
       ]
 
-  good-more : (k j : ℕ) (σ τ : Env) → k ≤ j → ((n : Name) → T (under k n) → τ n ≡ σ n) → (l : List Stmt) → Good k σ l → Good j τ l
+  good-more : (k j : ℕ) (σ τ : Env) → k ≤ j → ((n : Name) → T (under k n) → τ n ≡ σ n) → (l : List Intermediate) → Good k σ l → Good j τ l
   good-more k j σ τ h same [] g = tt
   good-more k j σ τ h same (s ∷ l) g = (
     (fixed-more (under k) s σ τ (g .0 .1) (g .0 .2) same (g .0 .0), sub-le k j h (free s) (g .0 .1), sub-le k j h (names s) (g .0 .2)),
     good-more k j σ τ h same l (g .1),
   )
 
-  good-append : (k : ℕ) (σ : Env) (l r : List Stmt) → Good k σ l → Good k σ r → Good k σ (l ++ r)
+  good-append : (k : ℕ) (σ : Env) (l r : List Intermediate) → Good k σ l → Good k σ r → Good k σ (l ++ r)
   good-append k σ [] r g h = h
   good-append k σ (s ∷ l) r g h = (g .0, good-append k σ l r (g .1) h)
 
-  good-at : (k : ℕ) (σ : Env) (l : List Stmt) → Good k σ l → (i : ℕ) → i < length l → Fixed σ (getD l i nothing) × Sub (under k) (free (getD l i nothing))
+  good-at : (k : ℕ) (σ : Env) (l : List Intermediate) → Good k σ l → (i : ℕ) → i < length l → Fixed σ (getD l i nothing) × Sub (under k) (free (getD l i nothing))
   good-at k σ [] g i h = absurd (omega arith)
   good-at k σ (s ∷ l) g zero h = (g .0 .0, g .0 .1)
   good-at k σ (s ∷ l) g (suc i) h = good-at k σ l (g .1) i (omega arith)
@@ -178,10 +178,10 @@ module _ (R : Reading) where
     symbols-replaced : (e : Tree) → Sub (under k) (symbols e) → Sub (under k) (symbols (replace-outside-arms m n e))
     symbols-replaced e u x t = holds-at (under k) (replace-outside-arms m n e) x (outside-holds (under k) m n new e (holds-by (under k) e u)) t
 
-    good-replaced : (l : List Stmt) → Good k σ l → Good k σ (replace-in-stmts m n l)
+    good-replaced : (l : List Intermediate) → Good k σ l → Good k σ (replace-in-stmts m n l)
     unfolding replace-in-stmts read-stmt free names
     good-replaced [] g = tt
-    good-replaced (bind a e ∷ l) g = (
+    good-replaced (Let a e ∷ l) g = (
       (
         (λ x. subst (λ (v : ℕ). Like R (set σ a v x) (σ x)) (sym (replace-outside-arms-keeps R σ m n h e)) (g .0 .0 x)),
         symbols-replaced e (g .0 .1),
@@ -189,7 +189,7 @@ module _ (R : Reading) where
       ),
       good-replaced l (g .1),
     )
-    good-replaced (fuse c key ns arms ∷ l) g = (
+    good-replaced (Match c key ns arms ∷ l) g = (
       (
         (λ x.
             subst (λ (v : ℕ). Like R (set-each σ ns (read-arm R arms (choice R c (arm-count arms) v) σ) x) (σ x)) (sym (replace-outside-arms-keeps R σ m n h key)) (g .0 .0 x)),
@@ -322,7 +322,7 @@ module _ (R : Reading) where
     match-fixed :
         (k : ℕ) (ms : List Switch) (arms : Arms) → All-like p a ms → Tagged σ k ms → arm-count arms ≡ length (a .arms)
         → ((c : ℕ) → read-arm R arms c σ ≡ getD (values-each R σ (columns (length (a .arms)) (arms-of-members ms))) c [])
-        → Fixed σ (fuse (a .kind) (a .key) (member-names k ms) arms)
+        → Fixed σ (Match (a .kind) (a .key) (member-names k ms) arms)
     unfolding read-stmt choice-of
     match-fixed k ms arms h t e f n =
         set-each-fits R (member-names k ms) (read-arm R arms (choice R (a .kind) (arm-count arms) (value R σ (a .key))) σ) σ σ
@@ -415,7 +415,7 @@ module _ (R : Reading) where
         (o >>= λ a.
         ok (record {
           results = name-members (members g) w .results;
-          inters = name-members (members g) w .inters ++ (fuse (g .first .kind) (g .first .key) (member-names (w .next) (members g)) (a .arms) ∷ []);
+          inters = name-members (members g) w .inters ++ (Match (g .first .kind) (g .first .key) (member-names (w .next) (members g)) (a .arms) ∷ []);
           next = a .next;
           extracted = name-members (members g) w .extracted + a .extracted;
         }))
@@ -425,7 +425,7 @@ module _ (R : Reading) where
         let v = name-members (members g) w in
         let like = members-like (under low) g f in
         let ns = member-names (w .next) (members g) in
-        let st : Stmt = fuse (g .first .kind) (g .first .key) ns (a .arms) in
+        let st : Intermediate = Match (g .first .kind) (g .first .key) ns (a .arms) in
         let upto : low ≤ a .next = (let x = S .above in let y = N .later in let z = A .later in omega arith) in
         record {
           env = N .env;
@@ -551,9 +551,9 @@ module _ (R : Reading) where
 
   module _ (start : ℕ) (es : List Tree) where
     sorted-step :
-        (w : Work) (x : ℕ) (l : List Stmt) (b : Bool) → (T b → Scope-reads start es (record { inters = l; results = w .results; next = w .next; extracted = x }))
+        (w : Work) (x : ℕ) (l : List Intermediate) (b : Bool) → (T b → Scope-reads start es (record { inters = l; results = w .results; next = w .next; extracted = x }))
         → Reads start es
-        ((elim b as (λ _. Outcome (List Stmt)) [ true ↦ ok l | false ↦ refused 11 ])
+        ((elim b as (λ _. Outcome (List Intermediate)) [ true ↦ ok l | false ↦ refused (by 11) ])
         >>= λ l. ok (record { inters = l; results = w .results; next = w .next; extracted = x }))
     unfolding Reads
     sorted-step w x l true h = h tt
@@ -564,7 +564,7 @@ module _ (R : Reading) where
       unfolding finish topo-sort-intermediates
       finished w S =
           let l = w .inters in
-          let done = taken (needs l l) in
+          let done = positions-taken (needs l l) in
           let k : Taken (needs l l) done = taken-ok (needs l l) in
           let inside : All (λ j. j < length l) done = subst (λ (m : ℕ). All (λ j. j < m) done) (needs-length l l) (k .inside) in
           let S0 = S (λ n. 0) in

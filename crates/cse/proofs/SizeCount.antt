@@ -1,4 +1,4 @@
--- The total size, nodes of results and bindings: no round raises it, and no reciprocal raises that of results and of the rounds' bindings.
+-- The total size, nodes of results and bindings: no round raises it, and no bind-reciprocal raises that of results and of the rounds' bindings.
 -- Assumes nothing.
 use Prim.Native.Nat.{ℕ, zero, suc, _+_, _-_, _*_, _≤_}
 use mathlib.Core.Path.{_≡_, refl, sym, _∙_, ap, ap₂, subst}
@@ -12,11 +12,13 @@ use lib.ListN.{length}
 use lib.Dec.{T, ltb}
 use lib.Ieee as Ieee
 use Rattle.tree.specs.Outcome.{Outcome, ok, refused, _>>=_}
-use Rattle.tree.specs.Tree.{Name, input, xname, mname, Tree, Forest, Sym, Const, Op, nil, _◂_, Mul, Div, well-formed}
+use Rattle.tree.specs.Tree.{Name, input, xname, mname, Tree, Forest, Sym, Const, Op, nil, _◂_}
+use Rattle.tree.specs.Kinds.{Mul, Div}
+use Rattle.tree.proofs.Formed.{well-formed}
 use Rattle.tree.specs.Facts.{cost, has-symbol, size, nodes, nodes-of, all-nodes, count}
 use Rattle.rewrite.specs.Rewrite.{one, flatten-mul-factors, is-mul, replace}
-use Rattle.cse.specs.Extract.{State, Candidate, bound, roots, is-candidate, best, extract, rounds, extract-all, divisors, replace-divisor-each, reciprocal, reciprocal-each, reciprocals, all-operations}
-use Rattle.cse.specs.Answer.{Stmt, Stmts, Answer, bind, fuse, block}
+use Rattle.cse.specs.Extract.{State, Candidate, bound, roots, is-candidate, best, extract, rounds, extract-all, divisors, replace-divisor-each, bind-reciprocal, bind-reciprocals, reciprocals, all-operations}
+use Rattle.cse.specs.Answer.{Intermediate, Intermediates, Answer, Let, Match, block}
 use Rattle.cse.specs.Scope.{binds, answer}
 use Rattle.cse.specs.Demand.{extracted-exprs}
 use Rattle.tree.proofs.Logic.{and-left, and-right}
@@ -182,12 +184,12 @@ inverse-size d =
     let b : sizes nil (Const (pos 1) ◂ d ◂ nil) ≡ 1 + (size d + 0) = (unfold sizes size in refl) in
     omega arith)
 
-pub reciprocal-each-size : (l : List Tree) (s : State) → total-size (roots (reciprocal-each l s)) ≤ total-size (roots s) + reciprocals-most l
-unfolding reciprocal-each reciprocals-most sum-of
+pub reciprocal-each-size : (l : List Tree) (s : State) → total-size (roots (bind-reciprocals l s)) ≤ total-size (roots s) + reciprocals-most l
+unfolding bind-reciprocals reciprocals-most sum-of
 reciprocal-each-size [] s = omega arith
 reciprocal-each-size (d ∷ l) s =
-    (let a = reciprocal-each-size l (reciprocal d s) in
-    let b : total-size (roots (reciprocal d s)) ≡ total-size (replace-divisor-each d (xname (s .next)) (roots s)) + total-size (inverse d ∷ []) =
+    (let a = reciprocal-each-size l (bind-reciprocal d s) in
+    let b : total-size (roots (bind-reciprocal d s)) ≡ total-size (replace-divisor-each d (xname (s .next)) (roots s)) + total-size (inverse d ∷ []) =
     ap (sum-of size) (roots-reciprocal d s) ∙ sum-append size (replace-divisor-each d (xname (s .next)) (roots s)) (inverse d ∷ []) in
     let c = divided-falls size 0 divisor-size d (xname (s .next)) (roots s) in
     let e = inverse-size d in
@@ -257,19 +259,19 @@ divisor-half scoped s =
 
 -- ---- the flat answer, reciprocals left out
 
-extracted-size : (x : ℕ) (l : List Stmt) → total-size (extracted-exprs x (block l)) ≡ summed (from-rounds size x) l
+extracted-size : (x : ℕ) (l : List Intermediate) → total-size (extracted-exprs x (block l)) ≡ summed (from-rounds size x) l
 unfolding extracted-exprs block sum-of summed
 extracted-size x [] = refl
-extracted-size x (bind (input s) e ∷ l) = (let q = extracted-size x l in omega arith)
-extracted-size x (bind (xname i) e ∷ l) = go (ltb i x) (extracted-size x l)
+extracted-size x (Let (input s) e ∷ l) = (let q = extracted-size x l in omega arith)
+extracted-size x (Let (xname i) e ∷ l) = go (ltb i x) (extracted-size x l)
   where
     go : (b : Bool) → total-size (extracted-exprs x (block l)) ≡ summed (from-rounds size x) l
         → total-size (elim b [ true ↦ e ∷ extracted-exprs x (block l) | false ↦ extracted-exprs x (block l) ])
         ≡ elim b as (λ _. ℕ) [ true ↦ size e | false ↦ 0 ] + summed (from-rounds size x) l
     go true h = omega arith
     go false h = omega arith
-extracted-size x (bind (mname i) e ∷ l) = (let q = extracted-size x l in omega arith)
-extracted-size x (fuse k key ns arms ∷ l) = (let q = extracted-size x l in omega arith)
+extracted-size x (Let (mname i) e ∷ l) = (let q = extracted-size x l in omega arith)
+extracted-size x (Match k key ns arms ∷ l) = (let q = extracted-size x l in omega arith)
 
 pub flat-size :
     (es : List Tree) → T (well-formed-all es) → T (holds-all (below (λ s. true) 0 0) es) → (a : Answer) → answer false es ≡ ok a
@@ -284,5 +286,5 @@ flat-size es formed known a e =
     let g = sorted-sum (from-rounds size x) (binds (reciprocals false s .lets)) (P .stmts) (P .sorted) in
     let j : total-size (a .results) ≡ total-size (reciprocals false s .results) = ap (sum-of size) (P .results) in
     let k : total-size (extracted-exprs (a .extracted) (a .inters)) ≡ summed (from-rounds size x) (P .stmts) =
-    ap₂ (λ (m : ℕ) (l : Stmts). total-size (extracted-exprs m l)) (P .extracted) (P .inters) ∙ extracted-size x (P .stmts) in
+    ap₂ (λ (m : ℕ) (l : Intermediates). total-size (extracted-exprs m l)) (P .extracted) (P .inters) ∙ extracted-size x (P .stmts) in
     omega arith)

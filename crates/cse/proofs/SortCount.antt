@@ -9,9 +9,9 @@ use native.Mathlib.Omega.{arith}
 use native.Mathlib.Nat.{mul-zero, mul-suc}
 use lib.ListN.{length, getD}
 use lib.Dec.{T, eqb, eqb→eq}
-use Rattle.tree.specs.Outcome.{Outcome, ok, refused}
-use Rattle.cse.specs.Answer.{Stmt}
-use Rattle.cse.specs.Order.{needs, member, taken, nothing, at-each, topo-sort-intermediates}
+use Rattle.tree.specs.Outcome.{Outcome, ok, refused, by}
+use Rattle.cse.specs.Answer.{Intermediate}
+use Rattle.cse.specs.Order.{needs, member, positions-taken, nothing, at-each, topo-sort-intermediates}
 use Rattle.cse.proofs.OrderLaws.{member-cases, member-here, member-later, All, Distinct, taken-ok}
 
 -- ---- positions past the first, counted from the second
@@ -62,17 +62,17 @@ one-zero (suc i ∷ l) d = one-zero l (d .1)
 
 -- ---- sums
 
-module _ (v : Stmt → ℕ) where
-  unfoldable pub summed : List Stmt → ℕ
+module _ (v : Intermediate → ℕ) where
+  unfoldable pub summed : List Intermediate → ℕ
   summed [] = 0
   summed (s ∷ l) = v s + summed l
 
-  reversed : (l r : List Stmt) → summed (reverseAux l r) ≡ summed l + summed r
+  reversed : (l r : List Intermediate) → summed (reverseAux l r) ≡ summed l + summed r
   unfolding summed
   reversed [] r = omega arith
   reversed (s ∷ l) r = (let q = reversed l (s ∷ r) in omega arith)
 
-  picked : (x : Stmt) (l : List Stmt) (order : List ℕ) → summed (at-each (x ∷ l) order) ≡ v x * zeros order + summed (at-each l (down order))
+  picked : (x : Intermediate) (l : List Intermediate) (order : List ℕ) → summed (at-each (x ∷ l) order) ≡ v x * zeros order + summed (at-each l (down order))
   unfolding at-each zeros down summed
   picked x l [] = (let q = mul-zero (v x) in omega arith)
   picked x l (zero ∷ o) = (let q = picked x l o in let m = mul-suc (v x) (zeros o) in omega arith)
@@ -83,7 +83,7 @@ module _ (v : Stmt → ℕ) where
   at-most a (suc zero) h = (let q = mul-suc a 0 in let r = mul-zero a in omega arith)
   at-most a (suc (suc z)) h = absurd (omega arith)
 
-  each-once : (l : List Stmt) (order : List ℕ) → Distinct order → All (λ j. j < length l) order → summed (at-each l order) ≤ summed l
+  each-once : (l : List Intermediate) (order : List ℕ) → Distinct order → All (λ j. j < length l) order → summed (at-each l order) ≤ summed l
   each-once [] [] d a = (unfold at-each summed in omega arith)
   each-once [] (i ∷ o) d a = (let q = a .0 in absurd (omega arith))
   each-once (x ∷ l) order d a =
@@ -95,34 +95,34 @@ module _ (v : Stmt → ℕ) where
 
 -- ---- the order
 
-needs-length : (all l : List Stmt) → length (needs all l) ≡ length l
+needs-length : (all l : List Intermediate) → length (needs all l) ≡ length l
 unfolding needs
 needs-length all [] = refl
 needs-length all (s ∷ l) = ap suc (needs-length all l)
 
-taken-inside : (l : List Stmt) → All (λ j. j < length l) (taken (needs l l))
-taken-inside l = subst (λ (m : ℕ). All (λ j. j < m) (taken (needs l l))) (needs-length l l) (taken-ok (needs l l) .inside)
+taken-inside : (l : List Intermediate) → All (λ j. j < length l) (positions-taken (needs l l))
+taken-inside l = subst (λ (m : ℕ). All (λ j. j < m) (positions-taken (needs l l))) (needs-length l l) (taken-ok (needs l l) .inside)
 
--- what comes out is the reversed statements at the places taken
-Places : List Stmt → Outcome (List Stmt) → Type 0
-Places l (ok r) = r ≡ reverse (at-each l (taken (needs l l)))
+-- what comes out is the reversed statements at the places positions-taken
+Places : List Intermediate → Outcome (List Intermediate) → Type 0
+Places l (ok r) = r ≡ reverse (at-each l (positions-taken (needs l l)))
 Places l (refused i) = Unit {0}
 
-places : (l : List Stmt) → Places l (topo-sort-intermediates l)
+places : (l : List Intermediate) → Places l (topo-sort-intermediates l)
 unfolding Places topo-sort-intermediates
-places l = go (eqb (length (taken (needs l l))) (length l))
+places l = go (eqb (length (positions-taken (needs l l))) (length l))
   where
-    go : (b : Bool) → Places l (elim b [ true ↦ ok (reverse (at-each l (taken (needs l l)))) | false ↦ refused 11 ])
+    go : (b : Bool) → Places l (elim b [ true ↦ ok (reverse (at-each l (positions-taken (needs l l)))) | false ↦ refused (by 11) ])
     go true = refl
     go false = tt
 
-at-places : (l r : List Stmt) → topo-sort-intermediates l ≡ ok r → r ≡ reverse (at-each l (taken (needs l l)))
+at-places : (l r : List Intermediate) → topo-sort-intermediates l ≡ ok r → r ≡ reverse (at-each l (positions-taken (needs l l)))
 unfolding Places
 at-places l r e = subst (Places l) e (places l)
 
-pub sorted-sum : (v : Stmt → ℕ) (l r : List Stmt) → topo-sort-intermediates l ≡ ok r → summed v r ≤ summed v l
+pub sorted-sum : (v : Intermediate → ℕ) (l r : List Intermediate) → topo-sort-intermediates l ≡ ok r → summed v r ≤ summed v l
 sorted-sum v l r e =
-    (let o = taken (needs l l) in
+    (let o = positions-taken (needs l l) in
     let a : summed v r ≡ summed v (at-each l o) + summed v [] = ap (summed v) (at-places l r e) ∙ reversed v (at-each l o) [] in
     let z : summed v [] ≡ 0 = (unfold summed in refl) in
     let b = each-once v l o (taken-ok (needs l l) .distinct) (taken-inside l) in
@@ -130,38 +130,38 @@ sorted-sum v l r e =
 
 -- ---- none is lost
 
-length-reversed : (l r : List Stmt) → length (reverseAux l r) ≡ length l + length r
+length-reversed : (l r : List Intermediate) → length (reverseAux l r) ≡ length l + length r
 length-reversed [] r = omega arith
 length-reversed (s ∷ l) r = (let q = length-reversed l (s ∷ r) in omega arith)
 
-length-at-each : (l : List Stmt) (o : List ℕ) → length (at-each l o) ≡ length o
+length-at-each : (l : List Intermediate) (o : List ℕ) → length (at-each l o) ≡ length o
 unfolding at-each
 length-at-each l [] = refl
 length-at-each l (i ∷ o) = ap suc (length-at-each l o)
 
-Whole : List Stmt → Outcome (List Stmt) → Type 0
+Whole : List Intermediate → Outcome (List Intermediate) → Type 0
 Whole l (ok r) = length r ≡ length l
 Whole l (refused i) = Unit {0}
 
-pub sorted-length : (l r : List Stmt) → topo-sort-intermediates l ≡ ok r → length r ≡ length l
+pub sorted-length : (l r : List Intermediate) → topo-sort-intermediates l ≡ ok r → length r ≡ length l
 unfolding Whole topo-sort-intermediates
 sorted-length l r e = subst (Whole l) e (go (eqb (length o) (length l)) (eqb→eq (length o) (length l)))
   where
     o : List ℕ
-    o = taken (needs l l)
+    o = positions-taken (needs l l)
 
-    go : (b : Bool) → (T b → length o ≡ length l) → Whole l (elim b [ true ↦ ok (reverse (at-each l o)) | false ↦ refused 11 ])
+    go : (b : Bool) → (T b → length o ≡ length l) → Whole l (elim b [ true ↦ ok (reverse (at-each l o)) | false ↦ refused (by 11) ])
     go true f = (let a = length-reversed (at-each l o) [] in let b = length-at-each l o in let c = f tt in omega arith)
     go false f = tt
 
 -- a sum in which each statement adds one or nothing
-summed-parts : (v w : Stmt → ℕ) → ((s : Stmt) → v s + w s ≡ 1) → (l : List Stmt) → summed v l + summed w l ≡ length l
+summed-parts : (v w : Intermediate → ℕ) → ((s : Intermediate) → v s + w s ≡ 1) → (l : List Intermediate) → summed v l + summed w l ≡ length l
 unfolding summed
 summed-parts v w f [] = refl
 summed-parts v w f (s ∷ l) = (let q = summed-parts v w f l in let p = f s in omega arith)
 
 -- is the same over the statements in order
-pub sorted-same : (v w : Stmt → ℕ) → ((s : Stmt) → v s + w s ≡ 1) → (l r : List Stmt) → topo-sort-intermediates l ≡ ok r → summed v r ≡ summed v l
+pub sorted-same : (v w : Intermediate → ℕ) → ((s : Intermediate) → v s + w s ≡ 1) → (l r : List Intermediate) → topo-sort-intermediates l ≡ ok r → summed v r ≡ summed v l
 sorted-same v w f l r e =
     (let a = sorted-sum v l r e in
     let b = sorted-sum w l r e in
@@ -172,24 +172,24 @@ sorted-same v w f l r e =
 
 -- ---- what all have
 
-abbrev pub Every : (Stmt → Type 0) → List Stmt → Type 0
+abbrev pub Every : (Intermediate → Type 0) → List Intermediate → Type 0
 Every P [] = Unit {0}
 Every P (s ∷ l) = P s × Every P l
 
-every-at : (P : Stmt → Type 0) (l : List Stmt) (i : ℕ) → Every P l → i < length l → P (getD l i nothing)
+every-at : (P : Intermediate → Type 0) (l : List Intermediate) (i : ℕ) → Every P l → i < length l → P (getD l i nothing)
 every-at P [] i h a = absurd (omega arith)
 every-at P (s ∷ l) zero h a = h .0
 every-at P (s ∷ l) (suc i) h a = every-at P l i (h .1) (omega arith)
 
-every-each : (P : Stmt → Type 0) (l : List Stmt) (o : List ℕ) → Every P l → All (λ j. j < length l) o → Every P (at-each l o)
+every-each : (P : Intermediate → Type 0) (l : List Intermediate) (o : List ℕ) → Every P l → All (λ j. j < length l) o → Every P (at-each l o)
 unfolding at-each
 every-each P l [] h a = tt
 every-each P l (i ∷ o) h a = (every-at P l i h (a .0), every-each P l o h (a .1))
 
-every-reversed : (P : Stmt → Type 0) (l r : List Stmt) → Every P l → Every P r → Every P (reverseAux l r)
+every-reversed : (P : Intermediate → Type 0) (l r : List Intermediate) → Every P l → Every P r → Every P (reverseAux l r)
 every-reversed P [] r g h = h
 every-reversed P (s ∷ l) r g h = every-reversed P l (s ∷ r) (g .1) (g .0, h)
 
-pub sorted-every : (P : Stmt → Type 0) (l r : List Stmt) → topo-sort-intermediates l ≡ ok r → Every P l → Every P r
+pub sorted-every : (P : Intermediate → Type 0) (l r : List Intermediate) → topo-sort-intermediates l ≡ ok r → Every P l → Every P r
 sorted-every P l r e h =
-    subst (Every P) (sym (at-places l r e)) (every-reversed P (at-each l (taken (needs l l))) [] (every-each P l (taken (needs l l)) h (taken-inside l)) tt)
+    subst (Every P) (sym (at-places l r e)) (every-reversed P (at-each l (positions-taken (needs l l))) [] (every-each P l (positions-taken (needs l l)) h (taken-inside l)) tt)

@@ -7,7 +7,8 @@ use mathlib.Core.List.{List, [], _∷_, _++_}
 use native.Mathlib.Omega.{arith}
 use lib.ListN.{length, getD}
 use lib.Dec.{T, eqb, eqb→eq, leb→le}
-use Rattle.tree.specs.Tree.{Name, Tree, Forest, Sym, Const, Op, nil, _◂_, Neg, Add, Sub, Mul, Div, is-switch, eq-tree, operands}
+use Rattle.tree.specs.Tree.{Name, Tree, Forest, Sym, Const, Op, nil, _◂_, eq-tree, operands}
+use Rattle.tree.specs.Kinds.{Neg, Add, Sub, Mul, Div, is-switch}
 use Rattle.tree.proofs.TreeLaws.{eq-tree-sound}
 use Rattle.tree.specs.Facts.{outer, outer-of, outer-first, all-outer}
 use Rattle.rewrite.specs.Rewrite.{replace-outside-arms, replace-operands, replace-key}

@@ -6,7 +6,7 @@ use mathlib.Core.List.{List, [], _∷_, _++_}
 use lib.Dec.{T}
 use Rattle.tree.specs.Tree.{Name, Tree, Forest, Sym, Const, Op, nil, _◂_, folds, eq-name}
 use Rattle.tree.proofs.TreeLaws.{eq-name-sound, eq-name-refl}
-use Rattle.cse.specs.Answer.{Stmt, names, concat, symbols, all-symbols, elem}
+use Rattle.cse.specs.Answer.{Intermediate, names, concat, symbols, all-symbols, elem}
 use Rattle.tree.proofs.Logic.{and-left, and-right, and-both}
 use Rattle.rewrite.proofs.Names.{holds, holds-each, holds-all}
 
@@ -140,8 +140,8 @@ holds-all-by p [] u = tt
 holds-all-by p (t ∷ l) u =
     and-both (holds p t) (holds-all p l) (holds-by p t (sub-left p (symbols t) (all-symbols l) u)) (holds-all-by p l (sub-right p (symbols t) (all-symbols l) u))
 
--- the names that statements bind, in their order
-unfoldable pub all-names : List Stmt → List Name
+-- the names that statements Let, in their order
+unfoldable pub all-names : List Intermediate → List Name
 unfolding names
 all-names [] = []
 all-names (s ∷ l) = names s ++ all-names l

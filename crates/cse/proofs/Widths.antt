@@ -11,8 +11,8 @@ use lib.Dec.{T, eqb, eqb-refl}
 use Rattle.tree.specs.Outcome.{Outcome, ok, refused, _>>=_, each}
 use Rattle.tree.specs.Tree.{Name, xname, mname, Tree, Forest, Sym, Const, Op, nil, _◂_}
 use Rattle.rewrite.specs.Rewrite.{replace}
-use Rattle.cse.specs.Extract.{Binding, State, Candidate, roots, best, all-operations, replace-bound, extract, rounds, extract-all, bound, replace-divisor-each, reciprocal, reciprocal-each, reciprocals}
-use Rattle.cse.specs.Answer.{Stmt, Stmts, Arms, Answer, bind, fuse, end, step, no-arm, arm, block}
+use Rattle.cse.specs.Extract.{Binding, State, Candidate, roots, best, all-operations, replace-bound, extract, rounds, extract-all, bound, replace-divisor-each, bind-reciprocal, bind-reciprocals, reciprocals}
+use Rattle.cse.specs.Answer.{Intermediate, Intermediates, Arms, Answer, Let, Match, end, step, no-arm, arm, block}
 use Rattle.cse.specs.Order.{topo-sort-intermediates}
 use Rattle.cse.specs.Scope.{Switch, Group, Work, Scoped, Armed, members, collect-switches, groups-from, replace-in-results, replace-in-stmts, name-members, member-names, first-arms, rest-arms, columns, arms-of-members, scope-arms, fuse-group, fuse-groups, fuse-all, binds, unfused, finish, cse-scope, deepest, as-answer, answer}
 use Rattle.tree.proofs.Logic.{and-both}
@@ -24,11 +24,11 @@ use Rattle.cse.proofs.ReciprocalsCount.{bound-divisors, reciprocals-are
 -- ---- the law
 
 unfoldable mutual
-  pub even-stmt : Stmt → Bool
-  even-stmt (bind n e) = true
-  even-stmt (fuse k key ns arms) = even-arms (length ns) arms
+  pub even-stmt : Intermediate → Bool
+  even-stmt (Let n e) = true
+  even-stmt (Match k key ns arms) = even-arms (length ns) arms
 
-  pub even-stmts : Stmts → Bool
+  pub even-stmts : Intermediates → Bool
   even-stmts end = true
   even-stmts (step s l) = even-stmt s && even-stmts l
 
@@ -99,10 +99,10 @@ unfolding replace-divisor-each
 divided-long d n [] = refl
 divided-long d n (t ∷ l) = ap suc (divided-long d n l)
 
-reciprocal-each-long : (l : List Tree) (s : State) → length (reciprocal-each l s .results) ≡ length (s .results)
-unfolding reciprocal-each
+reciprocal-each-long : (l : List Tree) (s : State) → length (bind-reciprocals l s .results) ≡ length (s .results)
+unfolding bind-reciprocals
 reciprocal-each-long [] s = refl
-reciprocal-each-long (d ∷ l) s = reciprocal-each-long l (reciprocal d s) ∙ (unfold reciprocal in divided-long d (xname (s .next)) (s .results))
+reciprocal-each-long (d ∷ l) s = reciprocal-each-long l (bind-reciprocal d s) ∙ (unfold bind-reciprocal in divided-long d (xname (s .next)) (s .results))
 
 reciprocals-long : (scoped : Bool) (s : State) → length (reciprocals scoped s .results) ≡ length (s .results)
 reciprocals-long scoped s = subst (λ (u : State). length (u .results) ≡ length (s .results)) (sym (reciprocals-are scoped s)) (reciprocal-each-long (bound-divisors scoped s) s)
@@ -162,15 +162,15 @@ any-holds-all (t ∷ l) = and-both (holds every-name t) (holds-all every-name l)
 
 -- ---- scopes
 
-abbrev Evens : List Stmt → Type 0
+abbrev Evens : List Intermediate → Type 0
 Evens l = Every (λ s. T (even-stmt s)) l
 
-block-even : (l : List Stmt) → Evens l → T (even-stmts (block l))
+block-even : (l : List Intermediate) → Evens l → T (even-stmts (block l))
 unfolding block even-stmts
 block-even [] h = tt
 block-even (s ∷ l) h = and-both (even-stmt s) (even-stmts (block l)) (h .0) (block-even l (h .1))
 
-evens-append : (l : List Stmt) (s : Stmt) → Evens l → T (even-stmt s) → Evens (l ++ (s ∷ []))
+evens-append : (l : List Intermediate) (s : Intermediate) → Evens l → T (even-stmt s) → Evens (l ++ (s ∷ []))
 evens-append [] s h t = (t, tt)
 evens-append (u ∷ l) s h t = (h .0, evens-append l s (h .1) t)
 
@@ -185,11 +185,11 @@ unfolding replace-in-results
 results-long m n [] = refl
 results-long m n (t ∷ l) = ap suc (results-long m n l)
 
-stmts-even : (m : Tree) (n : Name) (l : List Stmt) → Evens l → Evens (replace-in-stmts m n l)
+stmts-even : (m : Tree) (n : Name) (l : List Intermediate) → Evens l → Evens (replace-in-stmts m n l)
 unfolding replace-in-stmts even-stmts
 stmts-even m n [] h = tt
-stmts-even m n (bind a e ∷ l) h = (tt, stmts-even m n l (h .1))
-stmts-even m n (fuse k key ns arms ∷ l) h = (h .0, stmts-even m n l (h .1))
+stmts-even m n (Let a e ∷ l) h = (tt, stmts-even m n l (h .1))
+stmts-even m n (Match k key ns arms ∷ l) h = (h .0, stmts-even m n l (h .1))
 
 named-even : (m : ℕ) (ms : List Switch) (w : Work) → Even-work m w → Even-work m (name-members ms w)
 unfolding name-members
@@ -227,11 +227,11 @@ module _ (scope : ℕ → List Tree → Outcome Scoped) (even : (n : ℕ) (es : 
       (arms-even (length (members g)) (v .next) l (columns-wide (length (g .first .arms)) (length (members g)) (arms-of-members (members g)) (M .1) (M .0))) _
       (λ a k. good-ok (Even-work m) _ (
         H .0,
-        evens-append (v .inters) (fuse (g .first .kind) (g .first .key) (member-names (w .next) (members g)) (a .arms)) (H .1)
+        evens-append (v .inters) (Match (g .first .kind) (g .first .key) (member-names (w .next) (members g)) (a .arms)) (H .1)
             (matched (g .first .kind) (g .first .key) (member-names (w .next) (members g)) (a .arms) (length (members g)) n k),
       ))
     where
-      matched : (k : ℕ) (key : Tree) (ns : List Name) (arms : Arms) (j : ℕ) → length ns ≡ j → T (even-arms j arms) → T (even-stmt (fuse k key ns arms))
+      matched : (k : ℕ) (key : Tree) (ns : List Name) (arms : Arms) (j : ℕ) → length ns ≡ j → T (even-arms j arms) → T (even-stmt (Match k key ns arms))
       matched k key ns arms j e t = (unfold even-stmts in subst (λ (i : ℕ). T (even-arms i arms)) (sym e) t)
 
   groups-even : (m : ℕ) (gs : List Group) (w : Work) → Fair-groups every-name gs → Even-work m w → Good (Even-work m) (fuse-groups scope gs w)
@@ -252,7 +252,7 @@ finish-even : (m : ℕ) (w : Work) → Even-work m w → Good (Even-scope m) (fi
 unfolding finish
 finish-even m w h = go (topo-sort-intermediates (w .inters)) refl
   where
-    go : (o : Outcome (List Stmt)) → topo-sort-intermediates (w .inters) ≡ o → Good {A = Scoped} (Even-scope m) (o >>= λ l. ok (record { inters = l; results = w .results; next = w .next; extracted = w .extracted }))
+    go : (o : Outcome (List Intermediate)) → topo-sort-intermediates (w .inters) ≡ o → Good {A = Scoped} (Even-scope m) (o >>= λ l. ok (record { inters = l; results = w .results; next = w .next; extracted = w .extracted }))
     go (ok l) e = good-ok (Even-scope m) _ (h .0, sorted-every (λ s. T (even-stmt s)) (w .inters) l e (h .1))
     go (refused i) e = (unfold Good in tt)
 

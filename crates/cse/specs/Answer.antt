@@ -5,38 +5,40 @@ use mathlib.Core.List.{List, [], _∷_, _++_}
 use lib.IntN.{ℤ}
 use lib.ListN.{length}
 use lib.Dec.{eqb, leb, ltb}
-use Rattle.tree.specs.Tree.{Name, Tree, Forest, Sym, Const, Op, nil, _◂_, fold, Branch, Select, eq-name}
+use Rattle.tree.specs.Tree.{Name, Tree, Forest, Sym, Const, Op, nil, _◂_, fold, eq-name}
+use Rattle.tree.specs.Kinds.{Branch, Select}
 use Rattle.tree.specs.Facts.{size, nodes}
-use Rattle.text.specs.Text.{bytes, decimal, name-text, display, joined}
+use Rattle.tree.specs.Bytes.{bytes}
+use Rattle.text.specs.Text.{decimal, name-text, display, joined}
 
 -- A match has the kind of its switches, their key, its names, and its arms, of which the last is the default under Branch and SelectOr.
 mutual
-  pub data Stmt : Type 0 where
-    bind : Name → Tree → Stmt
-    fuse : ℕ → Tree → List Name → Arms → Stmt
+  pub data Intermediate : Type 0 where
+    Let : Name → Tree → Intermediate
+    Match : ℕ → Tree → List Name → Arms → Intermediate
 
-  pub data Stmts : Type 0 where
-    end : Stmts
-    step : Stmt → Stmts → Stmts
+  pub data Intermediates : Type 0 where
+    end : Intermediates
+    step : Intermediate → Intermediates → Intermediates
 
   -- an arm's statements, then one value for each name of the match
   pub data Arms : Type 0 where
     no-arm : Arms
-    arm : Stmts → List Tree → Arms → Arms
+    arm : Intermediates → List Tree → Arms → Arms
 
 abbrev pub Answer : Type 0
-Answer = record { inters : Stmts; results : List Tree; extracted : ℕ }
+Answer = record { inters : Intermediates; results : List Tree; extracted : ℕ }
 
-unfoldable pub block : List Stmt → Stmts
+unfoldable pub block : List Intermediate → Intermediates
 block [] = end
 block (s ∷ l) = step s (block l)
 
 -- ---- names
 
 -- the names that a statement binds for what follows it
-unfoldable pub names : Stmt → List Name
-names (bind n e) = n ∷ []
-names (fuse k key ns arms) = ns
+unfoldable pub names : Intermediate → List Name
+names (Let n e) = n ∷ []
+names (Match k key ns arms) = ns
 
 unfoldable pub concat : List (List Name) → List Name
 concat [] = []
@@ -56,11 +58,11 @@ all-symbols (t ∷ l) = symbols t ++ all-symbols l
 unfoldable mutual
   unfolding symbols all-symbols
 
-  pub free : Stmt → List Name
-  free (bind n e) = symbols e
-  free (fuse k key ns arms) = symbols key ++ free-arms arms
+  pub free : Intermediate → List Name
+  free (Let n e) = symbols e
+  free (Match k key ns arms) = symbols key ++ free-arms arms
 
-  pub free-stmts : Stmts → List Name
+  pub free-stmts : Intermediates → List Name
   free-stmts end = []
   free-stmts (step s l) = free s ++ free-stmts l
 
@@ -83,11 +85,11 @@ value-rows (t ∷ l) = suc (size t) + value-rows l
 unfoldable mutual
   unfolding size value-rows
 
-  pub stmt-rows : Stmt → ℕ
-  stmt-rows (bind n e) = suc (size e)
-  stmt-rows (fuse k key ns arms) = suc (size key + length ns) + arms-rows arms
+  pub stmt-rows : Intermediate → ℕ
+  stmt-rows (Let n e) = suc (size e)
+  stmt-rows (Match k key ns arms) = suc (size key + length ns) + arms-rows arms
 
-  pub stmts-rows : Stmts → ℕ
+  pub stmts-rows : Intermediates → ℕ
   stmts-rows end = 0
   stmts-rows (step s l) = stmt-rows s + stmts-rows l
 
@@ -140,15 +142,15 @@ if-sides (s ∷ (t ∷ l)) = bytes " >= 0 { " ++ s ++ bytes " } else { " ++ t ++
 unfoldable mutual
   unfolding name-text display displays names-texts tuple arm-text match-arms if-sides
 
-  pub stmt-text : Stmt → List ℕ
-  stmt-text (bind n e) = bytes "let " ++ name-text n ++ bytes " = " ++ display e ++ bytes ";"
-  stmt-text (fuse k key ns arms) =
+  pub stmt-text : Intermediate → List ℕ
+  stmt-text (Let n e) = bytes "let " ++ name-text n ++ bytes " = " ++ display e ++ bytes ";"
+  stmt-text (Match k key ns arms) =
       elim (eqb k Branch) [
         | true ↦ bytes "let " ++ tuple (names-texts ns) ++ bytes " = if " ++ display key ++ if-sides (arms-texts arms true)
         | false ↦ bytes "let " ++ tuple (names-texts ns) ++ bytes " = match " ++ display key ++ bytes " {" ++ match-arms 0 (ltb Select k) (arms-texts arms false)
       ]
 
-  pub stmts-texts : Stmts → List (List ℕ)
+  pub stmts-texts : Intermediates → List (List ℕ)
   stmts-texts end = []
   stmts-texts (step s l) = stmt-text s ∷ stmts-texts l
 

@@ -10,7 +10,7 @@ use Rattle.tree.specs.Outcome.{Outcome, ok, refused}
 use Rattle.tree.specs.Tree.{Name, input, xname, mname, Tree, fold, eq-name}
 use Rattle.tree.specs.Facts.{cost, some-of, count, all-nodes}
 use Rattle.cse.specs.Extract.{all-operations}
-use Rattle.cse.specs.Answer.{Stmt, Stmts, Arms, Answer, bind, fuse, end, step, no-arm, arm, names, symbols, all-symbols, elem}
+use Rattle.cse.specs.Answer.{Intermediate, Intermediates, Arms, Answer, Let, Match, end, step, no-arm, arm, names, symbols, all-symbols, elem}
 use Rattle.tree.specs.Value.{Reading, Env, value, values}
 use Rattle.cse.specs.Read.{answer-values}
 use Rattle.cse.specs.Scope.{answer}
@@ -21,11 +21,11 @@ use Rattle.cse.specs.Scope.{answer}
 unfoldable mutual
   unfolding names
 
-  pub bound-stmt : Stmt → List Name
-  bound-stmt (bind n e) = n ∷ []
-  bound-stmt (fuse k key ns arms) = bound-arms arms ++ ns
+  pub bound-stmt : Intermediate → List Name
+  bound-stmt (Let n e) = n ∷ []
+  bound-stmt (Match k key ns arms) = bound-arms arms ++ ns
 
-  pub bound-stmts : Stmts → List Name
+  pub bound-stmts : Intermediates → List Name
   bound-stmts end = []
   bound-stmts (step s l) = bound-stmt s ++ bound-stmts l
 
@@ -38,7 +38,7 @@ unfolding elem
 all-different [] = true
 all-different (n ∷ l) = not (elem n l) && all-different l
 
--- each is a name bound before and in scope, or an input symbol that the answer does not bind
+-- each is a name bound before and in scope, or an input symbol that the answer does not Let
 unfoldable pub known : List Name → List Name → List Name → List Name → Bool
 unfolding elem
 known inputs bound scope [] = true
@@ -48,13 +48,13 @@ module _ (inputs bound : List Name) where
   unfoldable mutual
     unfolding known symbols all-symbols names
 
-    pub in-scope : Stmts → List Name → List Tree → Bool
+    pub in-scope : Intermediates → List Name → List Tree → Bool
     in-scope end scope vs = known inputs bound scope (all-symbols vs)
     in-scope (step s l) scope vs = stmt-in-scope s scope && in-scope l (names s ++ scope) vs
 
-    pub stmt-in-scope : Stmt → List Name → Bool
-    stmt-in-scope (bind n e) scope = known inputs bound scope (symbols e)
-    stmt-in-scope (fuse k key ns arms) scope = known inputs bound scope (symbols key) && arms-in-scope arms scope
+    pub stmt-in-scope : Intermediate → List Name → Bool
+    stmt-in-scope (Let n e) scope = known inputs bound scope (symbols e)
+    stmt-in-scope (Match k key ns arms) scope = known inputs bound scope (symbols key) && arms-in-scope arms scope
 
     -- what an arm binds is gone after it
     pub arms-in-scope : Arms → List Name → Bool
@@ -71,10 +71,10 @@ well-scoped es a =
 -- ---- the flat answer: no repeats, and the count
 
 -- the bound expressions of a flat answer
-unfoldable pub bound-exprs : Stmts → List Tree
+unfoldable pub bound-exprs : Intermediates → List Tree
 bound-exprs end = []
-bound-exprs (step (bind n e) l) = e ∷ bound-exprs l
-bound-exprs (step (fuse k key ns arms) l) = bound-exprs l
+bound-exprs (step (Let n e) l) = e ∷ bound-exprs l
+bound-exprs (step (Match k key ns arms) l) = bound-exprs l
 
 -- an expression depends on an input symbol by what its symbols do
 unfoldable pub depends : (Name → Bool) → Tree → Bool
@@ -82,11 +82,11 @@ unfolding fold some-of
 depends δ = fold δ (λ c. false) (λ k l. some-of l)
 
 -- which symbols do, after a flat answer's statements: a name does if its bound expression does
-unfoldable pub dependent : Stmts → (Name → Bool) → Name → Bool
+unfoldable pub dependent : Intermediates → (Name → Bool) → Name → Bool
 unfolding depends eq-name
 dependent end δ = δ
-dependent (step (bind n e) l) δ = dependent l (λ s. cond (eq-name s n) (depends δ e) (δ s))
-dependent (step (fuse k key ns arms) l) δ = dependent l δ
+dependent (step (Let n e) l) δ = dependent l (λ s. cond (eq-name s n) (depends δ e) (δ s))
+dependent (step (Match k key ns arms) l) δ = dependent l δ
 
 unfoldable pub no-repeats : List Tree → Answer → Type 0
 unfolding dependent depends bound-exprs count all-nodes cost elem all-symbols
@@ -95,12 +95,12 @@ no-repeats es a =
     → count e (all-nodes (a .results ++ bound-exprs (a .inters))) ≤ 1
 
 -- the bound expressions of a flat answer but those of reciprocals, which have the numbers from the extraction count on
-unfoldable pub extracted-exprs : ℕ → Stmts → List Tree
+unfoldable pub extracted-exprs : ℕ → Intermediates → List Tree
 extracted-exprs x end = []
-extracted-exprs x (step (bind (input s) e) l) = e ∷ extracted-exprs x l
-extracted-exprs x (step (bind (xname i) e) l) = elim (ltb i x) [ true ↦ e ∷ extracted-exprs x l | false ↦ extracted-exprs x l ]
-extracted-exprs x (step (bind (mname i) e) l) = e ∷ extracted-exprs x l
-extracted-exprs x (step (fuse k key ns arms) l) = extracted-exprs x l
+extracted-exprs x (step (Let (input s) e) l) = e ∷ extracted-exprs x l
+extracted-exprs x (step (Let (xname i) e) l) = elim (ltb i x) [ true ↦ e ∷ extracted-exprs x l | false ↦ extracted-exprs x l ]
+extracted-exprs x (step (Let (mname i) e) l) = e ∷ extracted-exprs x l
+extracted-exprs x (step (Match k key ns arms) l) = extracted-exprs x l
 
 -- demand 3 for one list
 pub record Demand3 (es : List Tree) : Type 0 where

@@ -7,7 +7,8 @@ use lib.IntN.{pos}
 use lib.ListN.{length}
 use lib.Dec.{eqb, leb, ltb}
 use Rattle.tree.specs.Outcome.{Outcome, ok, refused, _>>=_, each}
-use Rattle.tree.specs.Tree.{Name, xname, Tree, Forest, Sym, Const, Op, nil, _◂_, Div, eq-tree}
+use Rattle.tree.specs.Tree.{Name, xname, Tree, Forest, Sym, Const, Op, nil, _◂_, eq-tree}
+use Rattle.tree.specs.Kinds.{Div}
 use Rattle.tree.specs.Facts.{cost, depth, has-symbol, operations, count, uses, uses-outside, outside, all-nodes}
 use Rattle.text.specs.Text.{display, before}
 use Rattle.rewrite.specs.Rewrite.{replace, replace-divisor}
@@ -117,7 +118,7 @@ unfolding count
 distinct seen [] = []
 distinct seen (t ∷ l) = elim (eqb (count t seen) 0) [ true ↦ t ∷ distinct (t ∷ seen) l | false ↦ distinct seen l ]
 
--- those to bind: divided by outside arms, and twice in all
+-- those to Let: divided by outside arms, and twice in all
 unfoldable pub shared-divisors : Bool → List Tree → List Tree → List Tree
 unfolding count divisors outside all-nodes
 shared-divisors scoped rs [] = []
@@ -148,9 +149,9 @@ unfolding replace-divisor
 replace-divisor-bound d n [] = []
 replace-divisor-bound d n (b ∷ l) = record { name = b .name; expr = replace-divisor d n (b .expr) } ∷ replace-divisor-bound d n l
 
-unfoldable pub reciprocal : Tree → State → State
+unfoldable pub bind-reciprocal : Tree → State → State
 unfolding replace-divisor-each replace-divisor-bound
-reciprocal d s =
+bind-reciprocal d s =
     let n = xname (s .next) in
     record {
       results = replace-divisor-each d n (s .results);
@@ -158,14 +159,14 @@ reciprocal d s =
       next = suc (s .next);
     }
 
-unfoldable pub reciprocal-each : List Tree → State → State
-unfolding reciprocal
-reciprocal-each [] s = s
-reciprocal-each (d ∷ l) s = reciprocal-each l (reciprocal d s)
+unfoldable pub bind-reciprocals : List Tree → State → State
+unfolding bind-reciprocal
+bind-reciprocals [] s = s
+bind-reciprocals (d ∷ l) s = bind-reciprocals l (bind-reciprocal d s)
 
 -- the list of divisors is made once, before the first of them is bound
 unfoldable pub reciprocals : Bool → State → State
-unfolding roots reciprocal-each sort-by-text shared-divisors distinct divisors all-nodes
+unfolding roots bind-reciprocals sort-by-text shared-divisors distinct divisors all-nodes
 reciprocals scoped s =
     let rs = roots s in
-    reciprocal-each (sort-by-text (shared-divisors scoped rs (distinct [] (divisors (all-nodes rs))))) s
+    bind-reciprocals (sort-by-text (shared-divisors scoped rs (distinct [] (divisors (all-nodes rs))))) s

@@ -1,27 +1,27 @@
--- `topo_sort_intermediates` (01, "Order"): a statement comes after those that bind what it reads. Assumes nothing.
+-- `topo_sort_intermediates` (01, "Order"): a statement comes after those that Let what it reads. Assumes nothing.
 use Prim.Native.Nat.{ℕ, zero, suc, _+_}
 use mathlib.Core.Bool.{Bool, true, false, not, _&&_, _||_, cond}
 use mathlib.Core.List.{List, [], _∷_, _++_, reverse}
 use lib.ListN.{length, getD}
 use lib.Dec.{eqb}
 use lib.IntN.{pos}
-use Rattle.tree.specs.Outcome.{Outcome, ok, refused}
+use Rattle.tree.specs.Outcome.{Outcome, ok, refused, by}
 use Rattle.tree.specs.Tree.{Name, xname, Tree, Const}
-use Rattle.cse.specs.Answer.{Stmt, bind, names, free, elem}
+use Rattle.cse.specs.Answer.{Intermediate, Let, names, free, elem}
 
 unfoldable pub meets : List Name → List Name → Bool
 unfolding elem
 meets [] l = false
 meets (n ∷ ns) l = elim (elem n l) [ true ↦ true | false ↦ meets ns l ]
 
--- the positions, from i on, of the statements that bind a name among those read
-unfoldable pub needs-from : ℕ → List Name → List Stmt → List ℕ
+-- the positions, from i on, of the statements that Let a name among those read
+unfoldable pub needs-from : ℕ → List Name → List Intermediate → List ℕ
 unfolding meets names
 needs-from i read [] = []
 needs-from i read (s ∷ l) = elim (meets (names s) read) [ true ↦ i ∷ needs-from (suc i) read l | false ↦ needs-from (suc i) read l ]
 
 -- for each statement the positions of those that it needs
-unfoldable pub needs : List Stmt → List Stmt → List (List ℕ)
+unfoldable pub needs : List Intermediate → List Intermediate → List (List ℕ)
 unfolding needs-from free
 needs all [] = []
 needs all (s ∷ l) = needs-from 0 (free s) all ∷ needs all l
@@ -41,12 +41,12 @@ free-from i [] = []
 free-from i ([] ∷ l) = i ∷ free-from (suc i) l
 free-from i ((j ∷ js) ∷ l) = free-from (suc i) l
 
--- the positions, from i on, of the statements whose last need is the one just taken
+-- the positions, from i on, of the statements whose last need is the one just positions-taken
 unfoldable pub joining : ℕ → ℕ → List ℕ → List (List ℕ) → List ℕ
 unfolding member within
-joining i taken done [] = []
-joining i taken done (ns ∷ l) =
-    elim (member taken ns && within ns done) [ true ↦ i ∷ joining (suc i) taken done l | false ↦ joining (suc i) taken done l ]
+joining i positions-taken done [] = []
+joining i positions-taken done (ns ∷ l) =
+    elim (member positions-taken ns && within ns done) [ true ↦ i ∷ joining (suc i) positions-taken done l | false ↦ joining (suc i) positions-taken done l ]
 
 -- one after another onto a stack, whose top comes first
 unfoldable pub push : List ℕ → List ℕ → List ℕ
@@ -60,23 +60,23 @@ take-all zero table stack done = done
 take-all (suc fuel) table [] done = done
 take-all (suc fuel) table (i ∷ stack) done = take-all fuel table (push (joining 0 i (i ∷ done) table) stack) (i ∷ done)
 
--- the positions taken, the latest first
-unfoldable pub taken : List (List ℕ) → List ℕ
+-- the positions positions-taken, the latest first
+unfoldable pub positions-taken : List (List ℕ) → List ℕ
 unfolding take-all free-from push
-taken table = take-all (length table) table (push (free-from 0 table) []) []
+positions-taken table = take-all (length table) table (push (free-from 0 table) []) []
 
 -- a statement to read past the end of a list, which no position is
-unfoldable pub nothing : Stmt
-nothing = bind (xname 0) (Const (pos 0))
+unfoldable pub nothing : Intermediate
+nothing = Let (xname 0) (Const (pos 0))
 
-unfoldable pub at-each : List Stmt → List ℕ → List Stmt
+unfoldable pub at-each : List Intermediate → List ℕ → List Intermediate
 unfolding nothing
 at-each all [] = []
 at-each all (i ∷ l) = getD all i nothing ∷ at-each all l
 
--- refusal 11 where some are never taken
-unfoldable pub topo-sort-intermediates : List Stmt → Outcome (List Stmt)
-unfolding needs taken at-each
+-- refusal 11 where some are never positions-taken
+unfoldable pub topo-sort-intermediates : List Intermediate → Outcome (List Intermediate)
+unfolding needs positions-taken at-each
 topo-sort-intermediates l =
-    let order = taken (needs l l) in
-    elim (eqb (length order) (length l)) [ true ↦ ok (reverse (at-each l order)) | false ↦ refused 11 ]
+    let order = positions-taken (needs l l) in
+    elim (eqb (length order) (length l)) [ true ↦ ok (reverse (at-each l order)) | false ↦ refused (by 11) ]

@@ -3,7 +3,7 @@ use Prim.Native.Nat.{ℕ, zero, suc}
 use mathlib.Core.Bool.{cond}
 use mathlib.Core.List.{List, [], _∷_}
 use Rattle.tree.specs.Tree.{Name, eq-name}
-use Rattle.cse.specs.Answer.{Stmt, Stmts, Arms, Answer, bind, fuse, end, step, no-arm, arm}
+use Rattle.cse.specs.Answer.{Intermediate, Intermediates, Arms, Answer, Let, Match, end, step, no-arm, arm}
 use Rattle.tree.specs.Value.{Reading, Env, choice, value, values}
 
 -- ---- answers, read in order
@@ -27,11 +27,11 @@ module _ (R : Reading) where
   unfoldable mutual
     unfolding value values set set-each choice arm-count
 
-    pub read-stmt : Stmt → Env → Env
-    read-stmt (bind n e) ρ = set ρ n (value R ρ e)
-    read-stmt (fuse k key ns arms) ρ = set-each ρ ns (read-arm arms (choice R k (arm-count arms) (value R ρ key)) ρ)
+    pub read-stmt : Intermediate → Env → Env
+    read-stmt (Let n e) ρ = set ρ n (value R ρ e)
+    read-stmt (Match k key ns arms) ρ = set-each ρ ns (read-arm arms (choice R k (arm-count arms) (value R ρ key)) ρ)
 
-    pub read-stmts : Stmts → Env → Env
+    pub read-stmts : Intermediates → Env → Env
     read-stmts end ρ = ρ
     read-stmts (step s l) ρ = read-stmts l (read-stmt s ρ)
 

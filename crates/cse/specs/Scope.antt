@@ -6,11 +6,12 @@ use lib.IntN.{pos}
 use lib.ListN.{length}
 use lib.Dec.{eqb}
 use Rattle.tree.specs.Outcome.{Outcome, ok, refused, _>>=_}
-use Rattle.tree.specs.Tree.{Name, xname, mname, Tree, Forest, Sym, Const, Op, nil, _◂_, is-switch, eq-tree, operands}
+use Rattle.tree.specs.Tree.{Name, xname, mname, Tree, Forest, Sym, Const, Op, nil, _◂_, eq-tree, operands}
+use Rattle.tree.specs.Kinds.{is-switch}
 use Rattle.tree.specs.Facts.{nesting, count, all-outer}
 use Rattle.rewrite.specs.Rewrite.{replace-outside-arms}
 use Rattle.cse.specs.Extract.{Binding, State, extract-all, reciprocals, distinct, roots}
-use Rattle.cse.specs.Answer.{Stmt, Stmts, Arms, Answer, bind, fuse, no-arm, arm, block}
+use Rattle.cse.specs.Answer.{Intermediate, Intermediates, Arms, Answer, Let, Match, no-arm, arm, block}
 use Rattle.cse.specs.Order.{topo-sort-intermediates}
 
 -- ---- switches
@@ -65,15 +66,15 @@ replace-in-results m n [] = []
 replace-in-results m n (t ∷ l) = replace-outside-arms m n t ∷ replace-in-results m n l
 
 -- of an earlier match only the key: its arms are done
-unfoldable pub replace-in-stmts : Tree → Name → List Stmt → List Stmt
+unfoldable pub replace-in-stmts : Tree → Name → List Intermediate → List Intermediate
 unfolding replace-outside-arms
 replace-in-stmts m n [] = []
-replace-in-stmts m n (bind a e ∷ l) = bind a (replace-outside-arms m n e) ∷ replace-in-stmts m n l
-replace-in-stmts m n (fuse k key ns arms ∷ l) = fuse k (replace-outside-arms m n key) ns arms ∷ replace-in-stmts m n l
+replace-in-stmts m n (Let a e ∷ l) = Let a (replace-outside-arms m n e) ∷ replace-in-stmts m n l
+replace-in-stmts m n (Match k key ns arms ∷ l) = Match k (replace-outside-arms m n key) ns arms ∷ replace-in-stmts m n l
 
 -- what fusion works on
 abbrev pub Work : Type 0
-Work = record { results : List Tree; inters : List Stmt; next : ℕ; extracted : ℕ }
+Work = record { results : List Tree; inters : List Intermediate; next : ℕ; extracted : ℕ }
 
 -- each member in turn by the next number
 unfoldable pub name-members : List Switch → Work → Work
@@ -118,7 +119,7 @@ arms-of-members (s ∷ l) = s .arms ∷ arms-of-members l
 
 -- what a scope gives: its statements and results, the next number, and how many bindings rounds made in it and in its arms
 abbrev pub Scoped : Type 0
-Scoped = record { inters : List Stmt; results : List Tree; next : ℕ; extracted : ℕ }
+Scoped = record { inters : List Intermediate; results : List Tree; next : ℕ; extracted : ℕ }
 
 abbrev pub Armed : Type 0
 Armed = record { arms : Arms; next : ℕ; extracted : ℕ }
@@ -140,7 +141,7 @@ fuse-group scope g w =
     scope-arms scope (v .next) (columns (length (g .first .arms)) (arms-of-members (members g))) >>= λ a.
     ok (record {
       results = v .results;
-      inters = v .inters ++ (fuse (g .first .kind) (g .first .key) (member-names (w .next) (members g)) (a .arms) ∷ []);
+      inters = v .inters ++ (Match (g .first .kind) (g .first .key) (member-names (w .next) (members g)) (a .arms) ∷ []);
       next = a .next;
       extracted = v .extracted + a .extracted;
     })
@@ -150,9 +151,9 @@ unfolding fuse-group
 fuse-groups scope [] w = ok w
 fuse-groups scope (g ∷ l) w = fuse-group scope g w >>= λ v. fuse-groups scope l v
 
-unfoldable pub binds : List Binding → List Stmt
+unfoldable pub binds : List Binding → List Intermediate
 binds [] = []
-binds (b ∷ l) = bind (b .name) (b .expr) ∷ binds l
+binds (b ∷ l) = Let (b .name) (b .expr) ∷ binds l
 
 -- the bindings as statements, switches left in place
 unfoldable pub unfused : ℕ → State → Work

@@ -5,9 +5,10 @@ use mathlib.Core.Path.{_≡_, refl}
 use mathlib.Core.Bool.{Bool, true, false}
 use mathlib.Core.List.{List, [], _∷_}
 use lib.IntN.{pos, negsuc}
-use Rattle.tree.specs.Outcome.{Outcome, ok, refused, _>>=_}
-use Rattle.tree.specs.Tree.{Name, input, Tree, Sym, Const, Op, nil, _◂_, Add, Mul, Div, Sin, Cos, Select}
-use Rattle.text.specs.Text.{bytes}
+use Rattle.tree.specs.Outcome.{Outcome, ok, refused, _>>=_, by}
+use Rattle.tree.specs.Tree.{Name, input, Tree, Sym, Const, Op, nil, _◂_}
+use Rattle.tree.specs.Kinds.{Add, Mul, Div, Sin, Cos, Select}
+use Rattle.tree.specs.Bytes.{bytes}
 use Rattle.cse.specs.Answer.{end, answer-text}
 use Rattle.cse.specs.Scope.{answer}
 use Rattle.program.specs.Program.{csesheet}
@@ -78,12 +79,12 @@ pub record Marked : Type 0 where
   M5 : Prints (v "p" ⊘ num 2 ∷ v "q" ⊘ num 2 ∷ []) (ok (bytes "let __x0 = 1 / 2;\np * __x0\nq * __x0\n"))
   M6 : Prints (v "p" ⊘ num 2 ∷ []) (ok (bytes "p / 2\n"))
   M7 : Prints (sin (num 1 ⊕ num 2) ∷ cos (num 1 ⊕ num 2) ∷ []) (ok (bytes "sin(1 + 2)\ncos(1 + 2)\n"))
-  M8 : prints true list8 ≡ refused 11
+  M8 : prints true list8 ≡ refused (by 11)
   M8-flat : prints false list8 ≡ ok (bytes "let __x0 = select(i, a, b) + y;\n__x0\nselect(i, __x0, c)\n")
   M9 :
       Prints (sin (v "a" ⊕ (v "b" ⊕ v "c")) ∷ cos (v "a" ⊕ (v "b" ⊕ v "c")) ∷ sin (v "a" ⊕ v "b" ⊕ v "c") ∷ cos (v "a" ⊕ v "b" ⊕ v "c") ∷ [])
       (ok (bytes "let __x1 = a + b + c;\nlet __x0 = a + b + c;\nsin(__x0)\ncos(__x0)\nsin(__x1)\ncos(__x1)\n"))
-  M10 : Prints (list10 1000000) (refused 10)
+  M10 : Prints (list10 1000000) (refused (by 10))
   M10-below : Prints (list10 999999) (ok (bytes "let __x0 = a * b;\n__x0\nsin(__x0)\n999999000000000 * __x0\n"))
   M11 : (scoped : Bool) → answer scoped [] ≡ ok (record { inters = end; results = []; extracted = 0 })
 

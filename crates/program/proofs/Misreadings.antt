@@ -5,9 +5,10 @@ use mathlib.Core.Path.{_≡_, refl}
 use mathlib.Core.Bool.{Bool, true, false}
 use mathlib.Core.List.{List, [], _∷_}
 use lib.IntN.{negsuc}
-use Rattle.tree.specs.Outcome.{Outcome, ok, refused, _>>=_}
-use Rattle.tree.specs.Tree.{Tree, Const, Op, nil, _◂_, Branch, Select, SelectOr}
-use Rattle.text.specs.Text.{bytes}
+use Rattle.tree.specs.Outcome.{Outcome, ok, refused, _>>=_, by}
+use Rattle.tree.specs.Tree.{Tree, Const, Op, nil, _◂_}
+use Rattle.tree.specs.Kinds.{Branch, Select, SelectOr}
+use Rattle.tree.specs.Bytes.{bytes}
 use Rattle.cse.specs.Answer.{answer-text, rows}
 use Rattle.cse.specs.Scope.{answer}
 use Rattle.program.proofs.Marked.{v, num, _⊕_, _⊗_, _⊘_, sin, cos}
@@ -87,13 +88,13 @@ pub record Misreadings : Type 0 where
       (given 13 1 "let __x0 = a * b;\n__x0\nsin(__x0)\n__x0 * __x0\n")
   minus-zero-as-a-constant :
       Same (v "a" ⊗ v "b" ∷ sin (v "a" ⊗ v "b") ∷ v "a" ⊗ (minus-one ⊗ num 0) ⊗ v "b" ∷ [])
-      (refused 10)
+      (refused (by 10))
   refusing-zero :
       Same (v "a" ⊗ v "b" ∷ sin (v "a" ⊗ v "b") ∷ v "a" ⊗ (num 1 ⊗ num 0) ⊗ v "b" ∷ [])
       (given 13 1 "let __x0 = a * b;\n__x0\nsin(__x0)\n0 * __x0\n")
   no-number-as-a-constant :
       Same (v "a" ⊗ v "b" ∷ sin (v "a" ⊗ v "b") ∷ v "a" ⊗ huge ⊗ (num 0 ⊗ v "b") ∷ [])
-      (refused 10)
+      (refused (by 10))
   fusing-branch-with-select :
       Both (Op Branch (v "i" ◂ v "a" ◂ v "b" ◂ nil) ∷ Op Select (v "i" ◂ v "a" ◂ v "b" ◂ nil) ∷ [])
       (given 10 0 "branch(i, a, b)\nselect(i, a, b)\n")

@@ -6,8 +6,9 @@ use mathlib.Core.Bool.{Bool, true, false}
 use mathlib.Core.List.{List, [], _∷_}
 use lib.IntN.{pos, negsuc}
 use Rattle.tree.specs.Outcome.{Outcome, ok, refused, _>>=_}
-use Rattle.tree.specs.Tree.{Name, input, Tree, Sym, Const, Op, nil, _◂_, Add, Mul, Div, Sin, Cos, Branch, Select, SelectOr}
-use Rattle.text.specs.Text.{bytes}
+use Rattle.tree.specs.Tree.{Name, input, Tree, Sym, Const, Op, nil, _◂_}
+use Rattle.tree.specs.Kinds.{Add, Mul, Div, Sin, Cos, Branch, Select, SelectOr}
+use Rattle.tree.specs.Bytes.{bytes}
 use Rattle.cse.specs.Answer.{answer-text, rows}
 use Rattle.cse.specs.Scope.{answer}
 use Rattle.cse.specs.Demand.{well-scoped}

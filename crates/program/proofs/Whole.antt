@@ -4,11 +4,11 @@ use mathlib.Core.Path.{_≡_}
 use mathlib.Core.Bool.{Bool, false}
 use mathlib.Core.List.{List}
 use lib.Dec.{T}
-use Rattle.tree.specs.Outcome.{refused}
+use Rattle.tree.specs.Outcome.{Refusal, ok, refused, by}
 use Rattle.tree.specs.Tree.{Tree}
 use Rattle.cse.specs.Scope.{answer}
 use Rattle.tree.specs.Rows.{Table, trees}
-use Rattle.sheet.specs.Sheet.{loaded, load}
+use Rattle.sheet.specs.Sheet.{load}
 use Rattle.cse.specs.Demand.{Demand3}
 use Rattle.tree.specs.Passes.{passes}
 use Rattle.cse.proofs.PassesLaws.{passes-formed, passes-unmade}
@@ -23,12 +23,12 @@ demand3 es h =
     let known = passes-unmade es h in
     both.demand3 es known (flat-no-repeats es formed known) (flat-counted es formed known) (flat-count es formed known)
 
-pub sheet-demand3 : (row-places root-places : ℕ) (s : List ℕ) (t : Table) → load row-places root-places s ≡ loaded t → Demand3 (trees t)
+pub sheet-demand3 : (row-places root-places : ℕ) (s : List ℕ) (t : Table) → load row-places root-places s ≡ ok t → Demand3 (trees t)
 sheet-demand3 row-places root-places s t e = demand3 (trees t) (accepted-passes row-places root-places s t e)
 
 -- the flat form refuses by 10 alone, never by 11
-pub flat-refused-by-10 : (es : List Tree) → T (passes es) → (i : ℕ) → answer false es ≡ refused i → i ≡ 10
+pub flat-refused-by-10 : (es : List Tree) → T (passes es) → (i : Refusal) → answer false es ≡ refused i → i ≡ by 10
 flat-refused-by-10 es h i e = refusals.flat-refused-by-10 es (passes-unmade es h) i e
 
-pub flat-never-11 : (es : List Tree) → T (passes es) → answer false es ≡ refused 11 → ⊥
+pub flat-never-11 : (es : List Tree) → T (passes es) → answer false es ≡ refused (by 11) → ⊥
 flat-never-11 es h e = refusals.flat-never-11 es (passes-unmade es h) e

@@ -5,38 +5,32 @@ use mathlib.Core.Bool.{Bool, true, false, cond}
 use mathlib.Core.List.{List, [], _∷_, _++_}
 use lib.ListN.{length}
 use lib.Dec.{ltb}
-use Rattle.tree.specs.Outcome.{Outcome, ok, refused, _>>=_}
+use Rattle.tree.specs.Outcome.{Outcome, ok, refused, _>>=_, by}
 use Rattle.tree.specs.Tree.{Tree}
-use Rattle.text.specs.Text.{bytes, decimal}
+use Rattle.tree.specs.Bytes.{bytes}
+use Rattle.text.specs.Text.{decimal}
 use Rattle.cse.specs.Answer.{Answer, rows, answer-text}
 use Rattle.cse.specs.Scope.{answer}
-use Rattle.sheet.specs.Sheet.{Load, loaded, declined, load}
+use Rattle.sheet.specs.Sheet.{load}
 use Rattle.tree.specs.Rows.{trees}
 
 -- the answer, given how many rows the lent table has
 unfoldable pub extracted-into : ℕ → Bool → List Tree → Outcome Answer
 unfolding answer rows
-extracted-into places scoped es = answer scoped es >>= λ a. cond (ltb places (rows a)) (refused 12) (ok a)
+extracted-into places scoped es = answer scoped es >>= λ a. cond (ltb places (rows a)) (refused (by 12)) (ok a)
 
 -- the text, given how many bytes the lent buffer has
 unfoldable pub printed-into : ℕ → Answer → Outcome (List ℕ)
 unfolding answer-text
-printed-into places a = cond (ltb places (length (answer-text a))) (refused 14) (ok (answer-text a))
-
-unfoldable pub refusal-text : ℕ → ℕ → List ℕ
-unfolding decimal
-refusal-text n i = bytes "refused " ++ decimal n ++ bytes " " ++ decimal i ++ bytes "\n"
+printed-into places a = cond (ltb places (length (answer-text a))) (refused (by 14)) (ok (answer-text a))
 
 unfoldable pub reply : Outcome (List ℕ) → List ℕ
-unfolding refusal-text
+unfolding decimal
 reply (ok s) = s
-reply (refused n) = refusal-text n 0
+reply (refused r) = bytes "refused " ++ decimal (r .number) ++ bytes " " ++ decimal (r .place) ++ bytes "\n"
 
 -- what `csesheet` writes, given the answer table's rows and the text buffer's bytes
 unfoldable pub csesheet : ℕ → ℕ → List ℕ → List ℕ
 unfolding load trees extracted-into printed-into reply
 csesheet row-places text-places s =
-    elim (load 1024 64 s) [
-      | loaded t ↦ reply (extracted-into row-places false (trees t) >>= λ a. printed-into text-places a)
-      | declined n i ↦ refusal-text n i
-    ]
+    reply (load 1024 64 s >>= λ t. extracted-into row-places false (trees t) >>= λ a. printed-into text-places a)

@@ -19,8 +19,9 @@ use lib.Ieee.Scale.{round-same}
 use lib.Ieee.Order.{round-mono, kept, drop}
 use lib.Ieee.Fits.{up-pos, down-pos, round-is}
 use lib.Ieee.Positive.{positive, above, above-of-le, positive-of-value, own-value, values-of-le, num, den}
-use Rattle.tree.specs.Outcome.{Outcome, ok, refused}
-use Rattle.tree.specs.Tree.{Tree, Forest, Sym, Const, Op, nil, _◂_, Neg, Mul}
+use Rattle.tree.specs.Outcome.{Refusal, Outcome, ok, refused, by}
+use Rattle.tree.specs.Tree.{Tree, Forest, Sym, Const, Op, nil, _◂_}
+use Rattle.tree.specs.Kinds.{Neg, Mul}
 use Rattle.rewrite.specs.Rewrite.{Factors, one, flatten-mul-factors, flatten-operands, flatten-after, times, negated, constant-of, whole}
 use Rattle.rewrite.proofs.ReplaceValue.{exact, exact-operands, Exact}
 
@@ -315,21 +316,21 @@ cut X D n h e =
     let q : X ≡ n * D = sym (mul-one X) ∙ e in
     (ap (λ (x : ℕ). x / D) q ∙ mul-div-cancel n h, ap (λ (x : ℕ). x % D) q ∙ mul-mod-left n D)
 
-never : (i : ℕ) (z : ℤ) → _≡_ {A = Outcome ℤ} (refused i) (ok z) → ⊥
+never : (i : Refusal) (z : ℤ) → _≡_ {A = Outcome ℤ} (refused i) (ok z) → ⊥
 never i z e = let q : _≡_ {A = ℕ} 0 1 = cc in omega arith
 
 after : (b c : Bool) → T (b && c) → T c
 after true c t = t
 after false c t = absurd t
 
-accepted-step : (b : Bool) (s : Bool) (n : ℕ) (z : ℤ) → elim b [ true ↦ whole s n | false ↦ refused 10 ] ≡ ok z → T b × (z ≡ signed s n)
+accepted-step : (b : Bool) (s : Bool) (n : ℕ) (z : ℤ) → elim b [ true ↦ whole s n | false ↦ refused (by 10) ] ≡ ok z → T b × (z ≡ signed s n)
 accepted-step true s n z e = (tt, whole-is s n z e)
-accepted-step false s n z e = absurd (never 10 z e)
+accepted-step false s n z e = absurd (never (by 10) z e)
 
 accepted-at : (x : Float) (u z : ℤ) → Near x u → constant-of x ≡ ok z → z ≡ u
 unfolding constant-of
-accepted-at nan u z g e = absurd (never 10 z e)
-accepted-at (inf s) u z g e = absurd (never 10 z e)
+accepted-at nan u z g e = absurd (never (by 10) z e)
+accepted-at (inf s) u z g e = absurd (never (by 10) z e)
 accepted-at (fin s m e) u z (inl (t, n, (p, q), r)) h =
     let c = cut (m * up e) (down e) n (down-pos e) q in
     accepted-step (eqb (m * up e % down e) 0 && ltb (m * up e / down e) (10 ^ 15)) s (m * up e / down e) z h .1 ∙ ap₂ signed p (c .0) ∙ sym r

@@ -8,7 +8,8 @@ use native.Mathlib.Nat.{mul-one, one-mul}
 use lib.IntN.{pos}
 use lib.ListN.{getD}
 use lib.Dec.{T, eqb, eqb→eq}
-use Rattle.tree.specs.Tree.{Name, Tree, Forest, Sym, Const, Op, nil, _◂_, Mul, Div, is-switch, eq-tree}
+use Rattle.tree.specs.Tree.{Name, Tree, Forest, Sym, Const, Op, nil, _◂_, eq-tree}
+use Rattle.tree.specs.Kinds.{Mul, Div, is-switch}
 use Rattle.tree.proofs.TreeLaws.{eq-tree-sound}
 use Rattle.rewrite.specs.Rewrite.{divides-by, replace-divisor, replace-divisors, dividend, replace-outside-arms, replace-operands, replace-key}
 use Rattle.tree.specs.Value.{Reading, Env, value, operand-values, apply, other, residue, binary, product}

@@ -9,10 +9,11 @@ use lib.IntN.{ℤ, pos, negsuc}
 use lib.Dec.{T, eqb, ltb, ltb→lt, lt→ltb}
 use lib.Ieee as Ieee
 use Rattle.tree.specs.Outcome.{Outcome, ok, refused, _>>=_}
-use Rattle.tree.specs.Tree.{Name, input, xname, mname, Tree, Forest, Sym, Const, Op, nil, _◂_, Neg, Mul, Div, eq-tree, eq-int, is-switch}
+use Rattle.tree.specs.Tree.{Name, input, xname, mname, Tree, Forest, Sym, Const, Op, nil, _◂_, eq-tree, eq-int}
+use Rattle.tree.specs.Kinds.{Neg, Mul, Div, is-switch}
 use Rattle.tree.proofs.TreeLaws.{eq-tree-sound}
 use Rattle.tree.specs.Facts.{size, nodes, nodes-of, all-nodes}
-use Rattle.rewrite.specs.Rewrite.{Factors, one, flatten-mul-factors, flatten-operands, flatten-after, times, negated, constant-of, product as product-tree, with-coefficient, built, build-mul-from-factors, remove-first, remove-each, is-mul, match-factors, each-operand, replace-within, replace, divides-by, replace-divisor, replace-divisors, dividend}
+use Rattle.rewrite.specs.Rewrite.{Factors, one, flatten-mul-factors, flatten-operands, flatten-after, times, negated, constant-of, nested-product as product-tree, with-coefficient, built, build-mul-from-factors, remove-first, remove-each, is-mul, match-factors, each-operand, replace-within, replace, divides-by, replace-divisor, replace-divisors, dividend}
 use Rattle.tree.specs.Value.{Reading, Env, value, operand-values, values, apply}
 use Rattle.tree.proofs.Logic.{and-left, and-right, and-both}
 

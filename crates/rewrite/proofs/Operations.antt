@@ -10,12 +10,15 @@ use native.Mathlib.Nat.{add-assoc, zero-add, add-zero}
 use lib.IntN.{ℤ, pos, negsuc, negℤ, _*ℤ_}
 use lib.Dec.{T, eqb, leb, eqb→eq, leb→le}
 use lib.Ieee as Ieee
+use Rattle.tree.proofs.Formed.{arity-mul, arity-neg}
 use Rattle.tree.proofs.Logic.{and-left, and-right, and-both}
 use Rattle.tree.specs.Outcome.{Outcome, ok, refused, _>>=_}
-use Rattle.tree.specs.Tree.{Name, Tree, Forest, Sym, Const, Op, nil, _◂_, folds, Neg, Mul, eq-tree, eq-int, arity-ok, operand-count, well-formed, well-formed-each}
+use Rattle.tree.specs.Tree.{Name, Tree, Forest, Sym, Const, Op, nil, _◂_, folds, eq-tree, eq-int}
+use Rattle.tree.specs.Kinds.{Neg, Mul, arity-ok}
+use Rattle.tree.proofs.Formed.{operand-count, well-formed, well-formed-each}
 use Rattle.tree.proofs.TreeLaws.{eq-tree-sound, eq-int-sound, eq-int-refl}
 use Rattle.tree.specs.Facts.{operations, total, size}
-use Rattle.rewrite.specs.Rewrite.{Factors, one, flatten-mul-factors, flatten-operands, flatten-after, times, negated, constant-of, product as product-tree, with-coefficient, built, build-mul-from-factors, remove-first, remove-each, is-mul, match-factors, each-operand, replace-within, replace}
+use Rattle.rewrite.specs.Rewrite.{Factors, one, flatten-mul-factors, flatten-operands, flatten-after, times, negated, constant-of, nested-product as product-tree, with-coefficient, built, build-mul-from-factors, remove-first, remove-each, is-mul, match-factors, each-operand, replace-within, replace}
 use Rattle.rewrite.proofs.ReplaceValue.{exact, exact-operands, Exact}
 
 -- ---- one for each factor and its operations, and one for a coefficient that is not 1
@@ -72,14 +75,6 @@ extra-mul x y = go (eq-int x (pos 1)) refl (eq-int y (pos 1)) refl
     go false e false f = omega (arith, extra-le (x *ℤ y))
 
 -- ---- a tree's factors and coefficient count at most its operations and one
-
-pub arity-mul : (k n : ℕ) → k ≡ Mul → T (arity-ok k n) → n ≡ 2
-unfolding arity-ok
-arity-mul k n e t = eqb→eq n 2 (subst (λ (j : ℕ). T (arity-ok j n)) e t)
-
-pub arity-neg : (k n : ℕ) → k ≡ Neg → T (arity-ok k n) → n ≡ 1
-unfolding arity-ok
-arity-neg k n e t = eqb→eq n 1 (subst (λ (j : ℕ). T (arity-ok j n)) e t)
 
 unfoldable pub spread-operands : Forest → ℕ
 spread-operands nil = 0

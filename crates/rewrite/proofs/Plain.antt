@@ -9,7 +9,8 @@ use native.Mathlib.Nat.{mul-add, mul-zero, mul-one}
 use lib.Dec.{T, eqb}
 use lib.Ieee as Ieee
 use Rattle.tree.specs.Outcome.{Outcome, ok, refused, _>>=_}
-use Rattle.tree.specs.Tree.{Name, Tree, Forest, Sym, Const, Op, nil, _◂_, Mul, eq-tree}
+use Rattle.tree.specs.Tree.{Name, Tree, Forest, Sym, Const, Op, nil, _◂_, eq-tree}
+use Rattle.tree.specs.Kinds.{Mul}
 use Rattle.tree.proofs.TreeLaws.{eq-tree-sound}
 use Rattle.tree.specs.Facts.{operations, size}
 use Rattle.rewrite.specs.Rewrite.{Factors, one, flatten-mul-factors, remove-each, is-mul, match-factors, build-mul-from-factors, each-operand, replace-within, replace}

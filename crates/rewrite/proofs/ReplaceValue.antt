@@ -10,9 +10,10 @@ use lib.IntN.{ℤ, pos, negsuc, negℤ, _*ℤ_}
 use lib.Dec.{T, eqb}
 use lib.Ieee as Ieee
 use Rattle.tree.specs.Outcome.{Outcome, ok, refused, _>>=_}
-use Rattle.tree.specs.Tree.{Name, Tree, Forest, Sym, Const, Op, nil, _◂_, Neg, Mul, eq-tree, eq-int}
+use Rattle.tree.specs.Tree.{Name, Tree, Forest, Sym, Const, Op, nil, _◂_, eq-tree, eq-int}
+use Rattle.tree.specs.Kinds.{Neg, Mul}
 use Rattle.tree.proofs.TreeLaws.{eq-tree-sound, eq-int-sound}
-use Rattle.rewrite.specs.Rewrite.{Factors, one, flatten-mul-factors, flatten-operands, flatten-after, times, negated, constant-of, product as product-tree, with-coefficient, built, build-mul-from-factors, remove-first, remove-each, is-mul, match-factors, each-operand, replace-within, replace}
+use Rattle.rewrite.specs.Rewrite.{Factors, one, flatten-mul-factors, flatten-operands, flatten-after, times, negated, constant-of, nested-product as product-tree, with-coefficient, built, build-mul-from-factors, remove-first, remove-each, is-mul, match-factors, each-operand, replace-within, replace}
 use Rattle.tree.specs.Value.{Reading, Env, value, operand-values, values, product, residue, mul-mod, apply}
 use Rattle.tree.specs.Facts.{size}
 use Rattle.rewrite.proofs.Residues.{mod-mul-left, mod-mul-right, residue-mul-at, residue-reduced, neg-times}

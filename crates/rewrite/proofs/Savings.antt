@@ -11,15 +11,18 @@ use native.Mathlib.Omega.{arith}
 use native.Mathlib.Nat.{add-assoc, zero-add, add-zero, mul-add, add-mul, mul-zero, zero-mul, mul-one, one-mul, suc-mul, mul-suc, le-trans, le-of-eq}
 use lib.IntN.{ℤ, pos, negsuc, negℤ, _*ℤ_}
 use lib.Dec.{T, eqb, leb, eqb→eq, leb→le}
-use Rattle.tree.specs.Tree.{Name, Tree, Forest, Sym, Const, Op, nil, _◂_, folds, Neg, Mul, eq-tree, eq-forest, arity-ok, operand-count, well-formed, well-formed-each, eq-int}
+use Rattle.tree.specs.Tree.{Name, Tree, Forest, Sym, Const, Op, nil, _◂_, folds, eq-tree, eq-forest, eq-int}
+use Rattle.tree.specs.Kinds.{Neg, Mul, arity-ok}
+use Rattle.tree.proofs.Formed.{operand-count, well-formed, well-formed-each}
 use Rattle.tree.proofs.TreeLaws.{eq-tree-sound, eq-forest-sound, eq-tree-refl, eq-forest-refl}
 use Rattle.tree.specs.Facts.{operations, total, size, count}
-use Rattle.rewrite.specs.Rewrite.{Factors, one, flatten-mul-factors, flatten-operands, flatten-after, times, negated, remove-first, remove-each, product as product-tree, with-coefficient, built, build-mul-from-factors, constant-of, is-mul, match-factors, each-operand, replace-within}
+use Rattle.rewrite.specs.Rewrite.{Factors, one, flatten-mul-factors, flatten-operands, flatten-after, times, negated, remove-first, remove-each, nested-product as product-tree, with-coefficient, built, build-mul-from-factors, constant-of, is-mul, match-factors, each-operand, replace-within}
 use lib.Ieee as Ieee
 use Rattle.tree.specs.Outcome.{Outcome, ok, refused, _>>=_}
 use Rattle.rewrite.proofs.ReplaceValue.{exact, exact-operands, Exact}
 use Rattle.tree.proofs.Logic.{and-left, and-right}
-use Rattle.rewrite.proofs.Operations.{spread, spread-operands, extra, extra-le, extra-mul, arity-mul, arity-neg, operations-op, spread-of-operands, factors-bound, forest-operations, spread-append, built-operations, all-append, well-formed-all, removed-each, Removed-each, factors-formed}
+use Rattle.rewrite.proofs.Operations.{spread, spread-operands, extra, extra-le, extra-mul, operations-op, spread-of-operands, factors-bound, forest-operations, spread-append, built-operations, all-append, well-formed-all, removed-each, Removed-each, factors-formed}
+use Rattle.tree.proofs.Formed.{arity-mul, arity-neg}
 
 module _ (g : Forest) where
   unfoldable mutual

@@ -13,13 +13,16 @@ use lib.IntN as Int
 use lib.Dec.{T, eqb, eqb→eq}
 use lib.Ieee as Ieee
 use Rattle.tree.specs.Outcome.{Outcome, ok, refused}
-use Rattle.tree.specs.Tree.{Name, Tree, Forest, Sym, Const, Op, nil, _◂_, Neg, Mul, eq-name, eq-tree, eq-int, arity-ok, operand-count, well-formed, well-formed-each}
+use Rattle.tree.specs.Tree.{Name, Tree, Forest, Sym, Const, Op, nil, _◂_, eq-name, eq-tree, eq-int}
+use Rattle.tree.specs.Kinds.{Neg, Mul, arity-ok}
+use Rattle.tree.proofs.Formed.{operand-count, well-formed, well-formed-each}
 use Rattle.tree.proofs.TreeLaws.{eq-tree-sound, eq-name-sound, eq-name-refl, eq-int-sound}
 use Rattle.tree.specs.Facts.{operations, size, count}
-use Rattle.rewrite.specs.Rewrite.{Factors, one, flatten-mul-factors, flatten-operands, flatten-after, times, negated, remove-first, remove-each, product as product-tree, with-coefficient, built, replace, replace-within}
+use Rattle.rewrite.specs.Rewrite.{Factors, one, flatten-mul-factors, flatten-operands, flatten-after, times, negated, remove-first, remove-each, nested-product as product-tree, with-coefficient, built, replace, replace-within}
 use Rattle.rewrite.proofs.ReplaceValue.{exact, exact-operands, Exact}
 use Rattle.tree.proofs.Logic.{and-left, and-right}
-use Rattle.rewrite.proofs.Operations.{spread, arity-mul, arity-neg}
+use Rattle.rewrite.proofs.Operations.{spread}
+use Rattle.tree.proofs.Formed.{arity-mul, arity-neg}
 use Rattle.rewrite.proofs.Coefficient.{exactly}
 use Rattle.rewrite.proofs.Savings.{T-factors, hits, sizes, size-op, measure-operands, measure-of, Saves, O, replace-within-saves, count-cons, one-self}
 

@@ -7,8 +7,9 @@ use lib.IntN.{ℤ, pos, negsuc, negℤ}
 use lib.Dec.{eqb, ltb}
 use lib.Ieee as Ieee
 use lib.Ieee.{Float, nan, inf, fin, binary64, up, down}
-use Rattle.tree.specs.Outcome.{Outcome, ok, refused, _>>=_}
-use Rattle.tree.specs.Tree.{Name, Tree, Forest, Sym, Const, Op, nil, _◂_, Neg, Mul, Div, is-switch, eq-tree, eq-int}
+use Rattle.tree.specs.Outcome.{Outcome, ok, refused, _>>=_, by}
+use Rattle.tree.specs.Tree.{Name, Tree, Forest, Sym, Const, Op, nil, _◂_, eq-tree, eq-int}
+use Rattle.tree.specs.Kinds.{Neg, Mul, Div, is-switch}
 use Rattle.tree.specs.Facts.{size}
 
 -- ---- products
@@ -52,20 +53,20 @@ unfoldable mutual
 -- The integer of a rebuilt coefficient, or refusal 10: minus zero, an infinity, NaN, a fraction, or 10^15 and more in magnitude.
 unfoldable pub whole : Bool → ℕ → Outcome ℤ
 whole false n = ok (pos n)
-whole true zero = refused 10
+whole true zero = refused (by 10)
 whole true (suc n) = ok (negsuc n)
 
 unfoldable pub constant-of : Float → Outcome ℤ
 unfolding whole
-constant-of nan = refused 10
-constant-of (inf s) = refused 10
+constant-of nan = refused (by 10)
+constant-of (inf s) = refused (by 10)
 constant-of (fin s m e) =
-    elim (eqb (m * up e % down e) 0 && ltb (m * up e / down e) (10 ^ 15)) [ true ↦ whole s (m * up e / down e) | false ↦ refused 10 ]
+    elim (eqb (m * up e % down e) 0 && ltb (m * up e / down e) (10 ^ 15)) [ true ↦ whole s (m * up e / down e) | false ↦ refused (by 10) ]
 
 -- left-nested
-unfoldable pub product : Tree → List Tree → Tree
-product t [] = t
-product t (f ∷ l) = product (Op Mul (t ◂ f ◂ nil)) l
+unfoldable pub nested-product : Tree → List Tree → Tree
+nested-product t [] = t
+nested-product t (f ∷ l) = nested-product (Op Mul (t ◂ f ◂ nil)) l
 
 unfoldable pub with-coefficient : ℤ → Tree → Tree
 unfolding eq-int
@@ -76,9 +77,9 @@ with-coefficient c t =
     ]
 
 unfoldable pub built : ℤ → List Tree → Tree
-unfolding product with-coefficient
+unfolding nested-product with-coefficient
 built c [] = Const c
-built c (t ∷ l) = with-coefficient c (product t l)
+built c (t ∷ l) = with-coefficient c (nested-product t l)
 
 unfoldable pub build-mul-from-factors : Factors → Outcome Tree
 unfolding constant-of built
@@ -104,7 +105,7 @@ is-mul (Sym n) = false
 is-mul (Const c) = false
 is-mul (Op k f) = eqb k Mul
 
--- The product e with the target's factors taken out and the name put at its end, where the target is a Mul with coefficient 1
+-- The nested-product e with the target's factors taken out and the name put at its end, where the target is a Mul with coefficient 1
 -- whose factors are all there. The coefficient is e's.
 unfoldable pub match-factors : Tree → Name → Tree → Option Factors
 unfolding flatten-mul-factors remove-each is-mul one Ieee.eq
@@ -123,7 +124,7 @@ each-operand g nil = ok nil
 each-operand g (t ◂ f) = g t >>= λ u. each-operand g f >>= λ r. ok (u ◂ r)
 
 -- The first argument bounds how deep the calls go. Weigh the new name 1 and every other node 2: an operand weighs less than its
--- node, and a product rebuilt after a match less than the product, so twice the size is enough.
+-- node, and a nested-product rebuilt after a match less than the nested-product, so twice the size is enough.
 unfoldable pub replace-within : ℕ → Tree → Name → Tree → Outcome Tree
 unfolding eq-tree match-factors build-mul-from-factors each-operand
 replace-within zero target n e = ok e

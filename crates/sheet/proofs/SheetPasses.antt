@@ -7,14 +7,18 @@ use mathlib.Core.List.{List, [], _∷_, _++_}
 use native.Mathlib.Omega.{arith}
 use lib.IntN.{ℤ, pos, negsuc}
 use lib.ListN.{length, getD}
-use lib.Dec.{T, eqb, leb, ltb, eqb→eq, eqb-refl, ltb→lt, lt→ltb, le→leb}
-use Rattle.tree.specs.Tree.{Tree, Sym, Const, Op, nil, _◂_, forest, eq-bytes, arity-ok, Neg, SelectOr}
-use Rattle.sheet.specs.Sheet.{records-from, fields-from, plain, number, below-limit, minus, constant, words, Root, find, fields-ok, Load, loaded, declined, numbers, add-row, add-root, add-numbers, add-fields, add-record, load-records, load}
-use Rattle.tree.specs.Symbol.{every, is-name}
+use lib.Dec.{T, eqb, leb, ltb, eqb→eq, eqb-refl, ltb→lt, lt→ltb, le→leb, leb→le}
+use Rattle.tree.specs.Outcome.{Outcome, ok, refused, _at-record_}
+use Rattle.tree.specs.Tree.{Tree, Sym, Const, Op, nil, _◂_, forest}
+use Rattle.tree.specs.Bytes.{eq-bytes}
+use Rattle.tree.specs.Kinds.{arity-ok, Neg, SelectOr}
+use Rattle.sheet.specs.Sheet.{records-from, fields-from, plain, number, below-limit, minus, constant, words, Root, find, fields-ok, numbers, add-row, add-root, add-numbers, add-fields, add-record, load-records, load}
+use Rattle.tree.specs.Bytes.{every}
+use Rattle.tree.specs.Symbol.{is-name}
 use Rattle.tree.specs.Rows.{Row, row-sym, row-const, row-op, Table, at, tree-of-row, trees-from, trees, within-limits}
 use Rattle.tree.specs.Passes.{all-of, of-list, of-paper, operands-ok, expression, expressions, passes}
 use Rattle.tree.proofs.Logic.{and-left, and-right, and-both}
-use Rattle.tree.proofs.Logic.{tests}
+use Rattle.tree.proofs.Formed.{tests}
 
 -- ---- a good table: names, constants and operand counts of 01, and node numbers of earlier rows
 
@@ -55,15 +59,15 @@ record Good (t : Table) : Type 0 where
   roots : T (every (λ n. ltb n (length (t .rows))) (t .roots))
   few : length (t .roots) ≤ 64
 
-Fine : Load Table → Type 0
-Fine (loaded t) = Good t
-Fine (declined n i) = Unit {0}
+Fine : Outcome Table → Type 0
+Fine (ok t) = Good t
+Fine (refused r) = Unit {0}
 
 fine-row : (i : ℕ) (r : Row) (t : Table) → Good t → T (row-good (length (t .rows)) r) → Fine (add-row i r t)
 unfolding add-row Fine
 fine-row i r t G h = go (ltb (length (t .rows)) 1024)
   where
-    go : (b : Bool) → Fine (cond b (loaded (record { rows = t .rows ++ (r ∷ []); roots = t .roots })) (declined 6 i))
+    go : (b : Bool) → Fine (cond b (ok (record { rows = t .rows ++ (r ∷ []); roots = t .roots })) (refused (6 at-record i)))
     go true =
         record {
           rows = rows-append 0 (t .rows) r (G .rows) (subst (λ (m : ℕ). T (row-good m r)) (let e : length (t .rows) ≡ 0 + length (t .rows) = omega arith in e) h);
@@ -76,7 +80,7 @@ fine-root : (i n : ℕ) (t : Table) → Good t → T (ltb n (length (t .rows))) 
 unfolding add-root Fine
 fine-root i n t G h = go (ltb (length (t .roots)) 64) (ltb→lt (length (t .roots)) 64)
   where
-    go : (b : Bool) → (T b → length (t .roots) < 64) → Fine (cond b (loaded (record { rows = t .rows; roots = t .roots ++ (n ∷ []) })) (declined 6 i))
+    go : (b : Bool) → (T b → length (t .roots) < 64) → Fine (cond b (ok (record { rows = t .rows; roots = t .roots ++ (n ∷ []) })) (refused (6 at-record i)))
     go true f =
         record {
           rows = G .rows;
@@ -148,25 +152,26 @@ unfolding every
 first-less m [] e h = absurd (omega (arith, e))
 first-less m (n ∷ ns) e h = and-left (ltb n m) (every (λ n. ltb n m) ns) h
 
+past : (b x y : Bool) → (T b → ⊥) → T (cond b x y) → T y
+past true x y z h = absurd (z tt)
+past false x y z h = h
+
 module _ (i k : ℕ) (t : Table) (G : Good t) where
   fine-numbers : (ns : List ℕ) → k < 30 → 2 ≤ k → T (fields-ok k (length ns)) → Fine (add-numbers i k ns t)
   unfolding add-numbers Fine
   fine-numbers ns h l f = go (every (λ n. ltb n (length (t .rows))) ns) (λ u. u)
     where
-      node : (b : Bool) → (T b → k ≡ Root) → (k ≡ Root → T b) → T (cond b (eqb (length ns) 1) (arity-ok k (length ns))) → T (every (λ n. ltb n (length (t .rows))) ns)
+      node : (b : Bool) → (T b → k ≡ Root) → (k ≡ Root → T b) → T (cond (b || leb k 1) (eqb (length ns) 1) (arity-ok k (length ns))) → T (every (λ n. ltb n (length (t .rows))) ns)
           → Fine (cond b (add-root i (getD ns 0 0) t) (add-row i (row-op k ns) t))
       node true e d q u = fine-root i (getD ns 0 0) t G (first-less (length (t .rows)) ns (eqb→eq (length ns) 1 q) u)
       node false e d q u =
           fine-row i (row-op k ns) t G
           (unfold row-good operands-ok in
-          and-both (leb Neg k && (leb k SelectOr && arity-ok k (length ns))) (every (λ n. ltb n (length (t .rows))) ns)
-          (and-both (leb Neg k) (leb k SelectOr && arity-ok k (length ns)) (le→leb Neg k l)
-          (and-both (leb k SelectOr) (arity-ok k (length ns)) (le→leb k SelectOr (let z : k ≡ Root → ⊥ = d in at-most z)) q)) u)
-        where
-          at-most : (k ≡ 29 → ⊥) → k ≤ 28
-          at-most z = omega arith
+          and-both (leb Neg k && arity-ok k (length ns)) (every (λ n. ltb n (length (t .rows))) ns)
+          (and-both (leb Neg k) (arity-ok k (length ns)) (le→leb Neg k l)
+          (past (leb k 1) (eqb (length ns) 1) (arity-ok k (length ns)) (λ z. let w = leb→le k 1 z in omega arith) q)) u)
 
-      go : (b : Bool) → (T b → T (every (λ n. ltb n (length (t .rows))) ns)) → Fine (elim b [ true ↦ cond (eqb k Root) (add-root i (getD ns 0 0) t) (add-row i (row-op k ns) t) | false ↦ declined 5 i ])
+      go : (b : Bool) → (T b → T (every (λ n. ltb n (length (t .rows))) ns)) → Fine (elim b [ true ↦ cond (eqb k Root) (add-root i (getD ns 0 0) t) (add-row i (row-op k ns) t) | false ↦ refused (5 at-record i) ])
       go true u = node (eqb k Root) (eqb→eq k Root) (λ e. subst (λ (m : ℕ). T (eqb k m)) e (eqb-refl k)) f (u tt)
       go false u = tt
 
@@ -174,25 +179,25 @@ module _ (i k : ℕ) (t : Table) (G : Good t) where
   unfolding add-fields Fine
   fine-fields fs h f = go (eqb k 0) (eqb k 1) (λ e. subst (λ (m : ℕ). T (eqb k m)) e (eqb-refl k)) (λ e. subst (λ (m : ℕ). T (eqb k m)) e (eqb-refl k))
     where
-      name : (b : Bool) → (T b → T (is-name (getD fs 0 []))) → Fine (cond b (add-row i (row-sym (getD fs 0 [])) t) (declined 3 i))
+      name : (b : Bool) → (T b → T (is-name (getD fs 0 []))) → Fine (cond b (add-row i (row-sym (getD fs 0 [])) t) (refused (3 at-record i)))
       name true u = fine-row i (row-sym (getD fs 0 [])) t G (unfold row-good in u tt)
       name false u = tt
 
-      const : (o : Option ℤ) → Paper o → Fine (elim o [ none ↦ declined 4 i | some c ↦ add-row i (row-const c) t ])
+      const : (o : Option ℤ) → Paper o → Fine (elim o [ none ↦ refused (4 at-record i) | some c ↦ add-row i (row-const c) t ])
       const none u = tt
       const (some c) u = fine-row i (row-const c) t G (unfold row-good Paper in u)
 
-      node : (o : Option (List ℕ)) → As-long (length fs) o → 2 ≤ k → Fine (elim o [ none ↦ declined 2 i | some ns ↦ add-numbers i k ns t ])
+      node : (o : Option (List ℕ)) → As-long (length fs) o → 2 ≤ k → Fine (elim o [ none ↦ refused (2 at-record i) | some ns ↦ add-numbers i k ns t ])
       node none u l = tt
       node (some ns) u l = (let e : length ns ≡ length fs = (unfold As-long in u) in fine-numbers ns h l (subst (λ (m : ℕ). T (fields-ok k m)) (sym e) f))
 
       go : (b c : Bool) → (k ≡ 0 → T b) → (k ≡ 1 → T c)
           → Fine
           (elim b [
-            | true ↦ cond (is-name (getD fs 0 [])) (add-row i (row-sym (getD fs 0 [])) t) (declined 3 i)
+            | true ↦ cond (is-name (getD fs 0 [])) (add-row i (row-sym (getD fs 0 [])) t) (refused (3 at-record i))
             | false ↦ elim c [
-              | true ↦ elim (constant (getD fs 0 [])) [ none ↦ declined 4 i | some c ↦ add-row i (row-const c) t ]
-              | false ↦ elim (numbers fs) [ none ↦ declined 2 i | some ns ↦ add-numbers i k ns t ]
+              | true ↦ elim (constant (getD fs 0 [])) [ none ↦ refused (4 at-record i) | some c ↦ add-row i (row-const c) t ]
+              | false ↦ elim (numbers fs) [ none ↦ refused (2 at-record i) | some ns ↦ add-numbers i k ns t ]
             ]
           ])
       go true c u v = name (is-name (getD fs 0 [])) (λ w. w)
@@ -207,12 +212,12 @@ unfolding add-record Fine
 fine-record i [] t G = tt
 fine-record i (w ∷ fs) t G = go (find 0 w words) (found 0 w words)
   where
-    fields : (k : ℕ) → k < 30 → (b : Bool) → (T b → T (fields-ok k (length fs))) → Fine (elim b [ true ↦ add-fields i k fs t | false ↦ declined 2 i ])
+    fields : (k : ℕ) → k < 30 → (b : Bool) → (T b → T (fields-ok k (length fs))) → Fine (elim b [ true ↦ add-fields i k fs t | false ↦ refused (2 at-record i) ])
     fields k h true u = fine-fields i k t G fs h (u tt)
     fields k h false u = tt
 
     go : (o : Option ℕ) → Found (0 + length words) o
-        → Fine (elim o [ none ↦ declined 2 i | some k ↦ elim (fields-ok k (length fs)) [ true ↦ add-fields i k fs t | false ↦ declined 2 i ] ])
+        → Fine (elim o [ none ↦ refused (2 at-record i) | some k ↦ elim (fields-ok k (length fs)) [ true ↦ add-fields i k fs t | false ↦ refused (2 at-record i) ] ])
     go none h = tt
     go (some k) h = fields k (unfold Found words in h) (fields-ok k (length fs)) (λ u. u)
 
@@ -221,10 +226,10 @@ unfolding load-records Fine
 fine-records i [] t G = G
 fine-records i (r ∷ l) t G = go (every plain r) (add-record i (fields-from [] r) t) (fine-record i (fields-from [] r) t G) (λ u H. fine-records (suc i) l u H)
   where
-    go : (b : Bool) (o : Load Table) → Fine o → ((u : Table) → Good u → Fine (load-records (suc i) l u))
-        → Fine (elim b [ true ↦ elim o [ loaded u ↦ load-records (suc i) l u | declined n j ↦ declined n j ] | false ↦ declined 2 i ])
-    go true (loaded u) h f = f u h
-    go true (declined n j) h f = tt
+    go : (b : Bool) (o : Outcome Table) → Fine o → ((u : Table) → Good u → Fine (load-records (suc i) l u))
+        → Fine (elim b [ true ↦ elim o [ ok u ↦ load-records (suc i) l u | refused r ↦ refused r ] | false ↦ refused (2 at-record i) ])
+    go true (ok u) h f = f u h
+    go true (refused r) h f = tt
     go false o h f = tt
 
 -- ---- trees
@@ -298,9 +303,9 @@ table-passes t G w =
 
 -- ---- load
 
-Passing : Load Table → Type 0
-Passing (loaded t) = T (passes (trees t))
-Passing (declined n i) = Unit {0}
+Passing : Outcome Table → Type 0
+Passing (ok t) = T (passes (trees t))
+Passing (refused r) = Unit {0}
 
 load-passing : (row-places root-places : ℕ) (s : List ℕ) → Passing (load row-places root-places s)
 unfolding load Passing
@@ -308,26 +313,26 @@ load-passing row-places root-places s =
     first (ltb row-places 1024 || ltb root-places 64) (eqb (length s) 0) (ltb 65535 (length s)) (load-records 0 (records-from [] s) (record { rows = []; roots = [] }))
     (fine-records 0 (records-from [] s) (record { rows = []; roots = [] }) (record { rows = (unfold rows-good in tt); roots = (unfold every in tt); few = omega arith }))
   where
-    limits : (t : Table) → Good t → (b : Bool) → (T b → T (within-limits (trees t))) → (n : ℕ) → Passing (cond b (loaded t) (declined 6 n))
+    limits : (t : Table) → Good t → (b : Bool) → (T b → T (within-limits (trees t))) → (n : ℕ) → Passing (cond b (ok t) (refused (6 at-record n)))
     limits t G true h n = table-passes t G (h tt)
     limits t G false h n = tt
 
-    last : (o : Load Table) → Fine o → Passing (elim o [ loaded t ↦ cond (within-limits (trees t)) (loaded t) (declined 6 (length (records-from [] s))) | declined n i ↦ declined n i ])
-    last (loaded t) G = limits t (unfold Fine in G) (within-limits (trees t)) (λ u. u) (length (records-from [] s))
-    last (declined n i) G = tt
+    last : (o : Outcome Table) → Fine o → Passing (elim o [ ok t ↦ cond (within-limits (trees t)) (ok t) (refused (6 at-record (length (records-from [] s)))) | refused r ↦ refused r ])
+    last (ok t) G = limits t (unfold Fine in G) (within-limits (trees t)) (λ u. u) (length (records-from [] s))
+    last (refused r) G = tt
 
-    first : (a b c : Bool) (o : Load Table) → Fine o
+    first : (a b c : Bool) (o : Outcome Table) → Fine o
         → Passing
-        (cond a (declined 7 0)
-        (cond b (declined 1 0)
-        (cond c (declined 6 0)
-        (elim o [ loaded t ↦ cond (within-limits (trees t)) (loaded t) (declined 6 (length (records-from [] s))) | declined n i ↦ declined n i ]))))
+        (cond a (refused (7 at-record 0))
+        (cond b (refused (1 at-record 0))
+        (cond c (refused (6 at-record 0))
+        (elim o [ ok t ↦ cond (within-limits (trees t)) (ok t) (refused (6 at-record (length (records-from [] s)))) | refused r ↦ refused r ]))))
     first true b c o F = tt
     first false true c o F = tt
     first false false true o F = tt
     first false false false o F = last o F
 
 -- A sheet that load accepts lays out trees that pass 9.
-pub accepted-passes : (row-places root-places : ℕ) (s : List ℕ) (t : Table) → load row-places root-places s ≡ loaded t → T (passes (trees t))
+pub accepted-passes : (row-places root-places : ℕ) (s : List ℕ) (t : Table) → load row-places root-places s ≡ ok t → T (passes (trees t))
 unfolding Passing
 accepted-passes row-places root-places s t e = subst Passing e (load-passing row-places root-places s)

@@ -1,4 +1,4 @@
--- Loading a sheet: from bytes to node rows and roots, or a refusal with its record (01, "Sheet and printing", "Turned down": Load). Assumes nothing.
+-- Loading a sheet: from bytes to node rows and roots, or a refusal with its record (01, "Sheet and printing", "Turned down": Outcome). Assumes nothing.
 use Prim.Native.Nat.{ℕ, zero, suc, _+_, _-_, _*_, _^_, max}
 use mathlib.Core.Bool.{Bool, true, false, not, _&&_, _||_, cond}
 use mathlib.Core.Option.{Option, none, some}
@@ -6,11 +6,16 @@ use mathlib.Core.List.{List, [], _∷_, _++_, reverse}
 use lib.IntN.{ℤ, pos, negsuc}
 use lib.ListN.{length, getD}
 use lib.Dec.{eqb, leb, ltb}
-use Rattle.tree.specs.Symbol.{every, is-digit, is-name}
+use Rattle.tree.specs.Bytes.{every}
+use Rattle.tree.specs.Symbol.{is-digit, is-name}
 use Rattle.tree.specs.Rows.{Row, row-sym, row-const, row-op, Table, trees, within-limits}
-use Rattle.tree.specs.Tree.{Name, input, Tree, Sym, Const, Op, nil, eq-bytes, forest, arity-ok}
+use Rattle.tree.specs.Kinds.{Kind, kinds}
+use Rattle.tree.specs.Outcome.{Outcome, ok, refused, _at-record_}
+use Rattle.tree.specs.Tree.{Name, input, Tree, Sym, Const, Op, nil, forest}
+use Rattle.tree.specs.Bytes.{eq-bytes}
+use Rattle.tree.specs.Kinds.{arity-ok}
 use Rattle.tree.specs.Facts.{size, nesting}
-use Rattle.text.specs.Text.{bytes}
+use Rattle.tree.specs.Bytes.{bytes}
 
 -- ---- records and fields
 
@@ -60,12 +65,13 @@ constant (b ∷ l) = elim (eqb b 45) [ true ↦ below-limit minus (number l) | f
 -- ---- rows
 
 -- the record words, by the kind's number; Root comes last
+unfoldable pub words-of : List Kind → List (List ℕ)
+words-of [] = bytes "Root" ∷ []
+words-of (k ∷ l) = k .word ∷ words-of l
+
 unfoldable pub words : List (List ℕ)
-words =
-    bytes "Sym" ∷ bytes "Const" ∷ bytes "Neg" ∷ bytes "Add" ∷ bytes "Sub" ∷ bytes "Mul" ∷ bytes "Div" ∷ bytes "Pow" ∷ bytes "Sin" ∷ bytes "Cos"
-    ∷ bytes "Tan" ∷ bytes "Asin" ∷ bytes "Acos" ∷ bytes "Atan" ∷ bytes "Atan2" ∷ bytes "Sinh" ∷ bytes "Cosh" ∷ bytes "Tanh" ∷ bytes "Exp"
-    ∷ bytes "Ln" ∷ bytes "Log2" ∷ bytes "Log10" ∷ bytes "Sqrt" ∷ bytes "Abs" ∷ bytes "Heaviside" ∷ bytes "Clamp" ∷ bytes "Branch"
-    ∷ bytes "Select" ∷ bytes "SelectOr" ∷ bytes "Root" ∷ []
+unfolding words-of kinds
+words = words-of kinds
 
 abbrev pub Root : ℕ
 Root = 29
@@ -75,13 +81,9 @@ unfolding eq-bytes
 find i w [] = none
 find i w (v ∷ l) = elim (eq-bytes v w) [ true ↦ some i | false ↦ find (suc i) w l ]
 
--- a root has one field, and a node those of its kind
+-- a root, a symbol and a constant have one field, and any other node its operands
 abbrev pub fields-ok : ℕ → ℕ → Bool
-fields-ok k n = cond (eqb k Root) (eqb n 1) (arity-ok k n)
-
-pub data Load (A : Type 0) : Type 0 where
-  loaded : A → Load A
-  declined : ℕ → ℕ → Load A
+fields-ok k n = cond (eqb k Root || leb k 1) (eqb n 1) (arity-ok k n)
 
 -- ---- a record
 
@@ -90,61 +92,61 @@ unfolding number
 numbers [] = some []
 numbers (f ∷ l) = elim (number f) [ none ↦ none | some n ↦ elim (numbers l) [ none ↦ none | some ns ↦ some (n ∷ ns) ] ]
 
-unfoldable pub add-row : ℕ → Row → Table → Load Table
-add-row i r t = cond (ltb (length (t .rows)) 1024) (loaded (record { rows = t .rows ++ (r ∷ []); roots = t .roots })) (declined 6 i)
+unfoldable pub add-row : ℕ → Row → Table → Outcome Table
+add-row i r t = cond (ltb (length (t .rows)) 1024) (ok (record { rows = t .rows ++ (r ∷ []); roots = t .roots })) (refused (6 at-record i))
 
-unfoldable pub add-root : ℕ → ℕ → Table → Load Table
-add-root i n t = cond (ltb (length (t .roots)) 64) (loaded (record { rows = t .rows; roots = t .roots ++ (n ∷ []) })) (declined 6 i)
+unfoldable pub add-root : ℕ → ℕ → Table → Outcome Table
+add-root i n t = cond (ltb (length (t .roots)) 64) (ok (record { rows = t .rows; roots = t .roots ++ (n ∷ []) })) (refused (6 at-record i))
 
 -- an operation's or a root's node numbers, after 2 is settled
-unfoldable pub add-numbers : ℕ → ℕ → List ℕ → Table → Load Table
+unfoldable pub add-numbers : ℕ → ℕ → List ℕ → Table → Outcome Table
 unfolding every add-row add-root
 add-numbers i k ns t =
     elim (every (λ n. ltb n (length (t .rows))) ns) [
       | true ↦ cond (eqb k Root) (add-root i (getD ns 0 0) t) (add-row i (row-op k ns) t)
-      | false ↦ declined 5 i
+      | false ↦ refused (5 at-record i)
     ]
 
-unfoldable pub add-fields : ℕ → ℕ → List (List ℕ) → Table → Load Table
+unfoldable pub add-fields : ℕ → ℕ → List (List ℕ) → Table → Outcome Table
 unfolding is-name constant numbers add-row add-numbers
 add-fields i k fs t =
     elim (eqb k 0) [
-      | true ↦ cond (is-name (getD fs 0 [])) (add-row i (row-sym (getD fs 0 [])) t) (declined 3 i)
+      | true ↦ cond (is-name (getD fs 0 [])) (add-row i (row-sym (getD fs 0 [])) t) (refused (3 at-record i))
       | false ↦ elim (eqb k 1) [
-        | true ↦ elim (constant (getD fs 0 [])) [ none ↦ declined 4 i | some c ↦ add-row i (row-const c) t ]
-        | false ↦ elim (numbers fs) [ none ↦ declined 2 i | some ns ↦ add-numbers i k ns t ]
+        | true ↦ elim (constant (getD fs 0 [])) [ none ↦ refused (4 at-record i) | some c ↦ add-row i (row-const c) t ]
+        | false ↦ elim (numbers fs) [ none ↦ refused (2 at-record i) | some ns ↦ add-numbers i k ns t ]
       ]
     ]
 
 -- record i, split into kind and rest
-unfoldable pub add-record : ℕ → List (List ℕ) → Table → Load Table
+unfoldable pub add-record : ℕ → List (List ℕ) → Table → Outcome Table
 unfolding find words arity-ok add-fields
-add-record i [] t = declined 2 i
+add-record i [] t = refused (2 at-record i)
 add-record i (w ∷ fs) t =
     elim (find 0 w words) [
-      | none ↦ declined 2 i
-      | some k ↦ elim (fields-ok k (length fs)) [ true ↦ add-fields i k fs t | false ↦ declined 2 i ]
+      | none ↦ refused (2 at-record i)
+      | some k ↦ elim (fields-ok k (length fs)) [ true ↦ add-fields i k fs t | false ↦ refused (2 at-record i) ]
     ]
 
-unfoldable pub load-records : ℕ → List (List ℕ) → Table → Load Table
+unfoldable pub load-records : ℕ → List (List ℕ) → Table → Outcome Table
 unfolding add-record every plain fields-from
-load-records i [] t = loaded t
+load-records i [] t = ok t
 load-records i (r ∷ l) t =
     elim (every plain r) [
-      | true ↦ elim (add-record i (fields-from [] r) t) [ loaded u ↦ load-records (suc i) l u | declined n j ↦ declined n j ]
-      | false ↦ declined 2 i
+      | true ↦ elim (add-record i (fields-from [] r) t) [ ok u ↦ load-records (suc i) l u | refused r ↦ refused r ]
+      | false ↦ refused (2 at-record i)
     ]
 
 -- ---- load, given how many rows and roots the lent tables hold
 
-unfoldable pub load : ℕ → ℕ → List ℕ → Load Table
+unfoldable pub load : ℕ → ℕ → List ℕ → Outcome Table
 unfolding records-from load-records trees within-limits
 load row-places root-places s =
-    cond (ltb row-places 1024 || ltb root-places 64) (declined 7 0)
-    (cond (eqb (length s) 0) (declined 1 0)
-    (cond (ltb 65535 (length s)) (declined 6 0)
+    cond (ltb row-places 1024 || ltb root-places 64) (refused (7 at-record 0))
+    (cond (eqb (length s) 0) (refused (1 at-record 0))
+    (cond (ltb 65535 (length s)) (refused (6 at-record 0))
     (let rs = records-from [] s in
     elim (load-records 0 rs (record { rows = []; roots = [] })) [
-      | loaded t ↦ cond (within-limits (trees t)) (loaded t) (declined 6 (length rs))
-      | declined n i ↦ declined n i
+      | ok t ↦ cond (within-limits (trees t)) (ok t) (refused (6 at-record (length rs)))
+      | refused r ↦ refused r
     ])))

@@ -3,8 +3,10 @@ use Prim.Native.Nat.{ℕ}
 use mathlib.Core.Path.{_≡_, refl}
 use mathlib.Core.List.{List, [], _∷_}
 use lib.IntN.{pos, negsuc}
-use Rattle.tree.specs.Tree.{Name, input, xname, Tree, Sym, Const, Op, nil, _◂_, Neg, Add, Sub, Mul, Div, Pow, Sin, SelectOr}
-use Rattle.text.specs.Text.{bytes, display, before}
+use Rattle.tree.specs.Tree.{Name, input, xname, Tree, Sym, Const, Op, nil, _◂_}
+use Rattle.tree.specs.Kinds.{Neg, Add, Sub, Mul, Div, Pow, Sin, SelectOr}
+use Rattle.tree.specs.Bytes.{bytes}
+use Rattle.text.specs.Text.{display, before}
 
 a : Tree
 a = Sym (input (bytes "a"))

@@ -1,19 +1,14 @@
 -- The text of an expression, `Display` for `Expr`, and the order of texts (01, "Text"). Assumes nothing.
 use Prim.Native.Nat.{ℕ, zero, suc, _+_, _*_, _/_, _%_}
-use Prim.Native.Char.{Char, code}
-use Prim.Native.String as Str
 use Prim.Native.String.{String}
 use mathlib.Core.Bool.{Bool, true, false, _&&_, _||_, cond}
 use mathlib.Core.List.{List, [], _∷_, _++_}
 use lib.IntN.{ℤ, pos, negsuc}
-use lib.ListN.{getD}
 use lib.Dec.{eqb, leb, ltb}
-use Rattle.tree.specs.Tree.{Name, input, xname, mname, Tree, fold, Neg, Add, Sub, Mul, Div, Pow, Heaviside}
-
--- a quoted text's bytes: all of them ASCII here
-abbrev pub bytes : String → List ℕ
-bytes Str.[] = []
-bytes (Str._∷_ c s) = code c ∷ bytes s
+use Rattle.tree.specs.Bytes.{bytes}
+use Rattle.tree.specs.Kinds.{printed-name}
+use Rattle.tree.specs.Tree.{Name, input, xname, mname, Tree, fold}
+use Rattle.tree.specs.Kinds.{Neg, Add, Sub, Mul, Div, Pow, Heaviside}
 
 -- ---- numbers and names
 
@@ -38,14 +33,6 @@ name-text (xname n) = bytes "__x" ++ decimal n
 name-text (mname n) = bytes "__m" ++ decimal n
 
 -- ---- expressions
-
--- the name that an operation prints before its bracket, by the kind's number
-unfoldable pub printed : List (List ℕ)
-printed =
-    [] ∷ [] ∷ [] ∷ [] ∷ [] ∷ [] ∷ [] ∷ []
-    ∷ bytes "sin" ∷ bytes "cos" ∷ bytes "tan" ∷ bytes "asin" ∷ bytes "acos" ∷ bytes "atan" ∷ bytes "atan2"
-    ∷ bytes "sinh" ∷ bytes "cosh" ∷ bytes "tanh" ∷ bytes "exp" ∷ bytes "ln" ∷ bytes "log2" ∷ bytes "log10"
-    ∷ bytes "sqrt" ∷ bytes "abs" ∷ bytes "H" ∷ bytes "clamp" ∷ bytes "branch" ∷ bytes "select" ∷ bytes "select_or" ∷ []
 
 unfoldable pub precedence : ℕ → ℕ
 precedence k =
@@ -75,8 +62,8 @@ texts (p ∷ l) = p .text ∷ texts l
 
 -- a function's name and its operands in brackets
 unfoldable pub call : ℕ → List Part → List ℕ
-unfolding printed joined texts
-call k parts = getD printed k [] ++ bytes "(" ++ joined (bytes ", ") (texts parts) ++ bytes ")"
+unfolding printed-name joined texts
+call k parts = printed-name k ++ bytes "(" ++ joined (bytes ", ") (texts parts) ++ bytes ")"
 
 -- a binary operator with each side's test for brackets
 unfoldable pub infix-text : String → (ℕ → Bool) → (ℕ → Bool) → List Part → List ℕ

@@ -5,7 +5,8 @@ use mathlib.Core.Bool.{Bool, true, false}
 use mathlib.Core.List.{List, [], _∷_}
 use lib.IntN.{ℤ, pos, negsuc}
 use lib.Dec.{T, eqb, eqb→eq, eqb-refl}
-use Rattle.tree.specs.Tree.{Name, input, xname, mname, Tree, Forest, Sym, Const, Op, nil, _◂_, eq-bytes, eq-name, eq-int, eq-tree, eq-forest}
+use Rattle.tree.specs.Tree.{Name, input, xname, mname, Tree, Forest, Sym, Const, Op, nil, _◂_, eq-name, eq-int, eq-tree, eq-forest}
+use Rattle.tree.specs.Bytes.{eq-bytes}
 
 -- a test that goes on only where the first passes
 pub both : (b c : Bool) → T (elim b [ true ↦ c | false ↦ false ]) → T b × T c

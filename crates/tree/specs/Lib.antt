@@ -1,4 +1,6 @@
 pub mod Outcome
+pub mod Bytes
+pub mod Kinds
 pub mod Tree
 pub mod Facts
 pub mod Value

@@ -5,7 +5,8 @@ use mathlib.Core.List.{List, [], _∷_}
 use lib.IntN.{ℤ, pos, negsuc}
 use lib.ListN.{length}
 use lib.Dec.{T, eqb, leb, ltb}
-use Rattle.tree.specs.Tree.{Name, input, xname, mname, Tree, fold, arity-ok, Neg, SelectOr}
+use Rattle.tree.specs.Tree.{Name, input, xname, mname, Tree, fold}
+use Rattle.tree.specs.Kinds.{arity-ok, Neg, SelectOr}
 use Rattle.tree.specs.Symbol.{is-name}
 use Rattle.tree.specs.Rows.{within-limits}
 
@@ -25,10 +26,10 @@ unfoldable pub of-paper : ℤ → Bool
 of-paper (pos n) = ltb n (10 ^ 15)
 of-paper (negsuc n) = ltb (suc n) (10 ^ 15)
 
--- an operation's kind is one of 01's, with as many operands as it has there
+-- an operation's kind is none of the leaves' two, and it has as many operands as its kind may have
 unfoldable pub operands-ok : ℕ → ℕ → Bool
 unfolding arity-ok
-operands-ok k n = leb Neg k && (leb k SelectOr && arity-ok k n)
+operands-ok k n = leb Neg k && arity-ok k n
 
 -- an expression of 01
 unfoldable pub expression : Tree → Bool

@@ -4,10 +4,7 @@ use mathlib.Core.Bool.{Bool, true, false, not, _&&_, _||_}
 use mathlib.Core.List.{List, [], _∷_}
 use lib.ListN.{length}
 use lib.Dec.{eqb, leb}
-
-unfoldable pub every : (ℕ → Bool) → List ℕ → Bool
-every p [] = true
-every p (b ∷ l) = p b && every p l
+use Rattle.tree.specs.Bytes.{every}
 
 abbrev pub is-digit : ℕ → Bool
 is-digit b = leb 48 b && leb b 57

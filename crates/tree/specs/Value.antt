@@ -5,7 +5,8 @@ use mathlib.Core.List.{List, [], _∷_, _++_}
 use lib.IntN.{ℤ, pos, negsuc}
 use lib.ListN.{length, getD}
 use lib.Dec.{eqb}
-use Rattle.tree.specs.Tree.{Name, Tree, Forest, fold, folds, Neg, Add, Sub, Mul, Div, Branch, Select, SelectOr, is-switch, eq-name}
+use Rattle.tree.specs.Tree.{Name, Tree, Forest, fold, folds, eq-name}
+use Rattle.tree.specs.Kinds.{Neg, Add, Sub, Mul, Div, Branch, Select, SelectOr, is-switch}
 
 -- A modulus from 2 up, and the fixed rules: r of a / b, what Pow and the named functions give by their kind's number, the arm number of
 -- a Select's index, and the side of a Branch (true picks the first). Results are taken modulo the modulus, so every rule on residues is one of these.
