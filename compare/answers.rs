@@ -2,8 +2,9 @@
 //! extraction made, or the number of the refusal that stands for its panic.
 use crate::arael::{E, Expr, OutsideConstants, take_ones};
 use crate::cse::{Arm, Intermediate, children, cse, cse_scoped};
+use std::any::Any;
 use std::collections::HashMap;
-use std::panic::{AssertUnwindSafe, catch_unwind};
+use std::panic::{AssertUnwindSafe, catch_unwind, resume_unwind, set_hook, take_hook};
 
 /// How often a list is run. A tie that hash order decides shows up in all but one run of 2^47.
 const RUNS: usize = 48;
@@ -45,22 +46,31 @@ fn once(scoped: bool, es: &[E]) -> (Outcome, Events) {
     let reciprocals = take_ones();
     match run {
         Ok(answer) => given(&answer, reciprocals),
-        Err(payload) => (Outcome::Refused(refusal(payload)), Events::default()),
+        Err(payload) => match refusal(payload.as_ref()) {
+            Some(n) => (Outcome::Refused(n), Events::default()),
+            None => resume_unwind(payload),
+        },
     }
 }
 
 /// 10 is thrown by the stand-in as the coefficient is rebuilt, 11 by the source's sort: the first
 /// of them that the source reaches ends it. Any other panic is a fault.
-fn refusal(payload: Box<dyn std::any::Any + Send>) -> usize {
+fn refusal(payload: &(dyn Any + Send)) -> Option<usize> {
     if payload.is::<OutsideConstants>() {
-        return 10;
+        return Some(10);
     }
-    let said = payload.downcast_ref::<String>().cloned().unwrap_or_default();
-    if said.contains("dependency cycle among intermediates") {
-        return 11;
-    }
-    eprintln!("compare: the source panicked: {said}");
-    std::process::exit(2)
+    let said = payload.downcast_ref::<String>()?;
+    said.contains("dependency cycle among intermediates").then_some(11)
+}
+
+/// Has the panics that stand for refusals say nothing.
+pub fn hush() {
+    let loud = take_hook();
+    set_hook(Box::new(move |info| {
+        if refusal(info.payload()).is_none() {
+            loud(info);
+        }
+    }));
 }
 
 fn given((inters, results): &Answer, reciprocals: usize) -> (Outcome, Events) {

@@ -7,8 +7,8 @@ use mathlib.Core.List.{List, [], _∷_, _++_}
 use lib.ListN.{length, getD}
 use lib.Dec.{T}
 use Rattle.tree.specs.Outcome.{ok}
+use Rattle.tree.specs.Facts.{all-operations}
 use Rattle.tree.specs.Tree.{Name, Tree, Op, nil, forest}
-use Rattle.cse.specs.Extract.{all-operations}
 use Rattle.cse.specs.Answer.{Answer}
 use Rattle.cse.specs.Scope.{answer}
 use Rattle.tree.specs.Rows.{Row, row-sym, row-const, row-op, Table, at, tree-of-row, trees-from, trees}

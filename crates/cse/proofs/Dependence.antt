@@ -17,9 +17,9 @@ use Rattle.tree.proofs.Logic.{and-left, and-right}
 use Rattle.rewrite.proofs.Savings.{one-of}
 use Rattle.rewrite.proofs.Names.{holds, holds-each}
 use Rattle.cse.specs.Demand.{depends, dependent}
-use Rattle.cse.proofs.Counts.{count-sym, count-const, count-op, count-none, count-operands, one-equal, either}
+use Rattle.rewrite.proofs.Counts.{count-sym, count-const, count-op, count-none, count-operands, one-equal, either}
 use Rattle.cse.proofs.SortCount.{Every}
-use Rattle.cse.proofs.DivisorCount.{or-cases, or-left, or-right, restore, restores}
+use Rattle.rewrite.proofs.DivisorCount.{or-cases, or-left, or-right, restore, restores}
 
 -- some operand depends
 unfoldable pub some-depends : (Name → Bool) → Forest → Bool

@@ -10,12 +10,12 @@ use native.Mathlib.Nat.{zero-mul, suc-mul, mul-assoc, mul-le-mul-right}
 use lib.ListN.{length}
 use lib.Dec.{T, eqb, leb, eqb→eq}
 use Rattle.tree.specs.Tree.{Tree, Forest, Sym, Const, Op, nil, _◂_}
-use Rattle.tree.specs.Facts.{operations, size, nodes, nodes-of, all-nodes, outside, count}
+use Rattle.tree.specs.Facts.{all-operations, operations, size, nodes, nodes-of, all-nodes, outside, count}
 use Rattle.text.specs.Text.{display, before}
-use Rattle.cse.specs.Extract.{State, roots, all-operations, divisor-of, divisors, distinct, shared-divisors, insert-by-text, sort-by-text, reciprocals}
+use Rattle.cse.specs.Extract.{State, roots, divisor-of, divisors, distinct, shared-divisors, insert-by-text, sort-by-text, reciprocals}
 use Rattle.rewrite.proofs.Operations.{forest-operations, operations-op}
 use Rattle.rewrite.proofs.Savings.{one-of, one-self, count-cons}
-use Rattle.cse.proofs.Counts.{count-nil, one-le, one-equal, sum-of}
+use Rattle.rewrite.proofs.Counts.{count-nil, one-le, one-equal, sum-of}
 use Rattle.cse.proofs.ReciprocalsCount.{AllTrees, bound-divisors, bound-twice, reciprocals-are}
 use Rattle.cse.proofs.SizeCount.{total-size, reciprocals-most, reciprocal-each-size, divisor-half}
 

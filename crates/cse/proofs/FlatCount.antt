@@ -11,8 +11,8 @@ use lib.Dec.{T, ltb, leb→le, ltb→lt, lt→ltb}
 use Rattle.tree.specs.Outcome.{Outcome, ok, refused, _>>=_}
 use Rattle.tree.specs.Tree.{Name, input, xname, mname, Tree, Forest, Sym, Const, Op, nil, _◂_, folds, eq-name}
 use Rattle.tree.proofs.TreeLaws.{eq-name-sound, eq-name-refl}
-use Rattle.tree.specs.Facts.{cost, operations, nodes, all-nodes, count}
-use Rattle.cse.specs.Extract.{Binding, State, bound, roots, all-operations, extract-all, bind-reciprocal, bind-reciprocals, reciprocals}
+use Rattle.tree.specs.Facts.{all-operations, cost, operations, nodes, all-nodes, count}
+use Rattle.cse.specs.Extract.{Binding, State, bound, roots, extract-all, bind-reciprocal, bind-reciprocals, reciprocals}
 use Rattle.cse.specs.Answer.{Intermediate, Intermediates, Answer, Let, Match, block, concat, symbols, all-symbols, elem}
 use Rattle.cse.specs.Order.{topo-sort-intermediates}
 use Rattle.cse.specs.Scope.{Scoped, binds, unfused, finish, cse-scope, as-answer, answer}
@@ -22,9 +22,9 @@ use Rattle.tree.proofs.Logic.{and-left, and-right}
 use Rattle.rewrite.proofs.Operations.{well-formed-all}
 use Rattle.rewrite.proofs.Names.{holds, holds-each, holds-all, below, weaken-all}
 use Rattle.cse.proofs.RoundsValue.{let-names, Numbered, Binds, Model, Modeled, extract-all-keeps, reciprocals-keep}
-use Rattle.cse.proofs.Counts.{all-nodes-cons, all-nodes-append, operations-append, sum-of, sum-append, operations-sum}
+use Rattle.rewrite.proofs.Counts.{all-nodes-cons, all-nodes-append, operations-append, sum-of, sum-append, operations-sum}
 use Rattle.cse.proofs.RoundsCount.{made-before, made-le, below-made, costs-operation, extract-all-end, flat-end}
-use Rattle.cse.proofs.DivisorCount.{divisor-operations}
+use Rattle.rewrite.proofs.DivisorCount.{divisor-operations}
 use Rattle.cse.proofs.SortCount.{summed, sorted-sum, sorted-same, Every, sorted-every}
 use Rattle.cse.proofs.Dependence.{depends-up, depends-symbol, Closed, dependent-within}
 use Rattle.cse.proofs.ReciprocalsCount.{operation-costs, Once, bound-divisors, bindable, telling, tells, made-tells, reciprocal-each-once, from-rounds, bindings-most, reciprocal-each-falls, reciprocals-are}

@@ -1,7 +1,5 @@
-pub mod Counts
 pub mod RoundsCount
 pub mod SortCount
-pub mod DivisorCount
 pub mod Dependence
 pub mod ReciprocalsCount
 pub mod FlatCount
@@ -19,7 +17,5 @@ pub mod Ranks
 pub mod Refusals
 pub mod Widths
 pub mod PassesLaws
-pub mod SizePlain
-pub mod SizeSavings
 pub mod SizeCount
 pub mod DivisorsMost

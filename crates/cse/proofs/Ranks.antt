@@ -12,9 +12,9 @@ use lib.Dec.{T, eqb, ltb, eqb→eq, eqb-refl, ltb→lt, lt→ltb}
 use Rattle.tree.specs.Outcome.{Outcome, ok, refused, _>>=_, each}
 use Rattle.tree.specs.Tree.{Name, input, xname, mname, Tree, Forest, Sym, Const, Op, nil, _◂_}
 use Rattle.tree.specs.Kinds.{Div}
-use Rattle.tree.specs.Facts.{all-nodes}
+use Rattle.tree.specs.Facts.{all-operations, all-nodes}
 use Rattle.rewrite.specs.Rewrite.{replace, replace-divisor}
-use Rattle.cse.specs.Extract.{Binding, State, Candidate, bound, roots, best, replace-bound, extract, rounds, extract-all, all-operations, divisors, distinct, shared-divisors, sort-by-text, replace-divisor-each, replace-divisor-bound, bind-reciprocal, bind-reciprocals, reciprocals}
+use Rattle.cse.specs.Extract.{Binding, State, Candidate, bound, roots, best, replace-bound, extract, rounds, extract-all, divisors, distinct, shared-divisors, sort-by-text, replace-divisor-each, replace-divisor-bound, bind-reciprocal, bind-reciprocals, reciprocals}
 use Rattle.tree.proofs.Logic.{and-left, and-right, and-both}
 use Rattle.rewrite.proofs.Names.{holds, holds-each, holds-all, holds-append, weaken, weaken-all, all-nodes-hold, Holds, replace-holds, divisor-holds}
 use Rattle.cse.proofs.RoundsValue.{Chosen, chosen, divisors-known, distinct-known, shared-known, sort-known}

@@ -23,10 +23,10 @@ use Rattle.rewrite.proofs.Operations.{well-formed-all, all-append}
 use Rattle.rewrite.proofs.Savings.{one-of, count-cons}
 use Rattle.rewrite.proofs.Names.{holds, holds-all, holds-append, weaken, weaken-all, all-nodes-hold, divisor-holds}
 use Rattle.cse.specs.Demand.{depends}
-use Rattle.cse.proofs.Counts.{count-nil, count-sym, count-const, count-op, count-none, count-operands, one-none, one-le, one-equal, counted-holds, counted-formed, all-nodes-formed, all-nodes-cons, all-nodes-append, part-operations, sum-of}
+use Rattle.rewrite.proofs.Counts.{count-nil, count-sym, count-const, count-op, count-none, count-operands, one-none, one-le, one-equal, counted-holds, counted-formed, all-nodes-formed, all-nodes-cons, all-nodes-append, part-operations, sum-of}
 use Rattle.cse.proofs.RoundsCount.{bound-append, made-before, made-suc, made-new, new-name, Sound, flat-end}
 use Rattle.cse.proofs.SortCount.{summed, Every}
-use Rattle.cse.proofs.DivisorCount.{divisor-formed, restore, restored-count, division-gone}
+use Rattle.rewrite.proofs.DivisorCount.{divisor-formed, restore, restored-count, division-gone}
 use Rattle.cse.proofs.Dependence.{depends-symbol, symbol-depends, part-depends, restore-depends, divided-depends, Closed}
 
 -- ---- divisors stand among the nodes

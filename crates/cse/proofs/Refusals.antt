@@ -13,9 +13,9 @@ use lib.Ieee.{Float, nan, inf, fin, up, down}
 use Rattle.tree.specs.Outcome.{Refusal, Outcome, ok, refused, _>>=_, each, by}
 use Rattle.tree.specs.Tree.{Name, xname, Tree, Forest, Sym, Const, Op, nil, _◂_, eq-tree}
 use Rattle.tree.specs.Kinds.{Mul}
-use Rattle.tree.specs.Facts.{size}
+use Rattle.tree.specs.Facts.{all-operations, size}
 use Rattle.rewrite.specs.Rewrite.{Factors, whole, constant-of, built, build-mul-from-factors, match-factors, each-operand, replace-within, replace}
-use Rattle.cse.specs.Extract.{Binding, State, Candidate, roots, best, all-operations, replace-bound, extract, rounds, extract-all, reciprocals}
+use Rattle.cse.specs.Extract.{Binding, State, Candidate, roots, best, replace-bound, extract, rounds, extract-all, reciprocals}
 use Rattle.cse.specs.Answer.{Intermediate, Answer, Let, Match, arm, block, names, symbols, free, elem}
 use Rattle.cse.specs.Order.{meets, needs-from, needs, member, positions-taken, nothing, at-each, topo-sort-intermediates}
 use Rattle.cse.specs.Scope.{Switch, Group, Work, Scoped, Armed, members, collect-switches, groups-from, name-members, member-names, columns, arms-of-members, scope-arms, fuse-group, fuse-groups, fuse-all, binds, unfused, finish, cse-scope, deepest, as-answer, answer}

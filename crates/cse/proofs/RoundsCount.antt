@@ -16,9 +16,9 @@ use Rattle.tree.specs.Outcome.{Outcome, ok, refused, _>>=_, each}
 use Rattle.tree.specs.Tree.{Name, input, xname, mname, Tree, Forest, Sym, Const, Op, nil, _◂_, folds}
 use Rattle.tree.specs.Kinds.{Neg, Mul}
 use Rattle.tree.proofs.Formed.{well-formed}
-use Rattle.tree.specs.Facts.{cost, has-symbol, some-of, operations, nodes, nodes-of, all-nodes, outside, count, uses, uses-outside}
+use Rattle.tree.specs.Facts.{all-operations, cost, has-symbol, some-of, operations, nodes, nodes-of, all-nodes, outside, count, uses, uses-outside}
 use Rattle.rewrite.specs.Rewrite.{Factors, one, flatten-mul-factors, flatten-operands, negated, is-mul, replace}
-use Rattle.cse.specs.Extract.{Binding, State, Candidate, bound, roots, all-operations, is-candidate, candidate, beats, best-from, best, replace-bound, extract, rounds, extract-all}
+use Rattle.cse.specs.Extract.{Binding, State, Candidate, bound, roots, is-candidate, candidate, beats, best-from, best, replace-bound, extract, rounds, extract-all}
 use Rattle.tree.proofs.Logic.{and-left, and-right, and-both}
 use Rattle.rewrite.proofs.Operations.{spread, spread-operands, spread-of-operands, replace-shrinks, well-formed-all, all-append}
 use Rattle.rewrite.proofs.Savings.{count-cons, measure-operands, measure-of}
@@ -26,7 +26,7 @@ use Rattle.rewrite.proofs.Coefficient.{exactly}
 use Rattle.rewrite.proofs.Weight as Weight
 use Rattle.rewrite.proofs.Plain as Plain
 use Rattle.rewrite.proofs.Names.{holds, holds-all, holds-append, below, weaken, weaken-all, all-nodes-hold, Holds, replace-holds}
-use Rattle.cse.proofs.Counts.{count-append, count-nil, count-op, count-operands, counted-cases, counted-holds, counted-formed, all-nodes-formed, all-nodes-cons, operations-append, part-all-operations, found-count, hits-count, absent}
+use Rattle.rewrite.proofs.Counts.{count-append, count-nil, count-op, count-operands, counted-cases, counted-holds, counted-formed, all-nodes-formed, all-nodes-cons, operations-append, part-all-operations, found-count, hits-count, absent}
 
 -- ---- a candidate is an operation with a factor
 

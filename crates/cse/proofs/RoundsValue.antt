@@ -11,10 +11,10 @@ use lib.Dec.{T, eqb, leb, ltb, ltb→lt, lt→ltb, eqb→eq, eqb-refl}
 use Rattle.tree.specs.Outcome.{Outcome, ok, refused, _>>=_, each}
 use Rattle.tree.specs.Tree.{Name, input, xname, mname, Tree, Forest, Sym, Const, Op, nil, _◂_, eq-name}
 use Rattle.tree.specs.Kinds.{Div}
-use Rattle.tree.specs.Facts.{all-nodes, outside, count, size}
+use Rattle.tree.specs.Facts.{all-operations, all-nodes, outside, count, size}
 use Rattle.text.specs.Text.{display, before}
 use Rattle.rewrite.specs.Rewrite.{replace, replace-within, replace-divisor}
-use Rattle.cse.specs.Extract.{Binding, State, Candidate, bound, roots, is-candidate, candidate, beats, best-from, best, replace-bound, extract, rounds, extract-all, all-operations, divisor-of, divisors, distinct, shared-divisors, insert-by-text, sort-by-text, replace-divisor-each, replace-divisor-bound, bind-reciprocal, bind-reciprocals, reciprocals}
+use Rattle.cse.specs.Extract.{Binding, State, Candidate, bound, roots, is-candidate, candidate, beats, best-from, best, replace-bound, extract, rounds, extract-all, divisor-of, divisors, distinct, shared-divisors, insert-by-text, sort-by-text, replace-divisor-each, replace-divisor-bound, bind-reciprocal, bind-reciprocals, reciprocals}
 use Rattle.tree.specs.Value.{Reading, Env, value, values}
 use Rattle.cse.specs.Read.{set}
 use Rattle.tree.proofs.Logic.{and-left, and-right, and-both}

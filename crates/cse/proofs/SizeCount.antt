@@ -15,9 +15,9 @@ use Rattle.tree.specs.Outcome.{Outcome, ok, refused, _>>=_}
 use Rattle.tree.specs.Tree.{Name, input, xname, mname, Tree, Forest, Sym, Const, Op, nil, _◂_}
 use Rattle.tree.specs.Kinds.{Mul, Div}
 use Rattle.tree.proofs.Formed.{well-formed}
-use Rattle.tree.specs.Facts.{cost, has-symbol, size, nodes, nodes-of, all-nodes, count}
+use Rattle.tree.specs.Facts.{all-operations, cost, has-symbol, size, nodes, nodes-of, all-nodes, count}
 use Rattle.rewrite.specs.Rewrite.{one, flatten-mul-factors, is-mul, replace}
-use Rattle.cse.specs.Extract.{State, Candidate, bound, roots, is-candidate, best, extract, rounds, extract-all, divisors, replace-divisor-each, bind-reciprocal, bind-reciprocals, reciprocals, all-operations}
+use Rattle.cse.specs.Extract.{State, Candidate, bound, roots, is-candidate, best, extract, rounds, extract-all, divisors, replace-divisor-each, bind-reciprocal, bind-reciprocals, reciprocals}
 use Rattle.cse.specs.Answer.{Intermediate, Intermediates, Answer, Let, Match, block}
 use Rattle.cse.specs.Scope.{binds, answer}
 use Rattle.cse.specs.Demand.{extracted-exprs}
@@ -25,14 +25,14 @@ use Rattle.tree.proofs.Logic.{and-left, and-right}
 use Rattle.rewrite.proofs.Operations.{spread, well-formed-all}
 use Rattle.rewrite.proofs.Savings.{sizes, size-op, one-of}
 use Rattle.rewrite.proofs.Names.{holds-all, below, all-nodes-hold}
-use Rattle.cse.proofs.Counts.{count-sym, count-const, count-op, count-none, count-operands, small-each, one-le, one-equal, all-nodes-cons, counted-holds, counted-formed, all-nodes-formed, found-count, hits-count, absent, sum-of, sum-append}
+use Rattle.rewrite.proofs.Counts.{count-sym, count-const, count-op, count-none, count-operands, small-each, one-le, one-equal, all-nodes-cons, counted-holds, counted-formed, all-nodes-formed, found-count, hits-count, absent, sum-of, sum-append}
 use Rattle.cse.proofs.RoundsCount.{mul-shape, twice-up, symbol-factor, factors-nodes, candidate-facts, best-fits, Replaced, extracted, Sound, made-before, new-name, round, begin, begin-roots, begin-sound, extract-all-end}
 use Rattle.cse.proofs.SortCount.{summed, sorted-sum}
-use Rattle.cse.proofs.DivisorCount.{divisor-size, size-up}
+use Rattle.rewrite.proofs.DivisorCount.{divisor-size, size-up}
 use Rattle.cse.proofs.ReciprocalsCount.{inverse, roots-reciprocal, divided-falls, AllTrees, all-map, divisors-all, bound-twice, from-rounds, bindings-most, reciprocal-each-falls, bound-divisors, reciprocals-are}
 use Rattle.cse.proofs.FlatCount.{parts, list-made}
-use Rattle.cse.proofs.SizePlain as SizePlain
-use Rattle.cse.proofs.SizeSavings as SizeSavings
+use Rattle.rewrite.proofs.SizePlain as SizePlain
+use Rattle.rewrite.proofs.SizeSavings as SizeSavings
 
 abbrev pub total-size : List Tree → ℕ
 total-size l = sum-of size l

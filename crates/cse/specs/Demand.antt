@@ -8,8 +8,7 @@ use lib.ListN.{length}
 use lib.Dec.{T, leb, ltb}
 use Rattle.tree.specs.Outcome.{Outcome, ok, refused}
 use Rattle.tree.specs.Tree.{Name, input, xname, mname, Tree, fold, eq-name}
-use Rattle.tree.specs.Facts.{cost, some-of, count, all-nodes}
-use Rattle.cse.specs.Extract.{all-operations}
+use Rattle.tree.specs.Facts.{all-operations, cost, some-of, count, all-nodes}
 use Rattle.cse.specs.Answer.{Intermediate, Intermediates, Arms, Answer, Let, Match, end, step, no-arm, arm, names, symbols, all-symbols, elem}
 use Rattle.tree.specs.Value.{Reading, Env, value, values}
 use Rattle.cse.specs.Read.{answer-values}

@@ -9,7 +9,7 @@ use lib.Dec.{eqb, leb, ltb}
 use Rattle.tree.specs.Outcome.{Outcome, ok, refused, _>>=_, each}
 use Rattle.tree.specs.Tree.{Name, xname, Tree, Forest, Sym, Const, Op, nil, _◂_, eq-tree}
 use Rattle.tree.specs.Kinds.{Div}
-use Rattle.tree.specs.Facts.{cost, depth, has-symbol, operations, count, uses, uses-outside, outside, all-nodes}
+use Rattle.tree.specs.Facts.{cost, depth, has-symbol, all-operations, count, uses, uses-outside, outside, all-nodes}
 use Rattle.text.specs.Text.{display, before}
 use Rattle.rewrite.specs.Rewrite.{replace, replace-divisor}
 
@@ -28,11 +28,6 @@ bound (b ∷ l) = b .expr ∷ bound l
 unfoldable pub roots : State → List Tree
 unfolding bound
 roots s = s .results ++ bound (s .lets)
-
-unfoldable pub all-operations : List Tree → ℕ
-unfolding operations
-all-operations [] = 0
-all-operations (t ∷ l) = operations t + all-operations l
 
 -- ---- the best candidate
 

@@ -7,3 +7,7 @@ pub mod Savings
 pub mod Weight
 pub mod Plain
 pub mod Names
+pub mod Counts
+pub mod DivisorCount
+pub mod SizePlain
+pub mod SizeSavings

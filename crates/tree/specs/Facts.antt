@@ -47,6 +47,12 @@ unfoldable pub operations : Tree → ℕ
 unfolding fold total
 operations = fold (λ n. 0) (λ c. 0) (λ k counts. suc (total counts))
 
+-- of several trees
+unfoldable pub all-operations : List Tree → ℕ
+unfolding operations
+all-operations [] = 0
+all-operations (t ∷ l) = operations t + all-operations l
+
 -- nodes, one for each occurrence
 unfoldable pub size : Tree → ℕ
 unfolding fold total
@@ -109,7 +115,7 @@ unfolding eq-tree
 count e [] = 0
 count e (t ∷ l) = elim (eq-tree t e) [ true ↦ suc (count e l) | false ↦ count e l ]
 
--- o and i of `path_counts`. `scoped` is false for the flat form, where every use is outside.
+-- The nodes that `path_counts` counts outside arms. `scoped` is false for the flat form, where every use is outside.
 unfoldable pub outside : Bool → List Tree → List Tree
 unfolding all-nodes all-outer
 outside false roots = all-nodes roots
@@ -124,8 +130,3 @@ uses-outside scoped roots e = count e (outside scoped roots)
 unfoldable pub uses : List Tree → Tree → ℕ
 unfolding count all-nodes
 uses roots e = count e (all-nodes roots)
-
--- i
-unfoldable pub uses-inside : Bool → List Tree → Tree → ℕ
-unfolding uses uses-outside
-uses-inside scoped roots e = uses roots e - uses-outside scoped roots e

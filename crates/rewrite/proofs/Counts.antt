@@ -12,13 +12,12 @@ use Rattle.tree.specs.Tree.{Name, Tree, Forest, Sym, Const, Op, nil, _◂_, eq-
 use Rattle.tree.specs.Kinds.{Mul, arity-ok}
 use Rattle.tree.proofs.Formed.{well-formed, well-formed-each, operand-count}
 use Rattle.tree.proofs.TreeLaws.{eq-tree-sound}
-use Rattle.tree.specs.Facts.{size, operations, nodes, nodes-of, all-nodes, count}
-use Rattle.cse.specs.Extract.{all-operations}
+use Rattle.tree.specs.Facts.{all-operations, size, operations, nodes, nodes-of, all-nodes, count}
 use Rattle.tree.proofs.Logic.{and-left, and-right, and-both}
 use Rattle.rewrite.proofs.Operations.{forest-operations, operations-op, well-formed-all, all-append}
 use Rattle.rewrite.proofs.Savings.{sizes, size-op, one-of, count-cons, hits, hits-each}
 use Rattle.rewrite.proofs.Plain.{found, found-each}
 use Rattle.rewrite.proofs.Names.{holds, holds-each, holds-all}
 
 -- ---- lists
 

@@ -11,12 +11,12 @@ use Rattle.tree.specs.Kinds.{Mul, Div, arity-ok}
 use Rattle.tree.proofs.Formed.{arity-div, operand-count, well-formed, well-formed-each}
 use Rattle.tree.proofs.TreeLaws.{eq-tree-sound, eq-tree-refl, eq-name-sound, eq-name-refl}
 use Rattle.tree.specs.Facts.{operations, size, nodes, nodes-of, count}
 use Rattle.rewrite.specs.Rewrite.{divides-by, replace-divisor, replace-divisors, dividend}
 use Rattle.tree.proofs.Logic.{and-left, and-right, and-both}
 use Rattle.rewrite.proofs.Operations.{forest-operations, operations-op}
 use Rattle.rewrite.proofs.Savings.{sizes, size-op, one-of, one-self}
 use Rattle.rewrite.proofs.Names.{holds, holds-each}
-use Rattle.cse.proofs.Counts.{count-sym, count-const, count-op, count-none, count-operands, one-none, one-le, one-equal}
+use Rattle.rewrite.proofs.Counts.{count-sym, count-const, count-op, count-none, count-operands, one-none, one-le, one-equal}
 
 off : (b : Bool) → (T b → ⊥) → b ≡ false
 off true f = absurd (f tt)

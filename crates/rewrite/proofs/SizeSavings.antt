@@ -18,16 +18,16 @@ use Rattle.tree.specs.Kinds.{Neg, Mul, arity-ok}
 use Rattle.tree.proofs.Formed.{operand-count, well-formed, well-formed-each}
 use Rattle.tree.proofs.TreeLaws.{eq-tree-sound, eq-forest-sound, eq-forest-refl, eq-int-sound}
 use Rattle.tree.specs.Facts.{operations, size, count}
 use Rattle.rewrite.specs.Rewrite.{Factors, one, flatten-mul-factors, flatten-operands, negated, remove-first, remove-each, nested-product as product-tree, with-coefficient, built, build-mul-from-factors, constant-of, is-mul, match-factors, each-operand, replace-within, replace}
 use Rattle.rewrite.proofs.ReplaceValue.{exact, exact-operands, Exact}
 use Rattle.tree.proofs.Logic.{and-left, and-right}
 use Rattle.rewrite.proofs.Operations.{spread, spread-append, all-append, well-formed-all, built-operations, removed-each, Removed-each, factors-formed}
 use Rattle.tree.proofs.Formed.{arity-mul, arity-neg}
 use Rattle.rewrite.proofs.Savings.{T-factors, hits, hits-each, hits-split, hits-all, hits-all-append, other-hits, own-factors, inner-all, spine-hits, spine-hits-each, inner-hits, inner-hits-each, copies, measure-operands, measure-of, sizes, size-op, one-of, one-self, count-cons, Out-each, out-each, Atoms, atoms, atoms-append, built-factors, Left-each, left-each}
 use Rattle.rewrite.proofs.Coefficient.{exactly}
 use Rattle.rewrite.proofs.Weight as Weight
-use Rattle.cse.proofs.Counts.{count-append}
-use Rattle.cse.proofs.DivisorCount.{size-up}
+use Rattle.rewrite.proofs.Counts.{count-append}
+use Rattle.rewrite.proofs.DivisorCount.{size-up}
 
 -- ---- one for each factor and its nodes
 

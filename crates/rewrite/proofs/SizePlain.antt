@@ -14,10 +14,10 @@ use Rattle.tree.specs.Tree.{Name, Tree, Forest, Sym, Const, Op, nil, _◂_, eq-
 use Rattle.tree.specs.Kinds.{Mul}
 use Rattle.tree.proofs.TreeLaws.{eq-tree-sound}
 use Rattle.tree.specs.Facts.{size}
 use Rattle.rewrite.specs.Rewrite.{Factors, one, flatten-mul-factors, remove-each, is-mul, match-factors, build-mul-from-factors, each-operand, replace-within, replace}
 use Rattle.rewrite.proofs.Savings.{sizes, size-op}
 use Rattle.rewrite.proofs.Plain.{found, found-each}
-use Rattle.cse.proofs.DivisorCount.{size-up}
+use Rattle.rewrite.proofs.DivisorCount.{size-up}
 
 module _ (target : Tree) (n : Name) (plain : (is-mul target && Ieee.eq (flatten-mul-factors target .coefficient) one) ≡ false) where
   -- what one such node saves

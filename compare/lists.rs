@@ -1,0 +1,215 @@
+//! Random lists with a fixed seed: small alphabets, so that parts repeat, and several ways of
+//! growing a list, each aimed at steps that chance alone would rarely reach.
+use crate::tree::*;
+
+/// Limits of a list: its occurrences, and how deep its arms nest.
+const MOST: usize = 30;
+const MOST_HUGE: usize = 80;
+const DEEPEST: usize = 8;
+
+/// splitmix64
+pub struct Random(pub u64);
+
+impl Random {
+    fn next(&mut self) -> u64 {
+        self.0 = self.0.wrapping_add(0x9e3779b97f4a7c15);
+        let mut z = self.0;
+        z = (z ^ (z >> 30)).wrapping_mul(0xbf58476d1ce4e5b9);
+        z = (z ^ (z >> 27)).wrapping_mul(0x94d049bb133111eb);
+        z ^ (z >> 31)
+    }
+
+    pub fn below(&mut self, n: usize) -> usize {
+        (self.next() % n as u64) as usize
+    }
+
+    pub fn chance(&mut self, percent: usize) -> bool {
+        self.below(100) < percent
+    }
+
+    fn pick<'a, A>(&mut self, l: &'a [A]) -> &'a A {
+        &l[self.below(l.len())]
+    }
+}
+
+/// A list within the limits.
+pub fn list(r: &mut Random) -> Vec<T> {
+    loop {
+        let (most, es) = match r.below(100) {
+            0..=17 => (MOST, grown(r, &ANY)),
+            18..=29 => (MOST, grown(r, &SWITCHES)),
+            30..=39 => (MOST, grown(r, &DIVISIONS)),
+            40..=47 => (MOST, grown(r, &TEXTS)),
+            48..=55 => (MOST, grown(r, &MIXED)),
+            56..=71 => (MOST, products(r)),
+            72..=83 => (MOST, tangled(r)),
+            84..=97 => (MOST, divided(r)),
+            _ => (MOST_HUGE, huge(r)),
+        };
+        let total: usize = es.iter().map(size).sum();
+        if (3..=most).contains(&total) && es.iter().all(|t| nesting(t) <= DEEPEST) {
+            return es;
+        }
+    }
+}
+
+// ---- growing: operations over earlier trees, then some of these as roots
+
+/// The leaves and the kinds to grow from; a kind listed twice comes twice as often.
+struct Soil {
+    symbols: &'static [&'static str],
+    constants: &'static [i64],
+    kinds: &'static [usize],
+}
+
+const ANY: Soil = Soil {
+    symbols: &["a", "b"],
+    constants: &[2],
+    kinds: &[2, 3, 4, 5, 6, 7, 8, 9, 10, 11, 12, 13, 14, 15, 16, 17, 18, 19, 20, 21, 22, 23, 24, 25, 26, 27, 28],
+};
+
+const SWITCHES: Soil =
+    Soil { symbols: &["a", "b", "i"], constants: &[1], kinds: &[SELECT, SELECT, SELECT_OR, SELECT_OR, BRANCH, BRANCH, ADD, 8] };
+
+const DIVISIONS: Soil = Soil { symbols: &["p", "q"], constants: &[1, 2, 3], kinds: &[DIV, DIV, DIV, ADD, 8, SELECT] };
+
+const TEXTS: Soil = Soil { symbols: &["a", "b"], constants: &[-1, 0], kinds: &[NEG, NEG, ADD, 4, 4, MUL, DIV, 7, 7, 9] };
+
+const MIXED: Soil =
+    Soil { symbols: &["a", "b", "i"], constants: &[-1, 2], kinds: &[MUL, MUL, DIV, NEG, ADD, SELECT, SELECT_OR, BRANCH, 24] };
+
+fn arity(r: &mut Random, kind: usize) -> usize {
+    match kind {
+        ADD..=7 | ATAN2 => 2,
+        CLAMP | BRANCH => 3,
+        SELECT => 2 + r.below(2),
+        SELECT_OR => 3 + r.below(2),
+        _ => 1,
+    }
+}
+
+/// One of the trees, the latest more often.
+fn one(r: &mut Random, pool: &[T]) -> T {
+    let from = if r.chance(60) { pool.len().saturating_sub(4) } else { 0 };
+    r.pick(&pool[from..]).clone()
+}
+
+fn grown(r: &mut Random, soil: &Soil) -> Vec<T> {
+    let mut pool: Vec<T> = soil.symbols.iter().map(|s| sym(s)).collect();
+    pool.extend(soil.constants.iter().map(|n| num(*n)));
+    let leaves = pool.len();
+    let key = one(r, &pool);
+    for _ in 0..3 + r.below(7) {
+        let kind = *r.pick(soil.kinds);
+        let mut parts: Vec<T> = (0..arity(r, kind)).map(|_| one(r, &pool)).collect();
+        if kind >= BRANCH && r.chance(60) {
+            parts[0] = key.clone();
+        }
+        pool.push(op(kind, parts));
+    }
+    (0..1 + r.below(5)).map(|_| one(r, &pool[leaves..])).collect()
+}
+
+// ---- products: a target, and longer products that hold its factors among others and constants
+
+const COEFFICIENTS: [i64; 14] =
+    [1, 1, -1, -1, 0, 2, -3, 999_999, 1_000_000, 1_000_000_000, -1_000_000_000, 999_999_999_999_999, 31_622_777, -31_622_776];
+
+fn factor(r: &mut Random) -> T {
+    match r.below(8) {
+        0 => op(8, vec![sym("a")]),
+        1 => op(ADD, vec![sym("a"), sym("b")]),
+        n => sym(["a", "b", "c"][n % 3]),
+    }
+}
+
+/// Some trees multiplied in a random shape and order, with a sign here and there.
+fn product(r: &mut Random, mut parts: Vec<T>, signs: usize) -> T {
+    while parts.len() > 1 {
+        let a = parts.remove(r.below(parts.len()));
+        let b = parts.remove(r.below(parts.len()));
+        let both = op(MUL, vec![a, b]);
+        parts.push(if r.chance(signs) { op(NEG, vec![both]) } else { both });
+    }
+    parts.remove(0)
+}
+
+fn products(r: &mut Random) -> Vec<T> {
+    let mut factors: Vec<T> = (0..2 + r.below(2)).map(|_| factor(r)).collect();
+    match r.below(6) {
+        0 => factors.push(num(1)),
+        1 => factors.extend([num(-1), op(NEG, vec![num(1)])]),
+        _ => {}
+    }
+    let signs = if r.chance(40) { 25 } else { 0 };
+    let target = product(r, factors.clone(), 0);
+    let mut es = vec![target.clone(), op(8 + r.below(3), vec![target])];
+    for _ in 0..1 + r.below(2) {
+        let mut parts = factors.clone();
+        parts.extend((0..r.below(3)).map(|_| num(*r.pick(&COEFFICIENTS))));
+        parts.extend((0..r.below(3)).map(|_| factor(r)));
+        if r.chance(20) {
+            parts.extend(factors.clone());
+        }
+        es.push(product(r, parts, signs));
+    }
+    es
+}
+
+/// A coefficient far past every integer, or no number at all, now and then out of sight.
+fn huge(r: &mut Random) -> Vec<T> {
+    let mut far = num(999_999_999_999_999);
+    for _ in 0..5 {
+        far = op(MUL, vec![far.clone(), far]);
+    }
+    let both = op(MUL, vec![sym("a"), sym("b")]);
+    let rest = if r.chance(50) { op(MUL, vec![num(0), sym("b")]) } else { sym("b") };
+    let last = op(MUL, vec![op(MUL, vec![sym(if r.chance(70) { "a" } else { "c" }), far]), rest]);
+    vec![both.clone(), op(8, vec![both]), last]
+}
+
+// ---- tangles: switches on equal keys, of which one feeds another's arm or key
+
+fn tangled(r: &mut Random) -> Vec<T> {
+    let kind = *r.pick(&[BRANCH, SELECT, SELECT_OR]);
+    let key = if r.chance(75) { sym("i") } else { op(BRANCH, vec![sym("i"), sym("a"), sym("b")]) };
+    let mut pool = vec![sym("a"), sym("b"), num(2)];
+    for _ in 0..2 + r.below(3) {
+        let kind = if r.chance(85) { kind } else { *r.pick(&[BRANCH, SELECT]) };
+        let mut parts: Vec<T> = (0..if kind == SELECT { 2 } else { 3 }).map(|_| one(r, &pool)).collect();
+        parts[0] = if r.chance(80) { key.clone() } else { one(r, &pool) };
+        pool.push(op(kind, parts));
+        match r.below(4) {
+            0 => pool.push(op(8, vec![one(r, &pool)])),
+            1 | 2 => pool.push(op(*r.pick(&[ADD, MUL, DIV]), vec![one(r, &pool), sym("a")])),
+            _ => {}
+        }
+    }
+    (0..2 + r.below(3)).map(|_| one(r, &pool[3..])).collect()
+}
+
+// ---- divisors: trees without a symbol, switches among them, by which several things are divided
+
+fn divided(r: &mut Random) -> Vec<T> {
+    let mut pool = vec![num(2), num(3), num(-7)];
+    for _ in 0..2 + r.below(3) {
+        let kind = *r.pick(&[DIV, DIV, ADD, MUL, NEG, SELECT, SELECT_OR, BRANCH]);
+        let parts = (0..arity(r, kind)).map(|_| one(r, &pool)).collect();
+        pool.push(op(kind, parts));
+    }
+    if r.chance(30) {
+        pool.push(sym("d"));
+    }
+    let mut es: Vec<T> = Vec::new();
+    for _ in 0..2 + r.below(3) {
+        let p = sym(["p", "q"][r.below(2)]);
+        let over = op(DIV, vec![p, one(r, &pool)]);
+        es.push(match r.below(8) {
+            0 => op(SELECT, vec![sym("i"), over]),
+            1 => op(9, vec![over]),
+            2 => op(BRANCH, vec![over, one(r, &pool), sym("p")]),
+            _ => over,
+        });
+    }
+    es
+}
