@@ -36,14 +36,15 @@ impl Random {
 pub fn list(r: &mut Random) -> Vec<T> {
     loop {
         let (most, es) = match r.below(100) {
-            0..=17 => (MOST, grown(r, &ANY)),
-            18..=29 => (MOST, grown(r, &SWITCHES)),
-            30..=39 => (MOST, grown(r, &DIVISIONS)),
-            40..=47 => (MOST, grown(r, &TEXTS)),
-            48..=55 => (MOST, grown(r, &MIXED)),
-            56..=71 => (MOST, products(r)),
-            72..=83 => (MOST, tangled(r)),
-            84..=97 => (MOST, divided(r)),
+            0..=12 => (MOST, grown(r, &ANY)),
+            13..=22 => (MOST, grown(r, &SWITCHES)),
+            23..=28 => (MOST, grown(r, &DIVISIONS)),
+            29..=34 => (MOST, grown(r, &TEXTS)),
+            35..=42 => (MOST, grown(r, &MIXED)),
+            43..=66 => (MOST, products(r)),
+            67..=80 => (MOST, tangled(r)),
+            81..=92 => (MOST, divided(r)),
+            93..=97 => (MOST, regrouped(r)),
             _ => (MOST_HUGE, huge(r)),
         };
         let total: usize = es.iter().map(size).sum();
@@ -61,6 +62,8 @@ struct Soil {
     constants: &'static [i64],
     kinds: &'static [usize],
 }
+
+const SWITCH_KINDS: [usize; 3] = [BRANCH, SELECT, SELECT_OR];
 
 const ANY: Soil = Soil {
     symbols: &["a", "b"],
@@ -98,9 +101,14 @@ fn grown(r: &mut Random, soil: &Soil) -> Vec<T> {
     let mut pool: Vec<T> = soil.symbols.iter().map(|s| sym(s)).collect();
     pool.extend(soil.constants.iter().map(|n| num(*n)));
     let leaves = pool.len();
+    // of the switches many are of one kind and on one key, so that several join a match
     let key = one(r, &pool);
+    let switch = *r.pick(&SWITCH_KINDS);
     for _ in 0..3 + r.below(7) {
-        let kind = *r.pick(soil.kinds);
+        let mut kind = *r.pick(soil.kinds);
+        if kind >= BRANCH && r.chance(60) {
+            kind = switch;
+        }
         let mut parts: Vec<T> = (0..arity(r, kind)).map(|_| one(r, &pool)).collect();
         if kind >= BRANCH && r.chance(60) {
             parts[0] = key.clone();
@@ -146,8 +154,8 @@ fn products(r: &mut Random) -> Vec<T> {
     let mut es = vec![target.clone(), op(8 + r.below(3), vec![target])];
     for _ in 0..1 + r.below(2) {
         let mut parts = factors.clone();
-        parts.extend((0..r.below(3)).map(|_| num(*r.pick(&COEFFICIENTS))));
-        parts.extend((0..r.below(3)).map(|_| factor(r)));
+        parts.extend((0..r.below(4)).map(|_| num(*r.pick(&COEFFICIENTS))));
+        parts.extend((0..r.below(2)).map(|_| factor(r)));
         if r.chance(20) {
             parts.extend(factors.clone());
         }
@@ -168,10 +176,29 @@ fn huge(r: &mut Random) -> Vec<T> {
     vec![both.clone(), op(8, vec![both]), last]
 }
 
+// ---- one text, several trees: sums and products that differ in their grouping alone
+
+fn regrouped(r: &mut Random) -> Vec<T> {
+    let kind = *r.pick(&[ADD, MUL]);
+    let leaf = |r: &mut Random| if r.chance(70) { sym(["a", "b"][r.below(2)]) } else { num(2) };
+    let leaves = [leaf(r), leaf(r), leaf(r)];
+    let mut es = Vec::new();
+    for _ in 0..3 + r.below(2) {
+        let [a, b, c] = leaves.clone();
+        let whole = if r.chance(50) { op(kind, vec![op(kind, vec![a, b]), c]) } else { op(kind, vec![a, op(kind, vec![b, c])]) };
+        es.push(match r.below(3) {
+            0 => whole,
+            1 => op(DIV, vec![sym("p"), whole]),
+            _ => op(8, vec![whole]),
+        });
+    }
+    es
+}
+
 // ---- tangles: switches on equal keys, of which one feeds another's arm or key
 
 fn tangled(r: &mut Random) -> Vec<T> {
-    let kind = *r.pick(&[BRANCH, SELECT, SELECT_OR]);
+    let kind = *r.pick(&SWITCH_KINDS);
     let key = if r.chance(75) { sym("i") } else { op(BRANCH, vec![sym("i"), sym("a"), sym("b")]) };
     let mut pool = vec![sym("a"), sym("b"), num(2)];
     for _ in 0..2 + r.below(3) {
@@ -188,7 +215,7 @@ fn tangled(r: &mut Random) -> Vec<T> {
     (0..2 + r.below(3)).map(|_| one(r, &pool[3..])).collect()
 }
 
-// ---- divisors: trees without a symbol, switches among them, by which several things are divided
+// ---- trees without a symbol, which are never extracted: switches among them, as divisors and keys
 
 fn divided(r: &mut Random) -> Vec<T> {
     let mut pool = vec![num(2), num(3), num(-7)];
@@ -204,10 +231,13 @@ fn divided(r: &mut Random) -> Vec<T> {
     for _ in 0..2 + r.below(3) {
         let p = sym(["p", "q"][r.below(2)]);
         let over = op(DIV, vec![p, one(r, &pool)]);
-        es.push(match r.below(8) {
+        es.push(match r.below(10) {
             0 => op(SELECT, vec![sym("i"), over]),
             1 => op(9, vec![over]),
             2 => op(BRANCH, vec![over, one(r, &pool), sym("p")]),
+            3 => op(SELECT_OR, vec![one(r, &pool), over, sym("p")]),
+            4 => op(SELECT, vec![one(r, &pool), sym("q")]),
+            5 => one(r, &pool),
             _ => over,
         });
     }

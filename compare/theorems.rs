@@ -36,7 +36,7 @@ fn module(first: usize, cases: &[Case]) -> String {
 fn theorem(s: &mut String, n: usize, case: &Case) {
     let roots: String = case.es.iter().map(|t| format!("({}) ∷ ", antt(t))).collect();
     let (flat, scoped) = (outcome(&case.flat), outcome(&case.scoped));
-    write!(s, "\n-- {}\n", case.texts.join("; ")).unwrap();
+    write!(s, "\n-- {}\n", case.text).unwrap();
     write!(s, "pub list{n} : Both ({roots}[])\n    ({flat})\n    ({scoped})\n").unwrap();
     write!(s, "unfolding summary\nlist{n} = (refl, refl)\n").unwrap();
 }
@@ -50,10 +50,15 @@ fn outcome(o: &Outcome) -> String {
     }
 }
 
-/// A wrong expectation, to see that the check fails: one byte of the text, or the refusal.
-pub fn spoil(case: &mut Case) {
-    match &mut case.scoped {
-        Outcome::Refused(n) => *n = 21 - *n,
-        Outcome::Given { text, .. } => text.insert(0, '_'),
+/// Makes one expectation of a list wrong, by turns in each form and each part.
+pub fn spoil(n: usize, case: &mut Case) {
+    let form = if n % 2 == 0 { &mut case.flat } else { &mut case.scoped };
+    match form {
+        Outcome::Refused(number) => *number = 21 - *number,
+        Outcome::Given { rows, extracted, text } => match n / 2 % 3 {
+            0 => *rows += 1,
+            1 => *extracted += 1,
+            _ => text.push('\n'),
+        },
     }
 }

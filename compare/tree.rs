@@ -14,6 +14,7 @@ pub const CLAMP: usize = 25;
 pub const BRANCH: usize = 26;
 pub const SELECT: usize = 27;
 pub const SELECT_OR: usize = 28;
+pub const KINDS: usize = 29;
 
 pub enum Tree {
     Sym(&'static str),
@@ -54,7 +55,7 @@ pub fn nesting(t: &T) -> usize {
 }
 
 /// Marks the kinds that occur in a tree.
-pub fn mark_kinds(t: &T, seen: &mut [bool; 29]) {
+pub fn mark_kinds(t: &T, seen: &mut [bool; KINDS]) {
     seen[match t.as_ref() {
         Tree::Sym(_) => 0,
         Tree::Const(_) => 1,

@@ -1,3 +1,4 @@
 pub mod TreeLaws
 pub mod Logic
 pub mod Formed
+pub mod Examples

@@ -7,3 +7,5 @@ pub mod Value
 pub mod Symbol
 pub mod Rows
 pub mod Passes
+pub mod Layout
+pub mod Tokens
