@@ -201,18 +201,26 @@ fn tangled(r: &mut Random) -> Vec<T> {
     let kind = *r.pick(&SWITCH_KINDS);
     let key = if r.chance(75) { sym("i") } else { op(BRANCH, vec![sym("i"), sym("a"), sym("b")]) };
     let mut pool = vec![sym("a"), sym("b"), num(2)];
-    for _ in 0..2 + r.below(3) {
+    for _ in 0..1 + r.below(4) {
         let kind = if r.chance(85) { kind } else { *r.pick(&[BRANCH, SELECT]) };
-        let mut parts: Vec<T> = (0..if kind == SELECT { 2 } else { 3 }).map(|_| one(r, &pool)).collect();
-        parts[0] = if r.chance(80) { key.clone() } else { one(r, &pool) };
-        pool.push(op(kind, parts));
+        let key = if r.chance(80) { key.clone() } else { one(r, &pool) };
+        pool.push(switch(r, kind, &key, &pool));
         match r.below(4) {
             0 => pool.push(op(8, vec![one(r, &pool)])),
             1 | 2 => pool.push(op(*r.pick(&[ADD, MUL, DIV]), vec![one(r, &pool), sym("a")])),
             _ => {}
         }
     }
-    (0..2 + r.below(3)).map(|_| one(r, &pool[3..])).collect()
+    let mut es: Vec<T> = (0..1 + r.below(3)).map(|_| one(r, &pool[3..])).collect();
+    es.extend((0..r.below(3)).map(|_| switch(r, kind, &key, &pool)));
+    es
+}
+
+/// A switch with the least number of arms, so that those of a kind can join.
+fn switch(r: &mut Random, kind: usize, key: &T, pool: &[T]) -> T {
+    let mut parts = vec![key.clone()];
+    parts.extend((0..if kind == SELECT { 1 } else { 2 }).map(|_| one(r, pool)));
+    op(kind, parts)
 }
 
 // ---- trees without a symbol, which are never extracted: switches among them, as divisors and keys
