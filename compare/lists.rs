@@ -36,15 +36,16 @@ impl Random {
 pub fn list(r: &mut Random) -> Vec<T> {
     loop {
         let (most, es) = match r.below(100) {
-            0..=12 => (MOST, grown(r, &ANY)),
-            13..=22 => (MOST, grown(r, &SWITCHES)),
-            23..=28 => (MOST, grown(r, &DIVISIONS)),
-            29..=34 => (MOST, grown(r, &TEXTS)),
-            35..=42 => (MOST, grown(r, &MIXED)),
-            43..=66 => (MOST, products(r)),
-            67..=80 => (MOST, tangled(r)),
-            81..=92 => (MOST, divided(r)),
-            93..=97 => (MOST, regrouped(r)),
+            0..=9 => (MOST, grown(r, &ANY)),
+            10..=17 => (MOST, grown(r, &SWITCHES)),
+            18..=23 => (MOST, grown(r, &DIVISIONS)),
+            24..=28 => (MOST, grown(r, &TEXTS)),
+            29..=35 => (MOST, grown(r, &MIXED)),
+            36..=55 => (MOST, products(r)),
+            56..=69 => (MOST, tangled(r)),
+            70..=81 => (MOST, divided(r)),
+            82..=93 => (MOST, rivals(r)),
+            94..=97 => (MOST, regrouped(r)),
             _ => (MOST_HUGE, huge(r)),
         };
         let total: usize = es.iter().map(size).sum();
@@ -118,10 +119,43 @@ fn grown(r: &mut Random, soil: &Soil) -> Vec<T> {
     (0..1 + r.below(5)).map(|_| one(r, &pool[leaves..])).collect()
 }
 
+// ---- rivals: two trees of much the same worth, each used twice or three times
+
+fn rivals(r: &mut Random) -> Vec<T> {
+    let mut pool = vec![sym("a"), sym("b"), op(8, vec![sym("a")]), op(10, vec![sym("b")]), op(ADD, vec![sym("a"), sym("b")])];
+    for _ in 0..2 {
+        let kind = *r.pick(&[BRANCH, SELECT, SELECT_OR, 8, 9, ADD, DIV, CLAMP]);
+        let mut parts: Vec<T> = (0..arity(r, kind)).map(|_| r.pick(&pool[..5]).clone()).collect();
+        if kind >= BRANCH {
+            parts[0] = sym("i");
+        }
+        pool.push(op(kind, parts));
+    }
+    let mut es: Vec<T> = (0..4 + r.below(2)).map(|n| pool[5 + n % 2].clone()).collect();
+    if r.chance(50) {
+        let n = r.below(es.len());
+        es[n] = op(9, vec![es[n].clone()]);
+    }
+    es
+}
+
 // ---- products: a target, and longer products that hold its factors among others and constants
 
-const COEFFICIENTS: [i64; 14] =
-    [1, 1, -1, -1, 0, 2, -3, 999_999, 1_000_000, 1_000_000_000, -1_000_000_000, 999_999_999_999_999, 31_622_777, -31_622_776];
+const COEFFICIENTS: [i64; 8] = [1, -1, 0, 2, -3, 1_000_000, 31_622_777, 999_999_999_999_999];
+
+/// Pairs about the limit of the constants, and about zero.
+const PAIRS: [[i64; 2]; 10] = [
+    [1_000_000_000, 1_000_000],
+    [-1_000_000_000, 1_000_000],
+    [1_000_000_000, 999_999],
+    [31_622_777, 31_622_777],
+    [31_622_777, -31_622_776],
+    [999_999_999_999_999, 2],
+    [-999_999_999_999_999, -1],
+    [-1, 0],
+    [0, 3],
+    [-1, -1],
+];
 
 fn factor(r: &mut Random) -> T {
     match r.below(8) {
@@ -154,11 +188,13 @@ fn products(r: &mut Random) -> Vec<T> {
     let mut es = vec![target.clone(), op(8 + r.below(3), vec![target])];
     for _ in 0..1 + r.below(2) {
         let mut parts = factors.clone();
-        parts.extend((0..r.below(4)).map(|_| num(*r.pick(&COEFFICIENTS))));
-        parts.extend((0..r.below(2)).map(|_| factor(r)));
-        if r.chance(20) {
-            parts.extend(factors.clone());
+        match r.below(10) {
+            0..=3 => parts.extend(r.pick(&PAIRS).map(num)),
+            4..=6 => parts.push(num(*r.pick(&COEFFICIENTS))),
+            7 => parts.extend(factors.clone()),
+            _ => {}
         }
+        parts.extend((0..r.below(2)).map(|_| factor(r)));
         es.push(product(r, parts, signs));
     }
     es
@@ -171,9 +207,11 @@ fn huge(r: &mut Random) -> Vec<T> {
         far = op(MUL, vec![far.clone(), far]);
     }
     let both = op(MUL, vec![sym("a"), sym("b")]);
-    let rest = if r.chance(50) { op(MUL, vec![num(0), sym("b")]) } else { sym("b") };
-    let last = op(MUL, vec![op(MUL, vec![sym(if r.chance(70) { "a" } else { "c" }), far]), rest]);
-    vec![both.clone(), op(8, vec![both]), last]
+    let mut parts = vec![sym(if r.chance(70) { "a" } else { "c" }), sym("b"), far];
+    if r.chance(50) {
+        parts.push(num(0));
+    }
+    vec![both.clone(), op(8, vec![both]), product(r, parts, 25)]
 }
 
 // ---- one text, several trees: sums and products that differ in their grouping alone
