@@ -4,9 +4,8 @@ use mathlib.Core.Bool.{Bool, true, false}
 use mathlib.Core.List.{List, _++_}
 use Prim.Native.Nat.{ℕ}
 use Rattle.tree.specs.Outcome.{Outcome, ok, refused, _>>=_}
-use Rattle.tree.specs.Bytes.{bytes}
+use Rattle.tree.specs.Bytes.{bytes, decimal}
 use Rattle.tree.specs.Rows.{trees}
-use Rattle.text.specs.Text.{decimal}
 use Rattle.cse.specs.Answer.{answer-text}
 use Rattle.cse.specs.Scope.{answer}
 use Rattle.sheet.specs.Sheet.{load}
