@@ -13,6 +13,7 @@ use Rattle.tree.specs.Kinds.{Select, SelectOr}
 use Rattle.tree.specs.Symbol.{is-name}
 use Rattle.tree.specs.Rows.{Row, row-sym, row-const, row-op, Table, trees, occurrences, within-limits}
 use Rattle.tree.specs.Passes.{of-paper, operands-ok}
+use Rattle.tree.specs.Records.{sheet-of}
 
 -- ---- from rows to words
 
@@ -87,6 +88,11 @@ unfoldable pub rows-ok : ℕ → List Row → Bool
 unfolding row-ok
 rows-ok i [] = true
 rows-ok i (r ∷ l) = row-ok i r && rows-ok (suc i) l
+
+-- load takes at least one record and at most 65,535 bytes
+unfoldable pub sheet-fits : Table → Bool
+unfolding sheet-of
+sheet-fits t = leb 1 (length (t .rows)) && leb (length (sheet-of t)) 65535
 
 -- a list within every limit of 01's first section
 unfoldable pub loadable : Table → Bool

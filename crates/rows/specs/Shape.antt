@@ -1,0 +1,20 @@
+-- What the count of a table's bytes asks of its words, and how many bytes records have with a CRLF after each. Assumes nothing.
+use Prim.Native.Nat.{ℕ, _+_, _*_, _/_, _≤_, _<_}
+use mathlib.Core.Path.{_≡_}
+use mathlib.Core.List.{List, [], _∷_}
+use lib.ListN.{length, getD, take, drop}
+
+pub record Shape (row : List ℕ) : Type 0 where
+  pub wide : length row ≡ 35
+  pub kind-small : getD row 0 0 + getD row 1 0 < 29
+  pub few : getD row 2 0 ≤ 32
+  pub constant : getD row 0 0 + getD row 1 0 ≡ 1 → 2 ≤ getD row 2 0
+
+pub record Shapes (ws : List ℕ) : Type 0 where
+  pub whole : length ws ≡ 35 * (length ws / 35)
+  pub few-rows : length ws / 35 ≤ 1024
+  pub each-row : (i : ℕ) → i < length ws / 35 → Shape (take 35 (drop (35 * i) ws))
+
+unfoldable pub terminated : List (List ℕ) → ℕ
+terminated [] = 0
+terminated (r ∷ l) = length r + 2 + terminated l
