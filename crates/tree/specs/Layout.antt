@@ -89,17 +89,22 @@ unfolding row-ok
 rows-ok i [] = true
 rows-ok i (r ∷ l) = row-ok i r && rows-ok (suc i) l
 
+-- a list within every limit of 01's first section
+unfoldable pub in-domain : Table → Bool
+unfolding rows-ok every within-limits trees
+in-domain t =
+    (leb (length (t .rows)) 1024 && leb (length (t .roots)) 64)
+    && (rows-ok 0 (t .rows) && (every (λ n. ltb n (length (t .rows))) (t .roots) && within-limits (trees t)))
+
 -- load takes at least one record and at most 65,535 bytes
 unfoldable pub sheet-fits : Table → Bool
 unfolding sheet-of
 sheet-fits t = leb 1 (length (t .rows)) && leb (length (sheet-of t)) 65535
 
--- a list within every limit of 01's first section
+-- a table that load gives for some sheet
 unfoldable pub loadable : Table → Bool
-unfolding rows-ok every within-limits trees
-loadable t =
-    (leb (length (t .rows)) 1024 && leb (length (t .roots)) 64)
-    && (rows-ok 0 (t .rows) && (every (λ n. ltb n (length (t .rows))) (t .roots) && within-limits (trees t)))
+unfolding in-domain sheet-fits
+loadable t = in-domain t && sheet-fits t
 
 -- the words are a loadable table's
 unfoldable pub laid-out : List ℕ → List ℕ → Bool
