@@ -2,28 +2,27 @@
 -- Assumes nothing.
 use Prim.Native.Nat.{ℕ, zero, suc, _+_, _*_, _≤_}
 use mathlib.Core.Path.{_≡_, refl, sym, _∙_, ap, subst}
-use mathlib.Core.Bool.{Bool, true, false, not, _&&_, _||_}
-use mathlib.Core.Logic.{_⊎_, inl, inr}
+use mathlib.Core.Bool.{Bool, true, false, not, _&&_}
+use mathlib.Core.Logic.{inl, inr}
 use mathlib.Core.Option.{Option, none, some}
 use mathlib.Core.List.{List, [], _∷_, _++_, append-assoc, append-nil}
 use native.Mathlib.Omega.{arith}
 use native.Mathlib.Nat.{mul-add, mul-zero, zero-add, mul-suc}
 use lib.IntN.{ℤ}
 use lib.ListN.{length}
-use lib.Dec.{T, eqb, leb, ltb, eqb→eq, leb→le, le→leb, nleb→lt, ltb→lt, lt→ltb}
-use lib.Ieee as Ieee
+use lib.Dec.{T, leb, ltb, leb→le, le→leb, nleb→lt, ltb→lt, lt→ltb}
 use Rattle.tree.specs.Outcome.{Outcome, ok, refused, _>>=_, each}
 use Rattle.tree.specs.Tree.{Name, input, xname, mname, Tree, Forest, Sym, Const, Op, nil, _◂_, folds}
-use Rattle.tree.specs.Kinds.{Neg, Mul}
 use Rattle.tree.proofs.Formed.{well-formed}
 use Rattle.tree.specs.Facts.{all-operations, cost, has-symbol, some-of, operations, nodes, nodes-of, all-nodes, outside, count, uses, uses-outside}
-use Rattle.rewrite.specs.Rewrite.{Factors, one, flatten-mul-factors, flatten-operands, negated, is-mul, replace}
+use Rattle.rewrite.specs.Rewrite.{flatten-mul-factors, flatten-operands, replace}
 use Rattle.cse.specs.Extract.{Binding, State, Candidate, bound, roots, is-candidate, candidate, beats, best-from, best, replace-bound, extract, rounds, extract-all}
 use Rattle.tree.proofs.Logic.{and-left, and-right, and-both}
-use Rattle.rewrite.proofs.Measure.{sum-of, sum-each, length-sum, Measure, Least, by-operations, least-operations, operations-sum, one-of, count-cons, count-sum}
+use Rattle.rewrite.proofs.Measure.{sum-of, sum-each, length-sum, by-operations, least-operations, operations-sum, one-of, count-cons, count-sum}
 use Rattle.rewrite.proofs.Factors.{factors-of, factors-cases, sum-factors}
 use Rattle.rewrite.proofs.Shrinks.{replace-shrinks}
-use Rattle.rewrite.proofs.Savings.{saves}
+use Rattle.rewrite.proofs.Savings.{operations-saves}
+use Rattle.rewrite.proofs.DivisorCount.{or-cases}
 use Rattle.rewrite.proofs.Names.{holds, holds-all, holds-append, below, weaken, weaken-all, all-nodes-hold, Holds, replace-holds}
 use Rattle.rewrite.proofs.Counts.{count-nil, count-op, count-operands, counted-cases, counted-holds, counted-formed, well-formed-all, all-append, all-nodes-formed, all-nodes-cons, operations-append, part-all-operations, absent}
 
@@ -34,10 +33,6 @@ unfolding cost operations
 costs-operation (Sym n) h = absurd (omega arith)
 costs-operation (Const c) h = absurd (omega arith)
 costs-operation (Op k f) h = omega arith
-
-or-cases : (b c : Bool) → T (b || c) → T b ⊎ T c
-or-cases true c t = inl tt
-or-cases false c t = inr t
 
 mutual
   unfolding has-symbol flatten-mul-factors sum-each
@@ -299,31 +294,34 @@ pub record Sound (s : State) : Type 0 where
   pub formed : T (well-formed-all (roots s))
   pub known : T (holds-all (made-before (s .next)) (roots s))
 
--- what the roots measure, and their shape
+-- what each root saves, summed
 pub replaced-saves :
-    (M : Measure) (n : Name) → Least M n → (target : Tree) (saved : ℕ) → saved + M .of (Sym n) ≡ M .of target → T (well-formed target) → 1 ≤ length (factors-of target)
-    → count (Sym n) (factors-of target) ≡ 0 → (es rs : List Tree) → Replaced target n es rs → T (well-formed-all es)
-    → (sum-of (M .of) rs + saved * count target (all-nodes es) ≤ sum-of (M .of) es) × T (well-formed-all rs)
+    (μ : Tree → ℕ) (target : Tree) (n : Name) (saved : ℕ)
+    → ((e r : Tree) → T (well-formed e) → replace target n e ≡ ok r → μ r + saved * count target (nodes e) ≤ μ e)
+    → (es rs : List Tree) → Replaced target n es rs → T (well-formed-all es) → sum-of μ rs + saved * count target (all-nodes es) ≤ sum-of μ es
 unfolding sum-of well-formed-all
-replaced-saves M n least target saved whole w s c [] [] h v = (
-  (let z : count target (all-nodes []) ≡ 0 = (unfold all-nodes count in refl) in
-      let y : saved * count target (all-nodes []) ≡ 0 = ap (λ (m : ℕ). saved * m) z ∙ mul-zero saved in
-      omega arith),
-  tt,
-)
-replaced-saves M n least target saved whole w s c [] (r ∷ rs) h v = absurd h
-replaced-saves M n least target saved whole w s c (e ∷ es) [] h v = absurd h
-replaced-saves M n least target saved whole w s c (e ∷ es) (r ∷ rs) h v =
-    let ve = and-left (well-formed e) (well-formed-all es) v in
-    let a = saves M n least target saved whole w s c e r ve (h .0) in
-    let b = replaced-saves M n least target saved whole w s c es rs (h .1) (and-right (well-formed e) (well-formed-all es) v) in
-    let f = replace-shrinks M target n least s e r ve (h .0) in (
-      (let q : saved * count target (all-nodes (e ∷ es)) ≡ saved * count target (nodes e) + saved * count target (all-nodes es) =
-          ap (λ (m : ℕ). saved * m) (all-nodes-cons target e es) ∙ mul-add saved (count target (nodes e)) (count target (all-nodes es)) in
-          let x = b .0 in
-          omega arith),
-      and-both (well-formed r) (well-formed-all rs) (f .1) (b .1),
-    )
+replaced-saves μ target n saved one [] [] h v =
+    (let z : count target (all-nodes []) ≡ 0 = (unfold all-nodes count in refl) in
+    let y : saved * count target (all-nodes []) ≡ 0 = ap (λ (m : ℕ). saved * m) z ∙ mul-zero saved in
+    omega arith)
+replaced-saves μ target n saved one [] (r ∷ rs) h v = absurd h
+replaced-saves μ target n saved one (e ∷ es) [] h v = absurd h
+replaced-saves μ target n saved one (e ∷ es) (r ∷ rs) h v =
+    (let a = one e r (and-left (well-formed e) (well-formed-all es) v) (h .0) in
+    let b = replaced-saves μ target n saved one es rs (h .1) (and-right (well-formed e) (well-formed-all es) v) in
+    let q : saved * count target (all-nodes (e ∷ es)) ≡ saved * count target (nodes e) + saved * count target (all-nodes es) =
+    ap (λ (m : ℕ). saved * m) (all-nodes-cons target e es) ∙ mul-add saved (count target (nodes e)) (count target (all-nodes es)) in
+    omega arith)
+
+replaced-formed :
+    (target : Tree) (n : Name) → 1 ≤ length (factors-of target) → (es rs : List Tree) → Replaced target n es rs → T (well-formed-all es) → T (well-formed-all rs)
+unfolding well-formed-all
+replaced-formed target n s [] [] h v = tt
+replaced-formed target n s [] (r ∷ rs) h v = absurd h
+replaced-formed target n s (e ∷ es) [] h v = absurd h
+replaced-formed target n s (e ∷ es) (r ∷ rs) h v =
+    and-both (well-formed r) (well-formed-all rs) (replace-shrinks by-operations target n (least-operations n) s e r (and-left (well-formed e) (well-formed-all es) v) (h .0) .1)
+    (replaced-formed target n s es rs (h .1) (and-right (well-formed e) (well-formed-all es) v))
 
 replaced-hold :
     (p : Name → Bool) (target : Tree) (n : Name) → T (p n) → (es rs : List Tree) → Replaced target n es rs → T (holds-all p es) → T (holds-all p rs)
@@ -354,12 +352,12 @@ round scoped x s t S c e =
     let xh = counted-holds (made-before k) x (all-nodes (roots s)) (all-nodes-hold (made-before k) (roots s) (S .known)) u in
     let sf = symbol-factor x (f .1) in
     let nf : count (Sym (xname k)) (flatten-mul-factors x .factors) ≡ 0 = (let a = absent (made-before k) (xname k) (new-name k) x xh in let b = factors-nodes (Sym (xname k)) x in omega arith) in
-    let ox : operations x + operations (Sym (xname k)) ≡ operations x = (let z : operations (Sym (xname k)) ≡ 0 = (unfold operations in refl) in omega arith) in
-    let sum = replaced-saves by-operations (xname k) (least-operations (xname k)) x (operations x) ox xw sf nf (roots s) (E .made) (E .replaced) (S .formed) in
+    let sum = replaced-saves operations x (xname k) (operations x) (operations-saves (xname k) x xw sf nf) (roots s) (E .made) (E .replaced) (S .formed) in
+    let shape = replaced-formed x (xname k) sf (roots s) (E .made) (E .replaced) (S .formed) in
     let up = weaken-all (made-before k) (made-before (suc k)) (made-suc k) (roots s) (S .known) in
     let hold = replaced-hold (made-before (suc k)) x (xname k) (made-new k) (roots s) (E .made) (E .replaced) up in (
       record {
-        formed = subst (λ (l : List Tree). T (well-formed-all l)) (sym (E .now)) (all-append (E .made) (x ∷ []) (sum .1) (unfold well-formed-all in (and-both (well-formed x) true xw tt)));
+        formed = subst (λ (l : List Tree). T (well-formed-all l)) (sym (E .now)) (all-append (E .made) (x ∷ []) shape (unfold well-formed-all in (and-both (well-formed x) true xw tt)));
         known =
             subst (λ (j : ℕ). T (holds-all (made-before j) (roots t))) (sym (E .next))
             (subst (λ (l : List Tree). T (holds-all (made-before (suc k)) l)) (sym (E .now))
@@ -370,7 +368,6 @@ round scoped x s t S c e =
           let b : all-operations (x ∷ []) ≡ operations x + 0 = (unfold all-operations in refl) in
           let d = twice-up (operations x) (count x (all-nodes (roots s))) (f .2) in
           let o = costs-operation x (f .0) in
-          let q = sum .0 in
           let u = operations-sum (E .made) in
           let v = operations-sum (roots s) in
           omega arith),

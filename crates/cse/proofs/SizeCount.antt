@@ -2,27 +2,24 @@
 -- Assumes nothing.
 use Prim.Native.Nat.{ℕ, zero, suc, _+_, _-_, _*_, _≤_}
 use mathlib.Core.Path.{_≡_, refl, sym, _∙_, ap, ap₂, subst}
-use mathlib.Core.Bool.{Bool, true, false, _&&_}
+use mathlib.Core.Bool.{Bool, true, false}
 use mathlib.Core.Option.{Option, none, some}
 use mathlib.Core.List.{List, [], _∷_}
 use native.Mathlib.Omega.{arith}
-use native.Mathlib.Nat.{mul-add, mul-zero, mul-one}
 use lib.IntN.{pos}
 use lib.ListN.{length}
 use lib.Dec.{T, ltb}
-use lib.Ieee as Ieee
 use Rattle.tree.specs.Outcome.{Outcome, ok, refused, _>>=_}
-use Rattle.tree.specs.Tree.{Name, input, xname, mname, Tree, Forest, Sym, Const, Op, nil, _◂_}
-use Rattle.tree.specs.Kinds.{Mul, Div}
-use Rattle.tree.proofs.Formed.{well-formed}
-use Rattle.tree.specs.Facts.{all-operations, cost, has-symbol, size, nodes, nodes-of, all-nodes, count}
-use Rattle.rewrite.specs.Rewrite.{one, flatten-mul-factors, is-mul, replace}
+use Rattle.tree.specs.Tree.{input, xname, mname, Tree, Sym, Const, Op, nil, _◂_}
+use Rattle.tree.specs.Kinds.{Div}
+use Rattle.tree.specs.Facts.{all-operations, cost, has-symbol, size, all-nodes, count}
+use Rattle.rewrite.specs.Rewrite.{flatten-mul-factors}
 use Rattle.cse.specs.Extract.{State, Candidate, bound, roots, is-candidate, best, extract, rounds, extract-all, divisors, replace-divisor-each, bind-reciprocal, bind-reciprocals, reciprocals}
 use Rattle.cse.specs.Answer.{Intermediate, Intermediates, Answer, Let, Match, block}
 use Rattle.cse.specs.Scope.{binds, answer}
 use Rattle.cse.specs.Demand.{extracted-exprs}
-use Rattle.tree.proofs.Logic.{and-left, and-right}
-use Rattle.rewrite.proofs.Measure.{sum-of, sum-append, sum-each, by-size, least-size, sizes, size-op, size-up}
+use Rattle.rewrite.proofs.Measure.{sum-of, sum-append, sum-each, by-size, sizes, size-op, size-up}
+use Rattle.rewrite.proofs.Savings.{size-saves}
 use Rattle.rewrite.proofs.Names.{holds-all, below, all-nodes-hold}
 use Rattle.rewrite.proofs.Counts.{counted-holds, counted-formed, well-formed-all, all-nodes-formed, absent, part-sum}
 use Rattle.cse.proofs.RoundsCount.{twice-up, symbol-factor, factors-nodes, candidate-facts, best-fits, replaced-saves, extracted, Sound, made-before, new-name, round, begin, begin-roots, begin-sound, extract-all-end}
@@ -55,8 +52,7 @@ round-size scoped x s t S c e =
     let xh = counted-holds (made-before k) x (all-nodes (roots s)) (all-nodes-hold (made-before k) (roots s) (S .known)) u in
     let nf : count (Sym (xname k)) (flatten-mul-factors x .factors) ≡ 0 = (let a = absent (made-before k) (xname k) (new-name k) x xh in let b = factors-nodes (Sym (xname k)) x in omega arith) in
     let o = two-nodes x (f .0) (f .1) in
-    let sx : size x - 1 + size (Sym (xname k)) ≡ size x = (let z : size (Sym (xname k)) ≡ 1 = (unfold size in refl) in omega arith) in
-    let q = replaced-saves by-size (xname k) (least-size (xname k)) x (size x - 1) sx xw (symbol-factor x (f .1)) nf (roots s) (E .made) (E .replaced) (S .formed) .0 in
+    let q = replaced-saves size x (xname k) (size x - 1) (size-saves (xname k) x xw (symbol-factor x (f .1)) nf) (roots s) (E .made) (E .replaced) (S .formed) in
     let a : total-size (roots t) ≡ total-size (E .made) + total-size (x ∷ []) = ap (sum-of size) (E .now) ∙ sum-append size (E .made) (x ∷ []) in
     let b : total-size (x ∷ []) ≡ size x + 0 = (unfold sum-of in refl) in
     let d = twice-up (size x - 1) (count x (all-nodes (roots s))) (f .2) in

@@ -111,7 +111,7 @@ counted-formed x (y ∷ l) w h =
 mutual
   unfolding well-formed nodes well-formed-all
 
-  pub nodes-formed : (e : Tree) → T (well-formed e) → T (well-formed-all (nodes e))
+  nodes-formed : (e : Tree) → T (well-formed e) → T (well-formed-all (nodes e))
   nodes-formed (Sym n) w = tt
   nodes-formed (Const c) w = tt
   nodes-formed (Op k f) w =
@@ -171,7 +171,7 @@ mutual
       let c = small-each x f (omega arith) in
       omega arith)
 
-  pub small-each : (x : Tree) (f : Forest) → sizes f < size x → count x (nodes-of f) ≡ 0
+  small-each : (x : Tree) (f : Forest) → sizes f < size x → count x (nodes-of f) ≡ 0
   small-each x nil h = count-none x
   small-each x (t ◂ f) h = (let a = count-operands x t f in let b = small x t (omega arith) in let c = small-each x f (omega arith) in omega arith)
 
@@ -186,7 +186,7 @@ whole-count (Op k f) =
     let c = small-each (Op k f) f (omega arith) in
     omega arith)
 
--- a tree stands in another that is equal, or in its operands
+-- a node is the tree, or the tree stands in its operands alone
 pub count-cases : (x : Tree) (k : ℕ) (f : Forest) → (Op k f ≡ x) ⊎ (count x (nodes (Op k f)) ≡ count x (nodes-of f))
 count-cases x k f = go (one-of (Op k f) x) refl
   where

@@ -1,6 +1,6 @@
--- `replace_divisor` lets no measure grow, neither operations nor nodes, keeps trees well-formed, can be undone, and leaves no division by d: so an operation
--- stands after it no more often than what it came from stood before. Assumes nothing.
-use Prim.Native.Nat.{ℕ, zero, suc, _+_, _≤_}
+-- `replace_divisor` lets no measure grow by which the new name counts least, so neither operations nor nodes, keeps trees well-formed, can be undone,
+-- and leaves no division by d: so an operation stands after it no more often than what it came from stood before. Assumes nothing.
+use Prim.Native.Nat.{ℕ, zero, suc, _≤_}
 use mathlib.Core.Path.{_≡_, refl, sym, _∙_, ap, ap₂, subst}
 use mathlib.Core.Logic.{_⊎_, inl, inr}
 use mathlib.Core.Bool.{Bool, true, false, _&&_, _||_, cond}

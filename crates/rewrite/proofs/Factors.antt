@@ -1,6 +1,6 @@
 -- The factors of a product: what they are, what is left of them where a target's are taken out, and the product built from the rest.
 -- Assumes nothing.
-use Prim.Native.Nat.{ℕ, zero, suc, _+_, _≤_}
+use Prim.Native.Nat.{ℕ, _+_, _≤_}
 use mathlib.Core.Path.{_≡_, refl, sym, _∙_, ap, ap₂}
 use mathlib.Core.Bool.{Bool, true, false, _&&_}
 use mathlib.Core.Option.{Option, none, some}
@@ -72,7 +72,7 @@ symbol-is-factor n = ((tt, refl), tt)
 mutual
   unfolding flatten-mul-factors well-formed times
 
-  pub factors-all : (e : Tree) → T (well-formed e) → All Factor (factors-of e)
+  factors-all : (e : Tree) → T (well-formed e) → All Factor (factors-of e)
   factors-all (Sym s) w = ((tt, refl), tt)
   factors-all (Const c) w = tt
   factors-all (Op k f) w = factors-cases (All Factor) k f (operands-all f (and-right (arity-ok k (operand-count f)) (well-formed-each f) w)) (λ e. ((w, e), tt))

@@ -1,9 +1,9 @@
 -- The nodes equal to a product t = Op Mul g. Inside a product that `replace` flattens, some are met as the factors at hand, the spine's, and the
 -- others inside single factors. Assumes nothing.
-use Prim.Native.Nat.{ℕ, zero, suc, _+_, _*_, _≤_, _<_}
+use Prim.Native.Nat.{ℕ, _+_, _*_, _≤_, _<_}
 use mathlib.Core.Path.{_≡_, refl, sym, _∙_, ap, subst}
 use mathlib.Core.Bool.{Bool, true, false}
-use mathlib.Core.Logic.{_⊎_, inl, inr}
+use mathlib.Core.Logic.{inl, inr}
 use mathlib.Core.List.{List, [], _∷_}
 use native.Mathlib.Omega.{arith}
 use native.Mathlib.Nat.{add-mul, zero-mul, one-mul}
@@ -16,7 +16,7 @@ use Rattle.tree.specs.Facts.{size, nodes, nodes-of, count}
 use Rattle.rewrite.specs.Rewrite.{Factors, one, flatten-mul-factors, flatten-operands, negated}
 use Rattle.rewrite.proofs.ReplaceValue.{exact, exact-operands}
 use Rattle.rewrite.proofs.Measure.{sum-of, sum-each, sizes, size-op}
-use Rattle.rewrite.proofs.Counts.{one-none, count-sym, count-const, count-none, count-operands, count-cases, whole-count, small}
+use Rattle.rewrite.proofs.Counts.{one-none, count-const, count-none, count-operands, count-cases, whole-count, small}
 use Rattle.rewrite.proofs.Factors.{factors-of, factors-cases, sum-factors}
 
 -- ---- a tree stands in none of its factors

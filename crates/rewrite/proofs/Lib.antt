@@ -2,10 +2,10 @@ pub mod Residues
 pub mod ReplaceValue
 pub mod Coefficient
 pub mod DivisorValue
-pub mod Names
 pub mod Measure
-pub mod Counts
 pub mod Factors
+pub mod Names
+pub mod Counts
 pub mod Hits
 pub mod Products
 pub mod Shrinks

@@ -1,6 +1,6 @@
 -- Sums over lists of trees and over operands, and the measures of trees that add up over operands: operations, nodes, and the weight of `Weight`.
 -- A law on such a measure is proved once, and says the same of each. Assumes nothing.
-use Prim.Native.Nat.{ℕ, zero, suc, _+_, _*_, _≤_}
+use Prim.Native.Nat.{ℕ, suc, _+_, _≤_}
 use mathlib.Core.Path.{_≡_, refl, sym, ap}
 use mathlib.Core.Bool.{Bool, true, false}
 use mathlib.Core.List.{List, [], _∷_, _++_}

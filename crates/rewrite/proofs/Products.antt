@@ -1,12 +1,12 @@
--- What a product measures, by any measure: at least its factors with their signs and its coefficient, and just that where it is built from them.
--- Assumes nothing.
-use Prim.Native.Nat.{ℕ, zero, suc, _+_, _*_, _≤_}
+-- What a product measures, by any measure: at least its factors with their signs and its coefficient, and no more than that where it is built from
+-- them. Assumes nothing.
+use Prim.Native.Nat.{ℕ, _+_, _*_, _≤_}
 use mathlib.Core.Path.{_≡_, refl, sym, _∙_, ap, ap₂, subst}
 use mathlib.Core.Bool.{Bool, true, false}
 use mathlib.Core.Logic.{_⊎_, inl, inr}
 use mathlib.Core.List.{List, [], _∷_}
 use native.Mathlib.Omega.{arith}
-use native.Mathlib.Nat.{add-zero, mul-add, mul-zero, zero-mul, mul-one, mul-suc}
+use native.Mathlib.Nat.{add-zero, mul-add, mul-zero, zero-mul, mul-suc}
 use lib.IntN.{ℤ, pos, negsuc, negℤ, _*ℤ_, *ℤ-one, *ℤ-comm}
 use lib.IntN as Int
 use lib.Dec.{T}

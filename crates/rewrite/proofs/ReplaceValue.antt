@@ -1,7 +1,8 @@
 -- `replace` keeps values: where the new name holds the target's value, what comes out has the value of what went in.
--- Assumes nothing. What is still owed is a parameter of the last section, `Exact`: a coefficient that is accepted is the exact product.
-use Prim.Native.Nat.{ℕ, zero, suc, _+_, _-_, _*_, _%_, _≤_}
-use mathlib.Core.Path.{_≡_, refl, sym, _∙_, ap, ap₂, subst, _≡⟨_⟩_, _∎}
+-- Assumes nothing. That a coefficient accepted is the exact product is a parameter of the last section, `Exact`: `Coefficient` proves it, from
+-- `exact` of this file.
+use Prim.Native.Nat.{ℕ, zero, suc, _*_, _%_}
+use mathlib.Core.Path.{_≡_, refl, sym, _∙_, ap, ap₂, subst}
 use mathlib.Core.Bool.{Bool, true, false, _&&_, cond}
 use mathlib.Core.Option.{Option, none, some}
 use mathlib.Core.List.{List, [], _∷_, _++_}

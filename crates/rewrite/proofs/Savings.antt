@@ -2,13 +2,13 @@
 -- the name, also where `replace` meets it as factors of a larger product. Assumes nothing.
 -- The first section is for a product t = Op Mul g with coefficient 1; `Plain` is for any other target, and the last section for either.
 use Prim.Native.Nat.{ℕ, zero, suc, _+_, _-_, _*_, _≤_}
-use mathlib.Core.Path.{_≡_, refl, sym, _∙_, ap, subst, subst₂}
+use mathlib.Core.Path.{_≡_, refl, sym, _∙_, ap, subst}
 use mathlib.Core.Bool.{Bool, true, false, _&&_}
 use mathlib.Core.Option.{Option, none, some}
 use mathlib.Core.List.{List, [], _∷_, _++_}
 use native.Mathlib.Omega.{arith}
 use native.Mathlib.Nat.{add-zero, mul-add, add-mul, mul-zero, zero-mul, mul-one, suc-mul, mul-suc}
-use lib.IntN.{ℤ, pos}
+use lib.IntN.{ℤ}
 use lib.Dec.{T, eqb, eqb→eq}
 use lib.ListN.{length}
 use lib.Ieee as Ieee
@@ -18,11 +18,11 @@ use Rattle.tree.specs.Kinds.{Neg, Mul, arity-ok}
 use Rattle.tree.proofs.Formed.{arity-neg, operand-count, well-formed, well-formed-each}
 use Rattle.tree.proofs.TreeLaws.{eq-tree-sound}
 use Rattle.tree.proofs.Logic.{and-left, and-right}
-use Rattle.tree.specs.Facts.{size, nodes, nodes-of, count}
+use Rattle.tree.specs.Facts.{operations, size, nodes, nodes-of, count}
 use Rattle.rewrite.specs.Rewrite.{Factors, one, flatten-mul-factors, flatten-operands, negated, built, build-mul-from-factors, constant-of, is-mul, match-factors, each-operand, replace-within, replace}
-use Rattle.rewrite.proofs.ReplaceValue.{exact, Exact}
+use Rattle.rewrite.proofs.ReplaceValue.{exact}
 use Rattle.rewrite.proofs.Coefficient.{exactly}
-use Rattle.rewrite.proofs.Measure.{sum-of, sum-append, sum-each, Measure, Least, one-of, one-self, count-cons, count-sum}
+use Rattle.rewrite.proofs.Measure.{sum-of, sum-append, sum-each, Measure, by-operations, by-size, Least, least-operations, least-size, size-up, one-of, one-self, count-cons}
 use Rattle.rewrite.proofs.Counts.{count-append, count-nil, count-sym, count-const, count-op, count-none, count-operands, whole-count, one-cases, one-none, one-equal}
 use Rattle.rewrite.proofs.Factors.{factors-of, factors-alone, All, Factor, append-all, symbol-is-factor, built-factors, Matched, matched}
 use Rattle.rewrite.proofs.Hits.{hits, inner-hits, own-factors, spine-hits, spine-each, hits-split, copies}
@@ -333,7 +333,7 @@ module _
 
 -- ---- any target
 
-pub mul-shape : (t : Tree) → T (is-mul t) → (g : Forest) × (t ≡ Op Mul g)
+mul-shape : (t : Tree) → T (is-mul t) → (g : Forest) × (t ≡ Op Mul g)
 unfolding is-mul
 mul-shape (Sym n) h = absurd h
 mul-shape (Const c) h = absurd h
@@ -354,3 +354,15 @@ saves M n least target saved whole w s c e r v q = go (is-mul target && Ieee.eq 
         → count (Sym n) (factors-of t) ≡ 0 → replace t n e ≡ ok r → M .of r + saved * count t (nodes e) ≤ M .of e)
         (sym (g .1)) (λ whole u w s c. product-saves M n least (g .0) saved whole u w s c e r v) whole u w s c q
     go false z = Plain.replace-saves M target n saved whole z e r q
+
+-- so each saves the target's operations, and its nodes but one
+module _
+    (n : Name) (target : Tree) (formed : T (well-formed target)) (some-factor : 1 ≤ length (factors-of target)) (new : count (Sym n) (factors-of target) ≡ 0)
+    (e r : Tree) (well : T (well-formed e)) (made : replace target n e ≡ ok r) where
+  pub operations-saves : operations r + operations target * count target (nodes e) ≤ operations e
+  operations-saves =
+      saves by-operations n (least-operations n) target (operations target) (let q : operations (Sym n) ≡ 0 = (unfold operations in refl) in omega arith) formed some-factor new e r well made
+
+  pub size-saves : size r + (size target - 1) * count target (nodes e) ≤ size e
+  size-saves =
+      saves by-size n (least-size n) target (size target - 1) (let q : size (Sym n) ≡ 1 = (unfold size in refl) in let u = size-up target in omega arith) formed some-factor new e r well made

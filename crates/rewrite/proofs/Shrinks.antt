@@ -14,8 +14,8 @@ use Rattle.tree.specs.Kinds.{Mul, arity-ok}
 use Rattle.tree.proofs.Formed.{operand-count, well-formed, well-formed-each}
 use Rattle.tree.proofs.Logic.{and-left, and-right, and-both}
 use Rattle.tree.specs.Facts.{size}
-use Rattle.rewrite.specs.Rewrite.{Factors, flatten-mul-factors, constant-of, built, build-mul-from-factors, match-factors, each-operand, replace-within, replace}
-use Rattle.rewrite.proofs.ReplaceValue.{exact, Exact}
+use Rattle.rewrite.specs.Rewrite.{Factors, constant-of, built, build-mul-from-factors, match-factors, each-operand, replace-within, replace}
+use Rattle.rewrite.proofs.ReplaceValue.{exact}
 use Rattle.rewrite.proofs.Coefficient.{exactly}
 use Rattle.rewrite.proofs.Measure.{sum-of, sum-append, sum-each, Measure, Least}
 use Rattle.rewrite.proofs.Factors.{factors-of, Factor, append-all, symbol-is-factor, built-factors, Matched, matched}

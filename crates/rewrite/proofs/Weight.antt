@@ -1,6 +1,6 @@
 -- A weight that falls at each call of `replace`: the new name weighs 1 and every other node 2. So twice the size is fuel enough. Assumes nothing.
-use Prim.Native.Nat.{ℕ, zero, suc, _+_, _*_, _≤_}
-use mathlib.Core.Path.{_≡_, refl, ap, subst}
+use Prim.Native.Nat.{ℕ, suc, _+_, _*_, _≤_}
+use mathlib.Core.Path.{_≡_, refl, ap}
 use mathlib.Core.Bool.{Bool, true, false}
 use mathlib.Core.List.{List, [], _∷_, _++_}
 use native.Mathlib.Omega.{arith}
@@ -37,7 +37,7 @@ module _ (n : Name) where
   weights-sum nil = refl
   weights-sum (t ◂ f) = ap (λ (m : ℕ). weight t + m) (weights-sum f)
 
-  pub weight-const : (c : ℤ) → weight (Const c) ≡ 2
+  weight-const : (c : ℤ) → weight (Const c) ≡ 2
   unfolding weight
   weight-const c = refl
 
@@ -45,7 +45,7 @@ module _ (n : Name) where
   unfolding weight
   weight-op k f = (let q = weights-sum f in omega arith)
 
-  abbrev pub by-weight : Measure
+  abbrev by-weight : Measure
   by-weight = record { of = weight; constant = 2; node = 2; at-constant = weight-const; at-node = weight-op }
 
   name-bounds : (b : Bool) → (1 ≤ name-weight b) × (name-weight b ≤ 2)
