@@ -1,7 +1,7 @@
 -- The factors of a product: what they are, what is left of them where a target's are taken out, and the product built from the rest.
 -- Assumes nothing.
 use Prim.Native.Nat.{ℕ, _+_, _≤_}
-use mathlib.Core.Path.{_≡_, refl, sym, _∙_, ap, ap₂}
+use mathlib.Core.Path.{_≡_, refl, sym, _∙_, ap, ap₂, subst}
 use mathlib.Core.Bool.{Bool, true, false, _&&_}
 use mathlib.Core.Option.{Option, none, some}
 use mathlib.Core.List.{List, [], _∷_, _++_, append-assoc, append-nil}
@@ -58,14 +58,14 @@ abbrev pub All : (Tree → Type 0) → List Tree → Type 0
 All P [] = Unit {0}
 All P (t ∷ l) = P t × All P l
 
-pub append-all : (P : Tree → Type 0) (s t : List Tree) → All P s → All P t → All P (s ++ t)
+append-all : (P : Tree → Type 0) (s t : List Tree) → All P s → All P t → All P (s ++ t)
 append-all P [] t g h = h
 append-all P (x ∷ s) t g h = (g .0, append-all P s t (g .1) h)
 
 abbrev pub Factor : Tree → Type 0
 Factor t = T (well-formed t) × (factors-of t ≡ t ∷ [])
 
-pub symbol-is-factor : (n : Name) → All Factor (Sym n ∷ [])
+symbol-is-factor : (n : Name) → All Factor (Sym n ∷ [])
 unfolding well-formed flatten-mul-factors
 symbol-is-factor n = ((tt, refl), tt)
 
@@ -118,30 +118,59 @@ built-factors c (t ∷ l) a =
     let s = coefficient-step c (nested-product t l) (eq-int c (pos 1)) (eq-int c (negsuc 0)) (product-formed t l (a .0 .0) (a .1)) in
     (s .0 ∙ product-factors t l (a .1) ∙ ap (λ (m : List Tree). m ++ l) (a .0 .1), s .1)
 
--- ---- factors taken out: every sum over them falls by just their part
+-- ---- factors taken out
 
--- the first that is equal, or there is none
+-- l is r with t put in somewhere, and with each of several put in
+pub data Put : Tree → List Tree → List Tree → Type 0 where
+  here : {t : Tree} {r : List Tree} → Put t r (t ∷ r)
+  past : {t f : Tree} {r l : List Tree} → Put t r l → Put t (f ∷ r) (f ∷ l)
+
+pub data Puts : List Tree → List Tree → List Tree → Type 0 where
+  done : {r : List Tree} → Puts [] r r
+  also : {t : Tree} {ts r s l : List Tree} → Put t s l → Puts ts r s → Puts (t ∷ ts) r l
+
+-- every sum is the two sums together
+put-sum : (μ : Tree → ℕ) {t : Tree} {r l : List Tree} → Put t r l → sum-of μ l ≡ μ t + sum-of μ r
+unfolding sum-of
+put-sum μ here = refl
+put-sum μ (past p) = (let a = put-sum μ p in omega arith)
+
+pub puts-sum : (μ : Tree → ℕ) {ts r l : List Tree} → Puts ts r l → sum-of μ l ≡ sum-of μ ts + sum-of μ r
+unfolding sum-of
+puts-sum μ (done {r = r}) = sym (zero-add (sum-of μ r))
+puts-sum μ (also p q) = (let a = put-sum μ p in let b = puts-sum μ q in omega arith)
+
+-- what all have, the rest have
+put-all : (P : Tree → Type 0) {t : Tree} {r l : List Tree} → Put t r l → All P l → All P r
+put-all P here a = a .1
+put-all P (past p) a = (a .0, put-all P p (a .1))
+
+puts-all : (P : Tree → Type 0) {ts r l : List Tree} → Puts ts r l → All P l → All P r
+puts-all P done a = a
+puts-all P (also p q) a = puts-all P q (put-all P p a)
+
+-- the first that is equal is taken out, or there is none
 First : Tree → List Tree → Option (List Tree) → Type 0
 First t l none = sum-of (λ y. one-of y t) l ≡ 0
-First t l (some r) = ((μ : Tree → ℕ) → sum-of μ l ≡ μ t + sum-of μ r) × (All Factor l → All Factor r)
+First t l (some r) = Put t r l
 
 first-step :
     (t f : Tree) (l : List Tree) (b : Bool) → (T b → f ≡ t) → one-of f t ≡ elim b [ true ↦ 1 | false ↦ 0 ] → (o : Option (List Tree)) → First t l o
     → First t (f ∷ l) (elim b [ true ↦ some l | false ↦ elim o [ none ↦ none | some r ↦ some (f ∷ r) ] ])
 unfolding First sum-of
-first-step t f l true e q o h = (λ μ. ap (λ (s : Tree). μ s + sum-of μ l) (e tt), λ a. a .1)
+first-step t f l true e q o h = subst (λ (s : Tree). Put t l (s ∷ l)) (sym (e tt)) here
 first-step t f l false e q none h = omega arith
-first-step t f l false e q (some r) h = (λ μ. (let k = h .0 μ in omega arith), λ a. (a .0, h .1 (a .1)))
+first-step t f l false e q (some r) h = past h
 
 first : (t : Tree) (l : List Tree) → First t l (remove-first t l)
 unfolding First remove-first sum-of one-of
 first t [] = refl
 first t (f ∷ l) = first-step t f l (eq-tree f t) (eq-tree-sound f t) refl (remove-first t l) (first t l)
 
--- each of several, or they are not all there
+-- each of several is, or they are not all there
 Left : List Tree → List Tree → Option (List Tree) → Type 0
 Left ts l none = ((μ : Tree → ℕ) → sum-of μ ts ≤ sum-of μ l) → ⊥
-Left ts l (some r) = ((μ : Tree → ℕ) → sum-of μ l ≡ sum-of μ ts + sum-of μ r) × (All Factor l → All Factor r)
+Left ts l (some r) = Puts ts r l
 
 left-step :
     (t : Tree) (ts l : List Tree) (o : Option (List Tree)) → First t l o → ((r : List Tree) → Left ts r (remove-each ts r))
@@ -151,25 +180,27 @@ left-step t ts l none h k = λ f. (let a = f (λ y. one-of y t) in let d = one-s
 left-step t ts l (some r) h k = on (remove-each ts r) (k r)
   where
     on : (o : Option (List Tree)) → Left ts r o → Left (t ∷ ts) l o
-    on none j = λ f. j (λ μ. (let a = f μ in let b = h .0 μ in omega arith))
-    on (some s) j = (λ μ. (let a = h .0 μ in let b = j .0 μ in omega arith), λ a. j .1 (h .1 a))
+    on none j = λ f. j (λ μ. (let a = f μ in let b = put-sum μ h in omega arith))
+    on (some s) j = also h j
 
 left : (ts l : List Tree) → Left ts l (remove-each ts l)
-unfolding Left remove-each sum-of
-left [] l = (λ μ. sym (zero-add (sum-of μ l)), λ a. a)
+unfolding Left remove-each
+left [] l = done
 left (t ∷ ts) l = left-step t ts l (remove-first t l) (first t l) (λ r. left ts r)
+
+-- the targets that are matched by their factors
+abbrev pub Product : Tree → Type 0
+Product target = T (is-mul target && Ieee.eq (flatten-mul-factors target .coefficient) one)
 
 -- what a match of a product e with the target says
 module _ (target : Tree) (n : Name) where
   unfoldable pub Matched : Tree → Option Factors → Type 0
-  Matched e none = T (is-mul target && Ieee.eq (flatten-mul-factors target .coefficient) one) → ((μ : Tree → ℕ) → sum-of μ (factors-of target) ≤ sum-of μ (factors-of e)) → ⊥
+  Matched e none = Product target → ((μ : Tree → ℕ) → sum-of μ (factors-of target) ≤ sum-of μ (factors-of e)) → ⊥
   Matched e (some p) =
-      (r : List Tree) × (p ≡ record { coefficient = flatten-mul-factors e .coefficient; factors = r ++ (Sym n ∷ []) })
-      × ((μ : Tree → ℕ) → sum-of μ (factors-of e) ≡ sum-of μ (factors-of target) + sum-of μ r)
-      × (T (well-formed e) → All Factor r)
+      (r : List Tree) × (p ≡ record { coefficient = flatten-mul-factors e .coefficient; factors = r ++ (Sym n ∷ []) }) × Puts (factors-of target) r (factors-of e) × Product target
 
   matched-step :
-      (e : Tree) (b : Bool) → (T (is-mul target && Ieee.eq (flatten-mul-factors target .coefficient) one) → T b) → (o : Option (List Tree)) → Left (factors-of target) (factors-of e) o
+      (e : Tree) (b : Bool) → (is-mul target && Ieee.eq (flatten-mul-factors target .coefficient) one) ≡ b → (o : Option (List Tree)) → Left (factors-of target) (factors-of e) o
       → Matched e
       (elim b [
         | true ↦ elim o [
@@ -179,11 +210,16 @@ module _ (target : Tree) (n : Name) where
         | false ↦ none
       ])
   unfolding Matched Left
-  matched-step e true t none h = λ u. h
-  matched-step e true t (some r) h = (r, refl, h .0, λ w. h .1 (factors-all e w))
-  matched-step e false t o h = λ u. absurd (t u)
+  matched-step e true q none h = λ u. h
+  matched-step e true q (some r) h = (r, refl, h, subst T (sym q) tt)
+  matched-step e false q o h = λ u. absurd (subst T q u)
 
   pub matched : (e : Tree) → Matched e (match-factors target n e)
   unfolding match-factors
   matched e =
-      matched-step e (is-mul target && Ieee.eq (flatten-mul-factors target .coefficient) one) (λ t. t) (remove-each (factors-of target) (factors-of e)) (left (factors-of target) (factors-of e))
+      matched-step e (is-mul target && Ieee.eq (flatten-mul-factors target .coefficient) one) refl (remove-each (factors-of target) (factors-of e))
+      (left (factors-of target) (factors-of e))
+
+-- the factors that are left, and the name
+pub rest-all : (n : Name) (e : Tree) {ts r : List Tree} → T (well-formed e) → Puts ts r (factors-of e) → All Factor (r ++ (Sym n ∷ []))
+rest-all n e {r = r} w p = append-all Factor r (Sym n ∷ []) (puts-all Factor p (factors-all e w)) (symbol-is-factor n)

@@ -1,9 +1,9 @@
 pub mod Residues
+pub mod Measure
+pub mod Factors
 pub mod ReplaceValue
 pub mod Coefficient
 pub mod DivisorValue
-pub mod Measure
-pub mod Factors
 pub mod Names
 pub mod Counts
 pub mod Hits

@@ -16,7 +16,7 @@ use Rattle.rewrite.specs.Rewrite.{Factors, flatten-mul-factors, flatten-
 use Rattle.tree.specs.Value.{Reading, Env, value, operand-values, values, apply}
 use Rattle.tree.proofs.Logic.{and-left, and-right, and-both}
 use Rattle.rewrite.proofs.Measure.{sum-of}
-use Rattle.rewrite.proofs.Factors.{factors-of, factors-cases, Matched, matched}
+use Rattle.rewrite.proofs.Factors.{factors-of, factors-cases, puts-sum, Matched, matched}
 
 -- ---- symbols
 
@@ -250,10 +250,10 @@ module _ (p : Name → Bool) (target : Tree) (n : Name) (new : T (holds p target
   -- a rebuilt product has some of the factors that were there, and the name in place of others
   matched-holds : (e : Tree) (q : Factors) → Matched target n e (some q) → T (holds p e) → T (holds-all p (q .factors))
   unfolding Matched holds holds-all
-  matched-holds e q (r, z, sums, a) w =
+  matched-holds e q (r, z, h, t) w =
       subst (λ (q : Factors). T (holds-all p (q .factors))) (sym z)
-      (let s = sums (fails p) in
-      let h = all-pass p (factors-of e) (factors-hold p e (unfold holds in w)) in
+      (let s = puts-sum (fails p) h in
+      let a = all-pass p (factors-of e) (factors-hold p e (unfold holds in w)) in
       holds-append p r (Sym n ∷ []) (pass-all p r (omega arith)) (and-both (p n) true (new (factors-back p target (pass-all p (factors-of target) (omega arith)))) tt))
 
   rebuilt-step : (l : List Tree) → T (holds-all p l) → (o : Outcome ℤ) → Holds (o >>= λ c. ok (built c l))

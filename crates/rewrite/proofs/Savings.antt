@@ -24,7 +24,7 @@ use Rattle.rewrite.proofs.ReplaceValue.{exact}
 use Rattle.rewrite.proofs.Coefficient.{exactly}
 use Rattle.rewrite.proofs.Measure.{sum-of, sum-append, sum-each, Measure, by-operations, by-size, Least, least-operations, least-size, size-up, one-of, one-self, count-cons}
 use Rattle.rewrite.proofs.Counts.{count-append, count-nil, count-sym, count-const, count-op, count-none, count-operands, whole-count, one-cases, one-none, one-equal}
-use Rattle.rewrite.proofs.Factors.{factors-of, factors-alone, All, Factor, append-all, symbol-is-factor, built-factors, Matched, matched}
+use Rattle.rewrite.proofs.Factors.{factors-of, factors-alone, built-factors, Puts, puts-sum, rest-all, Product, Matched, matched}
 use Rattle.rewrite.proofs.Hits.{hits, inner-hits, own-factors, spine-hits, spine-each, hits-split, copies}
 use Rattle.rewrite.proofs.Products.{spread, spread-up, extra, extra-one, copies-bound, factors-bound}
 use Rattle.rewrite.proofs.Shrinks.{rebuilt-of}
@@ -33,7 +33,7 @@ use Rattle.rewrite.proofs.Plain as Plain
 
 module _
     (M : Measure) (n : Name) (least : Least M n) (g : Forest) (saved : ℕ) (whole : saved + M .of (Sym n) ≡ M .of (Op Mul g))
-    (product : T (is-mul (Op Mul g) && Ieee.eq (flatten-mul-factors (Op Mul g) .coefficient) one)) (formed : T (well-formed (Op Mul g)))
+    (product : Product (Op Mul g)) (formed : T (well-formed (Op Mul g)))
     (some-factor : 1 ≤ length (factors-of (Op Mul g))) (new : count (Sym n) (factors-of (Op Mul g)) ≡ 0) where
   abbrev own : List Tree
   own = factors-of (Op Mul g)
@@ -96,22 +96,22 @@ module _
   -- a rebuilt product
   rebuilt-saves :
       (e : Tree) (r : List Tree) (c : ℤ) (u : Tree) → T (well-formed e) → c ≡ exact e
-      → ((μ : Tree → ℕ) → sum-of μ (factors-of e) ≡ sum-of μ own + sum-of μ r) → All Factor r
+      → Puts own r (factors-of e)
       → Saves (built c (r ++ (Sym n ∷ []))) (ok u) → Beside e u
   unfolding Saves Beside Copies sum-of
-  rebuilt-saves e r c u w q sums a h k cp =
+  rebuilt-saves e r c u w q p h k cp =
       let F = r ++ (Sym n ∷ []) in
-      let fl : factors-of (built c F) ≡ F = built-factors c F (append-all Factor r (Sym n ∷ []) a (symbol-is-factor n)) .0 in
+      let fl : factors-of (built c F) ≡ F = built-factors c F (rest-all n e w p) .0 in
       let has : 1 ≤ count (Sym n) F = (let x = count-append (Sym n) r (Sym n ∷ []) in let y = count-cons (Sym n) (Sym n) [] in let z = one-self (Sym n) in omega arith) in
       let inn : inner-hits g F ≡ inner-hits g (factors-of e) =
-      (let x = sum-append (hits g) r (Sym n ∷ []) in let y = no-hit in let z = sums (hits g) in let t = own-factors g in omega arith) in
+      (let x = sum-append (hits g) r (Sym n ∷ []) in let y = no-hit in let z = puts-sum (hits g) p in let t = own-factors g in omega arith) in
       finish k cp
       (λ j f.
       (let x = h .1 (subst (λ (l : List Tree). 1 ≤ count (Sym n) l) (sym fl) has) j (λ μ. subst (λ (l : List Tree). j * sum-of μ own ≤ sum-of μ l) (sym fl) (f μ)) in
       let y = ap (λ (l : List Tree). saved * inner-hits g l) fl in
       let z = ap (λ (m : ℕ). saved * m) inn in
       omega arith))
-      (rebuilt-of M (Op Mul g) n e r c (K * spine-hits g e) (spine-bound e w) sums q)
+      (rebuilt-of M (Op Mul g) n e r c (K * spine-hits g e) (spine-bound e w) p q)
     where
       finish :
           (k : ℕ) → ((μ : Tree → ℕ) → k * sum-of μ own ≤ sum-of μ (factors-of e))
@@ -121,7 +121,7 @@ module _
           → M .of u + K * spine-hits g e + R * k + saved * inner-hits g (factors-of e) ≤ M .of e
       finish zero cp f b = (let a = f 0 (λ μ. (let z = zero-mul (sum-of μ own) in omega arith)) in let s = own-least in let z = mul-zero R in omega arith)
       finish (suc j) cp f b =
-          (let a = f j (λ μ. (let x = cp μ in let y = sums μ in let z = suc-mul j (sum-of μ own) in let t = sum-append μ r (Sym n ∷ []) in omega arith)) in
+          (let a = f j (λ μ. (let x = cp μ in let y = puts-sum μ p in let z = suc-mul j (sum-of μ own) in let t = sum-append μ r (Sym n ∷ []) in omega arith)) in
           let s = own-least in
           let z = mul-suc R j in
           omega arith)
@@ -228,16 +228,16 @@ module _
       (fuel : ℕ) (s : Tree → Outcome Tree) → ((t : Tree) → weight n t ≤ fuel → T (well-formed t) → Saves t (s t)) → (e : Tree) → weight n e ≤ suc fuel → T (well-formed e)
       → (p : Factors) → Matched (Op Mul g) n e (some p) → (o : Outcome ℤ) → constant-of (p .coefficient) ≡ o → Saves e ((o >>= λ c. ok (built c (p .factors))) >>= λ t. s t)
   unfolding Matched Saves
-  again fuel s ih e l w p (r, q, sums, a) (ok c) z =
+  again fuel s ih e l w p (r, q, h, t) (ok c) z =
       let x : c ≡ exact e = exactly .accepted e c (ap (λ (f : Factors). constant-of (f .coefficient)) (sym q) ∙ z) in
-      let y = falls n (Op Mul g) some-factor new e r c w sums x in
-      let b = built-factors c (r ++ (Sym n ∷ [])) (append-all Factor r (Sym n ∷ []) (a w) (symbol-is-factor n)) in
+      let y = falls n (Op Mul g) some-factor new e r c w h x in
+      let b = built-factors c (r ++ (Sym n ∷ [])) (rest-all n e w h) in
       subst (λ (fs : List Tree). Saves e (s (built c fs))) (sym (ap (λ (f : Factors). f .factors) q))
       (go x (s (built c (r ++ (Sym n ∷ [])))) (ih (built c (r ++ (Sym n ∷ []))) (omega arith) (b .1)))
     where
       go : c ≡ exact e → (o : Outcome Tree) → Saves (built c (r ++ (Sym n ∷ []))) o → Saves e o
-      go x (ok v) h = (unfold Saves in saves-from e v (rebuilt-saves e r c v w x sums (a w) h))
-      go x (refused i) h = tt
+      go x (ok v) k = (unfold Saves in saves-from e v (rebuilt-saves e r c v w x h k))
+      go x (refused i) k = tt
   again fuel s ih e l w p m (refused i) z = tt
 
   -- ---- the nodes
@@ -347,10 +347,10 @@ saves M n least target saved whole w s c e r v q = go (is-mul target && Ieee.eq 
   where
     go : (b : Bool) → (is-mul target && Ieee.eq (flatten-mul-factors target .coefficient) one) ≡ b → M .of r + saved * count target (nodes e) ≤ M .of e
     go true z =
-        let u : T (is-mul target && Ieee.eq (flatten-mul-factors target .coefficient) one) = subst T (sym z) tt in
+        let u : Product target = subst T (sym z) tt in
         let g = mul-shape target (and-left (is-mul target) (Ieee.eq (flatten-mul-factors target .coefficient) one) u) in
         subst
-        (λ (t : Tree). saved + M .of (Sym n) ≡ M .of t → T (is-mul t && Ieee.eq (flatten-mul-factors t .coefficient) one) → T (well-formed t) → 1 ≤ length (factors-of t)
+        (λ (t : Tree). saved + M .of (Sym n) ≡ M .of t → Product t → T (well-formed t) → 1 ≤ length (factors-of t)
         → count (Sym n) (factors-of t) ≡ 0 → replace t n e ≡ ok r → M .of r + saved * count t (nodes e) ≤ M .of e)
         (sym (g .1)) (λ whole u w s c. product-saves M n least (g .0) saved whole u w s c e r v) whole u w s c q
     go false z = Plain.replace-saves M target n saved whole z e r q

@@ -18,18 +18,18 @@ use Rattle.rewrite.specs.Rewrite.{Factors, constant-of, built, build-mul
 use Rattle.rewrite.proofs.ReplaceValue.{exact}
 use Rattle.rewrite.proofs.Coefficient.{exactly}
 use Rattle.rewrite.proofs.Measure.{sum-of, sum-append, sum-each, Measure, Least}
-use Rattle.rewrite.proofs.Factors.{factors-of, Factor, append-all, symbol-is-factor, built-factors, Matched, matched}
+use Rattle.rewrite.proofs.Factors.{factors-of, Puts, puts-sum, rest-all, built-factors, Matched, matched}
 use Rattle.rewrite.proofs.Products.{with-sign, spread, spread-up, extra, built-of, factors-bound}
 
 -- A rebuilt product: the target's factors are gone, and the name is in their place. Whatever e measures besides its factors and its coefficient
 -- is gone too.
 pub rebuilt-of :
     (M : Measure) (target : Tree) (n : Name) (e : Tree) (r : List Tree) (c : ℤ) (besides : ℕ) → spread M (factors-of e) + extra M (exact e) + besides ≤ M .node + M .of e
-    → ((μ : Tree → ℕ) → sum-of μ (factors-of e) ≡ sum-of μ (factors-of target) + sum-of μ r) → c ≡ exact e
+    → Puts (factors-of target) r (factors-of e) → c ≡ exact e
     → M .of (built c (r ++ (Sym n ∷ []))) + spread M (factors-of target) + besides ≤ M .of e + (M .node + M .of (Sym n))
 unfolding sum-of
 rebuilt-of M target n e r c besides f h q =
-    (let a = h (with-sign M) in
+    (let a = puts-sum (with-sign M) h in
     let b = built-of M c (r ++ (Sym n ∷ [])) (let l = length-append r (Sym n ∷ []) in omega arith) in
     let d = sum-append (with-sign M) r (Sym n ∷ []) in
     let x = ap (extra M) q in
@@ -49,12 +49,12 @@ module _ (M : Measure) (target : Tree) (n : Name) (least : Least M n) (some-fact
       (e : Tree) (p : Factors) → T (well-formed e) → Matched target n e (some p) → (o : Outcome ℤ) → constant-of (p .coefficient) ≡ o
       → Shrinks (M .of e) (o >>= λ c. ok (built c (p .factors)))
   unfolding Matched Shrinks
-  rebuilt-step e p w (r, q, h, a) (ok c) z =
+  rebuilt-step e p w (r, q, h, t) (ok c) z =
       subst (λ (l : List Tree). (M .of (built c l) ≤ M .of e) × T (well-formed (built c l))) (sym (ap (λ (p : Factors). p .factors) q))
       (let x = exactly .accepted e c (ap (λ (p : Factors). constant-of (p .coefficient)) (sym q) ∙ z) in
       let b = rebuilt-of M target n e r c 0 (let f = factors-bound M e w in omega arith) h x in
       let u = spread-up M n least (factors-of target) some-factor in
-      (omega arith, built-factors c (r ++ (Sym n ∷ [])) (append-all Factor r (Sym n ∷ []) (a w) (symbol-is-factor n)) .1))
+      (omega arith, built-factors c (r ++ (Sym n ∷ [])) (rest-all n e w h) .1))
   rebuilt-step e p w g (refused i) q = tt
 
   rebuilt : (e : Tree) (p : Factors) → T (well-formed e) → Matched target n e (some p) → Shrinks (M .of e) (build-mul-from-factors p)

@@ -14,7 +14,7 @@ use Rattle.tree.specs.Facts.{size, count}
 use Rattle.rewrite.specs.Rewrite.{built}
 use Rattle.rewrite.proofs.ReplaceValue.{exact}
 use Rattle.rewrite.proofs.Measure.{sum-of, sum-each, Measure, size-op, sizes, count-cons, one-self}
-use Rattle.rewrite.proofs.Factors.{factors-of}
+use Rattle.rewrite.proofs.Factors.{factors-of, Puts}
 use Rattle.rewrite.proofs.Products.{spread, factors-bound}
 use Rattle.rewrite.proofs.Shrinks.{rebuilt-of}
 
@@ -100,7 +100,7 @@ module _ (n : Name) where
 
   pub falls :
       (target : Tree) → 1 ≤ length (factors-of target) → count (Sym n) (factors-of target) ≡ 0 → (e : Tree) (r : List Tree) (c : ℤ) → T (well-formed e)
-      → ((μ : Tree → ℕ) → sum-of μ (factors-of e) ≡ sum-of μ (factors-of target) + sum-of μ r) → c ≡ exact e
+      → Puts (factors-of target) r (factors-of e) → c ≡ exact e
       → suc (weight (built c (r ++ (Sym n ∷ [])))) ≤ weight e
   falls target some-factor new e r c w h q =
       (let a = rebuilt-of by-weight target n e r c 0 (let f = factors-bound by-weight e w in omega arith) h q in
