@@ -12,7 +12,11 @@ const RUNS: usize = 48;
 
 #[derive(PartialEq)]
 pub enum Outcome {
-    Given { rows: usize, extracted: usize, text: String },
+    Given {
+        rows: usize,
+        extracted: usize,
+        text: String,
+    },
     Refused(usize),
 }
 
@@ -50,18 +54,27 @@ type Answer = (Vec<Intermediate>, Vec<E>);
 
 fn flat(es: &[E]) -> Answer {
     let (lets, results) = cse(es);
-    (lets.into_iter().map(|(name, expr)| Intermediate::Let { name, expr }).collect(), results)
+    (
+        lets.into_iter()
+            .map(|(name, expr)| Intermediate::Let { name, expr })
+            .collect(),
+        results,
+    )
 }
 
 /// The outcome that all runs agree on, or none where hash order decides.
 pub fn settled(scoped: bool, es: &[E]) -> Option<(Outcome, Events)> {
     let first = once(scoped, es);
-    (1..RUNS).all(|_| once(scoped, es).0 == first.0).then_some(first)
+    (1..RUNS)
+        .all(|_| once(scoped, es).0 == first.0)
+        .then_some(first)
 }
 
 fn once(scoped: bool, es: &[E]) -> (Outcome, Events) {
     take_ones();
-    let run = catch_unwind(AssertUnwindSafe(|| if scoped { cse_scoped(es) } else { flat(es) }));
+    let run = catch_unwind(AssertUnwindSafe(|| {
+        if scoped { cse_scoped(es) } else { flat(es) }
+    }));
     let reciprocals = take_ones();
     match run {
         Ok(answer) => given(scoped, &answer, reciprocals),
@@ -79,7 +92,8 @@ fn refusal(payload: &(dyn Any + Send)) -> Option<usize> {
         return Some(10);
     }
     let said = payload.downcast_ref::<String>()?;
-    said.contains("dependency cycle among intermediates").then_some(11)
+    said.contains("dependency cycle among intermediates")
+        .then_some(11)
 }
 
 /// Has the panics that stand for refusals say nothing.
@@ -96,13 +110,23 @@ fn given(scoped: bool, (inters, results): &Answer, reciprocals: usize) -> (Outco
     let mut text = String::new();
     inters.iter().for_each(|it| text += &format!("{it}\n"));
     results.iter().for_each(|e| text += &format!("{e}\n"));
-    let mut look = Look { scoped, ..Look::default() };
+    let mut look = Look {
+        scoped,
+        ..Look::default()
+    };
     look.block(inters, results, 0);
     let extracted = look.lets - reciprocals;
     look.see(Event::Extraction, extracted > 0);
     look.see(Event::SecondExtraction, extracted > 1);
     look.see(Event::Reciprocal, reciprocals > 0);
-    (Outcome::Given { rows: block_rows(inters, results), extracted, text }, look.events)
+    (
+        Outcome::Given {
+            rows: block_rows(inters, results),
+            extracted,
+            text,
+        },
+        look.events,
+    )
 }
 
 // ---- rows: one for each occurrence, let, match, match name, arm or default, result or arm value
@@ -118,9 +142,16 @@ fn block_rows(inters: &[Intermediate], values: &[E]) -> usize {
 fn rows(it: &Intermediate) -> usize {
     match it {
         Intermediate::Let { expr, .. } => 1 + size(expr),
-        Intermediate::Match { switch, names, arms, default } => {
+        Intermediate::Match {
+            switch,
+            names,
+            arms,
+            default,
+        } => {
             let arm = |a: &Arm| 1 + block_rows(&a.inters, &a.values);
-            1 + size(switch.expr()) + names.len() + arms.iter().chain(default).map(arm).sum::<usize>()
+            1 + size(switch.expr())
+                + names.len()
+                + arms.iter().chain(default).map(arm).sum::<usize>()
         }
     }
 }
@@ -152,11 +183,23 @@ impl Look {
         for it in inters {
             match it {
                 Intermediate::Let { expr, .. } => self.tree(expr),
-                Intermediate::Match { switch, names, arms, default } => {
+                Intermediate::Match {
+                    switch,
+                    names,
+                    arms,
+                    default,
+                } => {
                     self.see(Event::Match, true);
                     self.see(Event::MatchInArm, depth > 0);
                     self.see(Event::Fusion, names.len() > 1);
-                    self.see(Event::KeyOfMatch, switch.expr().free_vars().iter().any(|v| v.starts_with("__m")));
+                    self.see(
+                        Event::KeyOfMatch,
+                        switch
+                            .expr()
+                            .free_vars()
+                            .iter()
+                            .any(|v| v.starts_with("__m")),
+                    );
                     self.tree(switch.expr());
                     for arm in arms.iter().chain(default) {
                         self.block(&arm.inters, &arm.values, depth + 1);
@@ -178,7 +221,10 @@ impl Look {
             self.see(Event::FactorMatch, true);
             self.see(Event::Coefficient, matches!(a.as_ref(), Expr::Const(_)));
         }
-        self.see(Event::SwitchLeft, self.scoped && matches!(e.as_ref(), Expr::Select { .. } | Expr::Branch(..)));
+        self.see(
+            Event::SwitchLeft,
+            self.scoped && matches!(e.as_ref(), Expr::Select { .. } | Expr::Branch(..)),
+        );
         children(e).into_iter().for_each(|c| self.tree(c));
     }
 }

@@ -53,7 +53,10 @@ fn main() {
     let mut tally = Tally::default();
     let mut cases = gather(count, &mut tally);
     if spoil {
-        cases.iter_mut().enumerate().for_each(|(n, case)| theorems::spoil(n, case));
+        cases
+            .iter_mut()
+            .enumerate()
+            .for_each(|(n, case)| theorems::spoil(n, case));
     }
     theorems::write(&cases, &words[1..]).expect("the theorems can be written");
     println!("{}", tally.line());
@@ -72,17 +75,30 @@ fn gather(count: usize, tally: &mut Tally) -> Vec<Case> {
         if !seen.insert(es.iter().map(antt).collect::<Vec<_>>()) {
             continue;
         }
-        let (Some((flat, f)), Some((scoped, s))) = (settled(false, &given), settled(true, &given)) else {
+        let (Some((flat, f)), Some((scoped, s))) = (settled(false, &given), settled(true, &given))
+        else {
             tally.tied += 1;
             continue;
         };
         let events: Events = std::array::from_fn(|i| f[i] || s[i]);
-        let answered = matches!((&flat, &scoped), (Outcome::Given { .. }, Outcome::Given { .. }));
+        let answered = matches!(
+            (&flat, &scoped),
+            (Outcome::Given { .. }, Outcome::Given { .. })
+        );
         if picky && answered && events == Events::default() {
             continue;
         }
-        let text = given.iter().map(E::to_string).collect::<Vec<_>>().join("; ");
-        let case = Case { es, text, flat, scoped };
+        let text = given
+            .iter()
+            .map(E::to_string)
+            .collect::<Vec<_>>()
+            .join("; ");
+        let case = Case {
+            es,
+            text,
+            flat,
+            scoped,
+        };
         tally.add(&case, &events);
         cases.push(case);
     }
@@ -103,7 +119,11 @@ impl Tally {
     }
 
     fn line(&self) -> String {
-        let events: Vec<String> = EVENTS.iter().zip(self.events).map(|(name, n)| format!("{name} {n}")).collect();
+        let events: Vec<String> = EVENTS
+            .iter()
+            .zip(self.events)
+            .map(|(name, n)| format!("{name} {n}"))
+            .collect();
         format!(
             "{} lists agree in both forms, {} left out because hash order decides; refused by 10 {}, by 11 {}; lists with {}; all kinds: {}",
             self.lists,
@@ -111,7 +131,11 @@ impl Tally {
             self.refused[10],
             self.refused[11],
             events.join(", "),
-            if self.kinds.iter().all(|k| *k) { "yes" } else { "no" },
+            if self.kinds.iter().all(|k| *k) {
+                "yes"
+            } else {
+                "no"
+            },
         )
     }
 }

@@ -71,7 +71,10 @@ pub fn antt(t: &T) -> String {
         Tree::Const(n) if *n < 0 => format!("Const (negsuc {})", -n - 1),
         Tree::Const(n) => format!("Const (pos {n})"),
         Tree::Op(k, l) => {
-            let parts: String = l.iter().map(|c| format!("{} ◂ ", antt_operand(c))).collect();
+            let parts: String = l
+                .iter()
+                .map(|c| format!("{} ◂ ", antt_operand(c)))
+                .collect();
             format!("Op {k} ({parts}nil)")
         }
     }
@@ -90,7 +93,10 @@ pub struct Maker {
 
 impl Maker {
     pub fn new(share: bool) -> Maker {
-        Maker { share, made: HashMap::new() }
+        Maker {
+            share,
+            made: HashMap::new(),
+        }
     }
 
     pub fn make(&mut self, t: &T) -> E {
@@ -113,14 +119,22 @@ fn expr(kind: usize, parts: Vec<E>) -> Expr {
         NEG | 8..=13 | 15..=24 => unary(kind, parts.into_iter().next().unwrap()),
         BRANCH | CLAMP => {
             let [a, b, c] = <[E; 3]>::try_from(parts).unwrap();
-            if kind == BRANCH { Expr::Branch(a, b, c) } else { Expr::Clamp(a, b, c) }
+            if kind == BRANCH {
+                Expr::Branch(a, b, c)
+            } else {
+                Expr::Clamp(a, b, c)
+            }
         }
         SELECT | SELECT_OR => {
             let mut rest = parts.into_iter();
             let index = rest.next().unwrap();
             let mut arms: Vec<E> = rest.collect();
             let default = if kind == SELECT_OR { arms.pop() } else { None };
-            Expr::Select { index, arms, default }
+            Expr::Select {
+                index,
+                arms,
+                default,
+            }
         }
         _ => {
             let [a, b] = <[E; 2]>::try_from(parts).unwrap();
