@@ -8,6 +8,7 @@ pub mod OrderLaws
 pub mod Symbols
 pub mod ReadLaws
 pub mod SwitchLaws
+pub mod ScopeRoom
 pub mod ScopeValue
 pub mod RoundsNames
 pub mod ScopeNames

@@ -1,16 +1,16 @@
 -- spot checks beyond the marked lists: scoped answers, refusals of load, rows
-use Prim.Native.Nat.{ℕ}
+use Prim.Native.Nat.{ℕ, suc}
 use Prim.Native.String.{String}
 use mathlib.Core.Path.{_≡_, refl}
 use mathlib.Core.Bool.{Bool, true, false}
 use mathlib.Core.List.{List, [], _∷_}
 use lib.IntN.{pos, negsuc}
-use Rattle.tree.specs.Outcome.{Outcome, ok, refused, _>>=_}
+use Rattle.tree.specs.Outcome.{Outcome, ok, refused, _>>=_, by}
 use Rattle.tree.specs.Tree.{Name, input, Tree, Sym, Const, Op, nil, _◂_}
 use Rattle.tree.specs.Kinds.{Add, Mul, Div, Sin, Cos, Branch, Select, SelectOr}
 use Rattle.tree.specs.Bytes.{bytes}
 use Rattle.cse.specs.Answer.{answer-text, rows}
-use Rattle.cse.specs.Scope.{answer}
+use Rattle.cse.specs.Scope.{cse-scope, answer}
 use Rattle.cse.specs.Demand.{well-scoped}
 use Rattle.program.specs.Program.{csesheet}
 
@@ -52,6 +52,22 @@ mixed-in-scope = refl
 mixed-rows : (answer true mixed >>= λ a. ok (rows a)) ≡ ok 45
 unfolding answer rows
 mixed-rows = refl
+
+-- the open scopes' rows: select(i, a + b) takes five, and its arm three more
+abbrev room-of : ℕ → Outcome ℕ
+room-of room = cse-scope (suc room) room true 0 (Op Select (v "i" ◂ (v "a" ⊕ v "b") ◂ nil) ∷ []) >>= λ a. ok (a .next)
+
+room-enough : room-of 8 ≡ ok 1
+unfolding cse-scope
+room-enough = refl
+
+room-for-one : room-of 7 ≡ refused (by 23)
+unfolding cse-scope
+room-for-one = refl
+
+room-for-none : room-of 4 ≡ refused (by 23)
+unfolding cse-scope
+room-for-none = refl
 
 sheet : csesheet 4096 65536 (bytes "Sym,a\r\nSym,b\r\nAdd,0,1\r\nSym,c\r\nMul,2,3\r\nSin,2\r\nRoot,4\r\nRoot,5\r\n") ≡ bytes "let __x0 = a + b;\n__x0 * c\nsin(__x0)\n"
 unfolding csesheet
