@@ -1,4 +1,5 @@
 pub mod RoundsCount
+pub mod RoundsFuel
 pub mod SortCount
 pub mod Dependence
 pub mod ReciprocalsCount

@@ -11,3 +11,4 @@ pub mod Counts
 pub mod DivisorCount
 pub mod SizePlain
 pub mod SizeSavings
+pub mod ReplaceFuel
