@@ -21,3 +21,4 @@ pub mod Widths
 pub mod PassesLaws
 pub mod SizeCount
 pub mod DivisorsMost
+pub mod ReciprocalBindings
