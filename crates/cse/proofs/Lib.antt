@@ -1,3 +1,4 @@
+pub mod Outcomes
 pub mod RoundsCount
 pub mod RoundsFuel
 pub mod SortCount
@@ -22,3 +23,4 @@ pub mod PassesLaws
 pub mod SizeCount
 pub mod DivisorsMost
 pub mod ReciprocalBindings
+pub mod ScopedCount

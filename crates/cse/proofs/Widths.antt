@@ -23,6 +23,7 @@ use Rattle.cse.proofs.SwitchLaws.{Fair-group, Fair-groups, groups-fair,
 use Rattle.cse.proofs.SortCount.{Every, sorted-every}
 use Rattle.cse.proofs.ReciprocalsCount.{bound-divisors, reciprocals-are}
 use Rattle.cse.proofs.ScopeRoom.{or-no-room}
+use Rattle.cse.proofs.Outcomes.{Good, then-good, any-good, good-ok, good-at}
 
 -- ---- the law
 
@@ -38,30 +39,6 @@ unfoldable mutual
   pub even-arms : ℕ → Arms → Bool
   even-arms n no-arm = true
   even-arms n (arm s vs l) = eqb (length vs) n && (even-stmts s && even-arms n l)
-
--- ---- outcomes
-
-Good : {A : Type 0} → (A → Type 0) → Outcome A → Type 0
-Good Q (ok a) = Q a
-Good Q (refused i) = Unit {0}
-
-then-good : {A B : Type 0} (Q : A → Type 0) (R : B → Type 0) (o : Outcome A) → Good Q o → (f : A → Outcome B) → ((a : A) → Q a → Good R (f a)) → Good R (o >>= f)
-unfolding Good
-then-good Q R (ok a) h f g = g a h
-then-good Q R (refused i) h f g = tt
-
-any-good : {A B : Type 0} (R : B → Type 0) (o : Outcome A) (f : A → Outcome B) → ((a : A) → Good R (f a)) → Good R (o >>= f)
-unfolding Good
-any-good R (ok a) f g = g a
-any-good R (refused i) f g = tt
-
-good-ok : {A : Type 0} (Q : A → Type 0) (a : A) → Q a → Good Q (ok a)
-unfolding Good
-good-ok Q a h = h
-
-good-at : {A : Type 0} (Q : A → Type 0) (o : Outcome A) (a : A) → o ≡ ok a → Good Q o → Q a
-unfolding Good
-good-at Q o a e h = subst (Good Q) e h
 
 -- ---- results, one for each expression
 
