@@ -1,6 +1,6 @@
 -- The clauses of demand 3 on the flat answer alone: no operation that depends on an input symbol stands twice; the extraction count is that of the
 -- bindings that are not reciprocals; and the count and the operations outside reciprocals are together at most the operations given. Assumes nothing.
-use Prim.Native.Nat.{ℕ, zero, suc, _+_, _-_, min, _≤_}
+use Prim.Native.Nat.{ℕ, suc, _+_, _-_, min, _≤_}
 use mathlib.Core.Path.{_≡_, refl, sym, _∙_, ap, ap₂, subst}
 use mathlib.Core.Logic.{_⊎_, inl, inr}
 use mathlib.Core.Bool.{Bool, true, false}

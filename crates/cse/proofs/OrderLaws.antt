@@ -1,16 +1,16 @@
 -- The order of statements: each position comes after those that it needs, no position comes twice, where none is missing all are there, and the fuel is enough.
 -- Assumes nothing.
 use Prim.Native.Nat.{ℕ, zero, suc, _+_, _≤_, _<_}
-use mathlib.Core.Path.{_≡_, refl, sym, _∙_, ap, ap₂, subst}
+use mathlib.Core.Path.{_≡_, refl, sym, _∙_, ap, subst}
 use mathlib.Core.Logic.{_⊎_, inl, inr, _≢_}
-use mathlib.Core.Bool.{Bool, true, false, _&&_, cond}
-use mathlib.Core.List.{List, [], _∷_, _++_}
+use mathlib.Core.Bool.{Bool, true, false, _&&_}
+use mathlib.Core.List.{List, [], _∷_}
 use native.Mathlib.Omega.{arith}
-use native.Mathlib.Nat.{zero-add, add-zero, add-suc, suc-add}
+use native.Mathlib.Nat.{zero-add, add-zero, suc-add}
 use lib.ListN.{length, getD}
 use lib.Dec.{T, eqb, eqb→eq, eqb-refl}
 use Rattle.cse.specs.Order.{member, within, free-from, joining, push, take-all, positions-taken}
-use Rattle.tree.proofs.Logic.{and-left, and-right, and-both}
+use Rattle.tree.proofs.Logic.{and-left, and-right}
 
 -- ---- members
 
@@ -117,7 +117,7 @@ module _ (table : List (List ℕ)) where
   row-later : (i : ℕ) (ns : List ℕ) (rows : List (List ℕ)) → ((k : ℕ) → getD (ns ∷ rows) k [] ≡ getD table (i + k) []) → (k : ℕ) → getD rows k [] ≡ getD table (suc i + k) []
   row-later i ns rows same k = same (suc k) ∙ ap (λ (n : ℕ). getD table n []) (let e : i + suc k ≡ suc i + k = omega arith in e)
 
-  -- what joins the stack: it needs the one just positions-taken
+  -- what joins the stack: it needs the one just taken
   joining-from :
       (i t : ℕ) (done : List ℕ) (rows : List (List ℕ)) → ((k : ℕ) → getD rows k [] ≡ getD table (i + k) []) → i + length rows ≡ length table
       → From i (λ j. T (member t (getD table j [])) × Ready done j) (joining i t done rows)
@@ -170,7 +170,7 @@ module _ (table : List (List ℕ)) where
         keep l (λ t. f (member-later j k l t)) (h .1),
       )
 
-  -- the top is positions-taken
+  -- the top is taken
   popped : (i : ℕ) (stack done : List ℕ) → Inv (i ∷ stack) done → Inv stack (i ∷ done)
   popped i stack done v =
       record {
@@ -189,7 +189,7 @@ module _ (table : List (List ℕ)) where
         away l (λ t. f (member-later i j l t)) (h .1),
       )
 
-  -- of a position positions-taken, the needs were positions-taken too
+  -- of a position taken, the needs were taken too
   ordered-at : (done : List ℕ) (j t : ℕ) → Ordered done → T (member j done) → T (member t (getD table j [])) → T (member t done)
   unfolding member
   ordered-at [] j t o m u = absurd m
@@ -217,7 +217,7 @@ module _ (table : List (List ℕ)) where
       not-waiting : (k : ℕ) → T (member i (getD table k [])) → T (member k stack) → ⊥
       not-waiting k u t = v .apart .0 (within-member (getD table k []) done i (all-at (Ready done) stack k (v .ready .1) t .0) u)
 
-  -- what was positions-taken
+  -- what was taken
   pub record Taken (done : List ℕ) : Type 0 where
     pub distinct : Distinct done
     pub ordered : Ordered done

@@ -1,6 +1,6 @@
 -- What the reciprocal pass binds stays of the form 1 / d, whatever later divisors do to it; so in a flat answer each binding is some `__xi`, and is of that
 -- form from the extraction count on (01, "Reciprocals"). Assumes nothing.
-use Prim.Native.Nat.{ℕ, zero, suc, _+_, _-_, _≤_}
+use Prim.Native.Nat.{ℕ, zero, suc, _-_, _≤_}
 use mathlib.Core.Path.{_≡_, refl, sym, _∙_, ap, subst}
 use mathlib.Core.Bool.{Bool, true, false, _&&_}
 use mathlib.Core.List.{List, [], _∷_, _++_}
@@ -27,7 +27,7 @@ use Rattle.cse.proofs.RoundsValue.{let-names, Numbered, reciprocals-kee
 use Rattle.cse.proofs.SortCount.{Every, sorted-every}
 use Rattle.cse.proofs.ReciprocalsCount.{AllTrees, all-map, divisors-all, bound-divisors, bound-twice, inverse, reciprocals-are}
 use Rattle.cse.proofs.DivisorsMost.{bound-once}
-use Rattle.cse.proofs.FlatCount.{Parts, parts, some-reading, rounds-model}
+use Rattle.cse.proofs.FlatCount.{parts, some-reading, rounds-model}
 
 -- of the form 1 / d
 abbrev pub Inverse : Tree → Type 0

@@ -1,12 +1,12 @@
 -- An answer is refused by 10, 11 or 23 alone, and the flat form by 10 alone. Assumes nothing.
-use Prim.Native.Nat.{ℕ, zero, suc, _+_, _-_, _*_, _%_, _/_, _^_, _≤_, _<_}
-use mathlib.Core.Path.{_≡_, refl, sym, _∙_, ap, subst}
+use Prim.Native.Nat.{ℕ, zero, suc, _+_, _-_, _*_, _%_, _/_, _^_, _<_}
+use mathlib.Core.Path.{_≡_, refl, _∙_, ap, subst}
 use mathlib.Core.Logic.{_⊎_, inl, inr}
 use mathlib.Core.Bool.{Bool, true, false, _&&_}
 use mathlib.Core.Option.{Option, none, some}
-use mathlib.Core.List.{List, [], _∷_, _++_, reverse}
+use mathlib.Core.List.{List, [], _∷_, reverse}
 use native.Mathlib.Omega.{arith}
-use lib.IntN.{ℤ, pos, negsuc}
+use lib.IntN.{ℤ}
 use lib.ListN.{length, getD}
 use lib.Dec.{T, eqb, leb, ltb, eqb-refl, ltb→lt}
 use lib.Ieee.{Float, nan, inf, fin, up, down}
@@ -17,12 +17,12 @@ use Rattle.tree.specs.Facts.{all-operations, size}
 use Rattle.rewrite.specs.Rewrite.{Factors, whole, constant-of, built, build-mul-from-factors, match-factors, each-operand, replace-within, replace}
 use Rattle.tree.specs.Rows.{occurrences}
 use Rattle.cse.specs.Extract.{Binding, State, Candidate, roots, best, replace-bound, extract, rounds, extract-all, reciprocals}
-use Rattle.cse.specs.Answer.{Intermediate, Answer, Let, Match, arm, block, names, symbols, free, elem}
+use Rattle.cse.specs.Answer.{Intermediate, Let, Match, names, symbols, free, elem}
 use Rattle.cse.specs.Order.{meets, needs-from, needs, member, positions-taken, nothing, at-each, topo-sort-intermediates}
-use Rattle.cse.specs.Scope.{Switch, Group, Work, Scoped, Armed, members, collect-switches, groups-from, name-members, member-names, columns, arms-of-members, scope-arms, fuse-group, fuse-groups, fuse-all, binds, unfused, finish, cse-scope, area-rows, as-answer, answer}
+use Rattle.cse.specs.Scope.{Group, Work, Scoped, Armed, members, collect-switches, groups-from, name-members, columns, arms-of-members, scope-arms, fuse-group, fuse-groups, fuse-all, binds, unfused, finish, cse-scope, area-rows, as-answer, answer}
 use Rattle.tree.specs.Value.{values}
 use Rattle.tree.proofs.Logic.{and-right}
-use Rattle.rewrite.proofs.Names.{holds, holds-all, below}
+use Rattle.rewrite.proofs.Names.{holds, holds-all}
 use Rattle.cse.proofs.Symbols.{holds-at}
 use Rattle.cse.proofs.ReadLaws.{needs-at, needs-length}
 use Rattle.cse.proofs.ScopeValue.{under}
@@ -272,7 +272,7 @@ module _ (r : ℕ → ℕ) (n : ℕ) where
   falls-at (Let a e) (Match k key ns arms) i j p q t = absurd q
   falls-at (Match k key ns arms) u i j p q t = absurd p
 
--- bindings with ranks are all positions-taken
+-- bindings with ranks are all taken
 sort-ten : (s : State) → Ranks s → Numbered 0 (s .next) (let-names (s .lets)) → Only Ten (topo-sort-intermediates (binds (s .lets)))
 unfolding topo-sort-intermediates
 sort-ten s K N =

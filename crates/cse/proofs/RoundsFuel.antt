@@ -3,15 +3,15 @@ use Prim.Native.Nat.{ℕ, zero, suc, _+_, _-_, _*_, _≤_}
 use mathlib.Core.Path.{_≡_, refl, _∙_, ap, subst}
 use mathlib.Core.Bool.{Bool}
 use mathlib.Core.Option.{Option, none, some}
-use mathlib.Core.List.{List, [], _∷_}
+use mathlib.Core.List.{List}
 use native.Mathlib.Omega.{arith}
 use native.Mathlib.Nat.{zero-add, suc-add}
 use lib.Dec.{T}
 use Rattle.tree.specs.Outcome.{Outcome, ok, refused, _>>=_}
 use Rattle.tree.specs.Tree.{xname, Tree, Sym}
-use Rattle.tree.specs.Facts.{size, count, all-operations, all-nodes}
+use Rattle.tree.specs.Facts.{size, all-operations, all-nodes}
 use Rattle.tree.proofs.Formed.{well-formed}
-use Rattle.rewrite.specs.Rewrite.{flatten-mul-factors, replace-within, replace}
+use Rattle.rewrite.specs.Rewrite.{replace-within, replace}
 use Rattle.rewrite.proofs.Names.{holds-all, all-nodes-hold}
 use Rattle.rewrite.proofs.Operations.{well-formed-all}
 use Rattle.rewrite.proofs.Counts.{counted-holds, absent}

@@ -79,7 +79,7 @@ spans-at k top (s ∷ l) h (suc i) a =
     let r = spans-at (h .0) top l (h .4) i (omega arith) in
     (made-more (h .0) top k top (h .1) (omega arith) (bound-stmt (getD l i nothing)) (r .0), r .1)
 
--- two statements Let different names
+-- two statements bind different names
 spans-apart :
     (k top : ℕ) (l : List Intermediate) → Spans k top l → (i j : ℕ) → i < length l → j < length l → (i ≡ j → ⊥) → (n : Name)
     → T (elem n (bound-stmt (getD l i nothing))) → T (elem n (bound-stmt (getD l j nothing))) → ⊥
@@ -150,7 +150,7 @@ free-placed l (j ∷ done) acc i n m t =
 
 -- ---- what statements read
 
--- a name bound before and in scope, or an input symbol that the answer does not Let
+-- a name bound before and in scope, or an input symbol that the answer does not bind
 abbrev Known : List Name → List Name → List Name → Name → Type 0
 Known inputs bound scope n = T (elem n scope || (elem n inputs && not (elem n bound)))
 

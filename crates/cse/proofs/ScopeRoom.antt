@@ -1,17 +1,17 @@
 -- The room of open scopes: the fuel is always enough, so that 23 arises by the room alone, and a scope stands without fuel. Assumes nothing.
 use Prim.Native.Nat.{ℕ, zero, suc, _+_, _-_, _≤_, _<_}
-use mathlib.Core.Path.{_≡_, refl, sym, _∙_, ap, subst, fun-ext}
+use mathlib.Core.Path.{_≡_, refl, _∙_, ap, subst, fun-ext}
 use mathlib.Core.Bool.{Bool, true, false}
 use mathlib.Core.List.{List, [], _∷_}
 use native.Mathlib.Omega.{arith}
 use lib.ListN.{length}
 use lib.Dec.{T, leb, leb→le}
 use native.Mathlib.Nat.{zero-add, suc-add}
-use Rattle.tree.specs.Outcome.{Outcome, ok, refused, by, _>>=_}
+use Rattle.tree.specs.Outcome.{Outcome, refused, by, _>>=_}
 use Rattle.tree.specs.Tree.{Tree, Sym, Const, Op}
 use Rattle.tree.specs.Facts.{size, all-operations}
 use Rattle.tree.specs.Rows.{occurrences}
-use Rattle.cse.specs.Extract.{State, roots, rounds, extract-all, reciprocals}
+use Rattle.cse.specs.Extract.{roots, rounds, extract-all, reciprocals}
 use Rattle.cse.specs.Scope.{Scoped, collect-switches, groups-from, fuse-groups, fuse-all, finish, cse-scope}
 
 -- a fact of what a scope gives, where that the scope does not fit has it too

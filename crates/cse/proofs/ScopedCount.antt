@@ -16,7 +16,7 @@ use Rattle.tree.specs.Tree.{Name, xname, mname, Tree, Forest, Sym, Const, Op, n
 use Rattle.tree.specs.Kinds.{Div, is-switch}
 use Rattle.tree.specs.Value.{values}
 use Rattle.tree.proofs.TreeLaws.{eq-tree-sound, eq-tree-refl}
-use Rattle.rewrite.specs.Rewrite.{replace-outside-arms, replace-operands}
+use Rattle.rewrite.specs.Rewrite.{replace-outside-arms}
 use Rattle.rewrite.proofs.Names.{holds-all, below, weaken-all}
 use Rattle.cse.specs.Extract.{Binding, State, roots, divisor-of, extract-all, replace-divisor-bound, bind-reciprocal, bind-reciprocals, reciprocals}
 use Rattle.cse.specs.Answer.{Intermediate, Intermediates, Arms, Answer, Let, Match, end, step, no-arm, arm, block}

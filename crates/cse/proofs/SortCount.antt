@@ -88,7 +88,7 @@ needs-length all (s ∷ l) = ap suc (needs-length all l)
 taken-inside : (l : List Intermediate) → All (λ j. j < length l) (positions-taken (needs l l))
 taken-inside l = subst (λ (m : ℕ). All (λ j. j < m) (positions-taken (needs l l))) (needs-length l l) (taken-ok (needs l l) .inside)
 
--- what comes out is the reversed statements at the places positions-taken
+-- what comes out is the reversed statements at the positions taken
 Places : List Intermediate → Outcome (List Intermediate) → Type 0
 Places l (ok r) = r ≡ reverse (at-each l (positions-taken (needs l l)))
 Places l (refused i) = Unit {0}

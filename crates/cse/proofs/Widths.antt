@@ -1,11 +1,10 @@
 -- Each arm of a match has as many values as the match has names, in arms' own scopes too. Assumes nothing.
-use Prim.Native.Nat.{ℕ, zero, suc, _+_, _-_}
+use Prim.Native.Nat.{ℕ, zero, suc, _-_}
 use mathlib.Core.Path.{_≡_, refl, sym, _∙_, ap, subst}
 use mathlib.Core.Bool.{Bool, true, false, _&&_}
 use mathlib.Core.Option.{Option, none, some}
 use mathlib.Core.List.{List, [], _∷_, _++_}
 use native.Mathlib.Omega.{arith}
-use lib.IntN.{pos}
 use lib.ListN.{length}
 use lib.Dec.{T, eqb, leb, eqb-refl}
 use Rattle.tree.specs.Outcome.{Outcome, ok, refused, _>>=_, each}
@@ -13,13 +12,13 @@ use Rattle.tree.specs.Facts.{all-operations}
 use Rattle.tree.specs.Tree.{Name, xname, mname, Tree, Forest, Sym, Const, Op, nil, _◂_}
 use Rattle.rewrite.specs.Rewrite.{replace}
 use Rattle.tree.specs.Rows.{occurrences}
-use Rattle.cse.specs.Extract.{Binding, State, Candidate, roots, best, replace-bound, extract, rounds, extract-all, bound, replace-divisor-each, bind-reciprocal, bind-reciprocals, reciprocals}
+use Rattle.cse.specs.Extract.{Binding, State, Candidate, roots, best, replace-bound, extract, rounds, extract-all, replace-divisor-each, bind-reciprocal, bind-reciprocals, reciprocals}
 use Rattle.cse.specs.Answer.{Intermediate, Intermediates, Arms, Answer, Let, Match, end, step, no-arm, arm, block}
 use Rattle.cse.specs.Order.{topo-sort-intermediates}
 use Rattle.cse.specs.Scope.{Switch, Group, Work, Scoped, Armed, members, collect-switches, groups-from, replace-in-results, replace-in-stmts, name-members, member-names, first-arms, rest-arms, columns, arms-of-members, scope-arms, fuse-group, fuse-groups, fuse-all, binds, unfused, finish, cse-scope, area-rows, as-answer, answer}
 use Rattle.tree.proofs.Logic.{and-both}
 use Rattle.rewrite.proofs.Names.{holds, holds-each, holds-all}
-use Rattle.cse.proofs.SwitchLaws.{Fair-group, Fair-groups, groups-fair, Like-first, All-like, members-like}
+use Rattle.cse.proofs.SwitchLaws.{Fair-group, Fair-groups, groups-fair, All-like, members-like}
 use Rattle.cse.proofs.SortCount.{Every, sorted-every}
 use Rattle.cse.proofs.ReciprocalsCount.{bound-divisors, reciprocals-are}
 use Rattle.cse.proofs.ScopeRoom.{or-no-room}

@@ -1,18 +1,17 @@
 -- `cse_scope` in both forms, `cse` and `cse_scoped` (01, "Scoped fusion"). Assumes nothing.
 use Prim.Native.Nat.{ℕ, zero, suc, _+_, _-_}
-use mathlib.Core.Bool.{Bool, true, false, not, _&&_, _||_, cond}
+use mathlib.Core.Bool.{Bool, true, false, _&&_}
 use mathlib.Core.List.{List, [], _∷_, _++_}
-use lib.IntN.{pos}
 use lib.ListN.{length}
 use lib.Dec.{eqb, leb}
 use Rattle.tree.specs.Outcome.{Outcome, ok, refused, by, _>>=_}
-use Rattle.tree.specs.Tree.{Name, xname, mname, Tree, Forest, Sym, Const, Op, nil, _◂_, eq-tree, operands}
+use Rattle.tree.specs.Tree.{Name, mname, Tree, Sym, Const, Op, nil, _◂_, eq-tree, operands}
 use Rattle.tree.specs.Kinds.{is-switch}
 use Rattle.tree.specs.Facts.{all-outer}
 use Rattle.tree.specs.Rows.{occurrences}
 use Rattle.rewrite.specs.Rewrite.{replace-outside-arms}
 use Rattle.cse.specs.Extract.{Binding, State, extract-all, reciprocals, distinct, roots}
-use Rattle.cse.specs.Answer.{Intermediate, Intermediates, Arms, Answer, Let, Match, no-arm, arm, block}
+use Rattle.cse.specs.Answer.{Intermediate, Arms, Answer, Let, Match, no-arm, arm, block}
 use Rattle.cse.specs.Order.{topo-sort-intermediates}
 
 -- ---- switches
