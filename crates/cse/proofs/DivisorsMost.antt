@@ -2,17 +2,17 @@
 -- Assumes nothing.
 use Prim.Native.Nat.{ℕ, zero, suc, _+_, _*_, _≤_}
 use mathlib.Core.Path.{_≡_, refl, sym, _∙_, ap, subst}
-use mathlib.Core.Bool.{Bool, true, false, _&&_}
+use mathlib.Core.Bool.{Bool, true, false, not, _&&_}
 use mathlib.Core.Option.{Option, none, some}
 use mathlib.Core.List.{List, [], _∷_, _++_}
 use native.Mathlib.Omega.{arith}
 use native.Mathlib.Nat.{zero-mul, suc-mul, mul-assoc, mul-le-mul-right}
 use lib.ListN.{length}
-use lib.Dec.{T, eqb, leb, eqb→eq}
-use Rattle.tree.specs.Tree.{Tree, Forest, Sym, Const, Op, nil, _◂_}
+use lib.Dec.{T, leb}
+use Rattle.tree.specs.Tree.{Tree, Forest, Sym, Const, Op, nil, _◂_, eq-tree}
 use Rattle.tree.specs.Facts.{all-operations, operations, size, nodes, nodes-of, all-nodes, outside, count}
 use Rattle.text.specs.Text.{display, before}
-use Rattle.cse.specs.Extract.{State, roots, divisor-of, divisors, distinct, shared-divisors, insert-by-text, sort-by-text, reciprocals}
+use Rattle.cse.specs.Extract.{State, roots, divisor-of, divisors, among, distinct, shared-divisors, insert-by-text, sort-by-text, reciprocals}
 use Rattle.rewrite.proofs.Measure.{sum-of, sum-each, forest-operations, operations-op, one-of, one-self, count-cons}
 use Rattle.rewrite.proofs.Counts.{count-nil, one-le, one-equal}
 use Rattle.cse.proofs.ReciprocalsCount.{AllTrees, bound-divisors, bound-twice, reciprocals-are}
@@ -42,15 +42,25 @@ apart-new x t seen l z h = go (one-of t x) refl
         let o = one-le t x in
         ((let b = c in omega arith), λ u. absurd (omega arith))
 
+not-among : (t : Tree) (l : List Tree) → T (not (among t l)) → count t l ≡ 0
+unfolding among count
+not-among t [] h = refl
+not-among t (e ∷ l) h = go (eq-tree e t) (λ k. not-among t l k) h
+  where
+    go : (b : Bool) → (T (not (among t l)) → count t l ≡ 0) → T (not (elim b [ true ↦ true | false ↦ among t l ]))
+        → _≡_ {A = ℕ} (elim b [ true ↦ suc (count t l) | false ↦ count t l ]) 0
+    go true f h = absurd h
+    go false f h = f h
+
 distinct-apart : (x : Tree) (seen l : List Tree) → Apart x seen (distinct seen l)
 unfolding distinct
 distinct-apart x seen [] = ((let z = count-nil x in omega arith), λ u. count-nil x)
-distinct-apart x seen (t ∷ l) = go (eqb (count t seen) 0) (eqb→eq (count t seen) 0) (distinct-apart x (t ∷ seen) l) (distinct-apart x seen l)
+distinct-apart x seen (t ∷ l) = go (among t seen) (not-among t seen) (distinct-apart x (t ∷ seen) l) (distinct-apart x seen l)
   where
-    go : (b : Bool) → (T b → count t seen ≡ 0) → Apart x (t ∷ seen) (distinct (t ∷ seen) l) → Apart x seen (distinct seen l)
-        → Apart x seen (elim b [ true ↦ t ∷ distinct (t ∷ seen) l | false ↦ distinct seen l ])
-    go true z h k = apart-new x t seen (distinct (t ∷ seen) l) (z tt) h
-    go false z h k = k
+    go : (b : Bool) → (T (not b) → count t seen ≡ 0) → Apart x (t ∷ seen) (distinct (t ∷ seen) l) → Apart x seen (distinct seen l)
+        → Apart x seen (elim b [ true ↦ distinct seen l | false ↦ t ∷ distinct (t ∷ seen) l ])
+    go true z h k = k
+    go false z h k = apart-new x t seen (distinct (t ∷ seen) l) (z tt) h
 
 shared-fewer : (scoped : Bool) (rs : List Tree) (x : Tree) (l : List Tree) → count x (shared-divisors scoped rs l) ≤ count x l
 unfolding shared-divisors

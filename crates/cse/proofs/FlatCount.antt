@@ -1,6 +1,6 @@
 -- The clauses of demand 3 on the flat answer alone: no operation that depends on an input symbol stands twice; the extraction count is that of the
 -- bindings that are not reciprocals; and the count and the operations outside reciprocals are together at most the operations given. Assumes nothing.
-use Prim.Native.Nat.{ℕ, zero, suc, _+_, _-_, min, _≤_}
+use Prim.Native.Nat.{ℕ, suc, _+_, _-_, min, _≤_}
 use mathlib.Core.Path.{_≡_, refl, sym, _∙_, ap, ap₂, subst}
 use mathlib.Core.Logic.{_⊎_, inl, inr}
 use mathlib.Core.Bool.{Bool, true, false}
@@ -25,7 +25,7 @@ use Rattle.cse.proofs.RoundsValue.{let-names, Numbered, Binds, Model, M
 use Rattle.rewrite.proofs.Counts.{well-formed-all, all-nodes-cons, all-nodes-append, operations-append}
 use Rattle.cse.proofs.RoundsCount.{made-before, made-le, below-made, costs-operation, extract-all-end, flat-end}
 use Rattle.rewrite.proofs.DivisorCount.{divisor-operations}
-use Rattle.cse.proofs.SortCount.{summed, sorted-sum, sorted-same, Every, sorted-every}
+use Rattle.cse.proofs.SortCount.{summed, sorted-sum, Every, sorted-every}
 use Rattle.cse.proofs.Dependence.{depends-up, depends-symbol, Closed, dependent-within}
 use Rattle.cse.proofs.ReciprocalsCount.{operation-costs, Once, bound-divisors, bindable, telling, tells, made-tells, reciprocal-each-once, from-rounds, bindings-most, reciprocal-each-falls, reciprocals-are}
 
@@ -260,16 +260,6 @@ counting x (Let (xname i) e ∷ l) = go (ltb i x) (counting x l)
 counting x (Let (mname i) e ∷ l) = (let q = counting x l in omega arith)
 counting x (Match k key ns arms ∷ l) = (let q = counting x l in omega arith)
 
-one-or-none : (x : ℕ) (s : Intermediate) → from-rounds (λ e. 1) x s + (1 - from-rounds (λ e. 1) x s) ≡ 1
-one-or-none x (Let (input s) e) = refl
-one-or-none x (Let (xname i) e) = go (ltb i x)
-  where
-    go : (b : Bool) → (elim b as (λ _. ℕ) [ true ↦ 1 | false ↦ 0 ]) + (1 - (elim b as (λ _. ℕ) [ true ↦ 1 | false ↦ 0 ])) ≡ 1
-    go true = refl
-    go false = refl
-one-or-none x (Let (mname i) e) = refl
-one-or-none x (Match k key ns arms) = refl
-
 -- of bindings numbered from k, those with a number below x
 numbered-count :
     (x k top : ℕ) (l : List Binding) → Numbered k top (let-names l) → (k ≤ top) × (summed (from-rounds (λ e. 1) x) (binds l) ≡ min x top - min x k)
@@ -302,7 +292,7 @@ module _ (es : List Tree) (formed : T (well-formed-all es)) (known : T (holds-al
       let M = reciprocals-keep some-reading (λ s. true) 0 (λ n. 0) (values some-reading (λ n. 0) es) false s (rounds-model es known s (P .rounds)) in
       let n = numbered-count x 0 (t .next) (t .lets) (M .numbered) in
       let c = n .1 in
-      let g = sorted-same (from-rounds (λ e. 1) x) (λ u. 1 - from-rounds (λ e. 1) x u) (one-or-none x) (binds (t .lets)) (P .stmts) (P .sorted) in
+      let g = sorted-sum (from-rounds (λ e. 1) x) (binds (t .lets)) (P .stmts) (P .sorted) in
       let k : length (extracted-exprs (a .extracted) (a .inters)) ≡ summed (from-rounds (λ e. 1) x) (P .stmts) =
       ap₂ (λ (m : ℕ) (l : Intermediates). length (extracted-exprs m l)) (P .extracted) (P .inters) ∙ counting x (P .stmts) in
       let later : s .next ≤ t .next = subst (λ (u : State). s .next ≤ u .next) (sym (reciprocals-are false s)) (reciprocal-each-later (bound-divisors false s) s) in

@@ -1,4 +1,6 @@
+pub mod Outcomes
 pub mod RoundsCount
+pub mod RoundsFuel
 pub mod SortCount
 pub mod Dependence
 pub mod ReciprocalsCount
@@ -8,6 +10,7 @@ pub mod OrderLaws
 pub mod Symbols
 pub mod ReadLaws
 pub mod SwitchLaws
+pub mod ScopeRoom
 pub mod ScopeValue
 pub mod RoundsNames
 pub mod ScopeNames
@@ -19,3 +22,5 @@ pub mod Widths
 pub mod PassesLaws
 pub mod SizeCount
 pub mod DivisorsMost
+pub mod ReciprocalBindings
+pub mod ScopedCount

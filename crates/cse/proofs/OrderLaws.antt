@@ -1,16 +1,16 @@
--- The order of statements: each position comes after those that it needs, no position comes twice, and where none is missing all are there.
+-- The order of statements: each position comes after those that it needs, no position comes twice, where none is missing all are there, and the fuel is enough.
 -- Assumes nothing.
 use Prim.Native.Nat.{ℕ, zero, suc, _+_, _≤_, _<_}
-use mathlib.Core.Path.{_≡_, refl, sym, _∙_, ap, ap₂, subst}
+use mathlib.Core.Path.{_≡_, refl, sym, _∙_, ap, subst}
 use mathlib.Core.Logic.{_⊎_, inl, inr, _≢_}
-use mathlib.Core.Bool.{Bool, true, false, _&&_, cond}
-use mathlib.Core.List.{List, [], _∷_, _++_}
+use mathlib.Core.Bool.{Bool, true, false, _&&_}
+use mathlib.Core.List.{List, [], _∷_}
 use native.Mathlib.Omega.{arith}
-use native.Mathlib.Nat.{add-zero, add-suc, suc-add}
+use native.Mathlib.Nat.{zero-add, add-zero, suc-add}
 use lib.ListN.{length, getD}
 use lib.Dec.{T, eqb, eqb→eq, eqb-refl}
 use Rattle.cse.specs.Order.{member, within, free-from, joining, push, take-all, positions-taken}
-use Rattle.tree.proofs.Logic.{and-left, and-right, and-both}
+use Rattle.tree.proofs.Logic.{and-left, and-right}
 
 -- ---- members
 
@@ -117,7 +117,7 @@ module _ (table : List (List ℕ)) where
   row-later : (i : ℕ) (ns : List ℕ) (rows : List (List ℕ)) → ((k : ℕ) → getD (ns ∷ rows) k [] ≡ getD table (i + k) []) → (k : ℕ) → getD rows k [] ≡ getD table (suc i + k) []
   row-later i ns rows same k = same (suc k) ∙ ap (λ (n : ℕ). getD table n []) (let e : i + suc k ≡ suc i + k = omega arith in e)
 
-  -- what joins the stack: it needs the one just positions-taken
+  -- what joins the stack: it needs the one just taken
   joining-from :
       (i t : ℕ) (done : List ℕ) (rows : List (List ℕ)) → ((k : ℕ) → getD rows k [] ≡ getD table (i + k) []) → i + length rows ≡ length table
       → From i (λ j. T (member t (getD table j [])) × Ready done j) (joining i t done rows)
@@ -170,7 +170,7 @@ module _ (table : List (List ℕ)) where
         keep l (λ t. f (member-later j k l t)) (h .1),
       )
 
-  -- the top is positions-taken
+  -- the top is taken
   popped : (i : ℕ) (stack done : List ℕ) → Inv (i ∷ stack) done → Inv stack (i ∷ done)
   popped i stack done v =
       record {
@@ -189,7 +189,7 @@ module _ (table : List (List ℕ)) where
         away l (λ t. f (member-later i j l t)) (h .1),
       )
 
-  -- of a position positions-taken, the needs were positions-taken too
+  -- of a position taken, the needs were taken too
   ordered-at : (done : List ℕ) (j t : ℕ) → Ordered done → T (member j done) → T (member t (getD table j [])) → T (member t done)
   unfolding member
   ordered-at [] j t o m u = absurd m
@@ -217,7 +217,7 @@ module _ (table : List (List ℕ)) where
       not-waiting : (k : ℕ) → T (member i (getD table k [])) → T (member k stack) → ⊥
       not-waiting k u t = v .apart .0 (within-member (getD table k []) done i (all-at (Ready done) stack k (v .ready .1) t .0) u)
 
-  -- what was positions-taken
+  -- what was taken
   pub record Taken (done : List ℕ) : Type 0 where
     pub distinct : Distinct done
     pub ordered : Ordered done
@@ -233,19 +233,21 @@ module _ (table : List (List ℕ)) where
   take-all-taken (suc fuel) (i ∷ stack) done v =
       take-all-taken fuel (push (joining 0 i (i ∷ done) table) stack) (i ∷ done) (stepped i stack done v)
 
-  pub taken-ok : Taken (positions-taken table)
-  unfolding positions-taken
-  taken-ok =
-      take-all-taken (length table) (push (free-from 0 table) []) []
-      (pushed (free-from 0 table) [] []
+  started : Inv (push (free-from 0 table) []) []
+  started =
+      pushed (free-from 0 table) [] []
       (record { distinct-stack = tt; distinct-done = tt; apart = tt; ready = tt; ordered = tt; inside = tt }) (f .1)
-      (all-map _ _ (λ k q. (q .0, none k, none k)) (free-from 0 table) (f .0)))
+      (all-map _ _ (λ k q. (q .0, none k, none k)) (free-from 0 table) (f .0))
     where
       f : From 0 (Ready []) (free-from 0 table)
       f = free-positions 0 table (λ k. ap (λ (n : ℕ). getD table n []) (let e : k ≡ 0 + k = omega arith in e)) (omega arith)
 
       none : (k : ℕ) → T (member k []) → ⊥
       none k t = unfold member in t
+
+  pub taken-ok : Taken (positions-taken table)
+  unfolding positions-taken
+  taken-ok = take-all-taken (length table) (push (free-from 0 table) []) [] started
 
 -- ---- none missing: as many different positions as there are positions
 
@@ -297,3 +299,22 @@ none-missing n l d s e i h = go (member i l) refl
     go : (b : Bool) → member i l ≡ b → T b
     go true q = tt
     go false q = let m = at-most n (i ∷ l) ((λ t. subst T q t), d) (h, s) in omega arith
+
+-- ---- the fuel: as many steps as there are positions are enough
+
+module _ (table : List (List ℕ)) where
+  one-more : (fuel : ℕ) (stack done : List ℕ) → Inv table stack done → length table ≤ fuel + length done → take-all (suc fuel) table stack done ≡ take-all fuel table stack done
+  unfolding take-all
+  one-more zero [] done v h = refl
+  one-more zero (i ∷ stack) done v h =
+      let p = popped table i stack done v in
+      let m = at-most (length table) (i ∷ done) (p .distinct-done) (p .inside) in
+      absurd (omega arith)
+  one-more (suc fuel) [] done v h = refl
+  one-more (suc fuel) (i ∷ stack) done v h = one-more fuel (push (joining 0 i (i ∷ done) table) stack) (i ∷ done) (stepped table i stack done v) (omega arith)
+
+  pub taken-enough : (more : ℕ) → take-all (more + length table) table (push (free-from 0 table) []) [] ≡ positions-taken table
+  unfolding positions-taken
+  taken-enough zero = rw (zero-add (length table)) refl
+  taken-enough (suc more) =
+      rw (suc-add more (length table)) (one-more (more + length table) (push (free-from 0 table) []) [] (started table) (omega arith) ∙ taken-enough more)

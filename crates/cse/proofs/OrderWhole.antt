@@ -1,14 +1,14 @@
 -- Where each statement needs only statements of a lower rank, the order takes all of them. Assumes nothing.
 use Prim.Native.Nat.{ℕ, zero, suc, _+_, _≤_, _<_}
-use mathlib.Core.Path.{_≡_, refl, sym, _∙_, ap, subst}
-use mathlib.Core.Logic.{_⊎_, inl, inr, _≢_}
+use mathlib.Core.Path.{_≡_, sym, _∙_, subst}
+use mathlib.Core.Logic.{_⊎_, inl, inr}
 use mathlib.Core.Bool.{Bool, true, false, _&&_}
 use mathlib.Core.List.{List, [], _∷_}
 use native.Mathlib.Omega.{arith}
 use lib.ListN.{length, getD}
 use lib.Dec.{T, eqb, eqb→eq}
 use Rattle.cse.specs.Order.{member, within, free-from, joining, push, take-all, positions-taken}
-use Rattle.cse.proofs.OrderLaws.{member-cases, member-later, member-here, within-both, then-both, All, Distinct, Taken, taken-ok, remove, at-most}
+use Rattle.cse.proofs.OrderLaws.{member-cases, member-later, member-here, within-both, then-both, taken-ok, remove, at-most}
 use Rattle.tree.proofs.Logic.{and-both}
 
 -- ---- what joins the stack
@@ -117,7 +117,7 @@ as-many (suc n) l f =
 -- ---- the order
 
 module _ (table : List (List ℕ)) where
-  -- each position whose needs are met is positions-taken or waits
+  -- each position whose needs are met is taken or waits
   Complete : List ℕ → List ℕ → Type 0
   Complete stack done = (j : ℕ) → j < length table → T (within (getD table j []) done) → T (member j done) ⊎ T (member j stack)
 

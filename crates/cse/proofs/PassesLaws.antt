@@ -1,16 +1,15 @@
 -- A list that passes 9 has trees as 01 has them, and no name of an answer among its symbols. Assumes nothing.
-use Prim.Native.Nat.{ℕ, suc}
-use mathlib.Core.Path.{_≡_, refl, ap, subst}
-use mathlib.Core.Bool.{Bool, true, false, _&&_}
+use Prim.Native.Nat.{ℕ}
+use mathlib.Core.Path.{subst}
+use mathlib.Core.Bool.{_&&_}
 use mathlib.Core.List.{List, [], _∷_}
 use lib.ListN.{length}
 use lib.Dec.{T, leb}
-use Rattle.tree.specs.Tree.{Name, input, xname, mname, Tree, Forest, Sym, Const, Op, nil, _◂_, folds}
-use Rattle.tree.specs.Kinds.{arity-ok, Neg, SelectOr}
+use Rattle.tree.specs.Tree.{Name, input, xname, mname, Tree, Forest, Sym, Const, Op, nil, _◂_}
+use Rattle.tree.specs.Kinds.{arity-ok, Neg}
 use Rattle.tree.proofs.Formed.{operand-count, well-formed, well-formed-each}
-use Rattle.tree.specs.Symbol.{is-name}
 use Rattle.tree.specs.Rows.{within-limits}
-use Rattle.tree.specs.Passes.{all-of, of-list, of-paper, operands-ok, expression, expressions, passes}
+use Rattle.tree.specs.Passes.{all-of, of-list, operands-ok, expression, expressions, passes}
 use Rattle.tree.proofs.Formed.{tests, tests-length}
 use Rattle.tree.proofs.Logic.{and-left, and-right, and-both}
 use Rattle.rewrite.proofs.Counts.{well-formed-all}

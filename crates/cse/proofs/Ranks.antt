@@ -1,7 +1,7 @@
 -- The bindings of rounds and reciprocals read one another in no ring: each has a rank, and reads only names of lower rank. A new name takes the
 -- rank just above what it stands for, which is below every binding that held it. Assumes nothing.
 use Prim.Native.Nat.{ℕ, zero, suc, _+_, _*_, _≤_, _<_, max}
-use mathlib.Core.Path.{_≡_, refl, sym, _∙_, ap, subst}
+use mathlib.Core.Path.{_≡_, refl, sym, subst}
 use mathlib.Core.Bool.{Bool, true, false, _&&_, cond}
 use mathlib.Core.Option.{Option, none, some}
 use mathlib.Core.List.{List, [], _∷_, _++_}

@@ -163,7 +163,7 @@ bindable s S e =
     })
     (bound-divisors false s) (bound-twice false s)
 
--- ---- one bind-reciprocal, on the roots
+-- ---- one reciprocal, on the roots
 
 unfoldable pub inverse : Tree → Tree
 inverse d = Op Div (Const (pos 1) ◂ d ◂ nil)
@@ -430,7 +430,7 @@ module _ (x : ℕ) (ds : List Tree) where
 
 -- ---- what stands outside reciprocals, by a measure that no replaced divisor raises
 
--- of a binding that is not a bind-reciprocal's
+-- of a binding that is not a reciprocal's
 abbrev pub from-rounds : (Tree → ℕ) → ℕ → Intermediate → ℕ
 from-rounds μ x (Let (input s) e) = μ e
 from-rounds μ x (Let (xname i) e) = elim (ltb i x) [ true ↦ μ e | false ↦ 0 ]

@@ -1,27 +1,28 @@
--- An answer is refused by 10 or 11 alone, and the flat form never by 11. Assumes nothing.
-use Prim.Native.Nat.{ℕ, zero, suc, _+_, _*_, _%_, _/_, _^_, _≤_, _<_}
-use mathlib.Core.Path.{_≡_, refl, sym, _∙_, ap, subst}
+-- An answer is refused by 10, 11 or 23 alone, and the flat form by 10 alone. Assumes nothing.
+use Prim.Native.Nat.{ℕ, zero, suc, _+_, _-_, _*_, _%_, _/_, _^_, _<_}
+use mathlib.Core.Path.{_≡_, refl, _∙_, ap, subst}
 use mathlib.Core.Logic.{_⊎_, inl, inr}
 use mathlib.Core.Bool.{Bool, true, false, _&&_}
 use mathlib.Core.Option.{Option, none, some}
-use mathlib.Core.List.{List, [], _∷_, _++_, reverse}
+use mathlib.Core.List.{List, [], _∷_, reverse}
 use native.Mathlib.Omega.{arith}
-use lib.IntN.{ℤ, pos, negsuc}
+use lib.IntN.{ℤ}
 use lib.ListN.{length, getD}
-use lib.Dec.{T, eqb, ltb, eqb-refl, ltb→lt}
+use lib.Dec.{T, eqb, leb, ltb, eqb-refl, ltb→lt}
 use lib.Ieee.{Float, nan, inf, fin, up, down}
 use Rattle.tree.specs.Outcome.{Refusal, Outcome, ok, refused, _>>=_, each, by}
 use Rattle.tree.specs.Tree.{Name, xname, Tree, Forest, Sym, Const, Op, nil, _◂_, eq-tree}
 use Rattle.tree.specs.Kinds.{Mul}
 use Rattle.tree.specs.Facts.{all-operations, size}
 use Rattle.rewrite.specs.Rewrite.{Factors, whole, constant-of, built, build-mul-from-factors, match-factors, each-operand, replace-within, replace}
+use Rattle.tree.specs.Rows.{occurrences}
 use Rattle.cse.specs.Extract.{Binding, State, Candidate, roots, best, replace-bound, extract, rounds, extract-all, reciprocals}
-use Rattle.cse.specs.Answer.{Intermediate, Answer, Let, Match, arm, block, names, symbols, free, elem}
+use Rattle.cse.specs.Answer.{Intermediate, Let, Match, names, symbols, free, elem}
 use Rattle.cse.specs.Order.{meets, needs-from, needs, member, positions-taken, nothing, at-each, topo-sort-intermediates}
-use Rattle.cse.specs.Scope.{Switch, Group, Work, Scoped, Armed, members, collect-switches, groups-from, name-members, member-names, columns, arms-of-members, scope-arms, fuse-group, fuse-groups, fuse-all, binds, unfused, finish, cse-scope, deepest, as-answer, answer}
+use Rattle.cse.specs.Scope.{Group, Work, Scoped, Armed, members, collect-switches, groups-from, name-members, columns, arms-of-members, scope-arms, fuse-group, fuse-groups, fuse-all, binds, unfused, finish, cse-scope, area-rows, as-answer, answer}
 use Rattle.tree.specs.Value.{values}
 use Rattle.tree.proofs.Logic.{and-right}
-use Rattle.rewrite.proofs.Names.{holds, holds-all, below}
+use Rattle.rewrite.proofs.Names.{holds, holds-all}
 use Rattle.cse.proofs.Symbols.{holds-at}
 use Rattle.cse.proofs.ReadLaws.{needs-at, needs-length}
 use Rattle.cse.proofs.ScopeValue.{under}
@@ -30,6 +31,7 @@ use Rattle.cse.proofs.FlatCount.{some-reading, rounds-model, list-made}
 use Rattle.cse.proofs.OrderLaws.{member-cases}
 use Rattle.cse.proofs.OrderWhole.{all-taken}
 use Rattle.cse.proofs.Ranks.{low, Ranked, Ranks, All-ranks, extract-all-ranks, reciprocals-ranks}
+use Rattle.cse.proofs.ScopeRoom.{or-no-room}
 
 -- ---- refusals by some numbers alone
 
@@ -153,68 +155,70 @@ extract-all-ten : (scoped : Bool) (next : ℕ) (es : List Tree) → Only Ten (ex
 unfolding extract-all
 extract-all-ten scoped next es = rounds-ten (all-operations es) scoped (record { results = es; lets = []; next = next })
 
--- ---- scopes: 10 or 11
+-- ---- scopes: 10, 11 or 23
 
-abbrev pub Ten-or-eleven : Refusal → Type 0
-Ten-or-eleven i = (i ≡ by 10) ⊎ (i ≡ by 11)
+abbrev pub Of-steps : Refusal → Type 0
+Of-steps i = (i ≡ by 10) ⊎ ((i ≡ by 11) ⊎ (i ≡ by 23))
 
-sort-only : (l : List Intermediate) → Only Ten-or-eleven (topo-sort-intermediates l)
+sort-only : (l : List Intermediate) → Only Of-steps (topo-sort-intermediates l)
 unfolding topo-sort-intermediates
 sort-only l = go (eqb (length (positions-taken (needs l l))) (length l))
   where
-    go : (b : Bool) → Only Ten-or-eleven {A = (List Intermediate)} (elim b [ true ↦ ok (reverse (at-each l (positions-taken (needs l l)))) | false ↦ refused (by 11) ])
-    go true = only-ok Ten-or-eleven (reverse (at-each l (positions-taken (needs l l))))
-    go false = (unfold Only in inr refl)
+    go : (b : Bool) → Only Of-steps {A = (List Intermediate)} (elim b [ true ↦ ok (reverse (at-each l (positions-taken (needs l l)))) | false ↦ refused (by 11) ])
+    go true = only-ok Of-steps (reverse (at-each l (positions-taken (needs l l))))
+    go false = (unfold Only in inr (inl refl))
 
-finish-only : (w : Work) → Only Ten-or-eleven (finish w)
+finish-only : (w : Work) → Only Of-steps (finish w)
 unfolding finish
-finish-only w = then-only Ten-or-eleven (topo-sort-intermediates (w .inters)) (sort-only (w .inters)) _ (λ l. only-ok Ten-or-eleven {A = Scoped} _)
+finish-only w = then-only Of-steps (topo-sort-intermediates (w .inters)) (sort-only (w .inters)) _ (λ l. only-ok Of-steps {A = Scoped} _)
 
-module _ (scope : ℕ → List Tree → Outcome Scoped) (only : (n : ℕ) (es : List Tree) → Only Ten-or-eleven (scope n es)) where
-  arms-only : (next : ℕ) (l : List (List Tree)) → Only Ten-or-eleven (scope-arms scope next l)
+module _ (scope : ℕ → List Tree → Outcome Scoped) (only : (n : ℕ) (es : List Tree) → Only Of-steps (scope n es)) where
+  arms-only : (next : ℕ) (l : List (List Tree)) → Only Of-steps (scope-arms scope next l)
   unfolding scope-arms
-  arms-only next [] = only-ok Ten-or-eleven {A = Armed} _
+  arms-only next [] = only-ok Of-steps {A = Armed} _
   arms-only next (es ∷ l) =
-      then-only Ten-or-eleven (scope next es) (only next es) _
-      (λ a. then-only Ten-or-eleven (scope-arms scope (a .next) l) (arms-only (a .next) l) _ (λ r. only-ok Ten-or-eleven {A = Armed} _))
+      then-only Of-steps (scope next es) (only next es) _
+      (λ a. then-only Of-steps (scope-arms scope (a .next) l) (arms-only (a .next) l) _ (λ r. only-ok Of-steps {A = Armed} _))
 
-  group-only : (g : Group) (w : Work) → Only Ten-or-eleven (fuse-group scope g w)
+  group-only : (g : Group) (w : Work) → Only Of-steps (fuse-group scope g w)
   unfolding fuse-group
   group-only g w =
       let v = name-members (members g) w in
       let l = columns (length (g .first .arms)) (arms-of-members (members g)) in
-      then-only Ten-or-eleven (scope-arms scope (v .next) l) (arms-only (v .next) l) _ (λ a. only-ok Ten-or-eleven {A = Work} _)
+      then-only Of-steps (scope-arms scope (v .next) l) (arms-only (v .next) l) _ (λ a. only-ok Of-steps {A = Work} _)
 
-  groups-only : (gs : List Group) (w : Work) → Only Ten-or-eleven (fuse-groups scope gs w)
+  groups-only : (gs : List Group) (w : Work) → Only Of-steps (fuse-groups scope gs w)
   unfolding fuse-groups
-  groups-only [] w = only-ok Ten-or-eleven w
-  groups-only (g ∷ gs) w = then-only Ten-or-eleven (fuse-group scope g w) (group-only g w) _ (λ v. groups-only gs v)
+  groups-only [] w = only-ok Of-steps w
+  groups-only (g ∷ gs) w = then-only Of-steps (fuse-group scope g w) (group-only g w) _ (λ v. groups-only gs v)
 
-  fuse-only : (x : ℕ) (s : State) → Only Ten-or-eleven (fuse-all scope x s)
+  fuse-only : (x : ℕ) (s : State) → Only Of-steps (fuse-all scope x s)
   unfolding fuse-all
   fuse-only x s = groups-only (groups-from [] (collect-switches (roots s))) (unfused x s)
 
-rounds-only : (scoped : Bool) (next : ℕ) (es : List Tree) → Only Ten-or-eleven (extract-all scoped next es)
-rounds-only scoped next es = only-more Ten Ten-or-eleven (λ i e. inl e) (extract-all scoped next es) (extract-all-ten scoped next es)
+rounds-only : (scoped : Bool) (next : ℕ) (es : List Tree) → Only Of-steps (extract-all scoped next es)
+rounds-only scoped next es = only-more Ten Of-steps (λ i e. inl e) (extract-all scoped next es) (extract-all-ten scoped next es)
 
-scope-only : (fuel : ℕ) (scoped : Bool) (next : ℕ) (es : List Tree) → Only Ten-or-eleven (cse-scope fuel scoped next es)
+scope-only : (fuel room : ℕ) (scoped : Bool) (next : ℕ) (es : List Tree) → Only Of-steps (cse-scope fuel room scoped next es)
 unfolding cse-scope
-scope-only zero scoped next es = only-ok Ten-or-eleven {A = Scoped} _
-scope-only (suc fuel) false next es =
-    then-only Ten-or-eleven (extract-all false next es) (rounds-only false next es) _ (λ s. finish-only (unfused (length (s .lets)) (reciprocals false s)))
-scope-only (suc fuel) true next es =
-    then-only Ten-or-eleven (extract-all true next es) (rounds-only true next es) _
-    (λ s. then-only Ten-or-eleven (fuse-all (λ n l. cse-scope fuel true n l) (length (s .lets)) (reciprocals true s))
-    (fuse-only (λ n l. cse-scope fuel true n l) (λ n l. scope-only fuel true n l) (length (s .lets)) (reciprocals true s)) _ (λ w. finish-only w))
+scope-only zero room scoped next es = (unfold Only in inr (inr refl))
+scope-only (suc fuel) room false next es =
+    then-only Of-steps (extract-all false next es) (rounds-only false next es) _ (λ s. finish-only (unfused (length (s .lets)) (reciprocals false s)))
+scope-only (suc fuel) room true next es =
+    let inner : ℕ → List Tree → Outcome Scoped = λ n l. cse-scope fuel (room - occurrences es) true n l in
+    or-no-room (Only Of-steps {A = Scoped}) (unfold Only in inr (inr refl)) (leb (occurrences es) room) _
+    (then-only Of-steps (extract-all true next es) (rounds-only true next es) _
+    (λ s. then-only Of-steps (fuse-all inner (length (s .lets)) (reciprocals true s))
+    (fuse-only inner (λ n l. scope-only fuel (room - occurrences es) true n l) (length (s .lets)) (reciprocals true s)) _ (λ w. finish-only w)))
 
-answer-only : (scoped : Bool) (es : List Tree) → Only Ten-or-eleven (answer scoped es)
+answer-only : (scoped : Bool) (es : List Tree) → Only Of-steps (answer scoped es)
 unfolding answer
 answer-only scoped es =
-    then-only Ten-or-eleven (cse-scope (suc (deepest es)) scoped 0 es) (scope-only (suc (deepest es)) scoped 0 es) _ (λ a. only-ok Ten-or-eleven (as-answer a))
+    then-only Of-steps (cse-scope (suc area-rows) area-rows scoped 0 es) (scope-only (suc area-rows) area-rows scoped 0 es) _ (λ a. only-ok Of-steps (as-answer a))
 
--- Whatever the list, an answer is refused by 10 or 11 alone.
-pub refused-by-10-or-11 : (scoped : Bool) (es : List Tree) (i : Refusal) → answer scoped es ≡ refused i → (i ≡ by 10) ⊎ (i ≡ by 11)
-refused-by-10-or-11 scoped es i e = only-at Ten-or-eleven (answer scoped es) i e (answer-only scoped es)
+-- Whatever the list, an answer is refused by 10, 11 or 23 alone.
+pub refused-by-10-11-or-23 : (scoped : Bool) (es : List Tree) (i : Refusal) → answer scoped es ≡ refused i → (i ≡ by 10) ⊎ ((i ≡ by 11) ⊎ (i ≡ by 23))
+refused-by-10-11-or-23 scoped es i e = only-at Of-steps (answer scoped es) i e (answer-only scoped es)
 
 -- ---- the flat form: never 11
 
@@ -268,7 +272,7 @@ module _ (r : ℕ → ℕ) (n : ℕ) where
   falls-at (Let a e) (Match k key ns arms) i j p q t = absurd q
   falls-at (Match k key ns arms) u i j p q t = absurd p
 
--- bindings with ranks are all positions-taken
+-- bindings with ranks are all taken
 sort-ten : (s : State) → Ranks s → Numbered 0 (s .next) (let-names (s .lets)) → Only Ten (topo-sort-intermediates (binds (s .lets)))
 unfolding topo-sort-intermediates
 sort-ten s K N =

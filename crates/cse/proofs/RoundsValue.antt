@@ -1,20 +1,20 @@
 -- Extraction and reciprocals keep values: after any number of rounds there is a reading of the names made so far under which each name holds
 -- its expression's value and the results have the values that they started with. Assumes nothing.
-use Prim.Native.Nat.{ℕ, zero, suc, _+_, _*_, _%_, _≤_, _<_}
+use Prim.Native.Nat.{ℕ, zero, suc, _*_, _%_, _≤_}
 use mathlib.Core.Path.{_≡_, refl, sym, _∙_, ap, ap₂, subst}
 use mathlib.Core.Bool.{Bool, true, false, _&&_, cond}
 use mathlib.Core.Option.{Option, none, some}
 use mathlib.Core.List.{List, [], _∷_, _++_}
 use native.Mathlib.Omega.{arith}
 use lib.IntN.{pos}
-use lib.Dec.{T, eqb, leb, ltb, ltb→lt, lt→ltb, eqb→eq, eqb-refl}
+use lib.Dec.{T, eqb, leb, ltb→lt, eqb→eq, eqb-refl}
 use Rattle.tree.specs.Outcome.{Outcome, ok, refused, _>>=_, each}
-use Rattle.tree.specs.Tree.{Name, input, xname, mname, Tree, Forest, Sym, Const, Op, nil, _◂_, eq-name}
+use Rattle.tree.specs.Tree.{Name, input, xname, mname, Tree, Sym, Const, Op, nil, _◂_, eq-name}
 use Rattle.tree.specs.Kinds.{Div}
 use Rattle.tree.specs.Facts.{all-operations, all-nodes, outside, count, size}
 use Rattle.text.specs.Text.{display, before}
 use Rattle.rewrite.specs.Rewrite.{replace, replace-within, replace-divisor}
-use Rattle.cse.specs.Extract.{Binding, State, Candidate, bound, roots, is-candidate, candidate, beats, best-from, best, replace-bound, extract, rounds, extract-all, divisor-of, divisors, distinct, shared-divisors, insert-by-text, sort-by-text, replace-divisor-each, replace-divisor-bound, bind-reciprocal, bind-reciprocals, reciprocals}
+use Rattle.cse.specs.Extract.{Binding, State, Candidate, bound, roots, is-candidate, candidate, beats, best-from, best, replace-bound, extract, rounds, extract-all, divisor-of, divisors, among, distinct, shared-divisors, insert-by-text, sort-by-text, replace-divisor-each, replace-divisor-bound, bind-reciprocal, bind-reciprocals, reciprocals}
 use Rattle.tree.specs.Value.{Reading, Env, value, values}
 use Rattle.cse.specs.Read.{set}
 use Rattle.tree.proofs.Logic.{and-left, and-right, and-both}
@@ -70,7 +70,7 @@ module _ (p : Name → Bool) where
   unfolding best Chosen
   chosen scoped rs w = chosen-from scoped rs (all-nodes rs) none tt (all-nodes-hold p rs w)
 
-  -- the divisors to Let
+  -- the divisors to bind
   Divides : Option Tree → Type 0
   Divides none = Unit {0}
   Divides (some d) = T (holds p d)
@@ -104,11 +104,16 @@ module _ (p : Name → Bool) where
   keep-or-drop true d l r g h k = and-both (holds p d) (holds-all p l) g h
   keep-or-drop false d l r g h k = k
 
+  drop-or-keep : (b : Bool) (d : Tree) (l r : List Tree) → T (holds p d) → T (holds-all p l) → T (holds-all p r) → T (holds-all p (elim b [ true ↦ r | false ↦ d ∷ l ]))
+  unfolding holds-all
+  drop-or-keep true d l r g h k = k
+  drop-or-keep false d l r g h k = and-both (holds p d) (holds-all p l) g h
+
   pub distinct-known : (seen l : List Tree) → T (holds-all p l) → T (holds-all p (distinct seen l))
   unfolding holds-all distinct
   distinct-known seen [] w = tt
   distinct-known seen (t ∷ l) w =
-      keep-or-drop (eqb (count t seen) 0) t (distinct (t ∷ seen) l) (distinct seen l) (and-left (holds p t) (holds-all p l) w)
+      drop-or-keep (among t seen) t (distinct (t ∷ seen) l) (distinct seen l) (and-left (holds p t) (holds-all p l) w)
       (distinct-known (t ∷ seen) l (and-right (holds p t) (holds-all p l) w)) (distinct-known seen l (and-right (holds p t) (holds-all p l) w))
 
   pub shared-known : (scoped : Bool) (rs l : List Tree) → T (holds-all p l) → T (holds-all p (shared-divisors scoped rs l))

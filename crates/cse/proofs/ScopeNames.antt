@@ -1,21 +1,22 @@
 -- In both answers each name is bound once, and used only later and inside its scope: the first clause of demand 3.
 -- A scope makes the numbers from its start up to its next, each of its arms later ones, and an arm reads from outside only what its input reads.
 -- Assumes nothing.
-use Prim.Native.Nat.{ℕ, _+_, zero, suc, _≤_, _<_}
+use Prim.Native.Nat.{ℕ, _+_, _-_, zero, suc, _≤_, _<_}
 use mathlib.Core.Path.{_≡_, refl, sym, _∙_, ap, subst}
 use mathlib.Core.Logic.{inl, inr}
 use mathlib.Core.Bool.{Bool, true, false, not, _&&_, _||_}
 use mathlib.Core.List.{List, [], _∷_, _++_, reverse, reverseAux, append-assoc}
 use native.Mathlib.Omega.{arith}
 use lib.ListN.{length, getD}
-use lib.Dec.{T, eqb, ltb, ltb→lt, lt→ltb, nltb→le, T-not, not-T, eqb→eq}
+use lib.Dec.{T, eqb, leb, ltb, ltb→lt, lt→ltb, nltb→le, T-not, not-T, eqb→eq}
 use Rattle.tree.specs.Outcome.{Outcome, ok, refused, _>>=_, by}
 use Rattle.tree.specs.Tree.{Name, input, xname, mname, Tree}
+use Rattle.tree.specs.Rows.{occurrences}
 use Rattle.cse.specs.Extract.{Binding, State, extract-all, reciprocals, roots}
 use Rattle.cse.specs.Answer.{Intermediate, Arms, Answer, Let, Match, arm, block, names, symbols, all-symbols, free, free-stmts, free-arms, elem}
 use Rattle.cse.specs.Order.{needs, member, positions-taken, nothing, at-each, topo-sort-intermediates}
 use Rattle.cse.proofs.OrderLaws.{member-cases, member-later, member-here, All, Distinct, Ordered, Taken, taken-ok, none-missing}
-use Rattle.cse.specs.Scope.{Switch, Group, Work, Scoped, Armed, members, collect-switches, groups-from, replace-in-stmts, name-members, member-names, columns, arms-of-members, scope-arms, fuse-group, fuse-groups, fuse-all, binds, unfused, finish, cse-scope, deepest, as-answer, answer}
+use Rattle.cse.specs.Scope.{Switch, Group, Work, Scoped, Armed, members, collect-switches, groups-from, replace-in-stmts, name-members, member-names, columns, arms-of-members, scope-arms, fuse-group, fuse-groups, fuse-all, binds, unfused, finish, cse-scope, area-rows, as-answer, answer}
 use Rattle.tree.specs.Value.{Reading, Env, values}
 use Rattle.cse.specs.Demand.{bound-stmt, bound-stmts, bound-arms, all-different, known, in-scope, stmt-in-scope, arms-in-scope, well-scoped}
 use Rattle.tree.proofs.Logic.{and-left, and-right, and-both}
@@ -26,6 +27,7 @@ use Rattle.cse.proofs.ReadLaws.{needs-length, name-place, place-name, b
 use Rattle.cse.proofs.SwitchLaws.{outside-holds, results-hold, Fair-group, Fair-groups, groups-fair, first-key-known, All-hold, group-columns-known}
 use Rattle.cse.proofs.ScopeValue.{under, under-le, under-m, under-below, names-to-come, all-names-append, one-named, names-kept, name-members-later, names-made, hold-more, bind-names, numbered-elem}
 use Rattle.cse.proofs.RoundsNames.{Lets-hold, Held, All-held, roots-held, extract-all-held, reciprocals-held}
+use Rattle.cse.proofs.ScopeRoom.{or-no-room}
 
 -- ---- names made from a number on and below another
 
@@ -77,7 +79,7 @@ spans-at k top (s ∷ l) h (suc i) a =
     let r = spans-at (h .0) top l (h .4) i (omega arith) in
     (made-more (h .0) top k top (h .1) (omega arith) (bound-stmt (getD l i nothing)) (r .0), r .1)
 
--- two statements Let different names
+-- two statements bind different names
 spans-apart :
     (k top : ℕ) (l : List Intermediate) → Spans k top l → (i j : ℕ) → i < length l → j < length l → (i ≡ j → ⊥) → (n : Name)
     → T (elem n (bound-stmt (getD l i nothing))) → T (elem n (bound-stmt (getD l j nothing))) → ⊥
@@ -148,7 +150,7 @@ free-placed l (j ∷ done) acc i n m t =
 
 -- ---- what statements read
 
--- a name bound before and in scope, or an input symbol that the answer does not Let
+-- a name bound before and in scope, or an input symbol that the answer does not bind
 abbrev Known : List Name → List Name → List Name → Name → Type 0
 Known inputs bound scope n = T (elem n scope || (elem n inputs && not (elem n bound)))
 
@@ -768,24 +770,17 @@ module _ (start : ℕ) (es : List Tree) where
   unfolding outside
   outside-all p h = weaken-all p (outside p start) (λ n t. or-left (p n) (not (under start n)) t) es h
 
-scope-names : (fuel : ℕ) (scoped : Bool) (start : ℕ) (es : List Tree) → T (holds-all (under start) es) → Named start es (cse-scope fuel scoped start es)
+scope-names : (fuel room : ℕ) (scoped : Bool) (start : ℕ) (es : List Tree) → T (holds-all (under start) es) → Named start es (cse-scope fuel room scoped start es)
 unfolding cse-scope Named
-scope-names zero scoped start es h =
-    record {
-      later = omega arith;
-      different = (unfold all-different bound-stmts block in tt);
-      made = λ n t. absurd (no-elem n (unfold bound-stmts block in t));
-      held = λ q g n t u. holds-all-at q es n g (unfold free-stmts block in t);
-      scoped = λ inputs bound scope f. (unfold in-scope block free-stmts in
-          (known-by inputs bound scope (all-symbols es) (λ n t. f n t (holds-all-at (under start) es n h t))));
-    }
-scope-names (suc fuel) false start es h =
+scope-names zero room scoped start es h = tt
+scope-names (suc fuel) room false start es h =
     flat-step start es (extract-all false start es) (extract-all-keeps some-reading (λ s. true) start (ρ start es) false es h)
     (λ p g. extract-all-held (outside p start) start (outside-x start es p) false es (outside-all start es p g))
-scope-names (suc fuel) true start es h =
-    scoped-step start es (λ n l. cse-scope fuel true n l) (λ n l g. scope-names fuel true n l g) (extract-all true start es)
+scope-names (suc fuel) room true start es h =
+    or-no-room (Named start es) tt (leb (occurrences es) room) _
+    (scoped-step start es (λ n l. cse-scope fuel (room - occurrences es) true n l) (λ n l g. scope-names fuel (room - occurrences es) true n l g) (extract-all true start es)
     (extract-all-keeps some-reading (λ s. true) start (ρ start es) true es h)
-    (λ p g. extract-all-held (outside p start) start (outside-x start es p) true es (outside-all start es p g))
+    (λ p g. extract-all-held (outside p start) start (outside-x start es p) true es (outside-all start es p g)))
 
 -- ---- the answer
 
@@ -814,4 +809,4 @@ as-well es (ok x) h a e = subst (λ (b : Answer). T (well-scoped es b)) (answer-
 -- In each answer each name is bound once, and used only later and inside its scope, for a list that holds no name of an answer.
 pub answer-well-scoped : (scoped : Bool) (es : List Tree) → T (holds-all (under 0) es) → (a : Answer) → answer scoped es ≡ ok a → T (well-scoped es a)
 unfolding answer
-answer-well-scoped scoped es h a e = as-well es (cse-scope (suc (deepest es)) scoped 0 es) (scope-names (suc (deepest es)) scoped 0 es h) a e
+answer-well-scoped scoped es h a e = as-well es (cse-scope (suc area-rows) area-rows scoped 0 es) (scope-names (suc area-rows) area-rows scoped 0 es h) a e

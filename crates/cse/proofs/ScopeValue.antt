@@ -1,21 +1,22 @@
 -- Both answers have the input's values: the second clause of demand 3. One environment serves a whole scope: it holds each `__xN`'s expression's
 -- value and each `__mN`'s switch's value, and every statement leaves it as it is. The depth of nesting is the induction's measure. Assumes nothing.
-use Prim.Native.Nat.{ℕ, _+_, zero, suc, _%_, _≤_, _<_}
+use Prim.Native.Nat.{ℕ, _+_, _-_, zero, suc, _%_, _≤_, _<_}
 use mathlib.Core.Path.{_≡_, refl, sym, _∙_, ap, ap₂, subst}
 use mathlib.Core.Logic.{_⊎_, inl, inr}
 use mathlib.Core.Bool.{Bool, true, false, not, _&&_, cond}
 use mathlib.Core.List.{List, [], _∷_, _++_, reverse, append-assoc}
 use native.Mathlib.Omega.{arith}
 use lib.ListN.{length, getD, List·getD-eq-default}
-use lib.Dec.{T, eqb, ltb, ltb→lt, lt→ltb, nltb→le, not-T, eqb→eq, eqb-refl}
+use lib.Dec.{T, eqb, leb, ltb, ltb→lt, lt→ltb, nltb→le, not-T, eqb→eq, eqb-refl}
 use Rattle.tree.specs.Outcome.{Outcome, ok, refused, _>>=_, by}
 use Rattle.tree.specs.Tree.{Name, input, xname, mname, Tree, Sym}
+use Rattle.tree.specs.Rows.{occurrences}
 use Rattle.cse.specs.Extract.{Binding, State, extract-all, reciprocals, roots}
 use Rattle.cse.specs.Answer.{Intermediate, Arms, Answer, Let, Match, arm, block, names, symbols, all-symbols, free, free-stmts, free-arms, elem}
 use Rattle.cse.specs.Order.{needs, positions-taken, nothing, at-each, topo-sort-intermediates}
 use Rattle.cse.proofs.OrderLaws.{All, Taken, taken-ok}
 use Rattle.rewrite.specs.Rewrite.{replace-outside-arms}
-use Rattle.cse.specs.Scope.{Switch, Group, Work, Scoped, Armed, members, collect-switches, groups-from, replace-in-results, replace-in-stmts, name-members, member-names, columns, arms-of-members, scope-arms, fuse-group, fuse-groups, fuse-all, binds, unfused, finish, cse-scope, deepest, as-answer, answer}
+use Rattle.cse.specs.Scope.{Switch, Group, Work, Scoped, Armed, members, collect-switches, groups-from, replace-in-results, replace-in-stmts, name-members, member-names, columns, arms-of-members, scope-arms, fuse-group, fuse-groups, fuse-all, binds, unfused, finish, cse-scope, area-rows, as-answer, answer}
 use Rattle.tree.specs.Value.{Reading, Env, value, values, choice}
 use Rattle.cse.specs.Read.{set, set-each, arm-count, read-stmt, read-stmts, read-arm, answer-values}
 use Rattle.tree.proofs.Logic.{and-left, and-right}
@@ -26,6 +27,7 @@ use Rattle.cse.proofs.RoundsValue.{let-names, Numbered, Binds, Model, M
 use Rattle.cse.proofs.Symbols.{decide, elem-cases, elem-here, elem-later, elem-left, elem-right, holds-by, holds-at, holds-all-at, Sub, sub-left, sub-right, sub-append, no-elem, all-names}
 use Rattle.cse.proofs.ReadLaws.{needs-length, Like, set-apart, set-at, Fits, set-fits, set-each-fits, read-apart, stmt-like, free-back, sorted-reads}
 use Rattle.cse.proofs.SwitchLaws.{outside-holds, results-hold, Fair-group, Fair-groups, groups-fair, Like-first, All-like, members-like, first-key-known, All-hold, group-columns-known, length-columns, length-values, switch-value, values-each, picked, All-long, column-at, column-past}
+use Rattle.cse.proofs.ScopeRoom.{or-no-room}
 
 -- ---- names with numbers below k, and the list's symbols
 
@@ -627,14 +629,14 @@ module _ (R : Reading) where
           let N : (ρ : Env) → Model R inp start ρ (values R ρ es) t = λ ρ. reciprocals-keep R inp start ρ (values R ρ es) true s (M ρ) in
           then-finished (t .next) (N (λ n. 0) .later) (fuse-all scope (length (s .lets)) t) (λ ρ. fused (length (s .lets)) t ρ (N ρ))
 
-  scope-reads : (fuel : ℕ) (scoped : Bool) (start : ℕ) (es : List Tree) → T (holds-all (under start) es) → Reads start es (cse-scope fuel scoped start es)
+  scope-reads : (fuel room : ℕ) (scoped : Bool) (start : ℕ) (es : List Tree) → T (holds-all (under start) es) → Reads start es (cse-scope fuel room scoped start es)
   unfolding cse-scope Reads
-  scope-reads zero scoped start es h =
-      record { later = omega arith; free = λ n t. absurd (no-elem n (unfold free-stmts block in t)); known = h; reads = λ ρ. (unfold read-stmts block in refl) }
-  scope-reads (suc fuel) false start es h = flat-step start es (extract-all false start es) (λ ρ. extract-all-keeps R inp start ρ false es (unfold inp in h))
-  scope-reads (suc fuel) true start es h =
-      scoped-step start es (λ n l. cse-scope fuel true n l) (λ n l g. scope-reads fuel true n l g) (extract-all true start es)
-      (λ ρ. extract-all-keeps R inp start ρ true es (unfold inp in h))
+  scope-reads zero room scoped start es h = tt
+  scope-reads (suc fuel) room false start es h = flat-step start es (extract-all false start es) (λ ρ. extract-all-keeps R inp start ρ false es (unfold inp in h))
+  scope-reads (suc fuel) room true start es h =
+      or-no-room (Reads start es) tt (leb (occurrences es) room) _
+      (scoped-step start es (λ n l. cse-scope fuel (room - occurrences es) true n l) (λ n l g. scope-reads fuel (room - occurrences es) true n l g) (extract-all true start es)
+      (λ ρ. extract-all-keeps R inp start ρ true es (unfold inp in h)))
 
   -- ---- the answer
 
@@ -650,4 +652,4 @@ module _ (R : Reading) where
   pub answer-keeps-values :
       (scoped : Bool) (es : List Tree) → T (holds-all (under 0) es) → (a : Answer) → answer scoped es ≡ ok a → (ρ : Env) → answer-values R ρ a ≡ values R ρ es
   unfolding answer
-  answer-keeps-values scoped es h a e ρ = as-read es (cse-scope (suc (deepest es)) scoped 0 es) (scope-reads (suc (deepest es)) scoped 0 es h) a e ρ
+  answer-keeps-values scoped es h a e ρ = as-read es (cse-scope (suc area-rows) area-rows scoped 0 es) (scope-reads (suc area-rows) area-rows scoped 0 es h) a e ρ

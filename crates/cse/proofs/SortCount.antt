@@ -1,18 +1,18 @@
--- The order of statements takes each at most once: a sum over the statements in order is at most the sum over the statements given, and what
--- all of them have, all of them have in order. Assumes nothing.
+-- The order of statements takes each once: a sum over the statements in order is the sum over the statements given, and what all of them have, all of
+-- them have in order. Assumes nothing.
 use Prim.Native.Nat.{ℕ, zero, suc, _+_, _*_, _≤_, _<_}
 use mathlib.Core.Path.{_≡_, refl, sym, _∙_, ap, subst}
 use mathlib.Core.Logic.{inl, inr}
 use mathlib.Core.Bool.{Bool, true, false}
 use mathlib.Core.List.{List, [], _∷_, reverse, reverseAux}
 use native.Mathlib.Omega.{arith}
-use native.Mathlib.Nat.{mul-zero, mul-suc}
+use native.Mathlib.Nat.{mul-zero, mul-one, mul-suc}
 use lib.ListN.{length, getD}
 use lib.Dec.{T, eqb, eqb→eq}
 use Rattle.tree.specs.Outcome.{Outcome, ok, refused, by}
 use Rattle.cse.specs.Answer.{Intermediate}
 use Rattle.cse.specs.Order.{needs, member, positions-taken, nothing, at-each, topo-sort-intermediates}
-use Rattle.cse.proofs.OrderLaws.{member-cases, member-here, member-later, All, Distinct, taken-ok}
+use Rattle.cse.proofs.OrderLaws.{member-cases, member-here, member-later, All, Distinct, taken-ok, at-most}
 
 -- ---- positions past the first, counted from the second
 
@@ -78,21 +78,6 @@ module _ (v : Intermediate → ℕ) where
   picked x l (zero ∷ o) = (let q = picked x l o in let m = mul-suc (v x) (zeros o) in omega arith)
   picked x l (suc i ∷ o) = (let q = picked x l o in omega arith)
 
-  at-most : (a z : ℕ) → z ≤ 1 → a * z ≤ a
-  at-most a zero h = (let q = mul-zero a in omega arith)
-  at-most a (suc zero) h = (let q = mul-suc a 0 in let r = mul-zero a in omega arith)
-  at-most a (suc (suc z)) h = absurd (omega arith)
-
-  each-once : (l : List Intermediate) (order : List ℕ) → Distinct order → All (λ j. j < length l) order → summed (at-each l order) ≤ summed l
-  each-once [] [] d a = (unfold at-each summed in omega arith)
-  each-once [] (i ∷ o) d a = (let q = a .0 in absurd (omega arith))
-  each-once (x ∷ l) order d a =
-      (let p = picked x l order in
-      let q = each-once l (down order) (down-distinct order d) (down-inside (length l) order a) in
-      let z = at-most (v x) (zeros order) (one-zero order d) in
-      let s : summed (x ∷ l) ≡ v x + summed l = (unfold summed in refl) in
-      omega arith)
-
 -- ---- the order
 
 needs-length : (all l : List Intermediate) → length (needs all l) ≡ length l
@@ -103,7 +88,7 @@ needs-length all (s ∷ l) = ap suc (needs-length all l)
 taken-inside : (l : List Intermediate) → All (λ j. j < length l) (positions-taken (needs l l))
 taken-inside l = subst (λ (m : ℕ). All (λ j. j < m) (positions-taken (needs l l))) (needs-length l l) (taken-ok (needs l l) .inside)
 
--- what comes out is the reversed statements at the places positions-taken
+-- what comes out is the reversed statements at the positions taken
 Places : List Intermediate → Outcome (List Intermediate) → Type 0
 Places l (ok r) = r ≡ reverse (at-each l (positions-taken (needs l l)))
 Places l (refused i) = Unit {0}
@@ -119,14 +104,6 @@ places l = go (eqb (length (positions-taken (needs l l))) (length l))
 at-places : (l r : List Intermediate) → topo-sort-intermediates l ≡ ok r → r ≡ reverse (at-each l (positions-taken (needs l l)))
 unfolding Places
 at-places l r e = subst (Places l) e (places l)
-
-pub sorted-sum : (v : Intermediate → ℕ) (l r : List Intermediate) → topo-sort-intermediates l ≡ ok r → summed v r ≤ summed v l
-sorted-sum v l r e =
-    (let o = positions-taken (needs l l) in
-    let a : summed v r ≡ summed v (at-each l o) + summed v [] = ap (summed v) (at-places l r e) ∙ reversed v (at-each l o) [] in
-    let z : summed v [] ≡ 0 = (unfold summed in refl) in
-    let b = each-once v l o (taken-ok (needs l l) .distinct) (taken-inside l) in
-    omega arith)
 
 -- ---- none is lost
 
@@ -154,20 +131,36 @@ sorted-length l r e = subst (Whole l) e (go (eqb (length o) (length l)) (eqb→e
     go true f = (let a = length-reversed (at-each l o) [] in let b = length-at-each l o in let c = f tt in omega arith)
     go false f = tt
 
--- a sum in which each statement adds one or nothing
-summed-parts : (v w : Intermediate → ℕ) → ((s : Intermediate) → v s + w s ≡ 1) → (l : List Intermediate) → summed v l + summed w l ≡ length l
-unfolding summed
-summed-parts v w f [] = refl
-summed-parts v w f (s ∷ l) = (let q = summed-parts v w f l in let p = f s in omega arith)
+-- so a sum over the statements in order is that over the statements given
+down-length : (l : List ℕ) → length (down l) + zeros l ≡ length l
+unfolding down zeros
+down-length [] = refl
+down-length (zero ∷ l) = (let q = down-length l in omega arith)
+down-length (suc i ∷ l) = (let q = down-length l in omega arith)
 
--- is the same over the statements in order
-pub sorted-same : (v w : Intermediate → ℕ) → ((s : Intermediate) → v s + w s ≡ 1) → (l r : List Intermediate) → topo-sort-intermediates l ≡ ok r → summed v r ≡ summed v l
-sorted-same v w f l r e =
-    (let a = sorted-sum v l r e in
-    let b = sorted-sum w l r e in
-    let c = summed-parts v w f l in
-    let d = summed-parts v w f r in
-    let n = sorted-length l r e in
+each-just : (v : Intermediate → ℕ) (l : List Intermediate) (order : List ℕ) → Distinct order → All (λ j. j < length l) order → length order ≡ length l → summed v (at-each l order) ≡ summed v l
+each-just v [] [] d a e = (unfold at-each summed in refl)
+each-just v [] (i ∷ o) d a e = absurd (omega arith)
+each-just v (x ∷ l) order d a e =
+    (let p = picked v x l order in
+    let D = down-distinct order d in
+    let A = down-inside (length l) order a in
+    let m = at-most (length l) (down order) D A in
+    let n = down-length order in
+    let o = one-zero order d in
+    let q = each-just v l (down order) D A (omega arith) in
+    let z : v x * zeros order ≡ v x = ap (λ (k : ℕ). v x * k) (let y : zeros order ≡ 1 = omega arith in y) ∙ mul-one (v x) in
+    let s : summed v (x ∷ l) ≡ v x + summed v l = (unfold summed in refl) in
+    omega arith)
+
+pub sorted-sum : (v : Intermediate → ℕ) (l r : List Intermediate) → topo-sort-intermediates l ≡ ok r → summed v r ≡ summed v l
+sorted-sum v l r e =
+    (let o = positions-taken (needs l l) in
+    let a : summed v r ≡ summed v (at-each l o) + summed v [] = ap (summed v) (at-places l r e) ∙ reversed v (at-each l o) [] in
+    let z : summed v [] ≡ 0 = (unfold summed in refl) in
+    let n : length r ≡ length o + 0 = ap length (at-places l r e) ∙ length-reversed (at-each l o) [] ∙ ap (λ (k : ℕ). k + 0) (length-at-each l o) in
+    let m = sorted-length l r e in
+    let b = each-just v l o (taken-ok (needs l l) .distinct) (taken-inside l) (omega arith) in
     omega arith)
 
 -- ---- what all have

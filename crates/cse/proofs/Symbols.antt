@@ -140,7 +140,7 @@ holds-all-by p [] u = tt
 holds-all-by p (t ∷ l) u =
     and-both (holds p t) (holds-all p l) (holds-by p t (sub-left p (symbols t) (all-symbols l) u)) (holds-all-by p l (sub-right p (symbols t) (all-symbols l) u))
 
--- the names that statements Let, in their order
+-- the names that statements bind, in their order
 unfoldable pub all-names : List Intermediate → List Name
 unfolding names
 all-names [] = []

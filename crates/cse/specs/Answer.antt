@@ -1,13 +1,12 @@
 -- Answers: statements in order and results, their names, rows and text (01, "Sheet and printing", "Turned down", refusal 12). Assumes nothing.
-use Prim.Native.Nat.{ℕ, zero, suc, _+_}
-use mathlib.Core.Bool.{Bool, true, false, _&&_, _||_, cond}
+use Prim.Native.Nat.{ℕ, suc, _+_}
+use mathlib.Core.Bool.{Bool, true, false}
 use mathlib.Core.List.{List, [], _∷_, _++_}
-use lib.IntN.{ℤ}
 use lib.ListN.{length}
-use lib.Dec.{eqb, leb, ltb}
-use Rattle.tree.specs.Tree.{Name, Tree, Forest, Sym, Const, Op, nil, _◂_, fold, eq-name}
+use lib.Dec.{eqb, ltb}
+use Rattle.tree.specs.Tree.{Name, Tree, fold, eq-name}
 use Rattle.tree.specs.Kinds.{Branch, Select}
-use Rattle.tree.specs.Facts.{size, nodes}
+use Rattle.tree.specs.Facts.{size}
 use Rattle.tree.specs.Bytes.{bytes, decimal, joined}
 use Rattle.text.specs.Text.{name-text, display}
 

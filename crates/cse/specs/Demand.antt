@@ -1,16 +1,15 @@
 -- The four clauses of demand 3, over both answers together, and what the extraction count counts (01, "Value, for demand 3"). Assumes nothing.
-use Prim.Native.Nat.{ℕ, zero, suc, _+_, _≤_}
+use Prim.Native.Nat.{ℕ, _+_, _≤_}
 use mathlib.Core.Path.{_≡_}
 use mathlib.Core.Bool.{Bool, true, false, not, _&&_, _||_, cond}
 use mathlib.Core.List.{List, [], _∷_, _++_}
-use lib.IntN.{ℤ}
 use lib.ListN.{length}
 use lib.Dec.{T, leb, ltb}
-use Rattle.tree.specs.Outcome.{Outcome, ok, refused}
+use Rattle.tree.specs.Outcome.{ok}
 use Rattle.tree.specs.Tree.{Name, input, xname, mname, Tree, fold, eq-name}
 use Rattle.tree.specs.Facts.{all-operations, cost, some-of, count, all-nodes}
 use Rattle.cse.specs.Answer.{Intermediate, Intermediates, Arms, Answer, Let, Match, end, step, no-arm, arm, names, symbols, all-symbols, elem}
-use Rattle.tree.specs.Value.{Reading, Env, value, values}
+use Rattle.tree.specs.Value.{Reading, Env, values}
 use Rattle.cse.specs.Read.{answer-values}
 use Rattle.cse.specs.Scope.{answer}
 
@@ -37,7 +36,7 @@ unfolding elem
 all-different [] = true
 all-different (n ∷ l) = not (elem n l) && all-different l
 
--- each is a name bound before and in scope, or an input symbol that the answer does not Let
+-- each is a name bound before and in scope, or an input symbol that the answer does not bind
 unfoldable pub known : List Name → List Name → List Name → List Name → Bool
 unfolding elem
 known inputs bound scope [] = true

@@ -1,13 +1,12 @@
 -- The rounds of extraction, and reciprocals (01, "Extraction", "Reciprocals"): the part of `cse_scope` that both forms share. Assumes nothing.
-use Prim.Native.Nat.{ℕ, zero, suc, _+_, _-_, _*_}
-use mathlib.Core.Bool.{Bool, true, false, not, _&&_, _||_, cond}
+use Prim.Native.Nat.{ℕ, zero, suc, _-_, _*_}
+use mathlib.Core.Bool.{Bool, true, false, _&&_, _||_, cond}
 use mathlib.Core.Option.{Option, none, some}
 use mathlib.Core.List.{List, [], _∷_, _++_}
 use lib.IntN.{pos}
-use lib.ListN.{length}
 use lib.Dec.{eqb, leb, ltb}
-use Rattle.tree.specs.Outcome.{Outcome, ok, refused, _>>=_, each}
-use Rattle.tree.specs.Tree.{Name, xname, Tree, Forest, Sym, Const, Op, nil, _◂_, eq-tree}
+use Rattle.tree.specs.Outcome.{Outcome, ok, _>>=_, each}
+use Rattle.tree.specs.Tree.{Name, xname, Tree, Sym, Const, Op, nil, _◂_, eq-tree}
 use Rattle.tree.specs.Kinds.{Div}
 use Rattle.tree.specs.Facts.{cost, depth, has-symbol, all-operations, count, uses, uses-outside, outside, all-nodes}
 use Rattle.text.specs.Text.{display, before}
@@ -107,13 +106,18 @@ unfolding divisor-of
 divisors [] = []
 divisors (t ∷ l) = elim (divisor-of t) [ none ↦ divisors l | some d ↦ d ∷ divisors l ]
 
+unfoldable pub among : Tree → List Tree → Bool
+unfolding eq-tree
+among t [] = false
+among t (e ∷ l) = elim (eq-tree e t) [ true ↦ true | false ↦ among t l ]
+
 -- each once, where it stands first; `seen` holds those met before
 unfoldable pub distinct : List Tree → List Tree → List Tree
-unfolding count
+unfolding among
 distinct seen [] = []
-distinct seen (t ∷ l) = elim (eqb (count t seen) 0) [ true ↦ t ∷ distinct (t ∷ seen) l | false ↦ distinct seen l ]
+distinct seen (t ∷ l) = elim (among t seen) [ true ↦ distinct seen l | false ↦ t ∷ distinct (t ∷ seen) l ]
 
--- those to Let: divided by outside arms, and twice in all
+-- those to bind: divided by outside arms, and twice in all
 unfoldable pub shared-divisors : Bool → List Tree → List Tree → List Tree
 unfolding count divisors outside all-nodes
 shared-divisors scoped rs [] = []

@@ -1,12 +1,12 @@
--- `topo_sort_intermediates` (01, "Order"): a statement comes after those that Let what it reads. Assumes nothing.
-use Prim.Native.Nat.{ℕ, zero, suc, _+_}
-use mathlib.Core.Bool.{Bool, true, false, not, _&&_, _||_, cond}
-use mathlib.Core.List.{List, [], _∷_, _++_, reverse}
+-- `topo_sort_intermediates` (01, "Order"): a statement comes after those that bind what it reads. Assumes nothing.
+use Prim.Native.Nat.{ℕ, zero, suc}
+use mathlib.Core.Bool.{Bool, true, false, _&&_}
+use mathlib.Core.List.{List, [], _∷_, reverse}
 use lib.ListN.{length, getD}
 use lib.Dec.{eqb}
 use lib.IntN.{pos}
 use Rattle.tree.specs.Outcome.{Outcome, ok, refused, by}
-use Rattle.tree.specs.Tree.{Name, xname, Tree, Const}
+use Rattle.tree.specs.Tree.{Name, xname, Const}
 use Rattle.cse.specs.Answer.{Intermediate, Let, names, free, elem}
 
 unfoldable pub meets : List Name → List Name → Bool
@@ -14,7 +14,7 @@ unfolding elem
 meets [] l = false
 meets (n ∷ ns) l = elim (elem n l) [ true ↦ true | false ↦ meets ns l ]
 
--- the positions, from i on, of the statements that Let a name among those read
+-- the positions, from i on, of the statements that bind a name among those read
 unfoldable pub needs-from : ℕ → List Name → List Intermediate → List ℕ
 unfolding meets names
 needs-from i read [] = []
@@ -41,12 +41,12 @@ free-from i [] = []
 free-from i ([] ∷ l) = i ∷ free-from (suc i) l
 free-from i ((j ∷ js) ∷ l) = free-from (suc i) l
 
--- the positions, from i on, of the statements whose last need is the one just positions-taken
+-- the positions, from i on, of the statements whose last need is the one just taken
 unfoldable pub joining : ℕ → ℕ → List ℕ → List (List ℕ) → List ℕ
 unfolding member within
-joining i positions-taken done [] = []
-joining i positions-taken done (ns ∷ l) =
-    elim (member positions-taken ns && within ns done) [ true ↦ i ∷ joining (suc i) positions-taken done l | false ↦ joining (suc i) positions-taken done l ]
+joining i taken done [] = []
+joining i taken done (ns ∷ l) =
+    elim (member taken ns && within ns done) [ true ↦ i ∷ joining (suc i) taken done l | false ↦ joining (suc i) taken done l ]
 
 -- one after another onto a stack, whose top comes first
 unfoldable pub push : List ℕ → List ℕ → List ℕ
@@ -60,7 +60,7 @@ take-all zero table stack done = done
 take-all (suc fuel) table [] done = done
 take-all (suc fuel) table (i ∷ stack) done = take-all fuel table (push (joining 0 i (i ∷ done) table) stack) (i ∷ done)
 
--- the positions positions-taken, the latest first
+-- the positions in the order in which they are taken, the latest first. Each is taken once at most, so as many steps as there are positions are enough.
 unfoldable pub positions-taken : List (List ℕ) → List ℕ
 unfolding take-all free-from push
 positions-taken table = take-all (length table) table (push (free-from 0 table) []) []
@@ -74,7 +74,7 @@ unfolding nothing
 at-each all [] = []
 at-each all (i ∷ l) = getD all i nothing ∷ at-each all l
 
--- refusal 11 where some are never positions-taken
+-- refusal 11 where some are never taken: they need each other, or one itself
 unfoldable pub topo-sort-intermediates : List Intermediate → Outcome (List Intermediate)
 unfolding needs positions-taken at-each
 topo-sort-intermediates l =

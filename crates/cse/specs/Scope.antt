@@ -1,17 +1,17 @@
 -- `cse_scope` in both forms, `cse` and `cse_scoped` (01, "Scoped fusion"). Assumes nothing.
-use Prim.Native.Nat.{ℕ, zero, suc, _+_, max}
-use mathlib.Core.Bool.{Bool, true, false, not, _&&_, _||_, cond}
+use Prim.Native.Nat.{ℕ, zero, suc, _+_, _-_}
+use mathlib.Core.Bool.{Bool, true, false, _&&_}
 use mathlib.Core.List.{List, [], _∷_, _++_}
-use lib.IntN.{pos}
 use lib.ListN.{length}
-use lib.Dec.{eqb}
-use Rattle.tree.specs.Outcome.{Outcome, ok, refused, _>>=_}
-use Rattle.tree.specs.Tree.{Name, xname, mname, Tree, Forest, Sym, Const, Op, nil, _◂_, eq-tree, operands}
+use lib.Dec.{eqb, leb}
+use Rattle.tree.specs.Outcome.{Outcome, ok, refused, by, _>>=_}
+use Rattle.tree.specs.Tree.{Name, mname, Tree, Sym, Const, Op, nil, _◂_, eq-tree, operands}
 use Rattle.tree.specs.Kinds.{is-switch}
-use Rattle.tree.specs.Facts.{nesting, count, all-outer}
+use Rattle.tree.specs.Facts.{all-outer}
+use Rattle.tree.specs.Rows.{occurrences}
 use Rattle.rewrite.specs.Rewrite.{replace-outside-arms}
 use Rattle.cse.specs.Extract.{Binding, State, extract-all, reciprocals, distinct, roots}
-use Rattle.cse.specs.Answer.{Intermediate, Intermediates, Arms, Answer, Let, Match, no-arm, arm, block}
+use Rattle.cse.specs.Answer.{Intermediate, Arms, Answer, Let, Match, no-arm, arm, block}
 use Rattle.cse.specs.Order.{topo-sort-intermediates}
 
 -- ---- switches
@@ -169,26 +169,31 @@ unfoldable pub finish : Work → Outcome Scoped
 unfolding topo-sort-intermediates
 finish w = topo-sort-intermediates (w .inters) >>= λ l. ok (record { inters = l; results = w .results; next = w .next; extracted = w .extracted })
 
--- The first argument bounds how deep scopes nest.
-unfoldable pub cse-scope : ℕ → Bool → ℕ → List Tree → Outcome Scoped
-unfolding extract-all reciprocals unfused fuse-all finish
-cse-scope zero scoped next es = ok (record { inters = []; results = es; next = next; extracted = 0 })
-cse-scope (suc fuel) false next es = extract-all false next es >>= λ s. finish (unfused (length (s .lets)) (reciprocals false s))
-cse-scope (suc fuel) true next es =
-    extract-all true next es >>= λ s.
-    fuse-all (λ n l. cse-scope fuel true n l) (length (s .lets)) (reciprocals true s) >>= λ w.
-    finish w
+-- The work area's rows for the inputs of open scopes, one for each occurrence: seven words of 64 bits a row, of 65,536 (01's limit is 131,072 words of 32 bits).
+-- Nine inputs of 1,024 occurrences fit, and a list whose arms nest 8 deep opens no more; a switch in a bound divisor alone can make inputs outgrow the list.
+unfoldable pub area-rows : ℕ
+area-rows = 9362
 
-unfoldable pub deepest : List Tree → ℕ
-unfolding nesting
-deepest [] = 0
-deepest (t ∷ l) = max (nesting t) (deepest l)
+-- A scope's input takes its rows of the room that its caller leaves, and its arms' scopes have the rest: "the part of the work area after its caller's last
+-- used row". Refusal 23, which 01 lacks, is for an input that does not fit. The flat form opens one scope, of at most 1,024 rows, and needs no such test.
+-- The first argument bounds how deep scopes nest. Each has a row at least, so one more than the room is enough, and where it ends decides nothing (ScopeRoom).
+unfoldable pub cse-scope : ℕ → ℕ → Bool → ℕ → List Tree → Outcome Scoped
+unfolding extract-all reciprocals unfused fuse-all finish occurrences
+cse-scope zero room scoped next es = refused (by 23)
+cse-scope (suc fuel) room false next es = extract-all false next es >>= λ s. finish (unfused (length (s .lets)) (reciprocals false s))
+cse-scope (suc fuel) room true next es =
+    elim (leb (occurrences es) room) [
+      | true ↦ (extract-all true next es >>= λ s.
+          fuse-all (λ n l. cse-scope fuel (room - occurrences es) true n l) (length (s .lets)) (reciprocals true s) >>= λ w.
+          finish w)
+      | false ↦ refused (by 23)
+    ]
 
 unfoldable pub as-answer : Scoped → Answer
 unfolding block
 as-answer a = record { inters = block (a .inters); results = a .results; extracted = a .extracted }
 
--- the answer of `cse` (false) and of `cse_scoped` (true), or refusal 10 or 11
+-- the answer of `cse` (false) and of `cse_scoped` (true), or refusal 10, 11 or 23
 unfoldable pub answer : Bool → List Tree → Outcome Answer
-unfolding cse-scope deepest as-answer
-answer scoped es = cse-scope (suc (deepest es)) scoped 0 es >>= λ a. ok (as-answer a)
+unfolding cse-scope area-rows as-answer
+answer scoped es = cse-scope (suc area-rows) area-rows scoped 0 es >>= λ a. ok (as-answer a)

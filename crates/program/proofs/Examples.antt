@@ -1,19 +1,19 @@
 -- Spot checks beyond the marked lists, by computing: a scoped answer from a sheet's bytes to text and by way of rows, its names' scopes, its rows, rows that print
 -- refuses, and each refusal of load. Assumes nothing.
-use Prim.Native.Nat.{ℕ}
+use Prim.Native.Nat.{ℕ, suc}
 use mathlib.Core.Path.{_≡_, refl}
 use mathlib.Core.Bool.{Bool, true, false}
 use mathlib.Core.List.{List, [], _∷_}
 use Rattle.tree.specs.Outcome.{Outcome, ok, refused, by, _>>=_}
 use Rattle.tree.specs.Bytes.{bytes}
-use Rattle.tree.specs.Kinds.{Branch, SelectOr}
+use Rattle.tree.specs.Kinds.{Branch, Select, SelectOr}
 use Rattle.tree.specs.Tree.{Tree, Op, nil, _◂_}
 use Rattle.tree.specs.Rows.{row-sym, row-op}
 use Rattle.tree.specs.Layout.{table-words}
 use Rattle.tree.specs.Tokens.{word}
 use Rattle.cse.specs.Answer.{rows}
 use Rattle.cse.specs.AnswerRows.{result-row, let-row}
-use Rattle.cse.specs.Scope.{answer}
+use Rattle.cse.specs.Scope.{cse-scope, answer}
 use Rattle.cse.specs.Demand.{well-scoped}
 use Rattle.cse.specs.Call.{extract-call, work-words, work-bytes}
 use Rattle.print.specs.Print.{print-call}
@@ -40,6 +40,10 @@ mixed-text =
 abbrev few : List ℕ
 few = table-words (row-sym (bytes "a") ∷ row-op 3 (0 ∷ 0 ∷ []) ∷ [])
 
+-- how many numbers select(i, a + b) takes where the open scopes have so many rows: it needs five, and its arm three more
+abbrev numbers-in : ℕ → Outcome ℕ
+numbers-in room = cse-scope (suc room) room true 0 (Op Select (v "i" ◂ (v "a" ⊕ v "b") ◂ nil) ∷ []) >>= λ a. ok (a .next)
+
 pub record Examples : Type 0 where
   mixed-scoped : csescoped mixed-sheet ≡ mixed-text
   mixed-by-calls : by-calls true 45 200 mixed-sheet ≡ ok mixed-text
@@ -47,6 +51,9 @@ pub record Examples : Type 0 where
   mixed-no-byte : by-calls true 45 199 mixed-sheet ≡ refused (by 14)
   mixed-in-scope : (answer true mixed >>= λ a. ok (well-scoped mixed a)) ≡ ok true
   mixed-rows : (answer true mixed >>= λ a. ok (rows a)) ≡ ok 45
+  room-enough : numbers-in 8 ≡ ok 1
+  room-for-one : numbers-in 7 ≡ refused (by 23)
+  room-for-none : numbers-in 4 ≡ refused (by 23)
   work-too-short : extract-call false 65535 131072 few (1 ∷ []) 9 ≡ refused (by 8)
   text-too-short : extract-call false 65536 131071 few (1 ∷ []) 9 ≡ refused (by 8)
   no-such-root : extract-call false 65536 131072 few (2 ∷ []) 9 ≡ refused (by 9)
@@ -62,7 +69,7 @@ pub record Examples : Type 0 where
   no-earlier-node : csesheet (bytes "Sym,a\r\nRoot,1") ≡ bytes "refused 5 1\n"
 
 pub examples : Examples
-unfolding answer well-scoped rows by-calls csesheet csescoped extract-call print-call
+unfolding cse-scope answer well-scoped rows by-calls csesheet csescoped extract-call print-call
 examples =
     record {
       mixed-scoped = refl;
@@ -71,6 +78,9 @@ examples =
       mixed-no-byte = refl;
       mixed-in-scope = refl;
       mixed-rows = refl;
+      room-enough = refl;
+      room-for-one = refl;
+      room-for-none = refl;
       work-too-short = refl;
       text-too-short = refl;
       no-such-root = refl;

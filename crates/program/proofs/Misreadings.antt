@@ -139,6 +139,11 @@ pub record Misreadings : Type 0 where
       Both (Op Select (v "i" ◂ ((v "a" ⊕ v "b") ⊗ (v "a" ⊕ v "b")) ◂ nil) ∷ [])
       (given 10 1 "let __x0 = a + b;\nselect(i, __x0 * __x0)\n")
       (given 14 1 "let __m0 = match i { 0 => { let __x1 = a + b; __x1 * __x1 }, _ => panic };\n__m0\n")
+  -- one position of the list is a member twice, once as a divisor bound before the next divisor was: 3 / S and S with S = select(1, 7 / 2)
+  refusing-a-switch-in-a-bound-divisor :
+      Both (v "p" ⊘ (num 3 ⊘ Op Select (num 1 ◂ (num 7 ⊘ num 2) ◂ nil)) ∷ v "q" ⊘ (num 3 ⊘ Op Select (num 1 ◂ (num 7 ⊘ num 2) ◂ nil)) ∷ v "r" ⊘ num 2 ∷ [])
+      (given 42 0 "let __x2 = 1 / select(1, 7 / 2);\nlet __x1 = 1 / (3 * __x2);\nlet __x0 = 1 / 2;\np / (3 / select(1, 7 * __x0))\nq / (3 / select(1, 7 * __x0))\nr * __x0\n")
+      (given 43 0 "let __x0 = 1 / 2;\nlet (__m3, __m4) = match 1 { 0 => (7 * __x0, 7 / 2), _ => panic };\nlet __x2 = 1 / __m4;\nlet __x1 = 1 / (3 * __x2);\np / (3 / __m3)\nq / (3 / __m3)\nr * __x0\n")
 
 pub misreadings : Misreadings
 unfolding summary
@@ -171,4 +176,5 @@ misreadings =
       a-match-that-none-reads-left-out = (refl, refl);
       two-matches-to-a-product = (refl, refl);
       a-count-without-arms = (refl, refl);
+      refusing-a-switch-in-a-bound-divisor = (refl, refl);
     }

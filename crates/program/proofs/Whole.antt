@@ -3,9 +3,11 @@ use Prim.Native.Nat.{ℕ}
 use mathlib.Core.Path.{_≡_}
 use mathlib.Core.Bool.{Bool, false}
 use mathlib.Core.List.{List}
+use mathlib.Core.Logic.{_⊎_}
 use lib.Dec.{T}
 use Rattle.tree.specs.Outcome.{Refusal, ok, refused, by}
 use Rattle.tree.specs.Tree.{Tree}
+use Rattle.cse.specs.Answer.{Answer}
 use Rattle.cse.specs.Scope.{answer}
 use Rattle.tree.specs.Rows.{Table, trees}
 use Rattle.sheet.specs.Sheet.{load}
@@ -15,6 +17,10 @@ use Rattle.cse.proofs.PassesLaws.{passes-formed, passes-unmade}
 use Rattle.sheet.proofs.SheetPasses.{accepted-passes}
 use Rattle.cse.proofs.FlatCount.{flat-no-repeats, flat-counted, flat-count}
 use Rattle.cse.proofs.Refusals as refusals
+use Rattle.cse.proofs.ReciprocalBindings as bindings
+use Rattle.cse.proofs.ReciprocalBindings.{All-flat}
+use Rattle.cse.proofs.ScopedCount as counts
+use Rattle.cse.proofs.ScopedCount.{Tally, over-lets, each-one, inverse-one}
 use Rattle.cse.proofs.Both as both
 
 pub demand3 : (es : List Tree) → T (passes es) → Demand3 es
@@ -32,3 +38,17 @@ flat-refused-by-10 es h i e = refusals.flat-refused-by-10 es (passes-unmade es h
 
 pub flat-never-11 : (es : List Tree) → T (passes es) → answer false es ≡ refused (by 11) → ⊥
 flat-never-11 es h e = refusals.flat-never-11 es (passes-unmade es h) e
+
+-- the scoped form refuses by 10, 11 or 23 alone
+pub refused-by-10-11-or-23 : (scoped : Bool) (es : List Tree) (i : Refusal) → answer scoped es ≡ refused i → (i ≡ by 10) ⊎ ((i ≡ by 11) ⊎ (i ≡ by 23))
+refused-by-10-11-or-23 = refusals.refused-by-10-11-or-23
+
+-- in a flat answer each statement binds some `__xi`, and where i is not below the extraction count, to 1 / d
+pub flat-reciprocals : (es : List Tree) → T (passes es) → (a : Answer) → answer false es ≡ ok a → All-flat (a .extracted) (a .inters)
+flat-reciprocals es h = bindings.flat-reciprocals es (passes-unmade es h)
+
+-- in each answer the Lets, arms included, are as many as the extraction count says and some more, and at least as many as these are of the form 1 / d
+pub answer-counted :
+    (scoped : Bool) (es : List Tree) → T (passes es) → (a : Answer) → answer scoped es ≡ ok a
+    → Tally (a .extracted) (over-lets each-one (a .inters)) (over-lets inverse-one (a .inters))
+answer-counted scoped es h = counts.answer-counted scoped es (passes-unmade es h)

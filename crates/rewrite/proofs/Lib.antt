@@ -13,3 +13,4 @@ pub mod Weight
 pub mod Plain
 pub mod Savings
 pub mod DivisorCount
+pub mod ReplaceFuel

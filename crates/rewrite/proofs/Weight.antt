@@ -28,7 +28,7 @@ module _ (n : Name) where
     weight (Const c) = 2
     weight (Op k f) = suc (suc (weights f))
 
-    weights : Forest → ℕ
+    pub weights : Forest → ℕ
     weights nil = 0
     weights (t ◂ f) = weight t + weights f
 
