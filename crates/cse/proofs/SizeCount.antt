@@ -1,4 +1,4 @@
--- The total size, nodes of results and bindings: no round raises it, and no bind-reciprocal raises that of results and of the rounds' bindings.
+-- The total size, nodes of results and bindings: no round raises it, and no reciprocal raises that of results and of the rounds' bindings.
 -- Assumes nothing.
 use Prim.Native.Nat.{ℕ, zero, suc, _+_, _-_, _*_, _≤_}
 use mathlib.Core.Path.{_≡_, refl, sym, _∙_, ap, ap₂, subst}

@@ -1,4 +1,4 @@
--- Loading a sheet: from bytes to node rows and roots, or a refusal with its record (01, "Sheet and printing", "Turned down": Outcome). Assumes nothing.
+-- Loading a sheet: from bytes to node rows and roots, or a refusal with its record (01, "Sheet and printing", "Turned down": Load). Assumes nothing.
 use Prim.Native.Nat.{ℕ, zero, suc, _+_, _-_, _*_, _^_, max}
 use mathlib.Core.Bool.{Bool, true, false, not, _&&_, _||_, cond}
 use mathlib.Core.Option.{Option, none, some}
