@@ -1,7 +1,7 @@
 -- The call of print, with its refusals in order (01, "Turned down": Print; "Sheet and printing"): what it returns, and what it leaves in the lent buffer.
 -- Assumes nothing.
 use Prim.Native.Nat.{ℕ, _/_}
-use mathlib.Core.Bool.{Bool, cond}
+use mathlib.Core.Bool.{cond}
 use mathlib.Core.List.{List, _++_}
 use lib.ListN.{length, drop}
 use lib.Dec.{ltb}

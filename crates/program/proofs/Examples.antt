@@ -2,7 +2,7 @@
 -- refuses, and each refusal of load. Assumes nothing.
 use Prim.Native.Nat.{ℕ, suc}
 use mathlib.Core.Path.{_≡_, refl}
-use mathlib.Core.Bool.{Bool, true, false}
+use mathlib.Core.Bool.{true, false}
 use mathlib.Core.List.{List, [], _∷_}
 use Rattle.tree.specs.Outcome.{Outcome, ok, refused, by, _>>=_}
 use Rattle.tree.specs.Bytes.{bytes}
@@ -15,7 +15,7 @@ use Rattle.cse.specs.Answer.{rows}
 use Rattle.cse.specs.AnswerRows.{result-row, let-row}
 use Rattle.cse.specs.Scope.{cse-scope, answer}
 use Rattle.cse.specs.Demand.{well-scoped}
-use Rattle.cse.specs.Call.{extract-call, work-words, work-bytes}
+use Rattle.cse.specs.Call.{extract-call}
 use Rattle.print.specs.Print.{print-call}
 use Rattle.program.specs.Program.{csesheet, csescoped}
 use Rattle.program.specs.Calls.{by-calls}

@@ -4,9 +4,9 @@ use Prim.Native.String.{String}
 use mathlib.Core.Path.{_≡_, refl}
 use mathlib.Core.Bool.{Bool, true, false}
 use mathlib.Core.List.{List, [], _∷_}
-use lib.IntN.{pos, negsuc}
+use lib.IntN.{pos}
 use Rattle.tree.specs.Outcome.{Outcome, ok, refused, _>>=_, by}
-use Rattle.tree.specs.Tree.{Name, input, Tree, Sym, Const, Op, nil, _◂_}
+use Rattle.tree.specs.Tree.{input, Tree, Sym, Const, Op, nil, _◂_}
 use Rattle.tree.specs.Kinds.{Add, Mul, Div, Sin, Cos, Select}
 use Rattle.tree.specs.Bytes.{bytes}
 use Rattle.cse.specs.Answer.{end, answer-text}

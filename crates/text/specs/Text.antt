@@ -1,7 +1,7 @@
 -- The text of an expression, `Display` for `Expr`, and the order of texts (01, "Text"). Assumes nothing.
 use Prim.Native.Nat.{ℕ}
 use Prim.Native.String.{String}
-use mathlib.Core.Bool.{Bool, true, false, _&&_, _||_, cond}
+use mathlib.Core.Bool.{Bool, true, false, _||_, cond}
 use mathlib.Core.List.{List, [], _∷_, _++_}
 use lib.Dec.{eqb, leb, ltb}
 use Rattle.tree.specs.Bytes.{bytes, decimal, integer, joined}

@@ -1,8 +1,8 @@
 -- Node rows as words (01, "Turned down": Load's rows, and 9, "rows load couldn't lay out"). A row is 35 words: its kind, 0 to 27 as 01 lists them, a 1 where a
 -- Select has a default, how many fields it has, and the fields: a name's bytes, a constant's sign and size, or the operands' node numbers. The words
 -- that are left are 0, so that equal tables are equal words. Assumes nothing.
-use Prim.Native.Nat.{ℕ, zero, suc, _+_, _-_, _*_, _/_}
-use mathlib.Core.Bool.{Bool, true, false, _&&_, cond}
+use Prim.Native.Nat.{ℕ, zero, suc, _+_, _-_, _/_}
+use mathlib.Core.Bool.{Bool, true, _&&_, cond}
 use mathlib.Core.List.{List, [], _∷_, _++_}
 use lib.IntN.{ℤ, pos, negsuc, negℤ}
 use lib.ListN.{length, getD, take, drop, replicate}
@@ -11,7 +11,7 @@ use Rattle.tree.specs.Outcome.{Outcome, ok, refused, by}
 use Rattle.tree.specs.Bytes.{eq-bytes, every}
 use Rattle.tree.specs.Kinds.{Select, SelectOr}
 use Rattle.tree.specs.Symbol.{is-name}
-use Rattle.tree.specs.Rows.{Row, row-sym, row-const, row-op, Table, trees, occurrences, within-limits}
+use Rattle.tree.specs.Rows.{Row, row-sym, row-const, row-op, Table, trees, within-limits}
 use Rattle.tree.specs.Passes.{of-paper, operands-ok}
 use Rattle.tree.specs.Records.{sheet-of}
 
