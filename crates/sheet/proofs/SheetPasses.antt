@@ -9,34 +9,25 @@ use lib.IntN.{ℤ, pos, negsuc}
 use lib.ListN.{length, getD}
 use lib.Dec.{T, eqb, leb, ltb, eqb→eq, eqb-refl, ltb→lt, lt→ltb, le→leb, leb→le}
 use Rattle.tree.specs.Outcome.{Outcome, ok, refused, _at-record_}
-use Rattle.tree.specs.Tree.{Tree, Sym, Const, Op, nil, _◂_, forest}
 use Rattle.tree.specs.Bytes.{eq-bytes}
 use Rattle.tree.specs.Kinds.{arity-ok, Neg, SelectOr}
 use Rattle.sheet.specs.Sheet.{records-from, fields-from, plain, number, below-limit, minus, constant, words, Root, find, fields-ok, numbers, add-row, add-root, add-numbers, add-fields, add-record, load-records, load}
 use Rattle.tree.specs.Bytes.{every}
 use Rattle.tree.specs.Symbol.{is-name}
-use Rattle.tree.specs.Rows.{Row, row-sym, row-const, row-op, Table, at, tree-of-row, trees-from, trees, within-limits}
-use Rattle.tree.specs.Passes.{all-of, of-list, of-paper, operands-ok, expression, expressions, passes}
+use Rattle.tree.specs.Rows.{Row, row-sym, row-const, row-op, Table, trees, within-limits}
+use Rattle.tree.specs.Passes.{of-paper, operands-ok, passes}
+use Rattle.tree.specs.Layout.{row-ok, rows-ok}
 use Rattle.tree.proofs.Logic.{and-left, and-right, and-both}
-use Rattle.tree.proofs.Formed.{tests}
+use Rattle.tree.proofs.DomainPasses.{domain-test, domain-passes}
 
 -- ---- a good table: names, constants and operand counts of 01, and node numbers of earlier rows
 
-row-good : ℕ → Row → Bool
-row-good i (row-sym s) = is-name s
-row-good i (row-const c) = of-paper c
-row-good i (row-op k ns) = operands-ok k (length ns) && every (λ n. ltb n i) ns
-
-rows-good : ℕ → List Row → Bool
-rows-good i [] = true
-rows-good i (r ∷ l) = row-good i r && rows-good (suc i) l
-
-rows-append : (i : ℕ) (l : List Row) (r : Row) → T (rows-good i l) → T (row-good (i + length l) r) → T (rows-good i (l ++ (r ∷ [])))
-unfolding rows-good
-rows-append i [] r g h = and-both (row-good i r) true (subst (λ (m : ℕ). T (row-good m r)) (let e : i + 0 ≡ i = omega arith in e) h) tt
+rows-append : (i : ℕ) (l : List Row) (r : Row) → T (rows-ok i l) → T (row-ok (i + length l) r) → T (rows-ok i (l ++ (r ∷ [])))
+unfolding rows-ok
+rows-append i [] r g h = and-both (row-ok i r) true (subst (λ (m : ℕ). T (row-ok m r)) (let e : i + 0 ≡ i = omega arith in e) h) tt
 rows-append i (q ∷ l) r g h =
-    and-both (row-good i q) (rows-good (suc i) (l ++ (r ∷ []))) (and-left (row-good i q) (rows-good (suc i) l) g)
-    (rows-append (suc i) l r (and-right (row-good i q) (rows-good (suc i) l) g) (subst (λ (m : ℕ). T (row-good m r)) (let e : i + suc (length l) ≡ suc i + length l = omega arith in e) h))
+    and-both (row-ok i q) (rows-ok (suc i) (l ++ (r ∷ []))) (and-left (row-ok i q) (rows-ok (suc i) l) g)
+    (rows-append (suc i) l r (and-right (row-ok i q) (rows-ok (suc i) l) g) (subst (λ (m : ℕ). T (row-ok m r)) (let e : i + suc (length l) ≡ suc i + length l = omega arith in e) h))
 
 length-more : {A : Type 0} (l : List A) (a : A) → length (l ++ (a ∷ [])) ≡ suc (length l)
 length-more [] a = refl
@@ -55,26 +46,28 @@ every-append p [] i g h = and-both (p i) true h tt
 every-append p (j ∷ l) i g h = and-both (p j) (every p (l ++ (i ∷ []))) (and-left (p j) (every p l) g) (every-append p l i (and-right (p j) (every p l) g) h)
 
 record Good (t : Table) : Type 0 where
-  rows : T (rows-good 0 (t .rows))
+  rows : T (rows-ok 0 (t .rows))
   roots : T (every (λ n. ltb n (length (t .rows))) (t .roots))
+  short : length (t .rows) ≤ 1024
   few : length (t .roots) ≤ 64
 
 Fine : Outcome Table → Type 0
 Fine (ok t) = Good t
 Fine (refused r) = Unit {0}
 
-fine-row : (i : ℕ) (r : Row) (t : Table) → Good t → T (row-good (length (t .rows)) r) → Fine (add-row i r t)
+fine-row : (i : ℕ) (r : Row) (t : Table) → Good t → T (row-ok (length (t .rows)) r) → Fine (add-row i r t)
 unfolding add-row Fine
-fine-row i r t G h = go (ltb (length (t .rows)) 1024)
+fine-row i r t G h = go (ltb (length (t .rows)) 1024) (ltb→lt (length (t .rows)) 1024)
   where
-    go : (b : Bool) → Fine (cond b (ok (record { rows = t .rows ++ (r ∷ []); roots = t .roots })) (refused (6 at-record i)))
-    go true =
+    go : (b : Bool) → (T b → length (t .rows) < 1024) → Fine (cond b (ok (record { rows = t .rows ++ (r ∷ []); roots = t .roots })) (refused (6 at-record i)))
+    go true f =
         record {
-          rows = rows-append 0 (t .rows) r (G .rows) (subst (λ (m : ℕ). T (row-good m r)) (let e : length (t .rows) ≡ 0 + length (t .rows) = omega arith in e) h);
+          rows = rows-append 0 (t .rows) r (G .rows) (subst (λ (m : ℕ). T (row-ok m r)) (let e : length (t .rows) ≡ 0 + length (t .rows) = omega arith in e) h);
           roots = every-less (length (t .rows)) (length (t .rows ++ (r ∷ []))) (let q = length-more (t .rows) r in omega arith) (t .roots) (G .roots);
+          short = (let q = length-more (t .rows) r in let w = f tt in omega arith);
           few = G .few;
         }
-    go false = tt
+    go false f = tt
 
 fine-root : (i n : ℕ) (t : Table) → Good t → T (ltb n (length (t .rows))) → Fine (add-root i n t)
 unfolding add-root Fine
@@ -85,6 +78,7 @@ fine-root i n t G h = go (ltb (length (t .roots)) 64) (ltb→lt (length (t .root
         record {
           rows = G .rows;
           roots = every-append (λ m. ltb m (length (t .rows))) (t .roots) n (G .roots) h;
+          short = G .short;
           few = (let q = length-more (t .roots) n in let r = f tt in omega arith);
         }
     go false f = tt
@@ -166,7 +160,7 @@ module _ (i k : ℕ) (t : Table) (G : Good t) where
       node true e d q u = fine-root i (getD ns 0 0) t G (first-less (length (t .rows)) ns (eqb→eq (length ns) 1 q) u)
       node false e d q u =
           fine-row i (row-op k ns) t G
-          (unfold row-good operands-ok in
+          (unfold row-ok operands-ok in
           and-both (leb Neg k && arity-ok k (length ns)) (every (λ n. ltb n (length (t .rows))) ns)
           (and-both (leb Neg k) (arity-ok k (length ns)) (le→leb Neg k l)
           (past (leb k 1) (eqb (length ns) 1) (arity-ok k (length ns)) (λ z. let w = leb→le k 1 z in omega arith) q)) u)
@@ -180,12 +174,12 @@ module _ (i k : ℕ) (t : Table) (G : Good t) where
   fine-fields fs h f = go (eqb k 0) (eqb k 1) (λ e. subst (λ (m : ℕ). T (eqb k m)) e (eqb-refl k)) (λ e. subst (λ (m : ℕ). T (eqb k m)) e (eqb-refl k))
     where
       name : (b : Bool) → (T b → T (is-name (getD fs 0 []))) → Fine (cond b (add-row i (row-sym (getD fs 0 [])) t) (refused (3 at-record i)))
-      name true u = fine-row i (row-sym (getD fs 0 [])) t G (unfold row-good in u tt)
+      name true u = fine-row i (row-sym (getD fs 0 [])) t G (unfold row-ok in u tt)
       name false u = tt
 
       const : (o : Option ℤ) → Paper o → Fine (elim o [ none ↦ refused (4 at-record i) | some c ↦ add-row i (row-const c) t ])
       const none u = tt
-      const (some c) u = fine-row i (row-const c) t G (unfold row-good Paper in u)
+      const (some c) u = fine-row i (row-const c) t G (unfold row-ok Paper in u)
 
       node : (o : Option (List ℕ)) → As-long (length fs) o → 2 ≤ k → Fine (elim o [ none ↦ refused (2 at-record i) | some ns ↦ add-numbers i k ns t ])
       node none u l = tt
@@ -232,75 +226,6 @@ fine-records i (r ∷ l) t G = go (every plain r) (add-record i (fields-from [] 
     go true (refused r) h f = tt
     go false o h f = tt
 
--- ---- trees
-
-picked : (ts : List Tree) (n : ℕ) → T (expressions ts) → n < length ts → T (expression (getD ts n (Op 0 nil)))
-unfolding expressions
-picked [] n h l = absurd (omega arith)
-picked (t ∷ ts) zero h l = and-left (expression t) (expressions ts) h
-picked (t ∷ ts) (suc n) h l = picked ts n (and-right (expression t) (expressions ts) h) (omega arith)
-
-all-picked : (ts : List Tree) (ns : List ℕ) → T (expressions ts) → T (every (λ n. ltb n (length ts)) ns) → T (expressions (at ts ns))
-unfolding expressions at every
-all-picked ts [] h e = tt
-all-picked ts (n ∷ ns) h e =
-    and-both (expression (getD ts n (Op 0 nil))) (expressions (at ts ns)) (picked ts n h (ltb→lt n (length ts) (and-left (ltb n (length ts)) (every (λ n. ltb n (length ts)) ns) e)))
-    (all-picked ts ns h (and-right (ltb n (length ts)) (every (λ n. ltb n (length ts)) ns) e))
-
-length-at : (ts : List Tree) (ns : List ℕ) → length (at ts ns) ≡ length ns
-unfolding at
-length-at ts [] = refl
-length-at ts (n ∷ ns) = ap suc (length-at ts ns)
-
-tests-long : (l : List Tree) → length (tests (forest l)) ≡ length l
-unfolding forest
-tests-long [] = (unfold expression in refl)
-tests-long (t ∷ l) = more (tests-long l)
-  where
-    more : length (tests (forest l)) ≡ length l → length (tests (t ◂ forest l)) ≡ suc (length l)
-    more h = (unfold expression in ap suc h)
-
-tests-pass : (l : List Tree) → T (expressions l) → T (all-of (tests (forest l)))
-unfolding forest expressions expression
-tests-pass [] h = tt
-tests-pass (t ∷ l) h = and-both (expression t) (all-of (tests (forest l))) (and-left (expression t) (expressions l) h) (tests-pass l (and-right (expression t) (expressions l) h))
-
-row-passes : (ts : List Tree) (r : Row) → T (expressions ts) → T (row-good (length ts) r) → T (expression (tree-of-row ts r))
-unfolding tree-of-row row-good expression
-row-passes ts (row-sym s) h g = g
-row-passes ts (row-const c) h g = g
-row-passes ts (row-op k ns) h g =
-    let e : length (tests (forest (at ts ns))) ≡ length ns = tests-long (at ts ns) ∙ length-at ts ns in
-    and-both (operands-ok k (length (tests (forest (at ts ns))))) (all-of (tests (forest (at ts ns))))
-    (subst (λ (m : ℕ). T (operands-ok k m)) (sym e) (and-left (operands-ok k (length ns)) (every (λ n. ltb n (length ts)) ns) g))
-    (tests-pass (at ts ns) (all-picked ts ns h (and-right (operands-ok k (length ns)) (every (λ n. ltb n (length ts)) ns) g)))
-
-expressions-append : (l : List Tree) (t : Tree) → T (expressions l) → T (expression t) → T (expressions (l ++ (t ∷ [])))
-unfolding expressions
-expressions-append [] t g h = and-both (expression t) true h tt
-expressions-append (u ∷ l) t g h = and-both (expression u) (expressions (l ++ (t ∷ []))) (and-left (expression u) (expressions l) g) (expressions-append l t (and-right (expression u) (expressions l) g) h)
-
-rows-pass : (ts : List Tree) (l : List Row) → T (expressions ts) → T (rows-good (length ts) l) → T (expressions (trees-from ts l)) × (length (trees-from ts l) ≡ length ts + length l)
-unfolding trees-from rows-good
-rows-pass ts [] h g = (h, omega arith)
-rows-pass ts (r ∷ l) h g =
-    let t = tree-of-row ts r in
-    let n = length-more ts t in
-    let q = rows-pass (ts ++ (t ∷ [])) l (expressions-append ts t h (row-passes ts r h (and-left (row-good (length ts) r) (rows-good (suc (length ts)) l) g)))
-    (subst (λ (m : ℕ). T (rows-good m l)) (sym n) (and-right (row-good (length ts) r) (rows-good (suc (length ts)) l) g)) in
-    (q .0, (let a = q .1 in omega arith))
-
-table-passes : (t : Table) → Good t → T (within-limits (trees t)) → T (passes (trees t))
-unfolding passes trees
-table-passes t G w =
-    let ts = trees-from [] (t .rows) in
-    let q = rows-pass [] (t .rows) (unfold expressions in tt) (G .rows) in
-    let e : length ts ≡ length (t .rows) = (let a = q .1 in omega arith) in
-    and-both (leb (length (at ts (t .roots))) 64) (within-limits (at ts (t .roots)) && expressions (at ts (t .roots)))
-    (le→leb (length (at ts (t .roots))) 64 (let a = length-at ts (t .roots) in let b = G .few in omega arith))
-    (and-both (within-limits (at ts (t .roots))) (expressions (at ts (t .roots))) w
-    (all-picked ts (t .roots) (q .0) (subst (λ (m : ℕ). T (every (λ n. ltb n m) (t .roots))) (sym e) (G .roots))))
-
 -- ---- load
 
 Passing : Outcome Table → Type 0
@@ -311,10 +236,10 @@ load-passing : (row-places root-places : ℕ) (s : List ℕ) → Passing (load r
 unfolding load Passing
 load-passing row-places root-places s =
     first (ltb row-places 1024 || ltb root-places 64) (eqb (length s) 0) (ltb 65535 (length s)) (load-records 0 (records-from [] s) (record { rows = []; roots = [] }))
-    (fine-records 0 (records-from [] s) (record { rows = []; roots = [] }) (record { rows = (unfold rows-good in tt); roots = (unfold every in tt); few = omega arith }))
+    (fine-records 0 (records-from [] s) (record { rows = []; roots = [] }) (record { rows = (unfold rows-ok in tt); roots = (unfold every in tt); short = omega arith; few = omega arith }))
   where
     limits : (t : Table) → Good t → (b : Bool) → (T b → T (within-limits (trees t))) → (n : ℕ) → Passing (cond b (ok t) (refused (6 at-record n)))
-    limits t G true h n = table-passes t G (h tt)
+    limits t G true h n = domain-passes t (domain-test t (record { few-rows = G .short; few-roots = G .few; good-rows = G .rows; good-roots = G .roots; limited = h tt }))
     limits t G false h n = tt
 
     last : (o : Outcome Table) → Fine o → Passing (elim o [ ok t ↦ cond (within-limits (trees t)) (ok t) (refused (6 at-record (length (records-from [] s)))) | refused r ↦ refused r ])
