@@ -1,1 +1,6 @@
+pub mod Tests
+pub mod Numerals
+pub mod Words
+pub mod Splitting
+pub mod Loads
 pub mod SheetPasses
