@@ -3,4 +3,5 @@ pub mod Numerals
 pub mod Words
 pub mod Splitting
 pub mod Loads
+pub mod Loaded
 pub mod SheetPasses

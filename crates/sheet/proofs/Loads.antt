@@ -23,7 +23,7 @@ use Rattle.sheet.specs.Sheet.{records-from, fields-from, plain, constant
 use Rattle.sheet.proofs.Tests.{is-true, every-more, every-implies}
 use Rattle.sheet.proofs.Numerals.{digit-range, decimal-digits, constant-integer}
 use Rattle.sheet.proofs.Words.{inner, Word, word, kind-word, arity-kind}
-use Rattle.sheet.proofs.Splitting.{Sound, records-joined, terminated, joined-bytes, no-comma, two-fields, texts, number-fields, numbers-texts, texts-length, decimal-no-comma}
+use Rattle.sheet.proofs.Splitting.{Sound, records-joined, terminated, joined-bytes, records-long, no-comma, two-fields, texts, number-fields, numbers-texts, texts-length, decimal-no-comma}
 
 -- ---- bytes of names, numbers and constants: all past the comma, and with it past a quote, a CR and an LF
 
@@ -210,11 +210,6 @@ roots-sound (n ∷ l) = (root-stands n .clean, root-stands n .long, roots-sound 
 sheet-long : (l : List (List ℕ)) → Sound l → 1 ≤ length l → 1 ≤ length (joined (bytes "\r\n") l)
 sheet-long [] s h = absurd (omega arith)
 sheet-long (r ∷ l) s h = let a = s .1 in omega (arith, joined-bytes (r ∷ l) h, (let e : terminated (r ∷ l) ≡ length r + 2 + terminated l = (unfold terminated in refl) in e))
-
-records-long : (l : List Row) (rest : List (List ℕ)) → length l ≤ length (row-records l ++ rest)
-unfolding row-records
-records-long [] rest = omega arith
-records-long (r ∷ l) rest = let h = records-long l rest in omega arith
 
 all-loaded : (t : Table) → Domain t → load-records 0 (row-records (t .rows) ++ root-records (t .roots)) (record { rows = []; roots = [] }) ≡ ok t
 all-loaded t D =

@@ -9,13 +9,13 @@ use native.Mathlib.Omega.{arith}
 use borrow.Author.Tests.{ltb-true, ltb-false, lt-ltb, le-ltb, ne-eqb}
 use lib.IntN.{ℤ, pos, negsuc}
 use lib.ListN.{length}
-use lib.Dec.{T, eqb, leb, ltb, eqb→eq, ltb→lt, lt→ltb, le→leb, leb→le, T-not, eqb-refl}
+use lib.Dec.{T, eqb, leb, ltb, eqb→eq, ltb→lt, lt→ltb, le→leb, leb→le, T-not}
 use Rattle.tree.specs.Bytes.{every, digits, decimal, integer}
 use Rattle.tree.specs.Symbol.{is-digit}
 use Rattle.tree.specs.Passes.{of-paper}
 use Rattle.tree.proofs.Logic.{and-left, and-right, and-both}
 use Rattle.sheet.specs.Sheet.{number-from, number, below-limit, minus, constant}
-use Rattle.sheet.proofs.Tests.{is-true, every-more}
+use Rattle.sheet.proofs.Tests.{is-true, eq→eqb, every-more}
 
 pub digit-range : (b : ℕ) → T (is-digit b) → (48 ≤ b) × (b ≤ 57)
 digit-range b h = (leb→le 48 b (and-left (leb 48 b) (leb b 57) h), leb→le b 57 (and-right (leb 48 b) (leb b 57) h))
@@ -137,7 +137,7 @@ number-reads (b ∷ (c ∷ l)) = go (every is-digit (b ∷ (c ∷ l)) && not (eq
     long : T (every is-digit (b ∷ (c ∷ l)) && not (eqb b 48)) → Written (number-from 0 (b ∷ (c ∷ l))) (b ∷ (c ∷ l))
     long h =
         let d = and-left (every is-digit (b ∷ (c ∷ l))) (not (eqb b 48)) h in
-        let n : b ≡ 48 → ⊥ = λ e. T-not (eqb b 48) (and-right (every is-digit (b ∷ (c ∷ l))) (not (eqb b 48)) h) (subst (λ (m : ℕ). T (eqb b m)) e (eqb-refl b)) in
+        let n : b ≡ 48 → ⊥ = λ e. T-not (eqb b 48) (and-right (every is-digit (b ∷ (c ∷ l))) (not (eqb b 48)) h) (eq→eqb b 48 e) in
         let s = single b (and-left (is-digit b) (every is-digit (c ∷ l)) (unfold every in d)) in
         let i = digit-range b (and-left (is-digit b) (every is-digit (c ∷ l)) (unfold every in d)) in
         (unfold number-from in

@@ -9,7 +9,8 @@ use borrow.Author.Tests.{ne-eqb}
 use lib.ListN.{length, length-append, length-reverse}
 use lib.Dec.{T, eqb, eqb→eq, leb→le}
 use Rattle.tree.specs.Bytes.{bytes, every, joined, decimal}
-use Rattle.tree.specs.Records.{numbers-text}
+use Rattle.tree.specs.Rows.{Row}
+use Rattle.tree.specs.Records.{numbers-text, row-records}
 use Rattle.tree.specs.Symbol.{is-digit}
 use Rattle.tree.proofs.Logic.{and-left, and-right, and-both}
 use Rattle.sheet.specs.Sheet.{records-from, fields-from, plain, number, numbers}
@@ -85,6 +86,11 @@ joined-bytes (r ∷ (q ∷ l)) h =
     let sep = bytes "\r\n" in
     let more = joined sep (q ∷ l) in
     omega (arith, length-append (r ++ sep) more, length-append r sep, joined-bytes (q ∷ l) (omega arith))
+
+pub records-long : (l : List Row) (rest : List (List ℕ)) → length l ≤ length (row-records l ++ rest)
+unfolding row-records
+records-long [] rest = omega arith
+records-long (r ∷ l) rest = let h = records-long l rest in omega arith
 
 -- the records of a sheet are no longer than it is with one more CRLF
 pub records-bytes : (got s : List ℕ) → terminated (records-from got s) ≤ length got + length s + 2
