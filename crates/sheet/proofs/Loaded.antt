@@ -1,17 +1,17 @@
 -- Whatever load gives passes `loadable`. Each record that is taken has the very bytes that the table's own sheet has for its row or root, so that sheet is no
 -- longer than the one that was loaded. Assumes nothing.
-use Prim.Native.Nat.{ℕ, zero, suc, _+_, _≤_, _<_}
+use Prim.Native.Nat.{ℕ, suc, _+_, _≤_, _<_}
 use mathlib.Core.Path.{_≡_, refl, sym, _∙_, ap, subst}
 use mathlib.Core.Bool.{Bool, true, false, _&&_, _||_, cond}
 use mathlib.Core.Option.{Option, none, some}
 use mathlib.Core.List.{List, [], _∷_, _++_, append-nil}
 use native.Mathlib.Omega.{arith}
-use borrow.Author.Tests.{eq-eqb, eqb-false, ltb-false}
+use borrow.Author.Tests.{eqb-false, ltb-false}
 use lib.IntN.{ℤ}
 use lib.ListN.{length, getD, length-append}
-use lib.Dec.{T, eqb, leb, ltb, eqb→eq, ltb→lt, lt→ltb, le→leb, leb→le}
+use lib.Dec.{T, eqb, leb, ltb, eqb→eq, ltb→lt, le→leb, leb→le}
 use Rattle.tree.specs.Outcome.{Outcome, ok, refused, _at-record_}
-use Rattle.tree.specs.Bytes.{bytes, every, joined, decimal, integer}
+use Rattle.tree.specs.Bytes.{bytes, every, decimal, integer}
 use Rattle.tree.specs.Kinds.{kind-at, arity-ok, Neg}
 use Rattle.tree.specs.Symbol.{is-name}
 use Rattle.tree.specs.Rows.{Row, row-sym, row-const, row-op, Table, trees, within-limits}
@@ -22,9 +22,9 @@ use Rattle.tree.proofs.Logic.{and-left, and-right, and-both}
 use Rattle.tree.proofs.DomainPasses.{domain-test}
 use Rattle.sheet.specs.Sheet.{records-from, fields-from, plain, constant, words, Root, find, fields-ok, numbers, add-row, add-root, add-numbers, add-fields, add-record, load-records, load}
 use Rattle.sheet.proofs.Tests.{eq→eqb, every-more, every-less}
-use Rattle.sheet.proofs.Numerals.{Integer, Reads-constant, constant-reads}
+use Rattle.sheet.proofs.Numerals.{Reads-constant, constant-reads}
 use Rattle.sheet.proofs.Words.{Known, Knows, knows, kind-word, root-word}
-use Rattle.sheet.proofs.Splitting.{terminated, terminated-append, joined-bytes, records-long, records-bytes, some-record, glued, Split, record-split, texts, texts-length, glued-texts, Reads-all, numbers-read}
+use Rattle.sheet.proofs.Splitting.{terminated, terminated-append, joined-bytes, records-long, records-bytes, some-record, glued, Split, record-split, texts-length, glued-texts, Reads-all, numbers-read}
 
 -- ---- a record that is taken: a row or a root more, and the record's bytes
 

@@ -1,83 +1,36 @@
 -- A table that passes `loadable` is what load gives for the table's own sheet. Assumes nothing.
-use Prim.Native.Nat.{ℕ, zero, suc, _+_, _≤_, _<_}
+use Prim.Native.Nat.{ℕ, suc, _+_, _≤_, _<_}
 use mathlib.Core.Path.{_≡_, refl, sym, _∙_, ap, subst}
-use mathlib.Core.Bool.{Bool, true, false, not, _&&_, _||_, cond}
-use mathlib.Core.Option.{Option, none, some}
+use mathlib.Core.Bool.{Bool, true, false, cond}
+use mathlib.Core.Option.{some}
 use mathlib.Core.List.{List, [], _∷_, _++_, append-nil, append-assoc}
 use native.Mathlib.Omega.{arith}
 use borrow.Author.Tests.{ne-eqb, lt-ltb, le-ltb, lt-leb}
-use lib.IntN.{ℤ, pos, negsuc}
 use lib.ListN.{length, getD, length-append}
-use lib.Dec.{T, eqb, leb, ltb, eqb→eq, leb→le, le→leb}
+use lib.Dec.{T, eqb, leb, ltb, leb→le}
 use Rattle.tree.specs.Outcome.{Outcome, ok, refused, _at-record_}
 use Rattle.tree.specs.Bytes.{bytes, every, joined, decimal, integer}
 use Rattle.tree.specs.Kinds.{kind-at, arity-ok, Neg}
-use Rattle.tree.specs.Symbol.{is-digit, is-letter, is-made, is-name}
+use Rattle.tree.specs.Symbol.{is-name}
 use Rattle.tree.specs.Rows.{Row, row-sym, row-const, row-op, Table, trees, within-limits}
-use Rattle.tree.specs.Passes.{of-paper, operands-ok}
+use Rattle.tree.specs.Passes.{operands-ok}
 use Rattle.tree.specs.Records.{numbers-text, row-record, root-records, row-records, sheet-of}
 use Rattle.tree.specs.Layout.{row-ok, rows-ok, in-domain, sheet-fits, loadable}
 use Rattle.tree.proofs.Logic.{and-left, and-right, and-both}
 use Rattle.tree.proofs.DomainPasses.{Domain, domain}
-use Rattle.sheet.specs.Sheet.{records-from, fields-from, plain, constant, words, Root, find, fields-ok, numbers, add-row, add-root, add-numbers, add-fields, add-record, load-records, load}
-use Rattle.sheet.proofs.Tests.{is-true, every-more, every-implies}
-use Rattle.sheet.proofs.Numerals.{digit-range, decimal-digits, constant-integer}
-use Rattle.sheet.proofs.Words.{inner, Word, word, kind-word, arity-kind}
-use Rattle.sheet.proofs.Splitting.{Sound, records-joined, terminated, joined-bytes, records-long, no-comma, two-fields, texts, number-fields, numbers-texts, texts-length, decimal-no-comma}
+use Rattle.sheet.specs.Sheet.{records-from, fields-from, plain, words, Root, find, fields-ok, add-row, add-root, add-numbers, add-fields, add-record, load-records, load}
+use Rattle.sheet.proofs.Tests.{is-true, every-more}
+use Rattle.sheet.proofs.Numerals.{constant-integer}
+use Rattle.sheet.proofs.Inner.{inner-plain, inner-no-comma, name-inner, decimal-inner, integer-inner}
+use Rattle.sheet.proofs.Words.{Word, word, kind-word, arity-kind}
+use Rattle.sheet.proofs.Splitting.{Sound, records-joined, terminated, joined-bytes, records-long, two-fields, texts, number-fields, numbers-texts, texts-length}
 
--- ---- bytes of names, numbers and constants: all past the comma, and with it past a quote, a CR and an LF
-
-abbrev high : ℕ → Bool
-high b = leb 45 b
-
-high-inner : (b : ℕ) → T (high b) → T (inner b)
-unfolding plain
-high-inner b h =
-    let l = leb→le 45 b h in
-    rw (ne-eqb b 34 (omega arith), ne-eqb b 13 (omega arith), ne-eqb b 10 (omega arith), ne-eqb b 44 (omega arith)) tt
-
-inner-plain : (l : List ℕ) → T (every inner l) → T (every plain l)
-inner-plain l h = every-implies inner plain (λ b t. and-left (plain b) (no-comma b) t) l h
-
-inner-no-comma : (l : List ℕ) → T (every inner l) → T (every no-comma l)
-inner-no-comma l h = every-implies inner no-comma (λ b t. and-right (plain b) (no-comma b) t) l h
-
-digit-high : (b : ℕ) → T (is-digit b) → T (high b)
-digit-high b h = let i = digit-range b h in le→leb 45 b (omega arith)
-
-either : (P : Type 0) (b c : Bool) → (T b → P) → (T c → P) → T (b || c) → P
-either P true c f g h = f tt
-either P false c f g h = g h
-
-letter-high : (b : ℕ) → T (is-letter b) → T (high b)
-letter-high b h =
-    le→leb 45 b
-    (either (45 ≤ b) (leb 65 b && leb b 90) ((leb 97 b && leb b 122) || eqb b 95) (λ u. let l = leb→le 65 b (and-left (leb 65 b) (leb b 90) u) in omega arith)
-    (either (45 ≤ b) (leb 97 b && leb b 122) (eqb b 95) (λ u. let l = leb→le 97 b (and-left (leb 97 b) (leb b 122) u) in omega arith) (λ u. let e = eqb→eq b 95 u in omega arith)) h)
-
-name-inner : (s : List ℕ) → T (is-name s) → T (every inner s)
-unfolding is-name every
-name-inner [] h = absurd h
-name-inner (b ∷ l) h =
-    let rest = every (λ c. is-letter c || is-digit c) l && (leb (length (b ∷ l)) 32 && not (is-made (b ∷ l))) in
-    and-both (inner b) (every inner l) (high-inner b (letter-high b (and-left (is-letter b) rest h)))
-    (every-implies (λ c. is-letter c || is-digit c) inner (λ c u. high-inner c (either (T (high c)) (is-letter c) (is-digit c) (letter-high c) (digit-high c) u)) l
-    (and-left (every (λ c. is-letter c || is-digit c) l) (leb (length (b ∷ l)) 32 && not (is-made (b ∷ l))) (and-right (is-letter b) rest h)))
-
-decimal-inner : (n : ℕ) → T (every inner (decimal n))
-decimal-inner n = every-implies is-digit inner (λ b u. high-inner b (digit-high b u)) (decimal n) (decimal-digits n)
-
-integer-inner : (c : ℤ) → T (every inner (integer c))
-unfolding integer every
-integer-inner (pos n) = decimal-inner n
-integer-inner (negsuc n) = and-both (inner 45) (every inner (decimal (suc n))) (high-inner 45 tt) (decimal-inner (suc n))
+-- ---- a kind's word, and operands
 
 numbers-plain : (ns : List ℕ) → T (every plain (numbers-text ns))
 unfolding numbers-text every
 numbers-plain [] = tt
 numbers-plain (n ∷ ns) = and-both (plain 44) (every plain (decimal n ++ numbers-text ns)) (unfold plain in tt) (every-more plain (decimal n) (numbers-text ns) (inner-plain (decimal n) (decimal-inner n)) (numbers-plain ns))
-
--- ---- a kind's word
 
 op-word : (k n : ℕ) → T (operands-ok k n) → Word k (kind-at k .word)
 unfolding operands-ok
@@ -146,7 +99,7 @@ root-taken : (i n : ℕ) (t : Table) → T (ltb n (length (t .rows))) → length
     → add-record i (fields-from [] (bytes "Root," ++ decimal n)) t ≡ ok (record { rows = t .rows; roots = t .roots ++ (n ∷ []) })
 root-taken i n t h g =
     let same : decimal n ∷ [] ≡ texts (n ∷ []) = (unfold texts in refl) in
-    ap (λ (l : List (List ℕ)). add-record i l t) (two-fields (bytes "Root") (decimal n) (unfold every in tt) (decimal-no-comma n))
+    ap (λ (l : List (List ℕ)). add-record i l t) (two-fields (bytes "Root") (decimal n) (unfold every in tt) (inner-no-comma (decimal n) (decimal-inner n)))
     ∙ (ap (λ (l : List (List ℕ)). add-record i (bytes "Root" ∷ l) t) same
     ∙ (numbers-taken i Root (bytes "Root") (n ∷ []) t (unfold find words in refl) (omega arith) tt (unfold every in and-both (ltb n (length (t .rows))) true h tt)
     ∙ root-added i n t g))

@@ -8,8 +8,7 @@ use mathlib.Core.List.{List, [], _∷_, _++_, append-nil, append-assoc}
 use native.Mathlib.Omega.{arith}
 use borrow.Author.Tests.{ltb-true, ltb-false, lt-ltb, le-ltb, ne-eqb}
 use lib.IntN.{ℤ, pos, negsuc}
-use lib.ListN.{length}
-use lib.Dec.{T, eqb, leb, ltb, eqb→eq, ltb→lt, lt→ltb, le→leb, leb→le, T-not}
+use lib.Dec.{T, eqb, leb, ltb, eqb→eq, le→leb, leb→le, T-not}
 use Rattle.tree.specs.Bytes.{every, digits, decimal, integer}
 use Rattle.tree.specs.Symbol.{is-digit}
 use Rattle.tree.specs.Passes.{of-paper}

@@ -1,21 +1,19 @@
 -- Records and fields: what is joined is split again as it was, and what is split was so joined. Assumes nothing.
-use Prim.Native.Nat.{ℕ, zero, suc, _+_, _≤_, _<_}
+use Prim.Native.Nat.{ℕ, suc, _+_, _≤_}
 use mathlib.Core.Path.{_≡_, refl, sym, _∙_, ap, subst}
-use mathlib.Core.Bool.{Bool, true, false, not, _&&_}
+use mathlib.Core.Bool.{Bool, true, false, _&&_}
 use mathlib.Core.Option.{Option, none, some}
 use mathlib.Core.List.{List, [], _∷_, _++_, reverse, reverse-cons, append-nil, append-assoc}
 use native.Mathlib.Omega.{arith}
-use borrow.Author.Tests.{ne-eqb}
 use lib.ListN.{length, length-append, length-reverse}
-use lib.Dec.{T, eqb, eqb→eq, leb→le}
+use lib.Dec.{T, eqb, eqb→eq}
 use Rattle.tree.specs.Bytes.{bytes, every, joined, decimal}
 use Rattle.tree.specs.Rows.{Row}
 use Rattle.tree.specs.Records.{numbers-text, row-records}
-use Rattle.tree.specs.Symbol.{is-digit}
-use Rattle.tree.proofs.Logic.{and-left, and-right, and-both}
+use Rattle.tree.proofs.Logic.{and-left, and-right}
 use Rattle.sheet.specs.Sheet.{records-from, fields-from, plain, number, numbers}
-use Rattle.sheet.proofs.Tests.{every-implies}
-use Rattle.sheet.proofs.Numerals.{digit-range, decimal-digits, number-decimal, Reads, number-reads, Written, written-decimal}
+use Rattle.sheet.proofs.Numerals.{number-decimal, Reads, number-reads, written-decimal}
+use Rattle.sheet.proofs.Inner.{no-comma, inner-no-comma, decimal-inner}
 
 shift : (got : List ℕ) (b : ℕ) (r : List ℕ) → reverse (b ∷ got) ++ r ≡ reverse got ++ (b ∷ r)
 shift got b r = ap (λ (l : List ℕ). l ++ r) (reverse-cons b got) ∙ append-assoc (reverse got) (b ∷ []) r
@@ -118,9 +116,6 @@ some-record got (b ∷ (c ∷ l)) h = go (eqb b 13 && eqb c 10) (some-record (b 
 
 -- ---- fields
 
-abbrev pub no-comma : ℕ → Bool
-no-comma b = not (eqb b 44)
-
 not-comma : (b : ℕ) → T (no-comma b) → b ≡ 44 → ⊥
 not-comma b h e = subst (λ (m : ℕ). T (no-comma m)) e h
 
@@ -155,17 +150,11 @@ unfoldable pub texts : List ℕ → List (List ℕ)
 texts [] = []
 texts (n ∷ l) = decimal n ∷ texts l
 
-digit-no-comma : (b : ℕ) → T (is-digit b) → T (no-comma b)
-digit-no-comma b h = let i = digit-range b h in rw (ne-eqb b 44 (omega arith)) tt
-
-pub decimal-no-comma : (n : ℕ) → T (every no-comma (decimal n))
-decimal-no-comma n = every-implies is-digit no-comma digit-no-comma (decimal n) (decimal-digits n)
-
 pub number-fields : (w : List ℕ) → T (every no-comma w) → (ns : List ℕ) → fields-from [] (w ++ numbers-text ns) ≡ w ∷ texts ns
 unfolding numbers-text texts
 number-fields w h [] = ap (λ (l : List ℕ). fields-from [] l) (append-nil w) ∙ last-field [] w h
 number-fields w h (n ∷ ns) =
-    one-field [] w (decimal n ++ numbers-text ns) h ∙ ap (λ (l : List (List ℕ)). w ∷ l) (number-fields (decimal n) (decimal-no-comma n) ns)
+    one-field [] w (decimal n ++ numbers-text ns) h ∙ ap (λ (l : List (List ℕ)). w ∷ l) (number-fields (decimal n) (inner-no-comma (decimal n) (decimal-inner n)) ns)
 
 pub numbers-texts : (ns : List ℕ) → numbers (texts ns) ≡ some ns
 unfolding numbers texts

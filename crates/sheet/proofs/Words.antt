@@ -1,7 +1,7 @@
 -- The record words: each is found at its own kind's number, and at no other; none is empty, and none has a comma, a quote, a CR or an LF. Assumes nothing.
 use Prim.Native.Nat.{ℕ, zero, suc, _+_, _≤_, _<_}
-use mathlib.Core.Path.{_≡_, refl, sym, _∙_, ap, subst}
-use mathlib.Core.Bool.{Bool, true, false, not, _&&_}
+use mathlib.Core.Path.{_≡_, refl, sym, ap, subst}
+use mathlib.Core.Bool.{Bool, true, false, _&&_}
 use mathlib.Core.Option.{Option, none, some}
 use mathlib.Core.List.{List, [], _∷_}
 use native.Mathlib.Omega.{arith}
@@ -11,14 +11,11 @@ use lib.ListN.{length, getD, List·getD-eq-default}
 use lib.Dec.{T, eqb, leb, ltb, eqb→eq, leb→le}
 use Rattle.tree.specs.Bytes.{bytes, eq-bytes, every}
 use Rattle.tree.specs.Kinds.{Kind, kinds, kind-at, arity-ok}
-use Rattle.tree.proofs.Logic.{and-left, and-right, and-both}
+use Rattle.tree.proofs.Logic.{and-left, and-right}
 use Rattle.tree.proofs.TreeLaws.{eq-bytes-sound}
 use Rattle.sheet.specs.Sheet.{plain, words-of, words, Root, find}
 use Rattle.sheet.proofs.Tests.{all-from, entry}
-
--- a byte that stands neither between fields nor between records
-abbrev pub inner : ℕ → Bool
-inner b = plain b && not (eqb b 44)
+use Rattle.sheet.proofs.Inner.{inner}
 
 -- ---- one test over the table
 

@@ -4,10 +4,10 @@ use mathlib.Core.Path.{_≡_, refl, sym, _∙_, ap, subst}
 use mathlib.Core.Bool.{Bool, true, _&&_}
 use mathlib.Core.List.{List, [], _∷_, _++_}
 use native.Mathlib.Omega.{arith}
-use lib.ListN.{length, getD}
+use lib.ListN.{length, getD, length-append}
 use lib.Dec.{T, leb, ltb, ltb→lt, le→leb, leb→le}
 use Rattle.tree.specs.Bytes.{every}
-use Rattle.tree.specs.Tree.{Tree, Op, nil, _◂_, forest}
+use Rattle.tree.specs.Tree.{Tree, Op, nil, folds, forest}
 use Rattle.tree.specs.Rows.{Row, row-sym, row-const, row-op, Table, at, tree-of-row, trees-from, trees, within-limits}
 use Rattle.tree.specs.Passes.{all-of, operands-ok, expression, expressions, passes}
 use Rattle.tree.specs.Layout.{row-ok, rows-ok, in-domain, sheet-fits, loadable}
@@ -74,12 +74,9 @@ length-at ts (n ∷ ns) = ap suc (length-at ts ns)
 -- ---- a row's tree, from those of the rows before it
 
 tests-long : (l : List Tree) → length (tests (forest l)) ≡ length l
-unfolding forest
-tests-long [] = (unfold expression in refl)
-tests-long (t ∷ l) = more (tests-long l)
-  where
-    more : length (tests (forest l)) ≡ length l → length (tests (t ◂ forest l)) ≡ suc (length l)
-    more h = (unfold expression in ap suc h)
+unfolding forest folds
+tests-long [] = refl
+tests-long (t ∷ l) = ap suc (tests-long l)
 
 tests-pass : (l : List Tree) → T (expressions l) → T (all-of (tests (forest l)))
 unfolding forest expressions expression
@@ -98,10 +95,6 @@ row-passes ts (row-op k ns) h g =
 
 -- ---- the rows' trees, and the roots'
 
-length-more : (l : List Tree) (t : Tree) → length (l ++ (t ∷ [])) ≡ suc (length l)
-length-more [] t = refl
-length-more (u ∷ l) t = ap suc (length-more l t)
-
 expressions-append : (l : List Tree) (t : Tree) → T (expressions l) → T (expression t) → T (expressions (l ++ (t ∷ [])))
 unfolding expressions
 expressions-append [] t g h = and-both (expression t) true h tt
@@ -112,7 +105,7 @@ unfolding trees-from rows-ok
 rows-pass ts [] h g = (h, omega arith)
 rows-pass ts (r ∷ l) h g =
     let t = tree-of-row ts r in
-    let n = length-more ts t in
+    let n : length (ts ++ (t ∷ [])) ≡ suc (length ts) = omega (arith, length-append ts (t ∷ [])) in
     let q = rows-pass (ts ++ (t ∷ [])) l (expressions-append ts t h (row-passes ts r h (and-left (row-ok (length ts) r) (rows-ok (suc (length ts)) l) g)))
     (subst (λ (m : ℕ). T (rows-ok m l)) (sym n) (and-right (row-ok (length ts) r) (rows-ok (suc (length ts)) l) g)) in
     (q .0, (let a = q .1 in omega arith))
