@@ -1,1 +1,9 @@
+pub mod Tests
+pub mod Numerals
+pub mod Inner
+pub mod Words
+pub mod Splitting
+pub mod Loads
+pub mod Loaded
+pub mod Loadable
 pub mod SheetPasses
