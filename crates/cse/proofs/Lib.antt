@@ -24,3 +24,7 @@ pub mod SizeCount
 pub mod DivisorsMost
 pub mod ReciprocalBindings
 pub mod ScopedCount
+pub mod Levels
+pub mod SwitchLevels
+pub mod ArmLoads
+pub mod RoomEnough

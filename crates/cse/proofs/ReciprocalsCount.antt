@@ -189,7 +189,7 @@ roots-reciprocal d s =
     ∙ sym (append-assoc (replace-divisor-each d n (s .results)) (replace-divisor-each d n (bound (s .lets))) (Op Div (Const (pos 1) ◂ d ◂ nil) ∷ []))
     ∙ ap (λ (x : List Tree). x ++ (Op Div (Const (pos 1) ◂ d ◂ nil) ∷ [])) (sym (divided-append d n (s .results) (bound (s .lets))))
 
-divided-formed : (d : Tree) (n : Name) (l : List Tree) → T (well-formed-all l) → T (well-formed-all (replace-divisor-each d n l))
+pub divided-formed : (d : Tree) (n : Name) (l : List Tree) → T (well-formed-all l) → T (well-formed-all (replace-divisor-each d n l))
 unfolding well-formed-all replace-divisor-each
 divided-formed d n [] w = tt
 divided-formed d n (e ∷ l) w =
@@ -203,7 +203,7 @@ divided-known p d n t (e ∷ l) h =
     and-both (holds p (replace-divisor d n e)) (holds-all p (replace-divisor-each d n l)) (divisor-holds p d n (λ _. t) e (and-left (holds p e) (holds-all p l) h))
     (divided-known p d n t l (and-right (holds p e) (holds-all p l) h))
 
-inverse-formed : (d : Tree) → T (well-formed d) → T (well-formed-all (inverse d ∷ []))
+pub inverse-formed : (d : Tree) → T (well-formed d) → T (well-formed-all (inverse d ∷ []))
 unfolding well-formed-all well-formed inverse
 inverse-formed d w = and-both (well-formed d && true) true (and-both (well-formed d) true w tt) tt
 
