@@ -9,16 +9,15 @@ use lib.ListN.{length}
 use lib.Dec.{T, eqb}
 use Rattle.tree.specs.Tree.{Name, xname, Tree, Forest, Sym, Const, Op, nil, _◂_, folds, operands}
 use Rattle.tree.specs.Kinds.{Mul, Div, is-switch}
-use Rattle.tree.specs.Facts.{total, size, outer, outer-of, outer-first, all-outer, all-nodes, count}
+use Rattle.tree.specs.Facts.{total, size, outer, outer-of, outer-first, all-outer}
 use Rattle.tree.specs.Rows.{occurrences}
 use Rattle.tree.proofs.Logic.{and-right}
 use Rattle.rewrite.specs.Rewrite.{divides-by, replace-divisor, replace-divisors, dividend}
 use Rattle.rewrite.proofs.Counts.{sum-of, sum-append}
 use Rattle.rewrite.proofs.DivisorCount.{divisor-size}
-use Rattle.cse.specs.Extract.{State, roots, divisors, among, distinct, replace-divisor-each, bind-reciprocal, bind-reciprocals, reciprocals}
+use Rattle.cse.specs.Extract.{State, roots, among, distinct, replace-divisor-each, bind-reciprocal, bind-reciprocals, reciprocals}
 use Rattle.cse.specs.Scope.{Switch, Group, switches, collect-switches, joins, place, groups-from, members, first-arms, rest-arms, columns, arms-of-members}
-use Rattle.cse.proofs.ReciprocalsCount.{AllTrees, all-map, bound-divisors, bound-twice, inverse, roots-reciprocal, reciprocals-are}
-use Rattle.cse.proofs.Levels.{trees-at}
+use Rattle.cse.proofs.ReciprocalsCount.{AllTrees, bound-divisors, inverse, roots-reciprocal, reciprocals-are}
 
 -- ---- a tree's load: the nodes in arms of its switches outside arms
 
@@ -139,10 +138,9 @@ unfolding sum-of
 sum-load-size [] = omega arith
 sum-load-size (t ∷ l) = (let a = load-size t in let b = sum-load-size l in omega arith)
 
-pub reciprocals-load : (scoped : Bool) (s : State) → AllTrees (λ d. load d ≤ 0) (divisors (all-nodes (roots s))) → sum-of load (roots (reciprocals scoped s)) ≤ sum-of size (roots s)
+pub reciprocals-load : (scoped : Bool) (s : State) → AllTrees (λ d. load d ≤ 0) (bound-divisors scoped s) → sum-of load (roots (reciprocals scoped s)) ≤ sum-of size (roots s)
 reciprocals-load scoped s h =
-    (let a = each-load (bound-divisors scoped s) s
-    (all-map (λ d. 2 ≤ count d (divisors (all-nodes (roots s)))) (λ d. load d ≤ 0) (λ d q. trees-at (λ d. load d ≤ 0) d (divisors (all-nodes (roots s))) h (omega arith)) (bound-divisors scoped s) (bound-twice scoped s)) in
+    (let a = each-load (bound-divisors scoped s) s h in
     let b = ap (λ (u : State). sum-of load (roots u)) (reciprocals-are scoped s) in
     let c = sum-load-size (roots s) in
     omega arith)

@@ -1,4 +1,4 @@
--- Facts of a tree that no rewriting raises: how deep arms nest, and whether a divisor holds a switch. Assumes nothing.
+-- A level of trees, as the depth of nested arms is one, is raised by no rewriting. Assumes nothing.
 use Prim.Native.Nat.{ℕ, zero, suc, _*_, _≤_}
 use mathlib.Core.Path.{_≡_, refl, sym, subst}
 use mathlib.Core.Bool.{Bool, true, false, _&&_}
@@ -58,7 +58,7 @@ pub record Level (op : ℕ → List ℕ → ℕ) : Type 0 where
   pub product : (a b N : ℕ) → a ≤ N → b ≤ N → op Mul (a ∷ b ∷ []) ≤ N
   pub negation : (a N : ℕ) → a ≤ N → op Neg (a ∷ []) ≤ N
 
-All-left : (Tree → Type 0) → Option (List Tree) → Type 0
+unfoldable pub All-left : (Tree → Type 0) → Option (List Tree) → Type 0
 All-left P none = Unit {0}
 All-left P (some r) = AllTrees P r
 
@@ -72,7 +72,7 @@ left-first P t (f ∷ l) h = go (eq-tree f t) (remove-first t l) (left-first P t
     go false none g = (unfold All-left in tt)
     go false (some r) g = (unfold All-left in (h .0, g))
 
-left-each : (P : Tree → Type 0) (ts l : List Tree) → AllTrees P l → All-left P (remove-each ts l)
+pub left-each : (P : Tree → Type 0) (ts l : List Tree) → AllTrees P l → All-left P (remove-each ts l)
 unfolding remove-each
 left-each P [] l h = (unfold All-left in h)
 left-each P (t ∷ ts) l h = go (remove-first t l) (left-first P t l h) (λ r g. left-each P ts r g)

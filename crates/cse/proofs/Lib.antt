@@ -25,6 +25,7 @@ pub mod DivisorsMost
 pub mod ReciprocalBindings
 pub mod ScopedCount
 pub mod Levels
-pub mod SwitchLevels
+pub mod NestingLevel
+pub mod CleanDivisors
 pub mod ArmLoads
 pub mod RoomEnough

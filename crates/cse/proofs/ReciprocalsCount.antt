@@ -151,6 +151,24 @@ unfolding bound-divisors
 bound-twice scoped s =
     sort-all _ (shared-divisors scoped (roots s) (distinct [] (divisors (all-nodes (roots s))))) (shared-twice scoped (roots s) (distinct [] (divisors (all-nodes (roots s)))))
 
+shared-outside : (scoped : Bool) (rs l : List Tree) → AllTrees (λ d. 1 ≤ count d (divisors (outside scoped rs))) (shared-divisors scoped rs l)
+unfolding shared-divisors
+shared-outside scoped rs [] = tt
+shared-outside scoped rs (d ∷ l) =
+    go (leb 2 (count d (divisors (all-nodes rs))) && leb 1 (count d (divisors (outside scoped rs))))
+    (λ t. leb→le 1 (count d (divisors (outside scoped rs))) (and-right (leb 2 (count d (divisors (all-nodes rs)))) _ t))
+    (shared-outside scoped rs l)
+  where
+    go : (b : Bool) → (T b → 1 ≤ count d (divisors (outside scoped rs))) → AllTrees (λ d. 1 ≤ count d (divisors (outside scoped rs))) (shared-divisors scoped rs l)
+        → AllTrees (λ d. 1 ≤ count d (divisors (outside scoped rs))) (elim b [ true ↦ d ∷ shared-divisors scoped rs l | false ↦ shared-divisors scoped rs l ])
+    go true f h = (f tt, h)
+    go false f h = h
+
+pub bound-outside : (scoped : Bool) (s : State) → AllTrees (λ d. 1 ≤ count d (divisors (outside scoped (roots s)))) (bound-divisors scoped s)
+unfolding bound-divisors
+bound-outside scoped s =
+    sort-all _ (shared-divisors scoped (roots s) (distinct [] (divisors (all-nodes (roots s))))) (shared-outside scoped (roots s) (distinct [] (divisors (all-nodes (roots s)))))
+
 pub bindable : (s : State) → Sound s → best false (roots s) ≡ none → AllTrees (Bindable (s .next)) (bound-divisors false s)
 bindable s S e =
     all-map (λ d. 2 ≤ count d (divisors (all-nodes (roots s)))) (Bindable (s .next))

@@ -1,6 +1,6 @@
--- Refusal 23 never arises on a list none of whose divisors holds a switch: each arm's scope is then no larger than the list and a level further in, so that nine
--- inputs of 1,024 rows are the most that are open, and these fit. Assumes nothing.
-use Prim.Native.Nat.{ℕ, zero, suc, _+_, _-_, _*_, max, _≤_}
+-- Refusal 23 never arises on a list each of whose divisors holds a symbol, or no switch: no bound divisor holds a switch then, so each arm's scope is no larger
+-- than the list, and a level further in. Nine inputs of 1,024 rows are then the most that are open, and these fit. Assumes nothing.
+use Prim.Native.Nat.{ℕ, zero, suc, _+_, _-_, _*_, _≤_}
 use mathlib.Core.Path.{_≡_, refl, sym, ap, subst}
 use mathlib.Core.Logic.{_⊎_, inl, inr}
 use mathlib.Core.Bool.{Bool, true, false, cond}
@@ -11,7 +11,7 @@ use lib.ListN.{length}
 use lib.Dec.{T, eqb, leb, leb→le, le→leb}
 use Rattle.tree.specs.Outcome.{Refusal, Outcome, ok, refused, by, _>>=_}
 use Rattle.tree.specs.Tree.{Name, xname, Tree, Forest, Sym, Const, Op, nil, _◂_, fold, folds, operands}
-use Rattle.tree.specs.Kinds.{Div, is-switch, arity-ok}
+use Rattle.tree.specs.Kinds.{is-switch, arity-ok}
 use Rattle.tree.specs.Facts.{size, nesting, greatest, first-or-deeper, outer, outer-of, outer-first, all-outer, all-nodes, all-operations, count}
 use Rattle.tree.specs.Rows.{occurrences, within-limits}
 use Rattle.tree.specs.Value.{values}
@@ -35,8 +35,9 @@ use Rattle.cse.proofs.ScopeRoom.{scope-in, scope-opens}
 use Rattle.cse.proofs.ScopedCount.{Started, started}
 use Rattle.cse.proofs.Refusals.{Only, only-at, Ten, extract-all-ten}
 use Rattle.cse.proofs.Levels.{trees-append, trees-at, Most, μ, all-nodes-most, extract-all-most, reciprocals-most}
-use Rattle.cse.proofs.SwitchLevels.{nesting-op, nesting-level, nesting-is, arms-deeper, divided, switch-op, switch-level, switched, switcheds, Plain-divisors, tame-all, divisors-at}
-use Rattle.cse.proofs.ArmLoads.{arms-total, load, loads, load-first, reciprocals-load, All-arms, Groups, groups-arms, Small-groups, collected-small, Columns, group-columns}
+use Rattle.cse.proofs.NestingLevel.{nesting-op, nesting-level, nesting-is, arms-deeper}
+use Rattle.cse.proofs.CleanDivisors.{every, every-each, divides-plain, clean, All-clean, extract-all-clean, reciprocals-clean, Plain-divisors, all-clean-from, bound-load}
+use Rattle.cse.proofs.ArmLoads.{arms-total, load, reciprocals-load, All-arms, Groups, groups-arms, Small-groups, collected-small, Columns, group-columns}
 
 -- ---- what a scope's input has
 
@@ -46,22 +47,22 @@ deep t = μ nesting-op nesting-level t
 abbrev deeps : Forest → List ℕ
 deeps f = folds (λ n. 0) (λ c. 0) nesting-op f
 
--- well-formed, over known names, with no switch in a divisor, and arms that nest less than D deep
+-- well-formed, over known names, with plain divisors, and arms that nest less than D deep
 module _ (p : Name → Bool) where
   abbrev Fit : ℕ → Tree → Type 0
   Fit zero t = ⊥
-  Fit (suc m) t = T (well-formed t) × T (holds p t) × (switched t ≤ 1) × (deep t ≤ m)
+  Fit (suc m) t = T (well-formed t) × T (holds p t) × T (clean t) × (deep t ≤ m)
 
   abbrev All-operands : ℕ → Forest → Type 0
   All-operands D nil = Unit {0}
   All-operands D (t ◂ f) = Fit D t × All-operands D f
 
-  each-fit : (m : ℕ) (f : Forest) → T (well-formed-each f) → T (holds-each p f) → Most 1 (switcheds f) → Most m (deeps f) → All-operands (suc m) f
-  unfolding well-formed holds fold
+  each-fit : (m : ℕ) (f : Forest) → T (well-formed-each f) → T (holds-each p f) → T (every-each divides-plain f) → Most m (deeps f) → All-operands (suc m) f
+  unfolding well-formed holds fold clean every
   each-fit m nil w h s d = tt
   each-fit m (t ◂ f) w h s d = (
-    (and-left (well-formed t) (well-formed-each f) w, and-left (holds p t) (holds-each p f) h, s .0, d .0),
-    each-fit m f (and-right (well-formed t) (well-formed-each f) w) (and-right (holds p t) (holds-each p f) h) (s .1) (d .1),
+    (and-left (well-formed t) (well-formed-each f) w, and-left (holds p t) (holds-each p f) h, and-left (clean t) (every-each divides-plain f) s, d .0),
+    each-fit m f (and-right (well-formed t) (well-formed-each f) w) (and-right (holds p t) (holds-each p f) h) (and-right (clean t) (every-each divides-plain f) s) (d .1),
   )
 
   most-down : (M N : ℕ) → M ≤ N → (ls : List ℕ) → Most M ls → Most N ls
@@ -69,10 +70,10 @@ module _ (p : Name → Bool) where
   most-down M N h (l ∷ ls) g = ((let a = g .0 in omega arith), most-down M N h ls (g .1))
 
   operands-fit : (m k : ℕ) (f : Forest) → Fit (suc m) (Op k f) → All-operands (suc m) f
-  unfolding well-formed holds fold
+  unfolding well-formed holds fold clean every
   operands-fit m k f F =
       each-fit m f (and-right (arity-ok k (operand-count f)) (well-formed-each f) (F .0)) (F .1)
-      (most-down (switch-op k (switcheds f)) 1 (F .2) (switcheds f) (switch-level .parts k (switcheds f)))
+      (and-right (divides-plain k f) (every-each divides-plain f) (F .2))
       (most-down (nesting-op k (deeps f)) m (F .3) (deeps f) (nesting-level .parts k (deeps f)))
 
   as-list : (D : ℕ) (f : Forest) → All-operands D f → AllTrees (Fit D) (operands f)
@@ -90,15 +91,15 @@ module _ (p : Name → Bool) where
   no-arms n l ls h = omega arith
 
   arms-fit : (m k : ℕ) (q : Tree) (f : Forest) → T (is-switch k) → Fit (suc m) (Op k (q ◂ f)) → AllTrees (Fit m) (operands f)
-  unfolding well-formed holds fold
+  unfolding well-formed holds fold clean every
   arms-fit zero k q nil t F = (unfold operands in tt)
   arms-fit zero k q (a ◂ f) t F = absurd (no-arms (deep q) (deep a) (deeps f) (deeper-op 0 (deep q) (deep a ∷ deeps f) (is-switch k) t (F .3)))
   arms-fit (suc m) k q f t F =
       let d = deeper-op (suc m) (deep q) (deeps f) (is-switch k) t (F .3) in
       let w = and-right (arity-ok k (operand-count (q ◂ f))) (well-formed-each (q ◂ f)) (F .0) in
-      let s = most-down (switch-op k (switcheds (q ◂ f))) 1 (F .2) (switcheds (q ◂ f)) (switch-level .parts k (switcheds (q ◂ f))) in
+      let c = and-right (divides-plain k (q ◂ f)) (every-each divides-plain (q ◂ f)) (F .2) in
       as-list (suc m) f
-      (each-fit m f (and-right (well-formed q) (well-formed-each f) w) (and-right (holds p q) (holds-each p f) (F .1)) (s .1) (arms-deeper (suc m) (deep q) (deeps f) d m refl))
+      (each-fit m f (and-right (well-formed q) (well-formed-each f) w) (and-right (holds p q) (holds-each p f) (F .1)) (and-right (clean q) (every-each divides-plain f) c) (arms-deeper (suc m) (deep q) (deeps f) d m refl))
 
   -- ---- the nodes outside arms, and the switches among them
 
@@ -158,7 +159,7 @@ module _ (p : Name → Bool) where
     groups-fit rs h = groups-arms (Fit m) [] (switches (distinct [] (all-outer rs))) tt (switches-fit (distinct [] (all-outer rs)) (distinct-fit [] (all-outer rs) (all-outer-fit rs h)))
 
     fit-all :
-        (l : List Tree) → T (well-formed-all l) → T (holds-all p l) → AllTrees (λ t. switched t ≤ 1) l → AllTrees (λ t. deep t ≤ m) l → AllTrees Root l
+        (l : List Tree) → T (well-formed-all l) → T (holds-all p l) → All-clean l → AllTrees (λ t. deep t ≤ m) l → AllTrees Root l
     unfolding well-formed-all holds-all
     fit-all [] w h s d = tt
     fit-all (t ∷ l) w h s d = (
@@ -183,31 +184,6 @@ fit-more p q f (suc m) l h = all-map (Fit p (suc m)) (Fit q (suc m)) (λ t F. (F
 
 -- ---- a scope's roots after its reciprocals
 
-calm-load-op : (k : ℕ) (f : Forest) (b : Bool) → cond b (max 1 (greatest (switcheds f))) (cond (eqb k Div) (divided (switcheds f)) (greatest (switcheds f))) ≤ 0
-    → loads f ≤ 0 → elim b as (λ _. ℕ) [ true ↦ load-first f | false ↦ loads f ] ≤ 0
-calm-load-op k f true h g = absurd (omega arith)
-calm-load-op k f false h g = g
-
-none-of : (k : ℕ) (f : Forest) → switched (Op k f) ≤ 0 → Most 0 (switcheds f)
-unfolding fold
-none-of k f h = go (switcheds f) (switch-op k (switcheds f)) h (switch-level .parts k (switcheds f))
-  where
-    go : (ls : List ℕ) (N : ℕ) → N ≤ 0 → Most N ls → Most 0 ls
-    go [] N h g = tt
-    go (l ∷ ls) N h g = ((let a = g .0 in omega arith), go ls N h (g .1))
-
-mutual
-  unfolding load fold
-
-  calm-load : (t : Tree) → switched t ≤ 0 → load t ≤ 0
-  calm-load (Sym n) h = omega arith
-  calm-load (Const c) h = omega arith
-  calm-load (Op k f) h = calm-load-op k f (is-switch k) h (calm-loads f (none-of k f h))
-
-  calm-loads : (f : Forest) → Most 0 (switcheds f) → loads f ≤ 0
-  calm-loads nil h = omega arith
-  calm-loads (t ◂ f) h = (let a = calm-load t (h .0) in let b = calm-loads f (h .1) in omega arith)
-
 formed-each : (ds : List Tree) (s : State) → AllTrees (λ d. T (well-formed d)) ds → T (well-formed-all (roots s)) → T (well-formed-all (roots (bind-reciprocals ds s)))
 unfolding bind-reciprocals
 formed-each [] s g h = h
@@ -222,10 +198,6 @@ reciprocals-formed scoped s h =
     (formed-each (bound-divisors scoped s) s
     (all-map (λ d. 2 ≤ count d (divisors (all-nodes (roots s)))) (λ d. T (well-formed d))
     (λ d q. counted-formed d (all-nodes (roots s)) (all-nodes-formed (roots s) h) (let c = divisors-all d (roots s) in omega arith)) (bound-divisors scoped s) (bound-twice scoped s)) h)
-
-inverse-calm : (d : Tree) → switched d ≤ 0 → switched (inverse d) ≤ 1
-unfolding inverse fold divided greatest
-inverse-calm d h = omega arith
 
 inverse-deep : (m : ℕ) (d : Tree) → deep d ≤ m → deep (inverse d) ≤ m
 unfolding inverse fold greatest
@@ -320,31 +292,28 @@ module _ (start m : ℕ) (es : List Tree) (F : AllTrees (Fit (under start) (suc 
     after : Started start es t
     after = reciprocals-keep some-reading (λ s. true) start (λ n. 0) vs true s model
 
-    plain : AllTrees (λ x. switched x ≤ 1) (roots s)
-    plain =
-        good-at (λ (u : State). AllTrees (λ x. switched x ≤ 1) (roots u)) (extract-all true start es) s e
-        (extract-all-most switch-op switch-level 1 true start es (all-map (Fit (under start) (suc m)) (λ x. switched x ≤ 1) (λ x f. f .2) es F))
+    clean-roots : All-clean (roots s)
+    clean-roots =
+        good-at (λ (u : State). All-clean (roots u)) (extract-all true start es) s e
+        (extract-all-clean true start es (all-map (Fit (under start) (suc m)) (λ x. T (clean x)) (λ x f. f .2) es F))
 
     shallow : AllTrees (λ x. deep x ≤ m) (roots s)
     shallow =
         good-at (λ (u : State). AllTrees (λ x. deep x ≤ m) (roots u)) (extract-all true start es) s e
         (extract-all-most nesting-op nesting-level m true start es (all-map (Fit (under start) (suc m)) (λ x. deep x ≤ m) (λ x f. f .3) es F))
 
-    calm-divisors : AllTrees (λ d. switched d ≤ 0) (divisors (all-nodes (roots s)))
-    calm-divisors = divisors-at (all-nodes (roots s)) (all-nodes-most switch-op switch-level 1 (roots s) plain)
-
     roots-fit : AllTrees (Fit (under (t .next)) (suc m)) (roots t)
     roots-fit =
         fit-all (under (t .next)) m (roots t)
         (reciprocals-formed true s (extract-all-end true start es formed made s e .0 .formed))
         (weaken-all (below (λ s. true) start (t .next)) (under (t .next)) (under-below (λ s. true) start (t .next) (after .later)) (roots t) (roots-known some-reading (λ s. true) start (λ n. 0) vs t after))
-        (reciprocals-most switch-op switch-level 1 true s (λ d c. inverse-calm d (trees-at (λ d. switched d ≤ 0) d (divisors (all-nodes (roots s))) calm-divisors c)) plain)
+        (reciprocals-clean true s clean-roots)
         (reciprocals-most nesting-op nesting-level m true s
         (λ d c. inverse-deep m d (trees-at (λ x. deep x ≤ m) d (all-nodes (roots s)) (all-nodes-most nesting-op nesting-level m (roots s) shallow) (let q = divisors-all d (roots s) in omega arith))) shallow)
 
     roots-load : sum-of load (roots t) ≤ occurrences es
     roots-load =
-        (let a = reciprocals-load true s (all-map (λ d. switched d ≤ 0) (λ d. load d ≤ 0) calm-load (divisors (all-nodes (roots s))) calm-divisors) in
+        (let a = reciprocals-load true s (bound-load s (extract-all-end true start es formed made s e .1) clean-roots) in
         let b = extract-all-size true start es formed made s e in
         let c = total-is es in
         omega arith)
@@ -405,15 +374,15 @@ limits-rows : (l : List Tree) → T (within-limits l) → occurrences l ≤ 1024
 unfolding within-limits
 limits-rows l h = leb→le (occurrences l) 1024 (and-left (leb (occurrences l) 1024) _ h)
 
-answer-fine : (es : List Tree) → T (well-formed-all es) → T (holds-all (under 0) es) → T (within-limits es) → Plain-divisors (all-nodes es) → Fine (λ (a : Answer). Unit {0}) (answer true es)
+answer-fine : (es : List Tree) → T (well-formed-all es) → T (holds-all (under 0) es) → T (within-limits es) → Plain-divisors es → Fine (λ (a : Answer). Unit {0}) (answer true es)
 unfolding answer area-rows
 answer-fine es w h l p =
     then-fine (After 0) (λ (a : Answer). Unit {0}) (scope-in 9362 0 es)
-    (scope-fine 1024 9 9362 0 es (omega arith) (fit-all (under 0) 8 es w h (tame-all es p) (limits-deep es l)) (limits-rows es l)) _
+    (scope-fine 1024 9 9362 0 es (omega arith) (fit-all (under 0) 8 es w h (all-clean-from es p) (limits-deep es l)) (limits-rows es l)) _
     (λ a q. fine-ok (λ (a : Answer). Unit {0}) (as-answer a) tt)
 
--- For a list within the limits that holds no name of an answer, and none of whose divisors holds a switch.
+-- For a list within the limits that holds no name of an answer, and each of whose divisors holds a symbol, or no Select or Branch.
 pub refused-by-10-or-11 :
-    (es : List Tree) → T (well-formed-all es) → T (holds-all (under 0) es) → T (within-limits es) → Plain-divisors (all-nodes es)
+    (es : List Tree) → T (well-formed-all es) → T (holds-all (under 0) es) → T (within-limits es) → Plain-divisors es
     → (i : Refusal) → answer true es ≡ refused i → (i ≡ by 10) ⊎ (i ≡ by 11)
 refused-by-10-or-11 es w h l p i e = (unfold Fine in subst (Fine (λ (a : Answer). Unit {0})) e (answer-fine es w h l p))
