@@ -24,3 +24,8 @@ pub mod SizeCount
 pub mod DivisorsMost
 pub mod ReciprocalBindings
 pub mod ScopedCount
+pub mod Levels
+pub mod NestingLevel
+pub mod CleanDivisors
+pub mod ArmLoads
+pub mod RoomEnough

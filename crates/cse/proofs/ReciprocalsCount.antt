@@ -150,6 +150,24 @@ unfolding bound-divisors
 bound-twice scoped s =
     sort-all _ (shared-divisors scoped (roots s) (distinct [] (divisors (all-nodes (roots s))))) (shared-twice scoped (roots s) (distinct [] (divisors (all-nodes (roots s)))))
 
+shared-outside : (scoped : Bool) (rs l : List Tree) → AllTrees (λ d. 1 ≤ count d (divisors (outside scoped rs))) (shared-divisors scoped rs l)
+unfolding shared-divisors
+shared-outside scoped rs [] = tt
+shared-outside scoped rs (d ∷ l) =
+    go (leb 2 (count d (divisors (all-nodes rs))) && leb 1 (count d (divisors (outside scoped rs))))
+    (λ t. leb→le 1 (count d (divisors (outside scoped rs))) (and-right (leb 2 (count d (divisors (all-nodes rs)))) _ t))
+    (shared-outside scoped rs l)
+  where
+    go : (b : Bool) → (T b → 1 ≤ count d (divisors (outside scoped rs))) → AllTrees (λ d. 1 ≤ count d (divisors (outside scoped rs))) (shared-divisors scoped rs l)
+        → AllTrees (λ d. 1 ≤ count d (divisors (outside scoped rs))) (elim b [ true ↦ d ∷ shared-divisors scoped rs l | false ↦ shared-divisors scoped rs l ])
+    go true f h = (f tt, h)
+    go false f h = h
+
+pub bound-outside : (scoped : Bool) (s : State) → AllTrees (λ d. 1 ≤ count d (divisors (outside scoped (roots s)))) (bound-divisors scoped s)
+unfolding bound-divisors
+bound-outside scoped s =
+    sort-all _ (shared-divisors scoped (roots s) (distinct [] (divisors (all-nodes (roots s))))) (shared-outside scoped (roots s) (distinct [] (divisors (all-nodes (roots s)))))
+
 pub bindable : (s : State) → Sound s → best false (roots s) ≡ none → AllTrees (Bindable (s .next)) (bound-divisors false s)
 bindable s S e =
     all-map (λ d. 2 ≤ count d (divisors (all-nodes (roots s)))) (Bindable (s .next))
@@ -188,7 +206,7 @@ roots-reciprocal d s =
     ∙ sym (append-assoc (replace-divisor-each d n (s .results)) (replace-divisor-each d n (bound (s .lets))) (Op Div (Const (pos 1) ◂ d ◂ nil) ∷ []))
     ∙ ap (λ (x : List Tree). x ++ (Op Div (Const (pos 1) ◂ d ◂ nil) ∷ [])) (sym (divided-append d n (s .results) (bound (s .lets))))
 
-divided-formed : (d : Tree) (n : Name) (l : List Tree) → T (well-formed-all l) → T (well-formed-all (replace-divisor-each d n l))
+pub divided-formed : (d : Tree) (n : Name) (l : List Tree) → T (well-formed-all l) → T (well-formed-all (replace-divisor-each d n l))
 unfolding well-formed-all replace-divisor-each
 divided-formed d n [] w = tt
 divided-formed d n (e ∷ l) w =
@@ -202,7 +220,7 @@ divided-known p d n t (e ∷ l) h =
     and-both (holds p (replace-divisor d n e)) (holds-all p (replace-divisor-each d n l)) (divisor-holds p d n (λ _. t) e (and-left (holds p e) (holds-all p l) h))
     (divided-known p d n t l (and-right (holds p e) (holds-all p l) h))
 
-inverse-formed : (d : Tree) → T (well-formed d) → T (well-formed-all (inverse d ∷ []))
+pub inverse-formed : (d : Tree) → T (well-formed d) → T (well-formed-all (inverse d ∷ []))
 unfolding well-formed-all well-formed inverse
 inverse-formed d w = and-both (well-formed d && true) true (and-both (well-formed d) true w tt) tt
 

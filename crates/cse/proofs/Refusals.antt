@@ -151,7 +151,7 @@ unfolding rounds
 rounds-ten zero scoped s = only-ok Ten s
 rounds-ten (suc fuel) scoped s = round-ten s (best scoped (roots s)) (λ t. rounds fuel scoped t) (λ t. rounds-ten fuel scoped t)
 
-extract-all-ten : (scoped : Bool) (next : ℕ) (es : List Tree) → Only Ten (extract-all scoped next es)
+pub extract-all-ten : (scoped : Bool) (next : ℕ) (es : List Tree) → Only Ten (extract-all scoped next es)
 unfolding extract-all
 extract-all-ten scoped next es = rounds-ten (all-operations es) scoped (record { results = es; lets = []; next = next })
 

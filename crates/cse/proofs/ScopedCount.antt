@@ -257,10 +257,10 @@ finish-tallied start w h t = go (topo-sort-intermediates (w .inters)) refl
 -- ---- a scope
 
 -- after the rounds, the names that a scope knows
-abbrev Started : ℕ → List Tree → State → Type 0
+abbrev pub Started : ℕ → List Tree → State → Type 0
 Started start es s = Model some-reading (λ s. true) start (λ n. 0) (values some-reading (λ n. 0) es) s
 
-started : (scoped : Bool) (start : ℕ) (es : List Tree) → T (holds-all (under start) es) → Good (Started start es) (extract-all scoped start es)
+pub started : (scoped : Bool) (start : ℕ) (es : List Tree) → T (holds-all (under start) es) → Good (Started start es) (extract-all scoped start es)
 started scoped start es h = go (extract-all scoped start es) (extract-all-keeps some-reading (λ s. true) start (λ n. 0) scoped es h)
   where
     go : (o : Outcome State) → Modeled some-reading (λ s. true) start (λ n. 0) (values some-reading (λ n. 0) es) o → Good (Started start es) o

@@ -1,15 +1,16 @@
 -- Demand 3, whole: one theorem over both answers together, for any list that passes 9, and so for any sheet that load accepts. Assumes nothing.
 use Prim.Native.Nat.{ℕ}
 use mathlib.Core.Path.{_≡_}
-use mathlib.Core.Bool.{Bool, false}
+use mathlib.Core.Bool.{Bool, true, false}
 use mathlib.Core.List.{List}
 use mathlib.Core.Logic.{_⊎_}
-use lib.Dec.{T}
+use lib.ListN.{length}
+use lib.Dec.{T, leb}
 use Rattle.tree.specs.Outcome.{Refusal, ok, refused, by}
 use Rattle.tree.specs.Tree.{Tree}
 use Rattle.cse.specs.Answer.{Answer}
 use Rattle.cse.specs.Scope.{answer}
-use Rattle.tree.specs.Rows.{Table, trees}
+use Rattle.tree.specs.Rows.{Table, trees, within-limits}
 use Rattle.sheet.specs.Sheet.{load}
 use Rattle.cse.specs.Demand.{Demand3}
 use Rattle.tree.specs.Passes.{passes}
@@ -20,6 +21,9 @@ use Rattle.cse.proofs.Refusals as refusals
 use Rattle.cse.proofs.ReciprocalBindings as bindings
 use Rattle.cse.proofs.ReciprocalBindings.{All-flat}
 use Rattle.cse.proofs.ScopedCount as counts
+use Rattle.cse.proofs.CleanDivisors.{Plain-divisors}
+use Rattle.cse.proofs.RoomEnough as room
+use Rattle.tree.proofs.Logic.{and-left, and-right}
 use Rattle.cse.proofs.ScopedCount.{Tally, over-lets, each-one, inverse-one}
 use Rattle.cse.proofs.Both as both
 
@@ -42,6 +46,12 @@ flat-never-11 es h e = refusals.flat-never-11 es (passes-unmade es h) e
 -- the scoped form refuses by 10, 11 or 23 alone
 pub refused-by-10-11-or-23 : (scoped : Bool) (es : List Tree) (i : Refusal) → answer scoped es ≡ refused i → (i ≡ by 10) ⊎ ((i ≡ by 11) ⊎ (i ≡ by 23))
 refused-by-10-11-or-23 = refusals.refused-by-10-11-or-23
+
+-- and by 10 or 11 alone, never by 23, where each divisor of the list holds a symbol, or no Select or Branch
+pub scoped-refused-by-10-or-11 : (es : List Tree) → T (passes es) → Plain-divisors es → (i : Refusal) → answer true es ≡ refused i → (i ≡ by 10) ⊎ (i ≡ by 11)
+unfolding passes
+scoped-refused-by-10-or-11 es h p =
+    room.refused-by-10-or-11 es (passes-formed es (unfold passes in h)) (passes-unmade es (unfold passes in h)) (and-left (within-limits es) _ (and-right (leb (length es) 64) _ h)) p
 
 -- in a flat answer each statement binds some `__xi`, and where i is not below the extraction count, to 1 / d
 pub flat-reciprocals : (es : List Tree) → T (passes es) → (a : Answer) → answer false es ≡ ok a → All-flat (a .extracted) (a .inters)
