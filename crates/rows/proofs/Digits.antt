@@ -1,16 +1,15 @@
 -- How many digits a number's text has, and how many bytes a run of numbers has. Assumes nothing.
 use Prim.Native.Nat.{ℕ, zero, suc, _+_, _*_, _/_, _%_, _^_, _≤_, _<_}
-use mathlib.Core.Path.{_≡_, refl, sym, ap, _∙_, subst}
+use mathlib.Core.Path.{_≡_, refl, ap, _∙_}
 use mathlib.Core.Bool.{Bool, true, false, cond}
 use mathlib.Core.List.{List, [], _∷_, _++_}
 use native.Mathlib.Omega.{arith}
-use native.Mathlib.Nat.{div-lt-iff-lt-mul}
 use borrow.Author.Tests.{ltb-true, ltb-false, lt-ltb, le-ltb, ne-eqb}
 use lib.Dec.{ltb, eqb}
 use lib.IntN.{pos, negℤ}
-use lib.ListN.{length, take, drop, getD, length-append}
+use lib.ListN.{length, take, getD, length-append}
 use lib.Seq.{take-suc}
-use Rattle.tree.specs.Bytes.{bytes, digits, decimal, integer}
+use Rattle.tree.specs.Bytes.{digits, decimal, integer}
 use Rattle.tree.specs.Records.{numbers-text}
 use Rattle.tree.specs.Layout.{signed}
 

@@ -1,7 +1,7 @@
 -- How many bytes a row's record has, by the row's words. Assumes nothing.
 use Prim.Native.Nat.{ℕ, zero, suc, _+_, _-_, _*_, _/_, _≤_, _<_}
-use mathlib.Core.Path.{_≡_, refl, sym, ap, _∙_, subst}
-use mathlib.Core.Bool.{Bool, true, false, _&&_}
+use mathlib.Core.Path.{_≡_, refl, ap, _∙_}
+use mathlib.Core.Bool.{Bool, true, false}
 use mathlib.Core.List.{List, [], _∷_, _++_}
 use native.Mathlib.Omega.{arith}
 use native.Mathlib.Nat.{zero-add}
@@ -11,10 +11,11 @@ use lib.ListN.{length, getD, take, drop, length-append, length-take, length-drop
 use lib.Seq.{getD-take, getD-drop, drop-drop, take-suc}
 use Rattle.tree.specs.Bytes.{bytes, integer, decimal, joined}
 use Rattle.tree.specs.Kinds.{kind-at}
-use Rattle.tree.specs.Rows.{Row, row-op}
-use Rattle.tree.specs.Records.{numbers-text, row-record, row-records, root-records, sheet-of}
+use Rattle.tree.specs.Rows.{row-op}
+use Rattle.tree.specs.Records.{numbers-text, row-record, row-records, root-records, sheet-of, terminated}
 use Rattle.tree.specs.Layout.{signed, row-by, row-of, rows-of, table-of, sheet-fits}
-use Rattle.rows.specs.Shape.{Shape, terminated}
+use Rattle.tree.proofs.RecordLaws.{terminated-append, joined-bytes, records-long}
+use Rattle.rows.specs.Shape.{Shape}
 
 row-by-op : (n : ℕ) (fields : List ℕ) → 2 ≤ n → row-by n fields ≡ row-op n fields
 unfolding row-by
@@ -51,30 +52,10 @@ module _ (row : List ℕ) (S : Shape row) where
 
 -- ---- all records
 
-pub terminated-append : (a b : List (List ℕ)) → terminated (a ++ b) ≡ terminated a + terminated b
-unfolding terminated
-terminated-append [] b = omega arith
-terminated-append (r ∷ a) b = omega (arith, terminated-append a b)
-
--- a joined sheet lacks the last CRLF
-pub joined-bytes : (l : List (List ℕ)) → 1 ≤ length l → length (joined (bytes "\r\n") l) + 2 ≡ terminated l
-unfolding joined terminated
-joined-bytes [] h = absurd (omega arith)
-joined-bytes (r ∷ []) h = omega arith
-joined-bytes (r ∷ (q ∷ l)) h =
-    let sep = bytes "\r\n" in
-    let more = joined sep (q ∷ l) in
-    omega (arith, length-append (r ++ sep) more, length-append r sep, joined-bytes (q ∷ l) (omega arith))
-
 pub rows-long : (n : ℕ) (ws : List ℕ) → length (rows-of n ws) ≡ n
 unfolding rows-of
 rows-long zero ws = refl
 rows-long (suc n) ws = ap suc (rows-long n (drop 35 ws))
-
-records-long : (l : List Row) → length (row-records l) ≡ length l
-unfolding row-records
-records-long [] = refl
-records-long (r ∷ l) = ap suc (records-long l)
 
 -- the rows from the i-th on, one fewer at a time
 pub rows-from : (n : ℕ) (ws : List ℕ) (i : ℕ) → i < n
@@ -116,7 +97,7 @@ whole-sheet ws roots a b h p q =
     let n = length ws / 35 in
     let some : 1 ≤ n = omega arith in
     let records = row-records (rows-of n ws) ++ root-records roots in
-    let long : 1 ≤ length records = omega (arith, length-append (row-records (rows-of n ws)) (root-records roots), records-long (rows-of n ws), rows-long n ws) in
+    let long : 1 ≤ length records = omega (arith, records-long (rows-of n ws) (root-records roots), rows-long n ws) in
     let e : a + b ≡ length (joined (bytes "\r\n") records) + 2 = omega (arith, joined-bytes records long, terminated-append (row-records (rows-of n ws)) (root-records roots)) in
     rw (rows-long n ws, le-leb 1 n some, e) (two-more (length (joined (bytes "\r\n") records)))
   where

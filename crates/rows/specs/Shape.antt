@@ -1,7 +1,7 @@
--- What the count of a table's bytes asks of its words, and how many bytes records have with a CRLF after each. Assumes nothing.
+-- What the count of a table's bytes asks of its words. Assumes nothing.
 use Prim.Native.Nat.{ℕ, _+_, _*_, _/_, _≤_, _<_}
 use mathlib.Core.Path.{_≡_}
-use mathlib.Core.List.{List, [], _∷_}
+use mathlib.Core.List.{List}
 use lib.ListN.{length, getD, take, drop}
 
 pub record Shape (row : List ℕ) : Type 0 where
@@ -14,7 +14,3 @@ pub record Shapes (ws : List ℕ) : Type 0 where
   pub whole : length ws ≡ 35 * (length ws / 35)
   pub few-rows : length ws / 35 ≤ 1024
   pub each-row : (i : ℕ) → i < length ws / 35 → Shape (take 35 (drop (35 * i) ws))
-
-unfoldable pub terminated : List (List ℕ) → ℕ
-terminated [] = 0
-terminated (r ∷ l) = length r + 2 + terminated l

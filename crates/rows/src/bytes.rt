@@ -5,9 +5,9 @@ ghost use Prim.Native.Nat.{ℕ, _+_, _*_, _/_, _≤_, _<_};
 ghost use lib.ListN.{length, take, drop};
 ghost use Rattle.tree.specs.Bytes.{decimal, integer};
 ghost use Rattle.tree.specs.Kinds.{kind-at};
-ghost use Rattle.tree.specs.Records.{numbers-text, row-record, row-records, root-records};
+ghost use Rattle.tree.specs.Records.{numbers-text, row-record, row-records, root-records, terminated};
 ghost use Rattle.tree.specs.Layout.{signed, row-of, rows-of, table-of, sheet-fits};
-ghost use Rattle.rows.specs.Shape.{Shape, Shapes, terminated};
+ghost use Rattle.rows.specs.Shape.{Shape, Shapes};
 
 fn digit_count(n: u64) -> usize
     ensures { λ r. ⌜ (r ≡ length (decimal n)) × (r ≤ 20) ⌝ }

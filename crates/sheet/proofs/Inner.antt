@@ -11,7 +11,7 @@ use Rattle.tree.specs.Bytes.{every, decimal, integer}
 use Rattle.tree.specs.Symbol.{is-digit, is-letter, is-made, is-name}
 use Rattle.tree.proofs.Logic.{and-left, and-right, and-both}
 use Rattle.sheet.specs.Sheet.{plain}
-use Rattle.sheet.proofs.Tests.{every-implies}
+use Rattle.tree.proofs.Tests.{every-implies}
 use Rattle.sheet.proofs.Numerals.{digit-range, decimal-digits}
 
 abbrev pub no-comma : ℕ → Bool

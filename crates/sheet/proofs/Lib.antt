@@ -1,4 +1,3 @@
-pub mod Tests
 pub mod Numerals
 pub mod Inner
 pub mod Words

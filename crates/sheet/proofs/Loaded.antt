@@ -16,15 +16,16 @@ use Rattle.tree.specs.Kinds.{kind-at, arity-ok, Neg}
 use Rattle.tree.specs.Symbol.{is-name}
 use Rattle.tree.specs.Rows.{Row, row-sym, row-const, row-op, Table, trees, within-limits}
 use Rattle.tree.specs.Passes.{of-paper, operands-ok}
-use Rattle.tree.specs.Records.{numbers-text, row-record, root-records, row-records, sheet-of}
+use Rattle.tree.specs.Records.{numbers-text, row-record, root-records, row-records, sheet-of, terminated}
 use Rattle.tree.specs.Layout.{row-ok, rows-ok, in-domain, sheet-fits, loadable}
 use Rattle.tree.proofs.Logic.{and-left, and-right, and-both}
 use Rattle.tree.proofs.DomainPasses.{domain-test}
 use Rattle.sheet.specs.Sheet.{records-from, fields-from, plain, constant, words, Root, find, fields-ok, numbers, add-row, add-root, add-numbers, add-fields, add-record, load-records, load}
-use Rattle.sheet.proofs.Tests.{eq→eqb, every-more, every-less}
+use Rattle.tree.proofs.Tests.{eq→eqb, every-more, every-less}
 use Rattle.sheet.proofs.Numerals.{Reads-constant, constant-reads}
 use Rattle.sheet.proofs.Words.{Known, Knows, knows, kind-word, root-word}
-use Rattle.sheet.proofs.Splitting.{terminated, terminated-append, joined-bytes, records-long, records-bytes, some-record, glued, Split, record-split, texts-length, glued-texts, Reads-all, numbers-read}
+use Rattle.tree.proofs.RecordLaws.{terminated-append, joined-bytes, records-long}
+use Rattle.sheet.proofs.Splitting.{records-bytes, some-record, glued, Split, record-split, texts-length, glued-texts, Reads-all, numbers-read}
 
 -- ---- a record that is taken: a row or a root more, and the record's bytes
 

@@ -14,16 +14,17 @@ use Rattle.tree.specs.Kinds.{kind-at, arity-ok, Neg}
 use Rattle.tree.specs.Symbol.{is-name}
 use Rattle.tree.specs.Rows.{Row, row-sym, row-const, row-op, Table, trees, within-limits}
 use Rattle.tree.specs.Passes.{operands-ok}
-use Rattle.tree.specs.Records.{numbers-text, row-record, root-records, row-records, sheet-of}
+use Rattle.tree.specs.Records.{numbers-text, row-record, root-records, row-records, sheet-of, terminated}
 use Rattle.tree.specs.Layout.{row-ok, rows-ok, in-domain, sheet-fits, loadable}
 use Rattle.tree.proofs.Logic.{and-left, and-right, and-both}
 use Rattle.tree.proofs.DomainPasses.{Domain, domain}
 use Rattle.sheet.specs.Sheet.{records-from, fields-from, plain, words, Root, find, fields-ok, add-row, add-root, add-numbers, add-fields, add-record, load-records, load}
-use Rattle.sheet.proofs.Tests.{is-true, every-more}
+use Rattle.tree.proofs.Tests.{is-true, every-more}
 use Rattle.sheet.proofs.Numerals.{constant-integer}
 use Rattle.sheet.proofs.Inner.{inner-plain, inner-no-comma, name-inner, decimal-inner, integer-inner}
 use Rattle.sheet.proofs.Words.{Word, word, kind-word, arity-kind}
-use Rattle.sheet.proofs.Splitting.{Sound, records-joined, terminated, joined-bytes, records-long, two-fields, texts, number-fields, numbers-texts, texts-length}
+use Rattle.tree.proofs.RecordLaws.{joined-bytes, records-long}
+use Rattle.sheet.proofs.Splitting.{Sound, records-joined, two-fields, texts, number-fields, numbers-texts, texts-length}
 
 -- ---- a kind's word, and operands
 

@@ -14,7 +14,7 @@ use Rattle.tree.specs.Symbol.{is-digit}
 use Rattle.tree.specs.Passes.{of-paper}
 use Rattle.tree.proofs.Logic.{and-left, and-right, and-both}
 use Rattle.sheet.specs.Sheet.{number-from, number, below-limit, minus, constant}
-use Rattle.sheet.proofs.Tests.{is-true, eq→eqb, every-more}
+use Rattle.tree.proofs.Tests.{is-true, eq→eqb, every-more}
 
 pub digit-range : (b : ℕ) → T (is-digit b) → (48 ≤ b) × (b ≤ 57)
 digit-range b h = (leb→le 48 b (and-left (leb 48 b) (leb b 57) h), leb→le b 57 (and-right (leb 48 b) (leb b 57) h))

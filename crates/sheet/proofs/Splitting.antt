@@ -5,11 +5,10 @@ use mathlib.Core.Bool.{Bool, true, false, _&&_}
 use mathlib.Core.Option.{Option, none, some}
 use mathlib.Core.List.{List, [], _∷_, _++_, reverse, reverse-cons, append-nil, append-assoc}
 use native.Mathlib.Omega.{arith}
-use lib.ListN.{length, length-append, length-reverse}
+use lib.ListN.{length, length-reverse}
 use lib.Dec.{T, eqb, eqb→eq}
 use Rattle.tree.specs.Bytes.{bytes, every, joined, decimal}
-use Rattle.tree.specs.Rows.{Row}
-use Rattle.tree.specs.Records.{numbers-text, row-records}
+use Rattle.tree.specs.Records.{terminated, numbers-text}
 use Rattle.tree.proofs.Logic.{and-left, and-right}
 use Rattle.sheet.specs.Sheet.{records-from, fields-from, plain, number, numbers}
 use Rattle.sheet.proofs.Numerals.{number-decimal, Reads, number-reads, written-decimal}
@@ -65,30 +64,6 @@ records-joined (r ∷ (q ∷ l)) h =
     ∙ (one-record [] r more (h .0) ∙ ap (λ (m : List (List ℕ)). r ∷ m) (records-joined (q ∷ l) (h .2)))
 
 -- ---- records: their bytes, each with a CRLF after it
-
-unfoldable pub terminated : List (List ℕ) → ℕ
-terminated [] = 0
-terminated (r ∷ l) = length r + 2 + terminated l
-
-pub terminated-append : (a b : List (List ℕ)) → terminated (a ++ b) ≡ terminated a + terminated b
-unfolding terminated
-terminated-append [] b = omega arith
-terminated-append (r ∷ a) b = let e = terminated-append a b in omega arith
-
--- joined records lack the last CRLF
-pub joined-bytes : (l : List (List ℕ)) → 1 ≤ length l → length (joined (bytes "\r\n") l) + 2 ≡ terminated l
-unfolding joined terminated
-joined-bytes [] h = absurd (omega arith)
-joined-bytes (r ∷ []) h = omega arith
-joined-bytes (r ∷ (q ∷ l)) h =
-    let sep = bytes "\r\n" in
-    let more = joined sep (q ∷ l) in
-    omega (arith, length-append (r ++ sep) more, length-append r sep, joined-bytes (q ∷ l) (omega arith))
-
-pub records-long : (l : List Row) (rest : List (List ℕ)) → length l ≤ length (row-records l ++ rest)
-unfolding row-records
-records-long [] rest = omega arith
-records-long (r ∷ l) rest = let h = records-long l rest in omega arith
 
 -- the records of a sheet are no longer than it is with one more CRLF
 pub records-bytes : (got s : List ℕ) → terminated (records-from got s) ≤ length got + length s + 2

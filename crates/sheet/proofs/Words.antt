@@ -14,7 +14,7 @@ use Rattle.tree.specs.Kinds.{Kind, kinds, kind-at, arity-ok}
 use Rattle.tree.proofs.Logic.{and-left, and-right}
 use Rattle.tree.proofs.TreeLaws.{eq-bytes-sound}
 use Rattle.sheet.specs.Sheet.{plain, words-of, words, Root, find}
-use Rattle.sheet.proofs.Tests.{all-from, entry}
+use Rattle.tree.proofs.Tests.{all-from, entry}
 use Rattle.sheet.proofs.Inner.{inner}
 
 -- ---- one test over the table

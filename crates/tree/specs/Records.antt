@@ -1,7 +1,8 @@
 -- The sheet that gives a table (01, "Sheet and printing"): a record for each row and then for each root, CRLF between them. Every other sheet that gives the
 -- table has the same records, its roots' perhaps earlier, and at most a CRLF more. Assumes nothing.
-use Prim.Native.Nat.{ℕ}
+use Prim.Native.Nat.{ℕ, _+_}
 use mathlib.Core.List.{List, [], _∷_, _++_}
+use lib.ListN.{length}
 use Rattle.tree.specs.Bytes.{bytes, decimal, integer, joined}
 use Rattle.tree.specs.Kinds.{kind-at}
 use Rattle.tree.specs.Rows.{Row, row-sym, row-const, row-op, Table}
@@ -31,3 +32,8 @@ row-records (r ∷ l) = row-record r ∷ row-records l
 unfoldable pub sheet-of : Table → List ℕ
 unfolding joined row-records root-records
 sheet-of t = joined (bytes "\r\n") (row-records (t .rows) ++ root-records (t .roots))
+
+-- how many bytes records have with a CRLF after each
+unfoldable pub terminated : List (List ℕ) → ℕ
+terminated [] = 0
+terminated (r ∷ l) = length r + 2 + terminated l

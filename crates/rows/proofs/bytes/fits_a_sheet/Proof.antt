@@ -1,13 +1,9 @@
 -- `rows::bytes::fits_a_sheet` meets its contract. Assumes nothing.
-use mathlib.Core.Path.{_≡_, sym}
+use mathlib.Core.Path.{sym}
 use Rattle.rows.proofs.RecordBytes.{no-record, whole-sheet}
 use borrow.Author.Needs.{needs}
 use Rattle.rows.proofs.bytes.fits_a_sheet.Statement.{statement}
 use Rattle.rows.proofs.bytes.fits_a_sheet.Tie as tie
-use Rattle.rows.proofs.bytes.fits_a_sheet.Reads as reads
-use Rattle.rows.proofs.bytes.fits_a_sheet.Lts as lts
-use Rattle.rows.proofs.bytes.roots_bytes.Reads as roots-bytes-reads
-use Rattle.rows.proofs.bytes.rows_bytes.Reads as rows-bytes-reads
 
 returns : tie.Need-returns
 returns c = sym (no-record (c .before .before .before .args .rows .now) (c .before .before .before .args .roots .now) (c .if1 .taken))

@@ -1,20 +1,16 @@
 -- `rows::bytes::roots_bytes` meets its contract: the sum is that of the roots passed. Assumes nothing.
-use mathlib.Core.Path.{_≡_, ap, sym, _∙_, refl}
+use mathlib.Core.Path.{_≡_, ap, _∙_, refl}
 use mathlib.Core.List.{List}
-use Prim.Native.Nat.{ℕ, _+_, _*_, _-_, _≤_}
+use Prim.Native.Nat.{ℕ, _*_, _-_, _≤_}
 use native.Mathlib.Omega.{arith}
 use native.Mathlib.Numerals.{add-one}
 use lib.ListN.{length, take}
 use lib.Seq.{take-all}
-use Rattle.tree.specs.Records.{root-records}
-use Rattle.rows.specs.Shape.{terminated}
+use Rattle.tree.specs.Records.{root-records, terminated}
 use Rattle.rows.proofs.RecordBytes.{roots-step}
 use borrow.Author.Needs.{needs}
 use Rattle.rows.proofs.bytes.roots_bytes.Statement.{statement}
 use Rattle.rows.proofs.bytes.roots_bytes.Tie as tie
-use Rattle.rows.proofs.bytes.roots_bytes.Reads as reads
-use Rattle.rows.proofs.bytes.roots_bytes.Lts as lts
-use Rattle.rows.proofs.bytes.digit_count.Reads as digit-count-reads
 
 abbrev Inv-loop : tie.InvT-loop
 Inv-loop roots sum₀ i₀ sum i = (i ≤ length roots) × (sum ≤ 27 * i) × (sum ≡ terminated (root-records (take i roots)))

@@ -7,11 +7,6 @@ use Rattle.rows.proofs.RecordBytes.{name-bytes, constant-record, operat
 use borrow.Author.Needs.{needs}
 use Rattle.rows.proofs.bytes.row_bytes.Statement.{statement}
 use Rattle.rows.proofs.bytes.row_bytes.Tie as tie
-use Rattle.rows.proofs.bytes.row_bytes.Reads as reads
-use Rattle.rows.proofs.bytes.row_bytes.Lts as lts
-use Rattle.rows.proofs.bytes.constant_bytes.Reads as constant-bytes-reads
-use Rattle.rows.proofs.bytes.numbers_bytes.Reads as numbers-bytes-reads
-use Rattle.rows.proofs.bytes.word_bytes.Reads as word-bytes-reads
 
 shared-slice-read-count : tie.Need-shared-slice-read-count
 shared-slice-read-count c = search needs

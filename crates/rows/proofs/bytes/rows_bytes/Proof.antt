@@ -1,20 +1,16 @@
 -- `rows::bytes::rows_bytes` meets its contract: the sum and what the rows still to come have are the whole. Assumes nothing.
 use mathlib.Core.Path.{_≡_, ap, subst}
-use mathlib.Core.List.{List}
 use Prim.Native.Nat.{ℕ, _+_, _*_, _-_, _/_, _≤_}
 use native.Mathlib.Omega.{arith}
 use native.Mathlib.Numerals.{add-one}
 use lib.ListN.{length, take, drop}
-use Rattle.tree.specs.Records.{row-record, row-records}
+use Rattle.tree.specs.Records.{row-record, row-records, terminated}
 use Rattle.tree.specs.Layout.{row-of, rows-of}
-use Rattle.rows.specs.Shape.{Shape, terminated}
+use Rattle.rows.specs.Shape.{Shape}
 use Rattle.rows.proofs.RecordBytes.{rows-begin, rows-from, rows-end}
 use borrow.Author.Needs.{needs}
 use Rattle.rows.proofs.bytes.rows_bytes.Statement.{statement}
 use Rattle.rows.proofs.bytes.rows_bytes.Tie as tie
-use Rattle.rows.proofs.bytes.rows_bytes.Reads as reads
-use Rattle.rows.proofs.bytes.rows_bytes.Lts as lts
-use Rattle.rows.proofs.bytes.row_bytes.Reads as row-bytes-reads
 
 abbrev Inv-loop : tie.InvT-loop
 Inv-loop rows n sum₀ i₀ sum i = (i ≤ n) × (sum ≤ 702 * i) × (sum + terminated (row-records (rows-of (n - i) (drop (35 * i) rows))) ≡ terminated (row-records (rows-of n rows)))

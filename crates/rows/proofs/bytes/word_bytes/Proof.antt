@@ -1,13 +1,13 @@
 -- `rows::bytes::word_bytes` meets its contract: the table is tested at every kind by computing. Assumes nothing.
-use mathlib.Core.Bool.{Bool, true, false, _&&_}
+use mathlib.Core.Bool.{Bool, _&&_}
 use mathlib.Core.List.{List, [], _∷_}
-use Prim.Native.Nat.{ℕ, zero, suc, _+_, _≤_, _<_}
+use Prim.Native.Nat.{ℕ}
 use borrow.Author.Needs.{needs}
-use lib.Dec.{T, eqb, leb, eqb→eq, leb→le}
+use lib.Dec.{eqb, leb, eqb→eq, leb→le}
 use lib.ListN.{length, getD}
 use Rattle.tree.specs.Kinds.{kind-at}
 use Rattle.tree.proofs.Logic.{and-left, and-right}
-use Rattle.rows.proofs.Table.{passes-at}
+use Rattle.tree.proofs.Tests.{entry-at}
 use Rattle.rows.proofs.bytes.word_bytes.Statement.{statement}
 use Rattle.rows.proofs.bytes.word_bytes.Tie as tie
 
@@ -23,7 +23,7 @@ unfolding right kind-at
 returns c =
     let k = c .args .kind in
     let n = getD table (c .args .kind) 0 in
-    let h = passes-at right table tt (c .args .kind) (search needs) in
+    let h = entry-at right 0 table tt (c .args .kind) (search needs) in
     let same = eqb n (length (kind-at k .word)) in
     (eqb→eq n (length (kind-at k .word)) (and-left same (leb n 9) h), leb→le n 9 (and-right same (leb n 9) h))
 

@@ -42,3 +42,6 @@ entry test d [] i h k less = absurd (omega arith)
 entry test d (x ∷ l) i h zero less = subst (λ (m : ℕ). T (test m x)) (omega arith) (and-left (test i x) (all-from test (suc i) l) h)
 entry test d (x ∷ l) i h (suc k) less =
     subst (λ (m : ℕ). T (test m (getD l k d))) (omega arith) (entry test d l (suc i) (and-right (test i x) (all-from test (suc i) l) h) k (omega arith))
+
+pub entry-at : {A : Type 0} (test : ℕ → A → Bool) (d : A) (l : List A) → T (all-from test 0 l) → (k : ℕ) → k < length l → T (test k (getD l k d))
+entry-at test d l h k less = subst (λ (m : ℕ). T (test m (getD l k d))) (omega arith) (entry test d l 0 h k less)
