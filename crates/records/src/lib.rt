@@ -1,5 +1,6 @@
 // How many bytes the sheet has that gives a table. Load takes at most 65,535, so rows whose sheet is longer are none that it lays out.
 ghost use mathlib.Core.Path.{_≡_};
+ghost use mathlib.Core.Bool.{_&&_};
 ghost use mathlib.Core.List.{List};
 ghost use Prim.Native.Nat.{ℕ, _+_, _*_, _/_, _≤_, _<_};
 ghost use lib.ListN.{length, take, drop};
@@ -7,7 +8,7 @@ ghost use Rattle.tree.specs.Bytes.{decimal, integer};
 ghost use Rattle.tree.specs.Kinds.{kind-at};
 ghost use Rattle.tree.specs.Records.{numbers-text, row-record, row-records, root-records, terminated};
 ghost use Rattle.tree.specs.Layout.{signed, row-of, rows-of, table-of, sheet-fits};
-ghost use Rattle.rows.specs.Shape.{Shape, Shapes};
+ghost use Rattle.records.specs.Shape.{Shape, Shapes, row-shaped, each-shaped, shaped};
 
 fn digit_count(n: u64) -> usize
     ensures { λ r. ⌜ (r ≡ length (decimal n)) × (r ≤ 20) ⌝ }
@@ -136,12 +137,61 @@ fn roots_bytes(roots: &[u64]) -> usize
     sum
 }
 
-// Whether a sheet that load takes can give the table: it has a record, and at most 65,535 bytes without the last CRLF.
-pub fn fits_a_sheet(rows: &[u64], roots: &[u64]) -> bool
-    requires { ⌜ Shapes (now rows) × (length (now roots) ≤ 64) ⌝ }
-    ensures { λ r. ⌜ r ≡ sheet-fits (table-of (now (rows .entry)) (now (roots .entry))) ⌝ }
+// Whether a row's words have the form that its bytes are counted by.
+fn row_shaped(row: &[u64]) -> bool
+    requires { ⌜ length (now row) ≡ 35 ⌝ }
+    ensures { λ r. ⌜ r ≡ row-shaped (now (row .entry)) ⌝ }
 {
-    if rows.len() < 35 {
+    if row[0] > 28 {
+        return false;
+    }
+    if row[1] > 28 - row[0] {
+        return false;
+    }
+    if row[2] > 32 {
+        return false;
+    }
+    if row[0] + row[1] != 1 {
+        return true;
+    }
+    row[2] > 1
+}
+
+fn rows_shaped(rows: &[u64]) -> bool
+    requires { ⌜ length (now rows) ≡ 35 * (length (now rows) / 35) ⌝ }
+    ensures { λ r. ⌜ r ≡ each-shaped (length (now (rows .entry)) / 35) (now (rows .entry)) ⌝ }
+{
+    let n = rows.len() / 35;
+    let mut i = 0;
+    while i < n {
+        let at = 35 * i;
+        let end = at + 35;
+        if !row_shaped(&rows[at..end]) {
+            return false;
+        }
+        i += 1;
+    }
+    true
+}
+
+// Whether load takes a sheet that gives the table: at least one record, and at most 65,535 bytes without the last CRLF. Words that are no rows have no sheet.
+pub fn fits_a_sheet(rows: &[u64], roots: &[u64]) -> bool
+    ensures { λ r. ⌜ r ≡ (shaped (now (rows .entry)) (now (roots .entry)) && sheet-fits (table-of (now (rows .entry)) (now (roots .entry)))) ⌝ }
+{
+    let n = rows.len() / 35;
+    if rows.len() != 35 * n {
+        return false;
+    }
+    if n > 1024 {
+        return false;
+    }
+    if roots.len() > 64 {
+        return false;
+    }
+    if !rows_shaped(rows) {
+        return false;
+    }
+    if n == 0 {
         return false;
     }
     rows_bytes(rows) + roots_bytes(roots) <= 65537

@@ -1,4 +1,4 @@
--- `rows::bytes::numbers_bytes` meets its contract: the sum is that of the numbers passed. Assumes nothing.
+-- `records::numbers_bytes` meets its contract: the sum is that of the numbers passed. Assumes nothing.
 use mathlib.Core.Path.{_≡_, ap, sym, _∙_}
 use mathlib.Core.List.{List}
 use Prim.Native.Nat.{ℕ, _*_, _-_, _≤_}
@@ -8,9 +8,9 @@ use borrow.Author.Needs.{needs}
 use lib.ListN.{length, take}
 use lib.Seq.{take-all}
 use Rattle.tree.specs.Records.{numbers-text}
-use Rattle.rows.proofs.Digits.{numbers-step, numbers-none}
-use Rattle.rows.proofs.bytes.numbers_bytes.Statement.{statement}
-use Rattle.rows.proofs.bytes.numbers_bytes.Tie as tie
+use Rattle.records.proofs.Digits.{numbers-step, numbers-none}
+use Rattle.records.proofs.numbers_bytes.Statement.{statement}
+use Rattle.records.proofs.numbers_bytes.Tie as tie
 
 abbrev Inv-loop : tie.InvT-loop
 Inv-loop s sum₀ i₀ sum i = (i ≤ length s) × (sum ≤ 21 * i) × (sum ≡ length (numbers-text (take i s)))

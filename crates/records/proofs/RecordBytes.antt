@@ -15,7 +15,7 @@ use Rattle.tree.specs.Rows.{row-op}
 use Rattle.tree.specs.Records.{numbers-text, row-record, row-records, root-records, sheet-of, terminated}
 use Rattle.tree.specs.Layout.{signed, row-by, row-of, rows-of, table-of, sheet-fits}
 use Rattle.tree.proofs.RecordLaws.{terminated-append, joined-bytes, records-long}
-use Rattle.rows.specs.Shape.{Shape}
+use Rattle.records.specs.Shape.{Shape}
 
 row-by-op : (n : ℕ) (fields : List ℕ) → 2 ≤ n → row-by n fields ≡ row-op n fields
 unfolding row-by

@@ -1,12 +1,12 @@
--- `rows::bytes::digit_count` meets its contract: the digits counted and those still to come are those of the number. Assumes nothing.
+-- `records::digit_count` meets its contract: the digits counted and those still to come are those of the number. Assumes nothing.
 use mathlib.Core.Path.{_≡_}
 use Prim.Native.Nat.{_+_, _≤_}
 use native.Mathlib.Omega.{arith}
 use lib.ListN.{length}
 use Rattle.tree.specs.Bytes.{decimal}
-use Rattle.rows.proofs.Digits.{one-digit, more-digits, digits-pos, digits-20}
-use Rattle.rows.proofs.bytes.digit_count.Statement.{statement}
-use Rattle.rows.proofs.bytes.digit_count.Tie as tie
+use Rattle.records.proofs.Digits.{one-digit, more-digits, digits-pos, digits-20}
+use Rattle.records.proofs.digit_count.Statement.{statement}
+use Rattle.records.proofs.digit_count.Tie as tie
 
 abbrev Inv-loop : tie.InvT-loop
 Inv-loop n m₀ count₀ m count = (count + length (decimal m) ≡ 1 + length (decimal n)) × (length (decimal n) ≤ 20)

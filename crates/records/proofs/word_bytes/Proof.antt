@@ -1,4 +1,4 @@
--- `rows::bytes::word_bytes` meets its contract: the table is tested at every kind by computing. Assumes nothing.
+-- `records::word_bytes` meets its contract: the table is tested at every kind by computing. Assumes nothing.
 use mathlib.Core.Bool.{Bool, _&&_}
 use mathlib.Core.List.{List, [], _∷_}
 use Prim.Native.Nat.{ℕ}
@@ -8,8 +8,8 @@ use lib.ListN.{length, getD}
 use Rattle.tree.specs.Kinds.{kind-at}
 use Rattle.tree.proofs.Logic.{and-left, and-right}
 use Rattle.tree.proofs.Tests.{entry-at}
-use Rattle.rows.proofs.bytes.word_bytes.Statement.{statement}
-use Rattle.rows.proofs.bytes.word_bytes.Tie as tie
+use Rattle.records.proofs.word_bytes.Statement.{statement}
+use Rattle.records.proofs.word_bytes.Tie as tie
 
 abbrev table : List ℕ
 table = 3 ∷ 5 ∷ 3 ∷ 3 ∷ 3 ∷ 3 ∷ 3 ∷ 3 ∷ 3 ∷ 3 ∷ 3 ∷ 4 ∷ 4 ∷ 4 ∷ 5 ∷ 4 ∷ 4 ∷ 4 ∷ 3 ∷ 2 ∷ 4 ∷ 5 ∷ 4 ∷ 3 ∷ 9 ∷ 5 ∷ 6 ∷ 6 ∷ 8 ∷ []

@@ -1,9 +1,9 @@
--- `rows::bytes::constant_bytes` meets its contract. Assumes nothing.
+-- `records::constant_bytes` meets its contract. Assumes nothing.
 use native.Mathlib.Omega.{arith}
 use borrow.Author.Needs.{needs}
-use Rattle.rows.proofs.Digits.{plain-bytes, zero-bytes, minus-bytes}
-use Rattle.rows.proofs.bytes.constant_bytes.Statement.{statement}
-use Rattle.rows.proofs.bytes.constant_bytes.Tie as tie
+use Rattle.records.proofs.Digits.{plain-bytes, zero-bytes, minus-bytes}
+use Rattle.records.proofs.constant_bytes.Statement.{statement}
+use Rattle.records.proofs.constant_bytes.Tie as tie
 
 pub constant-bytes-spec : {M : Type 1} → statement M
 constant-bytes-spec =

@@ -1,2 +1,3 @@
 pub mod Digits
 pub mod RecordBytes
+pub mod ShapeLaws

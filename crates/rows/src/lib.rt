@@ -1,2 +1,0 @@
-// Node rows lent as words.
-mod bytes;
