@@ -11,13 +11,14 @@ use lib.Dec.{T, eqb, leb, eqb→eq, le→leb}
 use Rattle.tree.specs.Outcome.{Outcome, ok, refused, _>>=_}
 use Rattle.tree.specs.Tree.{Name, xname, Tree, Forest, Sym, Const, Op, nil, _◂_, fold, folds, eq-tree, eq-int}
 use Rattle.tree.specs.Kinds.{Neg, Mul, Div, is-switch}
-use Rattle.tree.specs.Facts.{size, cost, has-symbol, some-of, nodes, nodes-of, all-nodes, outer, outer-of, outer-first, all-outer, outside, count, uses, uses-outside, all-operations}
+use Rattle.tree.specs.Facts.{size, cost, has-symbol, some-of, nodes, nodes-of, all-nodes, outer, outer-of, outer-first, all-outer, outside, count, uses, uses-outside}
 use Rattle.tree.proofs.Logic.{and-left, and-right, and-both}
 use Rattle.rewrite.specs.Rewrite.{Factors, one, flatten-mul-factors, flatten-operands, flatten-after, times, negated, constant-of, nested-product, with-coefficient, built, build-mul-from-factors, remove-each, is-mul, match-factors, each-operand, replace-within, replace, divides-by, replace-divisor, replace-divisors, dividend}
 use Rattle.rewrite.proofs.Savings.{count-cons, one-self}
-use Rattle.cse.specs.Extract.{State, Candidate, roots, is-candidate, best, extract, rounds, extract-all, divisor-of, divisors, replace-divisor-each, bind-reciprocal, bind-reciprocals, reciprocals}
+use Rattle.cse.specs.Extract.{State, roots, is-candidate, best, extract, extract-all, divisor-of, divisors, replace-divisor-each, bind-reciprocal, bind-reciprocals, reciprocals}
+use Rattle.cse.proofs.RoundsGood.{extract-all-good}
 use Rattle.cse.proofs.Outcomes.{Good, then-good, good-ok, good-at}
-use Rattle.cse.proofs.RoundsCount.{Replaced, extracted, best-fits, none-fits, candidate-facts, begin, begin-roots}
+use Rattle.cse.proofs.RoundsCount.{Replaced, extracted, none-fits, candidate-facts, begin-roots}
 use Rattle.cse.proofs.ReciprocalsCount.{AllTrees, all-map, divisors-all, bound-divisors, bound-twice, bound-outside, inverse, roots-reciprocal, reciprocals-are}
 use Rattle.cse.proofs.Levels.{trees-append, trees-at, All-left, left-each}
 use Rattle.cse.proofs.ArmLoads.{load, loads, load-first}
@@ -389,25 +390,9 @@ extract-clean scoped x s t c e h =
     (trees-append (λ t. T (clean t)) (E .made) (x ∷ []) (replaced-clean x (xname (s .next)) (roots s) (E .made) (E .replaced) h)
     (trees-at (λ t. T (clean t)) x (all-nodes (roots s)) (nodes-clean (roots s) h) (let q = f .2 in omega arith), tt))
 
-round-clean :
-    (scoped : Bool) (s : State) → All-clean (roots s) → (g : State → Outcome State) → ((t : State) → All-clean (roots t) → Good (λ u. All-clean (roots u)) (g t))
-    → (o : Option Candidate) → best scoped (roots s) ≡ o → Good {A = State} (λ u. All-clean (roots u)) (elim o [ none ↦ ok s | some c ↦ (extract (c .tree) s >>= λ t. g t) ])
-round-clean scoped s h g k none e = good-ok (λ (u : State). All-clean (roots u)) s h
-round-clean scoped s h g k (some c) e = go (extract (c .tree) s) refl
-  where
-    go : (o : Outcome State) → extract (c .tree) s ≡ o → Good (λ u. All-clean (roots u)) (o >>= λ t. g t)
-    go (ok t) z = k t (extract-clean scoped (c .tree) s t (best-fits scoped (roots s) c e) z h)
-    go (refused i) z = (unfold Good in tt)
-
-rounds-clean : (fuel : ℕ) (scoped : Bool) (s : State) → All-clean (roots s) → Good (λ u. All-clean (roots u)) (rounds fuel scoped s)
-unfolding rounds
-rounds-clean zero scoped s h = good-ok (λ (u : State). All-clean (roots u)) s h
-rounds-clean (suc fuel) scoped s h = round-clean scoped s h (λ t. rounds fuel scoped t) (λ t g. rounds-clean fuel scoped t g) (best scoped (roots s)) refl
-
 pub extract-all-clean : (scoped : Bool) (next : ℕ) (es : List Tree) → All-clean es → Good (λ u. All-clean (roots u)) (extract-all scoped next es)
 extract-all-clean scoped next es h =
-    (unfold extract-all begin in
-    rounds-clean (all-operations es) scoped (begin es next) (subst All-clean (sym (begin-roots es next)) h))
+    extract-all-good scoped (λ u. All-clean (roots u)) (λ x s t c e g. extract-clean scoped x s t c e g) next es (subst All-clean (sym (begin-roots es next)) h)
 
 -- ---- divisors of clean nodes are plain
 

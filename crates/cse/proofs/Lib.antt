@@ -1,5 +1,6 @@
 pub mod Outcomes
 pub mod RoundsCount
+pub mod RoundsGood
 pub mod RoundsFuel
 pub mod SortCount
 pub mod Dependence
