@@ -268,8 +268,8 @@ module _ (op : ℕ → List ℕ → ℕ) (L : Level op) where
         (trees-append (λ x. μ x ≤ N) (E .made) (x ∷ []) (replaced-most x (xname (s .next)) (roots s) (E .made) (E .replaced) h)
         (trees-at (λ x. μ x ≤ N) x (all-nodes (roots s)) (all-nodes-most (roots s) h) (let q = f .2 in omega arith), tt))
 
-    pub extract-all-most : (scoped : Bool) (next : ℕ) (es : List Tree) → Within es → Good (λ u. Within (roots u)) (extract-all scoped next es)
-    extract-all-most scoped next es h =
+    pub extract-all-within : (scoped : Bool) (next : ℕ) (es : List Tree) → Within es → Good (λ u. Within (roots u)) (extract-all scoped next es)
+    extract-all-within scoped next es h =
         extract-all-good scoped (λ u. Within (roots u)) (λ x s t c e g. extract-most scoped x s t c e g) next es (subst Within (sym (begin-roots es next)) h)
 
     divided-most : (d : Tree) (n : Name) (l : List Tree) → Within l → Within (replace-divisor-each d n l)
@@ -285,9 +285,9 @@ module _ (op : ℕ → List ℕ → ℕ) (L : Level op) where
         (subst Within (sym (roots-reciprocal d s))
         (trees-append (λ x. μ x ≤ N) (replace-divisor-each d (xname (s .next)) (roots s)) (inverse d ∷ []) (divided-most d (xname (s .next)) (roots s) h) (g .0, tt)))
 
-    pub reciprocals-most :
+    pub reciprocals-within :
         (scoped : Bool) (s : State) → ((d : Tree) → 1 ≤ count d (divisors (all-nodes (roots s))) → μ (inverse d) ≤ N) → Within (roots s) → Within (roots (reciprocals scoped s))
-    reciprocals-most scoped s f h =
+    reciprocals-within scoped s f h =
         subst (λ (u : State). Within (roots u)) (sym (reciprocals-are scoped s))
         (each-most (bound-divisors scoped s) s
         (all-map (λ d. 2 ≤ count d (divisors (all-nodes (roots s)))) (λ d. μ (inverse d) ≤ N) (λ d q. f d (omega arith)) (bound-divisors scoped s) (bound-twice scoped s)) h)

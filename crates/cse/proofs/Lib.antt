@@ -28,5 +28,5 @@ pub mod ScopedCount
 pub mod Levels
 pub mod NestingLevel
 pub mod CleanDivisors
-pub mod ArmLoads
+pub mod ArmNodes
 pub mod RoomEnough

@@ -1,38 +1,20 @@
--- spot checks beyond the marked lists: scoped answers, refusals of load, rows
+-- Spot checks beyond the marked lists: scoped answers, rows, the room of open scopes, refusals of load. Assumes nothing.
 use Prim.Native.Nat.{ℕ, suc}
-use Prim.Native.String.{String}
 use mathlib.Core.Path.{_≡_, refl}
-use mathlib.Core.Bool.{Bool, true, false}
+use mathlib.Core.Bool.{Bool, true}
 use mathlib.Core.List.{List, [], _∷_}
-use lib.IntN.{pos, negsuc}
 use Rattle.tree.specs.Outcome.{Outcome, ok, refused, _>>=_, by}
-use Rattle.tree.specs.Tree.{Name, input, Tree, Sym, Const, Op, nil, _◂_}
-use Rattle.tree.specs.Kinds.{Add, Mul, Div, Sin, Cos, Branch, Select, SelectOr}
+use Rattle.tree.specs.Tree.{Tree, Sym, Const, Op, nil, _◂_}
+use Rattle.tree.specs.Kinds.{Branch, Select, SelectOr}
 use Rattle.tree.specs.Bytes.{bytes}
 use Rattle.cse.specs.Answer.{answer-text, rows}
 use Rattle.cse.specs.Scope.{cse-scope, answer}
 use Rattle.cse.specs.Demand.{well-scoped}
 use Rattle.program.specs.Program.{csesheet}
+use Rattle.program.proofs.Marked.{v, _⊕_, _⊗_, sin, cos}
 
 abbrev prints : Bool → List Tree → Outcome (List ℕ)
 prints scoped es = answer scoped es >>= λ a. ok (answer-text a)
-
-abbrev v : String → Tree
-v s = Sym (input (bytes s))
-
-infixl 75 _⊕_
-abbrev _⊕_ : Tree → Tree → Tree
-a ⊕ b = Op Add (a ◂ b ◂ nil)
-
-infixl 76 _⊗_
-abbrev _⊗_ : Tree → Tree → Tree
-a ⊗ b = Op Mul (a ◂ b ◂ nil)
-
-abbrev sin : Tree → Tree
-sin a = Op Sin (a ◂ nil)
-
-abbrev cos : Tree → Tree
-cos a = Op Cos (a ◂ nil)
 
 -- two selects on one index and a branch, with work shared inside an arm
 abbrev mixed : List Tree
