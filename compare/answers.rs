@@ -6,46 +6,78 @@ use std::any::Any;
 use std::collections::HashMap;
 use std::panic::{AssertUnwindSafe, catch_unwind, resume_unwind, set_hook, take_hook};
 
-/// How often a list is run. A tie that hash order decides shows up in all but one run of 2^47.
+/// How often a list is run. Hash order is new in each run, so a tie that it decides stays hidden
+/// once in 2^47 lists.
 const RUNS: usize = 48;
 
-#[derive(Clone, PartialEq)]
+#[derive(PartialEq)]
 pub enum Outcome {
-    Given { rows: usize, extracted: usize, text: String },
+    Given {
+        rows: usize,
+        extracted: usize,
+        text: String,
+    },
     Refused(usize),
 }
 
-/// What came about on the way to an answer, to tell how much a list tries.
-#[derive(Clone, Copy, Default)]
-pub struct Events {
-    pub extracted: usize,
-    pub reciprocals: usize,
-    pub matches: usize,
-    pub nested_matches: usize,
-    pub fused: usize,
-    pub factor_matches: usize,
-    pub coefficients: usize,
+/// What can come about on the way to an answer, to tell how much a list tries.
+#[derive(Clone, Copy)]
+pub enum Event {
+    Extraction,
+    SecondExtraction,
+    Reciprocal,
+    FactorMatch,
+    Coefficient,
+    Match,
+    MatchInArm,
+    Fusion,
+    KeyOfMatch,
+    SwitchLeft,
 }
+
+pub const EVENTS: [&str; 10] = [
+    "extractions",
+    "two or more",
+    "reciprocals",
+    "factor matches",
+    "rebuilt coefficients",
+    "matches",
+    "matches in arms",
+    "matches of several switches",
+    "keys that read a match",
+    "switches left in a scoped answer",
+];
+
+pub type Events = [bool; EVENTS.len()];
 
 type Answer = (Vec<Intermediate>, Vec<E>);
 
 fn flat(es: &[E]) -> Answer {
     let (lets, results) = cse(es);
-    (lets.into_iter().map(|(name, expr)| Intermediate::Let { name, expr }).collect(), results)
+    (
+        lets.into_iter()
+            .map(|(name, expr)| Intermediate::Let { name, expr })
+            .collect(),
+        results,
+    )
 }
 
 /// The outcome that all runs agree on, or none where hash order decides.
 pub fn settled(scoped: bool, es: &[E]) -> Option<(Outcome, Events)> {
     let first = once(scoped, es);
-    (1..RUNS).all(|_| once(scoped, es).0 == first.0).then_some(first)
+    (1..RUNS)
+        .all(|_| once(scoped, es).0 == first.0)
+        .then_some(first)
 }
 
 fn once(scoped: bool, es: &[E]) -> (Outcome, Events) {
     take_ones();
-    let run = catch_unwind(AssertUnwindSafe(|| if scoped { cse_scoped(es) } else { flat(es) }));
+    let run = catch_unwind(AssertUnwindSafe(|| {
+        if scoped { cse_scoped(es) } else { flat(es) }
+    }));
     let reciprocals = take_ones();
     match run {
-        Ok(answer) => given(&answer, reciprocals),
+        Ok(answer) => given(scoped, &answer, reciprocals),
         Err(payload) => match refusal(payload.as_ref()) {
             Some(n) => (Outcome::Refused(n), Events::default()),
             None => resume_unwind(payload),
@@ -60,7 +92,8 @@ fn refusal(payload: &(dyn Any + Send)) -> Option<usize> {
         return Some(10);
     }
     let said = payload.downcast_ref::<String>()?;
-    said.contains("dependency cycle among intermediates").then_some(11)
+    said.contains("dependency cycle among intermediates")
+        .then_some(11)
 }
 
 /// Has the panics that stand for refusals say nothing.
@@ -73,16 +106,27 @@ pub fn hush() {
     }));
 }
 
-fn given((inters, results): &Answer, reciprocals: usize) -> (Outcome, Events) {
+fn given(scoped: bool, (inters, results): &Answer, reciprocals: usize) -> (Outcome, Events) {
     let mut text = String::new();
     inters.iter().for_each(|it| text += &format!("{it}\n"));
     results.iter().for_each(|e| text += &format!("{e}\n"));
-    let mut look = Look::default();
+    let mut look = Look {
+        scoped,
+        ..Look::default()
+    };
     look.block(inters, results, 0);
     let extracted = look.lets - reciprocals;
-    let rows = block_rows(inters, results);
-    let events = Events { extracted, reciprocals, ..look.events };
-    (Outcome::Given { rows, extracted, text }, events)
+    look.see(Event::Extraction, extracted > 0);
+    look.see(Event::SecondExtraction, extracted > 1);
+    look.see(Event::Reciprocal, reciprocals > 0);
+    (
+        Outcome::Given {
+            rows: block_rows(inters, results),
+            extracted,
+            text,
+        },
+        look.events,
+    )
 }
 
 // ---- rows: one for each occurrence, let, match, match name, arm or default, result or arm value
@@ -98,37 +142,64 @@ fn block_rows(inters: &[Intermediate], values: &[E]) -> usize {
 fn rows(it: &Intermediate) -> usize {
     match it {
         Intermediate::Let { expr, .. } => 1 + size(expr),
-        Intermediate::Match { switch, names, arms, default } => {
+        Intermediate::Match {
+            switch,
+            names,
+            arms,
+            default,
+        } => {
             let arm = |a: &Arm| 1 + block_rows(&a.inters, &a.values);
-            1 + size(switch.expr()) + names.len() + arms.iter().chain(default).map(arm).sum::<usize>()
+            1 + size(switch.expr())
+                + names.len()
+                + arms.iter().chain(default).map(arm).sum::<usize>()
         }
     }
 }
 
-// ---- events, read off an answer
+// ---- lets and events, read off an answer
 
 #[derive(Default)]
 struct Look {
+    scoped: bool,
     lets: usize,
     events: Events,
+    /// for each name of a let whether it is bound to a product of coefficient 1
     products: HashMap<String, bool>,
 }
 
 impl Look {
+    fn see(&mut self, event: Event, seen: bool) {
+        self.events[event as usize] |= seen;
+    }
+
     fn block(&mut self, inters: &[Intermediate], values: &[E], depth: usize) {
         for it in inters {
             if let Intermediate::Let { name, expr } = it {
                 self.lets += 1;
-                self.products.insert(name.clone(), is_plain_product(expr));
+                let product = matches!(expr.as_ref(), Expr::Mul(..)) && coefficient(expr) == 1.0;
+                self.products.insert(name.clone(), product);
             }
         }
         for it in inters {
             match it {
                 Intermediate::Let { expr, .. } => self.tree(expr),
-                Intermediate::Match { switch, names, arms, default } => {
-                    self.events.matches += 1;
-                    self.events.nested_matches += usize::from(depth > 0);
-                    self.events.fused += usize::from(names.len() > 1);
+                Intermediate::Match {
+                    switch,
+                    names,
+                    arms,
+                    default,
+                } => {
+                    self.see(Event::Match, true);
+                    self.see(Event::MatchInArm, depth > 0);
+                    self.see(Event::Fusion, names.len() > 1);
+                    self.see(
+                        Event::KeyOfMatch,
+                        switch
+                            .expr()
+                            .free_vars()
+                            .iter()
+                            .any(|v| v.starts_with("__m")),
+                    );
                     self.tree(switch.expr());
                     for arm in arms.iter().chain(default) {
                         self.block(&arm.inters, &arm.values, depth + 1);
@@ -140,22 +211,22 @@ impl Look {
     }
 
     /// A product that ends in a name bound to a product of coefficient 1 comes from a match by
-    /// factors alone: had the last operand been the target as it stands, the whole would have
-    /// matched by factors first.
+    /// factors: had its last operand been the target as it stands, the whole would have matched by
+    /// factors first.
     fn tree(&mut self, e: &E) {
         if let Expr::Mul(a, b) = e.as_ref()
             && let Expr::Sym(name) = b.as_ref()
             && self.products.get(name) == Some(&true)
         {
-            self.events.factor_matches += 1;
-            self.events.coefficients += usize::from(matches!(a.as_ref(), Expr::Const(_)));
+            self.see(Event::FactorMatch, true);
+            self.see(Event::Coefficient, matches!(a.as_ref(), Expr::Const(_)));
         }
+        self.see(
+            Event::SwitchLeft,
+            self.scoped && matches!(e.as_ref(), Expr::Select { .. } | Expr::Branch(..)),
+        );
         children(e).into_iter().for_each(|c| self.tree(c));
     }
-}
-
-fn is_plain_product(e: &E) -> bool {
-    matches!(e.as_ref(), Expr::Mul(..)) && coefficient(e) == 1.0
 }
 
 fn coefficient(e: &E) -> f64 {

@@ -41,20 +41,47 @@ pub enum Expr {
     Heaviside(E),
     Clamp(E, E, E),
     Branch(E, E, E),
-    Select { index: E, arms: Vec<E>, default: Option<E> },
-    NamedConst { name: String, value: f64, rust_f32: String, rust_f64: String, latex: String },
-    Func { name: String, params: Vec<String>, kind: FuncKind, args: Vec<E> },
+    Select {
+        index: E,
+        arms: Vec<E>,
+        default: Option<E>,
+    },
+    NamedConst {
+        name: String,
+        value: f64,
+        rust_f32: String,
+        rust_f64: String,
+        latex: String,
+    },
+    Func {
+        name: String,
+        params: Vec<String>,
+        kind: FuncKind,
+        args: Vec<E>,
+    },
 }
 
 impl Eq for Expr {}
 
 #[derive(Debug, Clone, PartialEq)]
 pub enum FuncKind {
-    Symbolic { body: E },
-    Extern { call_path: String },
-    ExternNumericDerivs { call_path: String, partials_read: bool },
-    ExternOutput { index: usize },
-    NoDerivative { of: String, why: String },
+    Symbolic {
+        body: E,
+    },
+    Extern {
+        call_path: String,
+    },
+    ExternNumericDerivs {
+        call_path: String,
+        partials_read: bool,
+    },
+    ExternOutput {
+        index: usize,
+    },
+    NoDerivative {
+        of: String,
+        why: String,
+    },
 }
 
 impl FuncKind {

@@ -36,14 +36,17 @@ impl Random {
 pub fn list(r: &mut Random) -> Vec<T> {
     loop {
         let (most, es) = match r.below(100) {
-            0..=17 => (MOST, grown(r, &ANY)),
-            18..=29 => (MOST, grown(r, &SWITCHES)),
-            30..=39 => (MOST, grown(r, &DIVISIONS)),
-            40..=47 => (MOST, grown(r, &TEXTS)),
-            48..=55 => (MOST, grown(r, &MIXED)),
-            56..=71 => (MOST, products(r)),
-            72..=83 => (MOST, tangled(r)),
-            84..=97 => (MOST, divided(r)),
+            0..=7 => (MOST, grown(r, &ANY)),
+            8..=14 => (MOST, grown(r, &SWITCHES)),
+            15..=20 => (MOST, grown(r, &DIVISIONS)),
+            21..=28 => (MOST, grown(r, &TEXTS)),
+            29..=35 => (MOST, grown(r, &MIXED)),
+            36..=55 => (MOST, products(r)),
+            56..=69 => (MOST, tangled(r)),
+            70..=81 => (MOST, divided(r)),
+            82..=93 => (MOST, rivals(r)),
+            94..=96 => (MOST, regrouped(r)),
+            97 => (MOST_HUGE, clashing(r)),
             _ => (MOST_HUGE, huge(r)),
         };
         let total: usize = es.iter().map(size).sum();
@@ -62,21 +65,40 @@ struct Soil {
     kinds: &'static [usize],
 }
 
+const SWITCH_KINDS: [usize; 3] = [BRANCH, SELECT, SELECT_OR];
+
 const ANY: Soil = Soil {
     symbols: &["a", "b"],
     constants: &[2],
-    kinds: &[2, 3, 4, 5, 6, 7, 8, 9, 10, 11, 12, 13, 14, 15, 16, 17, 18, 19, 20, 21, 22, 23, 24, 25, 26, 27, 28],
+    kinds: &[
+        2, 3, 4, 5, 6, 7, 8, 9, 10, 11, 12, 13, 14, 15, 16, 17, 18, 19, 20, 21, 22, 23, 24, 25, 26,
+        27, 28,
+    ],
 };
 
-const SWITCHES: Soil =
-    Soil { symbols: &["a", "b", "i"], constants: &[1], kinds: &[SELECT, SELECT, SELECT_OR, SELECT_OR, BRANCH, BRANCH, ADD, 8] };
+const SWITCHES: Soil = Soil {
+    symbols: &["a", "b", "i"],
+    constants: &[1],
+    kinds: &[SELECT, SELECT, SELECT_OR, SELECT_OR, BRANCH, BRANCH, ADD, 8],
+};
 
-const DIVISIONS: Soil = Soil { symbols: &["p", "q"], constants: &[1, 2, 3], kinds: &[DIV, DIV, DIV, ADD, 8, SELECT] };
+const DIVISIONS: Soil = Soil {
+    symbols: &["p", "q"],
+    constants: &[1, 2, 3],
+    kinds: &[DIV, DIV, DIV, ADD, 8, SELECT],
+};
 
-const TEXTS: Soil = Soil { symbols: &["a", "b"], constants: &[-1, 0], kinds: &[NEG, NEG, ADD, 4, 4, MUL, DIV, 7, 7, 9] };
+const TEXTS: Soil = Soil {
+    symbols: &["a", "b"],
+    constants: &[-1, 0],
+    kinds: &[NEG, NEG, ADD, 4, 4, MUL, DIV, 7, 7, 9],
+};
 
-const MIXED: Soil =
-    Soil { symbols: &["a", "b", "i"], constants: &[-1, 2], kinds: &[MUL, MUL, DIV, NEG, ADD, SELECT, SELECT_OR, BRANCH, 24] };
+const MIXED: Soil = Soil {
+    symbols: &["a", "b", "i"],
+    constants: &[-1, 2],
+    kinds: &[MUL, MUL, DIV, NEG, ADD, SELECT, SELECT_OR, BRANCH, 24],
+};
 
 fn arity(r: &mut Random, kind: usize) -> usize {
     match kind {
@@ -90,7 +112,11 @@ fn arity(r: &mut Random, kind: usize) -> usize {
 
 /// One of the trees, the latest more often.
 fn one(r: &mut Random, pool: &[T]) -> T {
-    let from = if r.chance(60) { pool.len().saturating_sub(4) } else { 0 };
+    let from = if r.chance(60) {
+        pool.len().saturating_sub(4)
+    } else {
+        0
+    };
     r.pick(&pool[from..]).clone()
 }
 
@@ -98,22 +124,72 @@ fn grown(r: &mut Random, soil: &Soil) -> Vec<T> {
     let mut pool: Vec<T> = soil.symbols.iter().map(|s| sym(s)).collect();
     pool.extend(soil.constants.iter().map(|n| num(*n)));
     let leaves = pool.len();
+    // of the switches many are of one kind and on one key, so that several join a match
     let key = one(r, &pool);
+    let switch = *r.pick(&SWITCH_KINDS);
     for _ in 0..3 + r.below(7) {
-        let kind = *r.pick(soil.kinds);
+        let mut kind = *r.pick(soil.kinds);
+        if kind >= BRANCH && r.chance(60) {
+            kind = switch;
+        }
         let mut parts: Vec<T> = (0..arity(r, kind)).map(|_| one(r, &pool)).collect();
         if kind >= BRANCH && r.chance(60) {
             parts[0] = key.clone();
         }
         pool.push(op(kind, parts));
     }
-    (0..1 + r.below(5)).map(|_| one(r, &pool[leaves..])).collect()
+    (0..1 + r.below(5))
+        .map(|_| one(r, &pool[leaves..]))
+        .collect()
+}
+
+// ---- rivals: two trees of much the same worth, each used twice or three times
+
+fn rivals(r: &mut Random) -> Vec<T> {
+    let mut pool = vec![
+        sym("a"),
+        sym("b"),
+        op(8, vec![sym("a")]),
+        op(10, vec![sym("b")]),
+        op(ADD, vec![sym("a"), sym("b")]),
+    ];
+    for _ in 0..2 {
+        let kind = *r.pick(&[BRANCH, SELECT, SELECT_OR, 8, 9, ADD, DIV, CLAMP]);
+        let mut parts: Vec<T> = (0..arity(r, kind))
+            .map(|_| r.pick(&pool[..5]).clone())
+            .collect();
+        if kind >= BRANCH {
+            parts[0] = sym("i");
+        }
+        pool.push(op(kind, parts));
+    }
+    let mut es: Vec<T> = (0..4 + r.below(2))
+        .map(|n| pool[5 + n % 2].clone())
+        .collect();
+    if r.chance(50) {
+        let n = r.below(es.len());
+        es[n] = op(9, vec![es[n].clone()]);
+    }
+    es
 }
 
 // ---- products: a target, and longer products that hold its factors among others and constants
 
-const COEFFICIENTS: [i64; 14] =
-    [1, 1, -1, -1, 0, 2, -3, 999_999, 1_000_000, 1_000_000_000, -1_000_000_000, 999_999_999_999_999, 31_622_777, -31_622_776];
+const COEFFICIENTS: [i64; 8] = [1, -1, 0, 2, -3, 1_000_000, 31_622_777, 999_999_999_999_999];
+
+/// Pairs about the limit of the constants, and about zero.
+const PAIRS: [[i64; 2]; 10] = [
+    [1_000_000_000, 1_000_000],
+    [-1_000_000_000, 1_000_000],
+    [1_000_000_000, 999_999],
+    [31_622_777, 31_622_777],
+    [31_622_777, -31_622_776],
+    [999_999_999_999_999, 2],
+    [-999_999_999_999_999, -1],
+    [-1, 0],
+    [0, 3],
+    [-1, -1],
+];
 
 fn factor(r: &mut Random) -> T {
     match r.below(8) {
@@ -129,7 +205,11 @@ fn product(r: &mut Random, mut parts: Vec<T>, signs: usize) -> T {
         let a = parts.remove(r.below(parts.len()));
         let b = parts.remove(r.below(parts.len()));
         let both = op(MUL, vec![a, b]);
-        parts.push(if r.chance(signs) { op(NEG, vec![both]) } else { both });
+        parts.push(if r.chance(signs) {
+            op(NEG, vec![both])
+        } else {
+            both
+        });
     }
     parts.remove(0)
 }
@@ -146,11 +226,13 @@ fn products(r: &mut Random) -> Vec<T> {
     let mut es = vec![target.clone(), op(8 + r.below(3), vec![target])];
     for _ in 0..1 + r.below(2) {
         let mut parts = factors.clone();
-        parts.extend((0..r.below(3)).map(|_| num(*r.pick(&COEFFICIENTS))));
-        parts.extend((0..r.below(3)).map(|_| factor(r)));
-        if r.chance(20) {
-            parts.extend(factors.clone());
+        match r.below(10) {
+            0..=3 => parts.extend(r.pick(&PAIRS).map(num)),
+            4..=6 => parts.push(num(*r.pick(&COEFFICIENTS))),
+            7 => parts.extend(factors.clone()),
+            _ => {}
         }
+        parts.extend((0..r.below(2)).map(|_| factor(r)));
         es.push(product(r, parts, signs));
     }
     es
@@ -163,32 +245,114 @@ fn huge(r: &mut Random) -> Vec<T> {
         far = op(MUL, vec![far.clone(), far]);
     }
     let both = op(MUL, vec![sym("a"), sym("b")]);
-    let rest = if r.chance(50) { op(MUL, vec![num(0), sym("b")]) } else { sym("b") };
-    let last = op(MUL, vec![op(MUL, vec![sym(if r.chance(70) { "a" } else { "c" }), far]), rest]);
-    vec![both.clone(), op(8, vec![both]), last]
+    let mut parts = vec![sym(if r.chance(70) { "a" } else { "c" }), sym("b"), far];
+    if r.chance(50) {
+        parts.push(num(0));
+    }
+    vec![both.clone(), op(8, vec![both]), product(r, parts, 25)]
+}
+
+// ---- one text, several trees: sums and products that differ in their grouping alone
+
+fn regrouped(r: &mut Random) -> Vec<T> {
+    let kind = *r.pick(&[ADD, MUL]);
+    let leaf = |r: &mut Random| {
+        if r.chance(70) {
+            sym(["a", "b"][r.below(2)])
+        } else {
+            num(2)
+        }
+    };
+    let leaves = [leaf(r), leaf(r), leaf(r)];
+    let mut es = Vec::new();
+    for _ in 0..3 + r.below(2) {
+        let [a, b, c] = leaves.clone();
+        let whole = if r.chance(50) {
+            op(kind, vec![op(kind, vec![a, b]), c])
+        } else {
+            op(kind, vec![a, op(kind, vec![b, c])])
+        };
+        es.push(match r.below(3) {
+            0 => whole,
+            1 => op(DIV, vec![sym("p"), whole]),
+            _ => op(8, vec![whole]),
+        });
+    }
+    es
 }
 
 // ---- tangles: switches on equal keys, of which one feeds another's arm or key
 
 fn tangled(r: &mut Random) -> Vec<T> {
-    let kind = *r.pick(&[BRANCH, SELECT, SELECT_OR]);
-    let key = if r.chance(75) { sym("i") } else { op(BRANCH, vec![sym("i"), sym("a"), sym("b")]) };
+    let kind = *r.pick(&SWITCH_KINDS);
+    let key = if r.chance(75) {
+        sym("i")
+    } else {
+        op(BRANCH, vec![sym("i"), sym("a"), sym("b")])
+    };
     let mut pool = vec![sym("a"), sym("b"), num(2)];
-    for _ in 0..2 + r.below(3) {
-        let kind = if r.chance(85) { kind } else { *r.pick(&[BRANCH, SELECT]) };
-        let mut parts: Vec<T> = (0..if kind == SELECT { 2 } else { 3 }).map(|_| one(r, &pool)).collect();
-        parts[0] = if r.chance(80) { key.clone() } else { one(r, &pool) };
-        pool.push(op(kind, parts));
+    for _ in 0..1 + r.below(4) {
+        let kind = if r.chance(85) {
+            kind
+        } else {
+            *r.pick(&[BRANCH, SELECT])
+        };
+        let key = if r.chance(80) {
+            key.clone()
+        } else {
+            one(r, &pool)
+        };
+        pool.push(switch(r, kind, &key, &pool));
         match r.below(4) {
             0 => pool.push(op(8, vec![one(r, &pool)])),
             1 | 2 => pool.push(op(*r.pick(&[ADD, MUL, DIV]), vec![one(r, &pool), sym("a")])),
             _ => {}
         }
     }
-    (0..2 + r.below(3)).map(|_| one(r, &pool[3..])).collect()
+    let mut es: Vec<T> = (0..1 + r.below(3)).map(|_| one(r, &pool[3..])).collect();
+    es.extend((0..r.below(3)).map(|_| switch(r, kind, &key, &pool)));
+    es
 }
 
-// ---- divisors: trees without a symbol, switches among them, by which several things are divided
+/// A switch with the least number of arms, so that those of a kind can join.
+fn switch(r: &mut Random, kind: usize, key: &T, pool: &[T]) -> T {
+    let mut parts = vec![key.clone()];
+    parts.extend((0..if kind == SELECT { 1 } else { 2 }).map(|_| one(r, pool)));
+    op(kind, parts)
+}
+
+// ---- clashes: something for refusal 10 and something for 11 in one list, to tell which comes first
+
+fn clashing(r: &mut Random) -> Vec<T> {
+    let both = op(MUL, vec![sym("a"), sym("b")]);
+    let [n, m] = *r.pick(&PAIRS);
+    let far = product(r, vec![num(n), num(m), sym("a"), sym("b")], 0);
+    let ten = op(ADD, vec![op(8, vec![both.clone()]), op(4, vec![both, far])]);
+    let kind = *r.pick(&[BRANCH, SELECT_OR]);
+    let inner = op(
+        ADD,
+        vec![op(kind, vec![sym("i"), sym("a"), sym("b")]), sym("y")],
+    );
+    let key = sym(if r.chance(75) { "i" } else { "j" });
+    let outer = op(kind, vec![key, inner.clone(), sym("c")]);
+    let mut parts = vec![ten, op(ADD, vec![inner, outer])];
+    if r.chance(50) {
+        parts.reverse();
+    }
+    match r.below(3) {
+        0 => parts,
+        1 => parts
+            .into_iter()
+            .map(|t| op(SELECT, vec![sym("k"), t]))
+            .collect(),
+        _ => {
+            parts.insert(0, sym("k"));
+            vec![op(SELECT, parts)]
+        }
+    }
+}
+
+// ---- trees without a symbol, which are never extracted: switches among them, as divisors and keys
 
 fn divided(r: &mut Random) -> Vec<T> {
     let mut pool = vec![num(2), num(3), num(-7)];
@@ -204,10 +368,13 @@ fn divided(r: &mut Random) -> Vec<T> {
     for _ in 0..2 + r.below(3) {
         let p = sym(["p", "q"][r.below(2)]);
         let over = op(DIV, vec![p, one(r, &pool)]);
-        es.push(match r.below(8) {
+        es.push(match r.below(10) {
             0 => op(SELECT, vec![sym("i"), over]),
             1 => op(9, vec![over]),
             2 => op(BRANCH, vec![over, one(r, &pool), sym("p")]),
+            3 => op(SELECT_OR, vec![one(r, &pool), over, sym("p")]),
+            4 => op(SELECT, vec![one(r, &pool), sym("q")]),
+            5 => one(r, &pool),
             _ => over,
         });
     }

@@ -17,7 +17,10 @@ pub fn write(cases: &[Case], folders: &[String]) -> std::io::Result<()> {
     for (m, part) in cases.chunks(LISTS).enumerate() {
         let at = m % folders.len();
         writeln!(roots[at], "pub mod Lists{m}").unwrap();
-        fs::write(format!("{}/Lists{m}.antt", folders[at]), module(m * LISTS, part))?;
+        fs::write(
+            format!("{}/Lists{m}.antt", folders[at]),
+            module(m * LISTS, part),
+        )?;
     }
     for (root, folder) in roots.iter().zip(folders) {
         fs::write(format!("{folder}/Lib.antt"), root)?;
@@ -34,26 +37,51 @@ fn module(first: usize, cases: &[Case]) -> String {
 }
 
 fn theorem(s: &mut String, n: usize, case: &Case) {
-    let roots: String = case.es.iter().map(|t| format!("({}) ∷ ", antt(t))).collect();
+    let roots: String = case
+        .es
+        .iter()
+        .map(|t| format!("({}) ∷ ", antt(t)))
+        .collect();
     let (flat, scoped) = (outcome(&case.flat), outcome(&case.scoped));
-    write!(s, "\n-- {}\n", case.texts.join("; ")).unwrap();
-    write!(s, "pub list{n} : Both ({roots}[])\n    ({flat})\n    ({scoped})\n").unwrap();
+    write!(s, "\n-- {}\n", case.text).unwrap();
+    write!(
+        s,
+        "pub list{n} : Both ({roots}[])\n    ({flat})\n    ({scoped})\n"
+    )
+    .unwrap();
     write!(s, "unfolding summary\nlist{n} = (refl, refl)\n").unwrap();
 }
 
 fn outcome(o: &Outcome) -> String {
     match o {
         Outcome::Refused(n) => format!("turned-down {n}"),
-        Outcome::Given { rows, extracted, text } => {
+        Outcome::Given {
+            rows,
+            extracted,
+            text,
+        } => {
             format!("given {rows} {extracted} \"{}\"", text.replace('\n', "\\n"))
         }
     }
 }
 
-/// A wrong expectation, to see that the check fails: one byte of the text, or the refusal.
-pub fn spoil(case: &mut Case) {
-    match &mut case.scoped {
-        Outcome::Refused(n) => *n = 21 - *n,
-        Outcome::Given { text, .. } => text.insert(0, '_'),
+/// Makes one expectation of a list wrong, by turns in each form and each part.
+pub fn spoil(n: usize, case: &mut Case) {
+    let form = if n % 2 == 0 {
+        &mut case.flat
+    } else {
+        &mut case.scoped
+    };
+    match form {
+        Outcome::Refused(number) => *number = 21 - *number,
+        Outcome::Given {
+            rows,
+            extracted,
+            text,
+        } => match n / 2 % 3 {
+            0 => *rows += 1,
+            1 => *extracted += 1,
+            _ => text.push('\n'),
+        },
     }
 }

@@ -14,6 +14,7 @@ pub const CLAMP: usize = 25;
 pub const BRANCH: usize = 26;
 pub const SELECT: usize = 27;
 pub const SELECT_OR: usize = 28;
+pub const KINDS: usize = 29;
 
 pub enum Tree {
     Sym(&'static str),
@@ -54,7 +55,7 @@ pub fn nesting(t: &T) -> usize {
 }
 
 /// Marks the kinds that occur in a tree.
-pub fn mark_kinds(t: &T, seen: &mut [bool; 29]) {
+pub fn mark_kinds(t: &T, seen: &mut [bool; KINDS]) {
     seen[match t.as_ref() {
         Tree::Sym(_) => 0,
         Tree::Const(_) => 1,
@@ -70,7 +71,10 @@ pub fn antt(t: &T) -> String {
         Tree::Const(n) if *n < 0 => format!("Const (negsuc {})", -n - 1),
         Tree::Const(n) => format!("Const (pos {n})"),
         Tree::Op(k, l) => {
-            let parts: String = l.iter().map(|c| format!("{} ◂ ", antt_operand(c))).collect();
+            let parts: String = l
+                .iter()
+                .map(|c| format!("{} ◂ ", antt_operand(c)))
+                .collect();
             format!("Op {k} ({parts}nil)")
         }
     }
@@ -89,7 +93,10 @@ pub struct Maker {
 
 impl Maker {
     pub fn new(share: bool) -> Maker {
-        Maker { share, made: HashMap::new() }
+        Maker {
+            share,
+            made: HashMap::new(),
+        }
     }
 
     pub fn make(&mut self, t: &T) -> E {
@@ -112,14 +119,22 @@ fn expr(kind: usize, parts: Vec<E>) -> Expr {
         NEG | 8..=13 | 15..=24 => unary(kind, parts.into_iter().next().unwrap()),
         BRANCH | CLAMP => {
             let [a, b, c] = <[E; 3]>::try_from(parts).unwrap();
-            if kind == BRANCH { Expr::Branch(a, b, c) } else { Expr::Clamp(a, b, c) }
+            if kind == BRANCH {
+                Expr::Branch(a, b, c)
+            } else {
+                Expr::Clamp(a, b, c)
+            }
         }
         SELECT | SELECT_OR => {
             let mut rest = parts.into_iter();
             let index = rest.next().unwrap();
             let mut arms: Vec<E> = rest.collect();
             let default = if kind == SELECT_OR { arms.pop() } else { None };
-            Expr::Select { index, arms, default }
+            Expr::Select {
+                index,
+                arms,
+                default,
+            }
         }
         _ => {
             let [a, b] = <[E; 2]>::try_from(parts).unwrap();

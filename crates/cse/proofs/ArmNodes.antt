@@ -13,7 +13,7 @@ use Rattle.tree.specs.Facts.{total, size, outer, outer-of, outer-first, all-out
 use Rattle.tree.specs.Rows.{occurrences}
 use Rattle.tree.proofs.Logic.{and-right}
 use Rattle.rewrite.specs.Rewrite.{divides-by, replace-divisor, replace-divisors, dividend}
-use Rattle.rewrite.proofs.Counts.{sum-of, sum-append}
+use Rattle.rewrite.proofs.Measure.{sum-of, sum-append}
 use Rattle.rewrite.proofs.DivisorCount.{divisor-size}
 use Rattle.cse.specs.Extract.{State, roots, among, distinct, replace-divisor-each, bind-reciprocal, bind-reciprocals, reciprocals}
 use Rattle.cse.specs.Scope.{Switch, Group, switches, collect-switches, joins, place, groups-from, members, first-arms, rest-arms, columns, arms-of-members}

@@ -14,7 +14,7 @@ use Rattle.tree.specs.Kinds.{Neg, Mul, Div, is-switch}
 use Rattle.tree.specs.Facts.{size, cost, has-symbol, some-of, nodes, nodes-of, all-nodes, outer, outer-of, outer-first, all-outer, outside, count, uses, uses-outside}
 use Rattle.tree.proofs.Logic.{and-left, and-right, and-both}
 use Rattle.rewrite.specs.Rewrite.{Factors, one, flatten-mul-factors, flatten-operands, flatten-after, times, negated, constant-of, nested-product, with-coefficient, built, build-mul-from-factors, remove-each, is-mul, match-factors, each-operand, replace-within, replace, divides-by, replace-divisor, replace-divisors, dividend}
-use Rattle.rewrite.proofs.Savings.{count-cons, one-self}
+use Rattle.rewrite.proofs.Measure.{count-cons, one-self}
 use Rattle.cse.specs.Extract.{State, roots, is-candidate, best, extract, extract-all, divisor-of, divisors, replace-divisor-each, bind-reciprocal, bind-reciprocals, reciprocals}
 use Rattle.cse.proofs.RoundsGood.{extract-all-good}
 use Rattle.cse.proofs.Outcomes.{Good, then-good, good-ok, good-at}

@@ -14,7 +14,7 @@ use Rattle.tree.specs.Facts.{nodes, nodes-of, count, has-symbol, some-of}
 use Rattle.rewrite.specs.Rewrite.{divides-by, replace-divisor, replace-divisors, dividend}
 use Rattle.cse.specs.Answer.{Intermediate, Let, Match, block}
 use Rattle.tree.proofs.Logic.{and-left, and-right}
-use Rattle.rewrite.proofs.Savings.{one-of}
+use Rattle.rewrite.proofs.Measure.{one-of}
 use Rattle.rewrite.proofs.Names.{holds, holds-each}
 use Rattle.cse.specs.Demand.{depends, dependent}
 use Rattle.rewrite.proofs.Counts.{count-sym, count-const, count-op, count-none, count-operands, one-equal, either}

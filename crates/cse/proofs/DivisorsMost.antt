@@ -13,9 +13,8 @@ use Rattle.tree.specs.Tree.{Tree, Forest, Sym, Const, Op, nil, _◂_, eq-tree}
 use Rattle.tree.specs.Facts.{all-operations, operations, size, nodes, nodes-of, all-nodes, outside, count}
 use Rattle.text.specs.Text.{display, before}
 use Rattle.cse.specs.Extract.{State, roots, divisor-of, divisors, among, distinct, shared-divisors, insert-by-text, sort-by-text, reciprocals}
-use Rattle.rewrite.proofs.Operations.{forest-operations, operations-op}
-use Rattle.rewrite.proofs.Savings.{one-of, one-self, count-cons}
-use Rattle.rewrite.proofs.Counts.{count-nil, one-le, one-equal, sum-of}
+use Rattle.rewrite.proofs.Measure.{sum-of, sum-each, forest-operations, operations-op, one-of, one-self, count-cons}
+use Rattle.rewrite.proofs.Counts.{count-nil, one-le, one-equal}
 use Rattle.cse.proofs.ReciprocalsCount.{AllTrees, bound-divisors, bound-twice, reciprocals-are}
 use Rattle.cse.proofs.SizeCount.{total-size, reciprocals-most, reciprocal-each-size, divisor-half}
 
@@ -147,7 +146,7 @@ at-most-one none l = omega arith
 at-most-one (some d) l = omega arith
 
 mutual
-  unfolding divisors nodes forest-operations
+  unfolding divisors nodes sum-each
 
   divisions : (e : Tree) → length (divisors (nodes e)) ≤ operations e
   divisions (Sym s) = omega arith

@@ -19,10 +19,10 @@ use Rattle.cse.specs.Scope.{Scoped, binds, unfused, finish, cse-scope, a
 use Rattle.tree.specs.Value.{Reading, Env, values}
 use Rattle.cse.specs.Demand.{depends, dependent, bound-exprs, extracted-exprs, no-repeats}
 use Rattle.tree.proofs.Logic.{and-left, and-right}
-use Rattle.rewrite.proofs.Operations.{well-formed-all}
+use Rattle.rewrite.proofs.Measure.{sum-of, sum-append, operations-sum}
 use Rattle.rewrite.proofs.Names.{holds, holds-each, holds-all, below, weaken-all}
 use Rattle.cse.proofs.RoundsValue.{let-names, Numbered, Binds, Model, Modeled, extract-all-keeps, reciprocals-keep}
-use Rattle.rewrite.proofs.Counts.{all-nodes-cons, all-nodes-append, operations-append, sum-of, sum-append, operations-sum}
+use Rattle.rewrite.proofs.Counts.{well-formed-all, all-nodes-cons, all-nodes-append, operations-append}
 use Rattle.cse.proofs.RoundsCount.{made-before, made-le, below-made, costs-operation, extract-all-end, flat-end}
 use Rattle.rewrite.proofs.DivisorCount.{divisor-operations}
 use Rattle.cse.proofs.SortCount.{summed, sorted-sum, Every, sorted-every}

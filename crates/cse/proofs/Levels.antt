@@ -13,7 +13,7 @@ use Rattle.tree.specs.Kinds.{Neg, Mul, Div}
 use Rattle.tree.specs.Facts.{size, nodes, nodes-of, all-nodes, count}
 use Rattle.tree.proofs.Logic.{and-right}
 use Rattle.rewrite.specs.Rewrite.{Factors, one, flatten-mul-factors, flatten-operands, flatten-after, times, negated, constant-of, nested-product, with-coefficient, built, build-mul-from-factors, remove-first, remove-each, is-mul, match-factors, each-operand, replace-within, replace, divides-by, replace-divisor, replace-divisors, dividend}
-use Rattle.rewrite.proofs.Savings.{one-of, count-cons}
+use Rattle.rewrite.proofs.Measure.{one-of, count-cons}
 use Rattle.rewrite.proofs.Counts.{one-equal, count-nil}
 use Rattle.cse.specs.Extract.{State, roots, is-candidate, extract, extract-all, divisors, replace-divisor-each, bind-reciprocal, bind-reciprocals, reciprocals}
 use Rattle.cse.proofs.RoundsGood.{extract-all-good}

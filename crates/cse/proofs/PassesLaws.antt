@@ -12,7 +12,7 @@ use Rattle.tree.specs.Rows.{within-limits}
 use Rattle.tree.specs.Passes.{all-of, of-list, operands-ok, expression, expressions, passes}
 use Rattle.tree.proofs.Formed.{tests, tests-length}
 use Rattle.tree.proofs.Logic.{and-left, and-right, and-both}
-use Rattle.rewrite.proofs.Operations.{well-formed-all}
+use Rattle.rewrite.proofs.Counts.{well-formed-all}
 use Rattle.rewrite.proofs.Names.{holds, holds-each, holds-all, below}
 use Rattle.cse.proofs.ScopeValue.{under}
 

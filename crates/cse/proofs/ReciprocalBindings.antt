@@ -17,7 +17,7 @@ use Rattle.tree.proofs.Logic.{and-left, and-right}
 use Rattle.tree.proofs.TreeLaws.{eq-tree-sound}
 use Rattle.rewrite.specs.Rewrite.{divides-by, replace-divisor, replace-divisors, dividend}
 use Rattle.rewrite.proofs.Names.{holds, holds-each, holds-all, below, weaken-all, all-nodes-hold}
-use Rattle.rewrite.proofs.Savings.{one-of, count-cons, one-self}
+use Rattle.rewrite.proofs.Measure.{one-of, count-cons, one-self}
 use Rattle.rewrite.proofs.Counts.{counted-holds}
 use Rattle.cse.specs.Extract.{Binding, State, roots, divisors, replace-divisor-bound, bind-reciprocal, bind-reciprocals, reciprocals}
 use Rattle.cse.specs.Answer.{Intermediate, Intermediates, Answer, Let, Match, end, step, block}

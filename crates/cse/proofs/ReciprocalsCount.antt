@@ -19,11 +19,10 @@ use Rattle.cse.specs.Extract.{Binding, State, bound, roots, best, diviso
 use Rattle.cse.specs.Answer.{Intermediate, Let, Match}
 use Rattle.cse.specs.Scope.{binds}
 use Rattle.tree.proofs.Logic.{and-left, and-right, and-both}
-use Rattle.rewrite.proofs.Operations.{well-formed-all, all-append}
-use Rattle.rewrite.proofs.Savings.{one-of, count-cons}
+use Rattle.rewrite.proofs.Measure.{sum-of, one-of, count-cons}
 use Rattle.rewrite.proofs.Names.{holds, holds-all, holds-append, weaken, weaken-all, all-nodes-hold, divisor-holds}
 use Rattle.cse.specs.Demand.{depends}
-use Rattle.rewrite.proofs.Counts.{count-nil, count-sym, count-const, count-op, count-none, count-operands, one-none, one-le, one-equal, counted-holds, counted-formed, all-nodes-formed, all-nodes-cons, all-nodes-append, part-operations, sum-of}
+use Rattle.rewrite.proofs.Counts.{count-nil, count-sym, count-const, count-op, count-none, count-operands, one-none, one-le, one-equal, counted-holds, counted-formed, well-formed-all, all-append, all-nodes-formed, all-nodes-cons, all-nodes-append, part-operations}
 use Rattle.cse.proofs.RoundsCount.{bound-append, made-before, made-suc, made-new, new-name, Sound, flat-end}
 use Rattle.cse.proofs.SortCount.{summed, Every}
 use Rattle.rewrite.proofs.DivisorCount.{divisor-formed, restore, restored-count, division-gone}

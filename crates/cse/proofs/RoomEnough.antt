@@ -17,9 +17,11 @@ use Rattle.tree.specs.Rows.{occurrences, within-limits}
 use Rattle.tree.specs.Value.{values}
 use Rattle.tree.proofs.Logic.{and-left, and-right, and-both}
 use Rattle.tree.proofs.Formed.{operand-count, well-formed, well-formed-each}
-use Rattle.rewrite.proofs.Operations.{well-formed-all, all-append}
+use Rattle.rewrite.proofs.Counts.{well-formed-all}
+use Rattle.rewrite.proofs.Counts.{all-append}
 use Rattle.rewrite.proofs.Names.{holds, holds-each, holds-all, below, weaken, weaken-all}
-use Rattle.rewrite.proofs.Counts.{counted-formed, all-nodes-formed, sum-of}
+use Rattle.rewrite.proofs.Counts.{counted-formed, all-nodes-formed}
+use Rattle.rewrite.proofs.Measure.{sum-of}
 use Rattle.cse.specs.Extract.{State, roots, among, distinct, rounds, divisors, extract-all, replace-divisor-each, bind-reciprocal, bind-reciprocals, reciprocals}
 use Rattle.cse.specs.Answer.{Intermediate, Answer}
 use Rattle.cse.specs.Order.{needs, positions-taken, at-each, topo-sort-intermediates}

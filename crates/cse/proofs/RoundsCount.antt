@@ -2,31 +2,29 @@
 -- Assumes nothing.
 use Prim.Native.Nat.{ℕ, zero, suc, _+_, _*_, _≤_}
 use mathlib.Core.Path.{_≡_, refl, sym, _∙_, ap, subst}
-use mathlib.Core.Bool.{Bool, true, false, not, _&&_, _||_}
-use mathlib.Core.Logic.{_⊎_, inl, inr}
+use mathlib.Core.Bool.{Bool, true, false, not, _&&_}
+use mathlib.Core.Logic.{inl, inr}
 use mathlib.Core.Option.{Option, none, some}
 use mathlib.Core.List.{List, [], _∷_, _++_, append-assoc, append-nil}
 use native.Mathlib.Omega.{arith}
 use native.Mathlib.Nat.{mul-add, mul-zero, zero-add, mul-suc}
 use lib.IntN.{ℤ}
 use lib.ListN.{length}
-use lib.Dec.{T, eqb, leb, ltb, eqb→eq, leb→le, le→leb, nleb→lt, ltb→lt, lt→ltb}
-use lib.Ieee as Ieee
+use lib.Dec.{T, leb, ltb, leb→le, le→leb, nleb→lt, ltb→lt, lt→ltb}
 use Rattle.tree.specs.Outcome.{Outcome, ok, refused, _>>=_, each}
 use Rattle.tree.specs.Tree.{Name, input, xname, mname, Tree, Forest, Sym, Const, Op, nil, _◂_, folds}
-use Rattle.tree.specs.Kinds.{Neg, Mul}
 use Rattle.tree.proofs.Formed.{well-formed}
 use Rattle.tree.specs.Facts.{all-operations, cost, has-symbol, some-of, operations, nodes, nodes-of, all-nodes, outside, count, uses, uses-outside}
-use Rattle.rewrite.specs.Rewrite.{Factors, one, flatten-mul-factors, flatten-operands, negated, is-mul, replace}
+use Rattle.rewrite.specs.Rewrite.{flatten-mul-factors, flatten-operands, replace}
 use Rattle.cse.specs.Extract.{Binding, State, Candidate, bound, roots, is-candidate, candidate, beats, best-from, best, replace-bound, extract, rounds, extract-all}
 use Rattle.tree.proofs.Logic.{and-left, and-right, and-both}
-use Rattle.rewrite.proofs.Operations.{spread, spread-operands, spread-of-operands, replace-shrinks, well-formed-all, all-append}
-use Rattle.rewrite.proofs.Savings.{count-cons, measure-operands, measure-of}
-use Rattle.rewrite.proofs.Coefficient.{exactly}
-use Rattle.rewrite.proofs.Weight as Weight
-use Rattle.rewrite.proofs.Plain as Plain
+use Rattle.rewrite.proofs.Measure.{sum-of, sum-each, length-sum, by-operations, least-operations, operations-sum, one-of, count-cons, count-sum}
+use Rattle.rewrite.proofs.Factors.{factors-of, factors-cases, sum-factors}
+use Rattle.rewrite.proofs.Shrinks.{replace-shrinks}
+use Rattle.rewrite.proofs.Savings.{operations-saves}
+use Rattle.rewrite.proofs.DivisorCount.{or-cases}
 use Rattle.rewrite.proofs.Names.{holds, holds-all, holds-append, below, weaken, weaken-all, all-nodes-hold, Holds, replace-holds}
-use Rattle.rewrite.proofs.Counts.{count-append, count-nil, count-op, count-operands, counted-cases, counted-holds, counted-formed, all-nodes-formed, all-nodes-cons, operations-append, part-all-operations, found-count, hits-count, absent}
+use Rattle.rewrite.proofs.Counts.{count-nil, count-op, count-operands, counted-cases, counted-holds, counted-formed, well-formed-all, all-append, all-nodes-formed, all-nodes-cons, operations-append, part-all-operations, absent}
 
 -- ---- a candidate is an operation with a factor
 
@@ -36,107 +34,56 @@ costs-operation (Sym n) h = absurd (omega arith)
 costs-operation (Const c) h = absurd (omega arith)
 costs-operation (Op k f) h = omega arith
 
-or-cases : (b c : Bool) → T (b || c) → T b ⊎ T c
-or-cases true c t = inl tt
-or-cases false c t = inr t
-
-three-spread :
-    (b c : Bool) (F G H : Factors) → 1 ≤ spread (F .factors) → 1 ≤ spread (G .factors) → 1 ≤ spread (H .factors)
-    → 1 ≤ spread ((elim b as (λ _. Factors) [ true ↦ F | false ↦ elim c [ true ↦ G | false ↦ H ] ]) .factors)
-three-spread true c F G H f g h = f
-three-spread false true F G H f g h = g
-three-spread false false F G H f g h = h
-
 mutual
-  unfolding has-symbol flatten-mul-factors negated spread spread-operands
+  unfolding has-symbol flatten-mul-factors sum-each
 
-  pub symbol-factor : (t : Tree) → T (has-symbol t) → 1 ≤ spread (flatten-mul-factors t .factors)
+  pub symbol-factor : (t : Tree) → T (has-symbol t) → 1 ≤ length (factors-of t)
   symbol-factor (Sym n) h = omega arith
   symbol-factor (Const c) h = absurd h
   symbol-factor (Op k f) h =
-      let a : 1 ≤ spread (flatten-operands f .factors) = (let p = symbol-factor-each f h in let q = spread-of-operands f in omega arith) in
-      three-spread (eqb k Mul) (eqb k Neg) (flatten-operands f) (negated (flatten-operands f)) (record { coefficient = one; factors = Op k f ∷ [] }) a a (omega arith)
+      factors-cases (λ l. 1 ≤ length l) k f
+      (let p = symbol-factor-each f h in let q = sum-factors (λ t. 1) f in let r = length-sum (flatten-operands f .factors) in omega arith) (λ e. omega arith)
 
-  symbol-factor-each : (f : Forest) → T (some-of (folds (λ n. true) (λ c. false) (λ k tests. some-of tests) f)) → 1 ≤ spread-operands f
+  symbol-factor-each : (f : Forest) → T (some-of (folds (λ n. true) (λ c. false) (λ k tests. some-of tests) f)) → 1 ≤ sum-each (λ t. sum-of (λ u. 1) (factors-of t)) f
   symbol-factor-each nil h = absurd h
   symbol-factor-each (t ◂ f) h =
       elim (or-cases (has-symbol t) (some-of (folds (λ n. true) (λ c. false) (λ k tests. some-of tests) f)) h) [
-        | inl a ↦ (let p = symbol-factor t a in omega arith)
+        | inl a ↦ (let p = symbol-factor t a in let q = length-sum (factors-of t) in omega arith)
         | inr b ↦ (let p = symbol-factor-each f b in omega arith)
       ]
 
 -- a tree's factors stand among its nodes
-three-count :
-    (x : Tree) (b c : Bool) (F G H : Factors) (N : ℕ) → count x (F .factors) ≤ N → count x (G .factors) ≤ N → count x (H .factors) ≤ N
-    → count x ((elim b as (λ _. Factors) [ true ↦ F | false ↦ elim c [ true ↦ G | false ↦ H ] ]) .factors) ≤ N
-three-count x true c F G H N f g h = f
-three-count x false true F G H N f g h = g
-three-count x false false F G H N f g h = h
-
 alone : (x : Tree) (k : ℕ) (f : Forest) → count x (Op k f ∷ []) ≤ count x (nodes (Op k f))
 unfolding nodes
 alone x k f = (let a = count-cons x (Op k f) [] in let b = count-cons x (Op k f) (nodes-of f) in let c = count-nil x in omega arith)
 
-factors-sym : (x : Tree) (s : Name) → count x (flatten-mul-factors (Sym s) .factors) ≤ count x (nodes (Sym s))
+factors-sym : (x : Tree) (s : Name) → count x (factors-of (Sym s)) ≤ count x (nodes (Sym s))
 unfolding flatten-mul-factors nodes
 factors-sym x s = omega arith
 
-factors-const : (x : Tree) (c : ℤ) → count x (flatten-mul-factors (Const c) .factors) ≤ count x (nodes (Const c))
+factors-const : (x : Tree) (c : ℤ) → count x (factors-of (Const c)) ≤ count x (nodes (Const c))
 unfolding flatten-mul-factors
 factors-const x c = (let a = count-nil x in omega arith)
 
 mutual
-  unfolding flatten-mul-factors negated measure-operands
+  unfolding sum-each
 
-  pub factors-nodes : (x t : Tree) → count x (flatten-mul-factors t .factors) ≤ count x (nodes t)
+  pub factors-nodes : (x t : Tree) → count x (factors-of t) ≤ count x (nodes t)
   factors-nodes x (Sym s) = factors-sym x s
   factors-nodes x (Const c) = factors-const x c
   factors-nodes x (Op k f) =
-      let a : count x (flatten-operands f .factors) ≤ count x (nodes (Op k f)) =
-      (let m = measure-of nil (count x) (count-nil x) (count-append x) f in let q = factors-nodes-each x f in let c = count-op x k f in omega arith) in
-      three-count x (eqb k Mul) (eqb k Neg) (flatten-operands f) (negated (flatten-operands f)) (record { coefficient = one; factors = Op k f ∷ [] })
-      (count x (nodes (Op k f))) a a (alone x k f)
+      factors-cases (λ l. count x l ≤ count x (nodes (Op k f))) k f
+      (let a = count-sum x (flatten-operands f .factors) in
+      let b = sum-factors (λ y. one-of y x) f in
+      let c = factors-nodes-each x f in
+      let d = count-op x k f in
+      omega arith)
+      (λ e. alone x k f)
 
-  factors-nodes-each : (x : Tree) (f : Forest) → measure-operands nil (count x) (count-nil x) (count-append x) f ≤ count x (nodes-of f)
+  factors-nodes-each : (x : Tree) (f : Forest) → sum-each (λ t. sum-of (λ y. one-of y x) (factors-of t)) f ≤ count x (nodes-of f)
   factors-nodes-each x nil = omega arith
-  factors-nodes-each x (t ◂ f) = (let a = factors-nodes x t in let b = factors-nodes-each x f in let c = count-operands x t f in omega arith)
-
--- ---- what one replacement saves, for any target
-
-pub mul-shape : (t : Tree) → T (is-mul t) → (g : Forest) × (t ≡ Op Mul g)
-unfolding is-mul
-mul-shape (Sym n) h = absurd h
-mul-shape (Const c) h = absurd h
-mul-shape (Op k f) h = (f, ap (λ (j : ℕ). Op j f) (eqb→eq k Mul h))
-
-module _ (n : Name) where
-  -- a product with coefficient 1
-  saves-product :
-      (target : Tree) (g : Forest) → target ≡ Op Mul g → T (Ieee.eq (flatten-mul-factors target .coefficient) one) → T (well-formed target)
-      → 1 ≤ spread (flatten-mul-factors target .factors) → count (Sym n) (flatten-mul-factors target .factors) ≡ 0
-      → (e r : Tree) → T (well-formed e) → replace target n e ≡ ok r → operations r + operations target * count target (nodes e) ≤ operations e
-  saves-product target g z =
-      subst
-      (λ (t : Tree). T (Ieee.eq (flatten-mul-factors t .coefficient) one) → T (well-formed t) → 1 ≤ spread (flatten-mul-factors t .factors)
-      → count (Sym n) (flatten-mul-factors t .factors) ≡ 0 → (e r : Tree) → T (well-formed e) → replace t n e ≡ ok r
-      → operations r + operations t * count t (nodes e) ≤ operations e)
-      (sym z)
-      (λ u w s c e r v q.
-      subst (λ (m : ℕ). operations r + operations (Op Mul g) * m ≤ operations e) (hits-count g e)
-      (Weight.replace-saves n g (unfold flatten-mul-factors in s) (unfold flatten-mul-factors in c) (unfold flatten-mul-factors in u) w e r v q))
-
-  pub saves :
-      (target : Tree) → T (well-formed target) → 1 ≤ spread (flatten-mul-factors target .factors) → count (Sym n) (flatten-mul-factors target .factors) ≡ 0
-      → (e r : Tree) → T (well-formed e) → replace target n e ≡ ok r → operations r + operations target * count target (nodes e) ≤ operations e
-  saves target w s c e r v q = go (is-mul target && Ieee.eq (flatten-mul-factors target .coefficient) one) refl
-    where
-      go : (b : Bool) → (is-mul target && Ieee.eq (flatten-mul-factors target .coefficient) one) ≡ b → operations r + operations target * count target (nodes e) ≤ operations e
-      go true z =
-          let a = and-left (is-mul target) (Ieee.eq (flatten-mul-factors target .coefficient) one) (subst T (sym z) tt) in
-          let u = and-right (is-mul target) (Ieee.eq (flatten-mul-factors target .coefficient) one) (subst T (sym z) tt) in
-          let g = mul-shape target a in
-          saves-product target (g .0) (g .1) u w s c e r v q
-      go false z = subst (λ (m : ℕ). operations r + operations target * m ≤ operations e) (found-count target e) (Plain.replace-saves target n z e r q)
+  factors-nodes-each x (t ◂ f) =
+      (let a = factors-nodes x t in let b = count-sum x (factors-of t) in let c = factors-nodes-each x f in let d = count-operands x t f in omega arith)
 
 -- ---- the best candidate is one, and where there is no best there is none
 
@@ -347,31 +294,34 @@ pub record Sound (s : State) : Type 0 where
   pub formed : T (well-formed-all (roots s))
   pub known : T (holds-all (made-before (s .next)) (roots s))
 
--- the sum over the roots
-replaced-saves :
-    (target : Tree) (n : Name) → T (well-formed target) → 1 ≤ spread (flatten-mul-factors target .factors) → count (Sym n) (flatten-mul-factors target .factors) ≡ 0
-    → (es rs : List Tree) → Replaced target n es rs → T (well-formed-all es)
-    → (all-operations rs + operations target * count target (all-nodes es) ≤ all-operations es) × T (well-formed-all rs)
-unfolding all-operations well-formed-all
-replaced-saves target n w s c [] [] h v = (
-  (let z : count target (all-nodes []) ≡ 0 = (unfold all-nodes count in refl) in
-      let y : operations target * count target (all-nodes []) ≡ 0 = ap (λ (m : ℕ). operations target * m) z ∙ mul-zero (operations target) in
-      omega arith),
-  tt,
-)
-replaced-saves target n w s c [] (r ∷ rs) h v = absurd h
-replaced-saves target n w s c (e ∷ es) [] h v = absurd h
-replaced-saves target n w s c (e ∷ es) (r ∷ rs) h v =
-    let ve = and-left (well-formed e) (well-formed-all es) v in
-    let a = saves n target w s c e r ve (h .0) in
-    let b = replaced-saves target n w s c es rs (h .1) (and-right (well-formed e) (well-formed-all es) v) in
-    let f = replace-shrinks exactly target n s e r ve (h .0) in (
-      (let q : operations target * count target (all-nodes (e ∷ es)) ≡ operations target * count target (nodes e) + operations target * count target (all-nodes es) =
-          ap (λ (m : ℕ). operations target * m) (all-nodes-cons target e es) ∙ mul-add (operations target) (count target (nodes e)) (count target (all-nodes es)) in
-          let x = b .0 in
-          omega arith),
-      and-both (well-formed r) (well-formed-all rs) (f .1) (b .1),
-    )
+-- what each root saves, summed
+pub replaced-saves :
+    (μ : Tree → ℕ) (target : Tree) (n : Name) (saved : ℕ)
+    → ((e r : Tree) → T (well-formed e) → replace target n e ≡ ok r → μ r + saved * count target (nodes e) ≤ μ e)
+    → (es rs : List Tree) → Replaced target n es rs → T (well-formed-all es) → sum-of μ rs + saved * count target (all-nodes es) ≤ sum-of μ es
+unfolding sum-of well-formed-all
+replaced-saves μ target n saved one [] [] h v =
+    (let z : count target (all-nodes []) ≡ 0 = (unfold all-nodes count in refl) in
+    let y : saved * count target (all-nodes []) ≡ 0 = ap (λ (m : ℕ). saved * m) z ∙ mul-zero saved in
+    omega arith)
+replaced-saves μ target n saved one [] (r ∷ rs) h v = absurd h
+replaced-saves μ target n saved one (e ∷ es) [] h v = absurd h
+replaced-saves μ target n saved one (e ∷ es) (r ∷ rs) h v =
+    (let a = one e r (and-left (well-formed e) (well-formed-all es) v) (h .0) in
+    let b = replaced-saves μ target n saved one es rs (h .1) (and-right (well-formed e) (well-formed-all es) v) in
+    let q : saved * count target (all-nodes (e ∷ es)) ≡ saved * count target (nodes e) + saved * count target (all-nodes es) =
+    ap (λ (m : ℕ). saved * m) (all-nodes-cons target e es) ∙ mul-add saved (count target (nodes e)) (count target (all-nodes es)) in
+    omega arith)
+
+replaced-formed :
+    (target : Tree) (n : Name) → 1 ≤ length (factors-of target) → (es rs : List Tree) → Replaced target n es rs → T (well-formed-all es) → T (well-formed-all rs)
+unfolding well-formed-all
+replaced-formed target n s [] [] h v = tt
+replaced-formed target n s [] (r ∷ rs) h v = absurd h
+replaced-formed target n s (e ∷ es) [] h v = absurd h
+replaced-formed target n s (e ∷ es) (r ∷ rs) h v =
+    and-both (well-formed r) (well-formed-all rs) (replace-shrinks by-operations target n (least-operations n) s e r (and-left (well-formed e) (well-formed-all es) v) (h .0) .1)
+    (replaced-formed target n s es rs (h .1) (and-right (well-formed e) (well-formed-all es) v))
 
 replaced-hold :
     (p : Name → Bool) (target : Tree) (n : Name) → T (p n) → (es rs : List Tree) → Replaced target n es rs → T (holds-all p es) → T (holds-all p rs)
@@ -402,11 +352,12 @@ round scoped x s t S c e =
     let xh = counted-holds (made-before k) x (all-nodes (roots s)) (all-nodes-hold (made-before k) (roots s) (S .known)) u in
     let sf = symbol-factor x (f .1) in
     let nf : count (Sym (xname k)) (flatten-mul-factors x .factors) ≡ 0 = (let a = absent (made-before k) (xname k) (new-name k) x xh in let b = factors-nodes (Sym (xname k)) x in omega arith) in
-    let sum = replaced-saves x (xname k) xw sf nf (roots s) (E .made) (E .replaced) (S .formed) in
+    let sum = replaced-saves operations x (xname k) (operations x) (operations-saves (xname k) x xw sf nf) (roots s) (E .made) (E .replaced) (S .formed) in
+    let shape = replaced-formed x (xname k) sf (roots s) (E .made) (E .replaced) (S .formed) in
     let up = weaken-all (made-before k) (made-before (suc k)) (made-suc k) (roots s) (S .known) in
     let hold = replaced-hold (made-before (suc k)) x (xname k) (made-new k) (roots s) (E .made) (E .replaced) up in (
       record {
-        formed = subst (λ (l : List Tree). T (well-formed-all l)) (sym (E .now)) (all-append (E .made) (x ∷ []) (sum .1) (unfold well-formed-all in (and-both (well-formed x) true xw tt)));
+        formed = subst (λ (l : List Tree). T (well-formed-all l)) (sym (E .now)) (all-append (E .made) (x ∷ []) shape (unfold well-formed-all in (and-both (well-formed x) true xw tt)));
         known =
             subst (λ (j : ℕ). T (holds-all (made-before j) (roots t))) (sym (E .next))
             (subst (λ (l : List Tree). T (holds-all (made-before (suc k)) l)) (sym (E .now))
@@ -417,7 +368,8 @@ round scoped x s t S c e =
           let b : all-operations (x ∷ []) ≡ operations x + 0 = (unfold all-operations in refl) in
           let d = twice-up (operations x) (count x (all-nodes (roots s))) (f .2) in
           let o = costs-operation x (f .0) in
-          let q = sum .0 in
+          let u = operations-sum (E .made) in
+          let v = operations-sum (roots s) in
           omega arith),
       E .more,
       E .next,

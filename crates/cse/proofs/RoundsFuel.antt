@@ -13,7 +13,7 @@ use Rattle.tree.specs.Facts.{size, all-operations, all-nodes}
 use Rattle.tree.proofs.Formed.{well-formed}
 use Rattle.rewrite.specs.Rewrite.{replace-within, replace}
 use Rattle.rewrite.proofs.Names.{holds-all, all-nodes-hold}
-use Rattle.rewrite.proofs.Operations.{well-formed-all}
+use Rattle.rewrite.proofs.Counts.{well-formed-all}
 use Rattle.rewrite.proofs.Counts.{counted-holds, absent}
 use Rattle.rewrite.proofs.ReplaceFuel.{replace-enough}
 use Rattle.cse.specs.Extract.{State, Candidate, roots, is-candidate, best, extract, rounds, extract-all}

@@ -1,91 +1,37 @@
--- The total size, nodes of results and bindings: no round raises it, and no bind-reciprocal raises that of results and of the rounds' bindings.
+-- The total size, nodes of results and bindings: no round raises it, and no reciprocal raises that of results and of the rounds' bindings.
 -- Assumes nothing.
 use Prim.Native.Nat.{ℕ, zero, suc, _+_, _-_, _*_, _≤_}
 use mathlib.Core.Path.{_≡_, refl, sym, _∙_, ap, ap₂, subst}
-use mathlib.Core.Bool.{Bool, true, false, _&&_}
+use mathlib.Core.Bool.{Bool, true, false}
 use mathlib.Core.Option.{Option, none, some}
 use mathlib.Core.List.{List, [], _∷_}
 use native.Mathlib.Omega.{arith}
-use native.Mathlib.Nat.{mul-add, mul-zero, mul-one}
 use lib.IntN.{pos}
 use lib.ListN.{length}
 use lib.Dec.{T, ltb}
-use lib.Ieee as Ieee
 use Rattle.tree.specs.Outcome.{Outcome, ok, refused, _>>=_}
-use Rattle.tree.specs.Tree.{Name, input, xname, mname, Tree, Forest, Sym, Const, Op, nil, _◂_}
-use Rattle.tree.specs.Kinds.{Mul, Div}
-use Rattle.tree.proofs.Formed.{well-formed}
-use Rattle.tree.specs.Facts.{all-operations, cost, has-symbol, size, nodes, nodes-of, all-nodes, count}
-use Rattle.rewrite.specs.Rewrite.{one, flatten-mul-factors, is-mul, replace}
+use Rattle.tree.specs.Tree.{input, xname, mname, Tree, Sym, Const, Op, nil, _◂_}
+use Rattle.tree.specs.Kinds.{Div}
+use Rattle.tree.specs.Facts.{all-operations, cost, has-symbol, size, all-nodes, count}
+use Rattle.rewrite.specs.Rewrite.{flatten-mul-factors}
 use Rattle.cse.specs.Extract.{State, Candidate, bound, roots, is-candidate, best, extract, rounds, extract-all, divisors, replace-divisor-each, bind-reciprocal, bind-reciprocals, reciprocals}
 use Rattle.cse.specs.Answer.{Intermediate, Intermediates, Answer, Let, Match, block}
 use Rattle.cse.specs.Scope.{binds, answer}
 use Rattle.cse.specs.Demand.{extracted-exprs}
-use Rattle.tree.proofs.Logic.{and-left, and-right}
-use Rattle.rewrite.proofs.Operations.{spread, well-formed-all}
-use Rattle.rewrite.proofs.Savings.{sizes, size-op, one-of}
+use Rattle.rewrite.proofs.Measure.{sum-of, sum-append, sum-each, by-size, sizes, size-op, size-up}
+use Rattle.rewrite.proofs.Savings.{size-saves}
 use Rattle.rewrite.proofs.Names.{holds-all, below, all-nodes-hold}
-use Rattle.rewrite.proofs.Counts.{count-sym, count-const, count-op, count-none, count-operands, small-each, one-le, one-equal, all-nodes-cons, counted-holds, counted-formed, all-nodes-formed, found-count, hits-count, absent, sum-of, sum-append}
-use Rattle.cse.proofs.RoundsCount.{mul-shape, twice-up, symbol-factor, factors-nodes, candidate-facts, best-fits, Replaced, extracted, Sound, made-before, new-name, round, begin, begin-roots, begin-sound, extract-all-end}
+use Rattle.rewrite.proofs.Counts.{counted-holds, counted-formed, well-formed-all, all-nodes-formed, absent, part-sum}
+use Rattle.cse.proofs.RoundsCount.{twice-up, symbol-factor, factors-nodes, candidate-facts, best-fits, replaced-saves, extracted, Sound, made-before, new-name, round, begin, begin-roots, begin-sound, extract-all-end}
 use Rattle.cse.proofs.SortCount.{summed, sorted-sum}
-use Rattle.rewrite.proofs.DivisorCount.{divisor-size, size-up}
+use Rattle.rewrite.proofs.DivisorCount.{divisor-size}
 use Rattle.cse.proofs.ReciprocalsCount.{inverse, roots-reciprocal, divided-falls, AllTrees, all-map, divisors-all, bound-twice, from-rounds, bindings-most, reciprocal-each-falls, bound-divisors, reciprocals-are}
 use Rattle.cse.proofs.FlatCount.{parts, list-made}
-use Rattle.rewrite.proofs.SizePlain as SizePlain
-use Rattle.rewrite.proofs.SizeSavings as SizeSavings
 
 abbrev pub total-size : List Tree → ℕ
 total-size l = sum-of size l
 
--- ---- one replacement, for any target
-
-module _ (n : Name) where
-  saves-product :
-      (target : Tree) (g : Forest) → target ≡ Op Mul g → T (Ieee.eq (flatten-mul-factors target .coefficient) one) → T (well-formed target)
-      → 1 ≤ spread (flatten-mul-factors target .factors) → count (Sym n) (flatten-mul-factors target .factors) ≡ 0
-      → (e r : Tree) → T (well-formed e) → replace target n e ≡ ok r → size r + (size target - 1) * count target (nodes e) ≤ size e
-  saves-product target g z =
-      subst
-      (λ (t : Tree). T (Ieee.eq (flatten-mul-factors t .coefficient) one) → T (well-formed t) → 1 ≤ spread (flatten-mul-factors t .factors)
-      → count (Sym n) (flatten-mul-factors t .factors) ≡ 0 → (e r : Tree) → T (well-formed e) → replace t n e ≡ ok r
-      → size r + (size t - 1) * count t (nodes e) ≤ size e)
-      (sym z)
-      (λ u w s c e r v q.
-      subst (λ (m : ℕ). size r + (size (Op Mul g) - 1) * m ≤ size e) (hits-count g e)
-      (SizeSavings.replace-saves n g (unfold flatten-mul-factors in s) (unfold flatten-mul-factors in c) (unfold flatten-mul-factors in u) w e r v q))
-
-  -- every node equal to the target saves the target's nodes but one
-  pub size-saves :
-      (target : Tree) → T (well-formed target) → 1 ≤ spread (flatten-mul-factors target .factors) → count (Sym n) (flatten-mul-factors target .factors) ≡ 0
-      → (e r : Tree) → T (well-formed e) → replace target n e ≡ ok r → size r + (size target - 1) * count target (nodes e) ≤ size e
-  size-saves target w s c e r v q = go (is-mul target && Ieee.eq (flatten-mul-factors target .coefficient) one) refl
-    where
-      go : (b : Bool) → (is-mul target && Ieee.eq (flatten-mul-factors target .coefficient) one) ≡ b → size r + (size target - 1) * count target (nodes e) ≤ size e
-      go true z =
-          let a = and-left (is-mul target) (Ieee.eq (flatten-mul-factors target .coefficient) one) (subst T (sym z) tt) in
-          let u = and-right (is-mul target) (Ieee.eq (flatten-mul-factors target .coefficient) one) (subst T (sym z) tt) in
-          let g = mul-shape target a in
-          saves-product target (g .0) (g .1) u w s c e r v q
-      go false z = subst (λ (m : ℕ). size r + (size target - 1) * m ≤ size e) (found-count target e) (SizePlain.replace-saves target n z e r q)
-
 -- ---- one round
-
-replaced-size :
-    (target : Tree) (n : Name) → T (well-formed target) → 1 ≤ spread (flatten-mul-factors target .factors) → count (Sym n) (flatten-mul-factors target .factors) ≡ 0
-    → (es rs : List Tree) → Replaced target n es rs → T (well-formed-all es) → total-size rs + (size target - 1) * count target (all-nodes es) ≤ total-size es
-unfolding sum-of well-formed-all
-replaced-size target n w s c [] [] h v =
-    (let z : count target (all-nodes []) ≡ 0 = (unfold all-nodes count in refl) in
-    let y : (size target - 1) * count target (all-nodes []) ≡ 0 = ap (λ (m : ℕ). (size target - 1) * m) z ∙ mul-zero (size target - 1) in
-    omega arith)
-replaced-size target n w s c [] (r ∷ rs) h v = absurd h
-replaced-size target n w s c (e ∷ es) [] h v = absurd h
-replaced-size target n w s c (e ∷ es) (r ∷ rs) h v =
-    (let a = size-saves n target w s c e r (and-left (well-formed e) (well-formed-all es) v) (h .0) in
-    let b = replaced-size target n w s c es rs (h .1) (and-right (well-formed e) (well-formed-all es) v) in
-    let q : (size target - 1) * count target (all-nodes (e ∷ es)) ≡ (size target - 1) * count target (nodes e) + (size target - 1) * count target (all-nodes es) =
-    ap (λ (m : ℕ). (size target - 1) * m) (all-nodes-cons target e es) ∙ mul-add (size target - 1) (count target (nodes e)) (count target (all-nodes es)) in
-    omega arith)
 
 -- an operation with a symbol has an operand
 two-nodes : (e : Tree) → 1 ≤ cost e → T (has-symbol e) → 2 ≤ size e
@@ -93,7 +39,7 @@ unfolding cost has-symbol
 two-nodes (Sym n) c h = absurd (omega arith)
 two-nodes (Const d) c h = absurd (omega arith)
 two-nodes (Op k nil) c h = absurd h
-two-nodes (Op k (t ◂ f)) c h = (let a = size-op nil k (t ◂ f) in let b : sizes nil (t ◂ f) ≡ size t + sizes nil f = (unfold sizes in refl) in let u = size-up t in omega arith)
+two-nodes (Op k (t ◂ f)) c h = (let a = size-op k (t ◂ f) in let b : sizes (t ◂ f) ≡ size t + sizes f = (unfold sum-each in refl) in let u = size-up t in omega arith)
 
 pub round-size :
     (scoped : Bool) (x : Tree) (s t : State) → Sound s → T (is-candidate scoped (roots s) x) → extract x s ≡ ok t → total-size (roots t) ≤ total-size (roots s)
@@ -105,11 +51,11 @@ round-size scoped x s t S c e =
     let xw = counted-formed x (all-nodes (roots s)) (all-nodes-formed (roots s) (S .formed)) u in
     let xh = counted-holds (made-before k) x (all-nodes (roots s)) (all-nodes-hold (made-before k) (roots s) (S .known)) u in
     let nf : count (Sym (xname k)) (flatten-mul-factors x .factors) ≡ 0 = (let a = absent (made-before k) (xname k) (new-name k) x xh in let b = factors-nodes (Sym (xname k)) x in omega arith) in
-    let q = replaced-size x (xname k) xw (symbol-factor x (f .1)) nf (roots s) (E .made) (E .replaced) (S .formed) in
+    let o = two-nodes x (f .0) (f .1) in
+    let q = replaced-saves size x (xname k) (size x - 1) (size-saves (xname k) x xw (symbol-factor x (f .1)) nf) (roots s) (E .made) (E .replaced) (S .formed) in
     let a : total-size (roots t) ≡ total-size (E .made) + total-size (x ∷ []) = ap (sum-of size) (E .now) ∙ sum-append size (E .made) (x ∷ []) in
     let b : total-size (x ∷ []) ≡ size x + 0 = (unfold sum-of in refl) in
     let d = twice-up (size x - 1) (count x (all-nodes (roots s))) (f .2) in
-    let o = two-nodes x (f .0) (f .1) in
     omega arith)
 
 -- ---- all rounds
@@ -180,8 +126,8 @@ reciprocals-most l = sum-of (λ d. size d + 2) l
 inverse-size : (d : Tree) → total-size (inverse d ∷ []) ≡ size d + 2
 unfolding inverse sum-of
 inverse-size d =
-    (let a = size-op nil Div (Const (pos 1) ◂ d ◂ nil) in
-    let b : sizes nil (Const (pos 1) ◂ d ◂ nil) ≡ 1 + (size d + 0) = (unfold sizes size in refl) in
+    (let a = size-op Div (Const (pos 1) ◂ d ◂ nil) in
+    let b : sizes (Const (pos 1) ◂ d ◂ nil) ≡ 1 + (size d + 0) = (unfold sum-each size in refl) in
     omega arith)
 
 pub reciprocal-each-size : (l : List Tree) (s : State) → total-size (roots (bind-reciprocals l s)) ≤ total-size (roots s) + reciprocals-most l
@@ -195,66 +141,12 @@ reciprocal-each-size (d ∷ l) s =
     let e = inverse-size d in
     omega arith)
 
--- ---- equal trees do not overlap
+-- ---- equal trees do not overlap: a divisor bound has at most half of all nodes
 
--- a leaf, or a whole node, counted once
-part-leaf : (x e : Tree) (m : ℕ) → m ≡ one-of e x → size x * m ≤ size e
-part-leaf x e m q = go (one-of e x) refl
-  where
-    go : (j : ℕ) → one-of e x ≡ j → size x * m ≤ size e
-    go zero z = (let a : size x * m ≡ 0 = ap (λ (j : ℕ). size x * j) (q ∙ z) ∙ mul-zero (size x) in omega arith)
-    go (suc j) z =
-        (let b = one-le e x in
-        let y : m ≡ 1 = omega arith in
-        let a : size x * m ≡ size x = ap (λ (j : ℕ). size x * j) y ∙ mul-one (size x) in
-        let c = ap size (one-equal e x (omega arith)) in
-        omega arith)
-
-part-op : (x : Tree) (k : ℕ) (f : Forest) → size x * count x (nodes-of f) ≤ sizes nil f → size x * count x (nodes (Op k f)) ≤ size (Op k f)
-part-op x k f h = go (one-of (Op k f) x) refl
-  where
-    go : (j : ℕ) → one-of (Op k f) x ≡ j → size x * count x (nodes (Op k f)) ≤ size (Op k f)
-    go zero z =
-        (let a : size x * count x (nodes (Op k f)) ≡ size x * count x (nodes-of f) = ap (λ (m : ℕ). size x * m) (let c = count-op x k f in let y : count x (nodes (Op k f)) ≡ count x (nodes-of f) = omega arith in y) in
-        let s = size-op nil k f in
-        omega arith)
-    go (suc j) z =
-        (let s = size-op nil k f in
-        let q = ap size (one-equal (Op k f) x (omega arith)) in
-        let w = small-each x f (omega arith) in
-        part-leaf x (Op k f) (count x (nodes (Op k f))) (let c = count-op x k f in omega arith))
-
-mutual
-  unfolding sizes
-
-  part-size : (x e : Tree) → size x * count x (nodes e) ≤ size e
-  part-size x (Sym s) = part-leaf x (Sym s) (count x (nodes (Sym s))) (count-sym x s)
-  part-size x (Const c) = part-leaf x (Const c) (count x (nodes (Const c))) (count-const x c)
-  part-size x (Op k f) = part-op x k f (part-size-each x f)
-
-  part-size-each : (x : Tree) (f : Forest) → size x * count x (nodes-of f) ≤ sizes nil f
-  part-size-each x nil = (let a = ap (λ (m : ℕ). size x * m) (count-none x) ∙ mul-zero (size x) in omega arith)
-  part-size-each x (t ◂ f) =
-      (let a = part-size x t in
-      let b = part-size-each x f in
-      let c = ap (λ (m : ℕ). size x * m) (count-operands x t f) ∙ mul-add (size x) (count x (nodes t)) (count x (nodes-of f)) in
-      omega arith)
-
-pub part-total : (x : Tree) (l : List Tree) → size x * count x (all-nodes l) ≤ total-size l
-unfolding sum-of
-part-total x [] =
-    (let z : count x (all-nodes []) ≡ 0 = (unfold all-nodes count in refl) in let a = ap (λ (m : ℕ). size x * m) z ∙ mul-zero (size x) in omega arith)
-part-total x (e ∷ l) =
-    (let a = part-size x e in
-    let b = part-total x l in
-    let c = ap (λ (m : ℕ). size x * m) (all-nodes-cons x e l) ∙ mul-add (size x) (count x (nodes e)) (count x (all-nodes l)) in
-    omega arith)
-
--- so a divisor bound has at most half of all nodes
 pub divisor-half : (scoped : Bool) (s : State) → AllTrees (λ d. 2 * size d ≤ total-size (roots s)) (bound-divisors scoped s)
 divisor-half scoped s =
     all-map (λ d. 2 ≤ count d (divisors (all-nodes (roots s)))) (λ d. 2 * size d ≤ total-size (roots s))
-    (λ d h. (let a = divisors-all d (roots s) in let b = part-total d (roots s) in let c = twice-up (size d) (count d (all-nodes (roots s))) (omega arith) in omega arith))
+    (λ d h. (let a = divisors-all d (roots s) in let b = part-sum by-size d (roots s) in let c = twice-up (size d) (count d (all-nodes (roots s))) (omega arith) in omega arith))
     (bound-divisors scoped s) (bound-twice scoped s)
 
 -- ---- the flat answer, reciprocals left out

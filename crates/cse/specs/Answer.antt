@@ -7,8 +7,8 @@ use lib.Dec.{eqb, ltb}
 use Rattle.tree.specs.Tree.{Name, Tree, fold, eq-name}
 use Rattle.tree.specs.Kinds.{Branch, Select}
 use Rattle.tree.specs.Facts.{size}
-use Rattle.tree.specs.Bytes.{bytes}
-use Rattle.text.specs.Text.{decimal, name-text, display, joined}
+use Rattle.tree.specs.Bytes.{bytes, decimal, joined}
+use Rattle.text.specs.Text.{name-text, display}
 
 -- A match has the kind of its switches, their key, its names, and its arms, of which the last is the default under Branch and SelectOr.
 mutual

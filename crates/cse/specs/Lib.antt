@@ -4,3 +4,5 @@ pub mod Order
 pub mod Scope
 pub mod Read
 pub mod Demand
+pub mod AnswerRows
+pub mod Call

@@ -1,4 +1,4 @@
 pub mod Marked
 pub mod Misreadings
-pub mod ScopeTest
+pub mod Examples
 pub mod Whole

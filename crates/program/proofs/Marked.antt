@@ -1,17 +1,18 @@
--- The marked lists M1 to M11 of 01, as one theorem, proved by computing the definitions. Assumes nothing.
+-- The marked lists M1 to M11 of 01 ("Marked lists"), as one theorem, proved by computing the definitions. Assumes nothing.
 use Prim.Native.Nat.{ℕ}
 use Prim.Native.String.{String}
 use mathlib.Core.Path.{_≡_, refl}
 use mathlib.Core.Bool.{Bool, true, false}
 use mathlib.Core.List.{List, [], _∷_}
-use lib.IntN.{pos, negsuc}
+use lib.IntN.{pos}
 use Rattle.tree.specs.Outcome.{Outcome, ok, refused, _>>=_, by}
-use Rattle.tree.specs.Tree.{Name, input, Tree, Sym, Const, Op, nil, _◂_}
+use Rattle.tree.specs.Tree.{input, Tree, Sym, Const, Op, nil, _◂_}
 use Rattle.tree.specs.Kinds.{Add, Mul, Div, Sin, Cos, Select}
 use Rattle.tree.specs.Bytes.{bytes}
 use Rattle.cse.specs.Answer.{end, answer-text}
 use Rattle.cse.specs.Scope.{answer}
 use Rattle.program.specs.Program.{csesheet}
+use Rattle.program.specs.Calls.{by-calls}
 
 -- what a list prints, flat (false) or scoped (true)
 abbrev prints : Bool → List Tree → Outcome (List ℕ)
@@ -62,10 +63,11 @@ abbrev list10 : ℕ → List Tree
 list10 n = (v "a" ⊗ v "b") ∷ sin (v "a" ⊗ v "b") ∷ (num 1000000000 ⊗ v "a" ⊗ num n ⊗ v "b") ∷ []
 
 pub record Marked : Type 0 where
-  -- from bytes to bytes, with as many rows and bytes lent as the answer takes
-  M1 : csesheet 11 37 sheet1 ≡ text1
-  M1-no-row : csesheet 10 37 sheet1 ≡ bytes "refused 12 0\n"
-  M1-no-byte : csesheet 11 36 sheet1 ≡ bytes "refused 14 0\n"
+  M1 : csesheet sheet1 ≡ text1
+  -- the same by load, extract and print over rows, with as many answer rows and bytes lent as they take, and with one less
+  M1-calls : by-calls false 11 37 sheet1 ≡ ok text1
+  M1-no-row : by-calls false 10 37 sheet1 ≡ refused (by 12)
+  M1-no-byte : by-calls false 11 36 sheet1 ≡ refused (by 14)
   M1-trees : Prints ((v "a" ⊕ v "b") ⊗ v "c" ∷ sin (v "a" ⊕ v "b") ∷ []) (ok text1)
   M2 :
       Prints (sin (v "a" ⊕ v "b") ∷ cos (v "a" ⊕ v "b") ∷ sin (v "c" ⊕ v "d") ∷ cos (v "c" ⊕ v "d") ∷ [])
@@ -89,10 +91,11 @@ pub record Marked : Type 0 where
   M11 : (scoped : Bool) → answer scoped [] ≡ ok (record { inters = end; results = []; extracted = 0 })
 
 pub marked : Marked
-unfolding answer answer-text csesheet
+unfolding answer answer-text csesheet by-calls
 marked =
     record {
       M1 = refl;
+      M1-calls = refl;
       M1-no-row = refl;
       M1-no-byte = refl;
       M1-trees = (refl, refl);

@@ -1,24 +1,24 @@
 -- A coefficient worked out by f64 products is the exact integer product wherever it is accepted, and 1 wherever it compares equal to 1:
 -- the record `Exact` of `ReplaceValue`. Assumes nothing.
 -- A product of whole numbers is either exact or has passed 2 ^ 53, and what has passed 2 ^ 53 stays there until it meets a zero.
-use Prim.Native.Nat.{ℕ, zero, suc, _+_, _*_, _/_, _%_, _^_, _≤_, _<_}
+use Prim.Native.Nat.{ℕ, zero, suc, _*_, _/_, _%_, _^_, _≤_, _<_}
 use mathlib.Core.Path.{_≡_, refl, sym, _∙_, ap, ap₂, subst}
 use mathlib.Core.Logic.{_⊎_, inl, inr}
 use mathlib.Core.Bool.{Bool, true, false, not, _&&_, _||_, cond, Bool·beq}
-use mathlib.Core.List.{List, [], _∷_}
-use native.Mathlib.Nat.{mul-comm, mul-assoc, mul-left-comm, mul-right-comm, mul-one, one-mul, zero-mul, mul-zero, mul-pos, mul-le-mul, mul-le-mul-right, le-of-eq, le-trans, eq-of-mul-eq-mul-right, le-div-iff-mul-le, mul-div-cancel, mul-mod-left, zero-lt-suc}
+use mathlib.Core.List.{[], _∷_}
+use native.Mathlib.Nat.{mul-assoc, mul-left-comm, mul-one, one-mul, zero-mul, mul-zero, mul-pos, mul-le-mul, mul-le-mul-right, le-of-eq, le-trans, eq-of-mul-eq-mul-right, le-div-iff-mul-le, mul-div-cancel, mul-mod-left, zero-lt-suc}
 use native.Mathlib.Omega.{arith}
 use lib.IntN.{ℤ, pos, negsuc, negℤ, negℤ-negℤ, _*ℤ_, *ℤ-one}
 use lib.IntN as Int
-use lib.Dec.{T, eqb, ltb, leb, eqb→eq, ltb→lt, lt→ltb, leb→le, nleb→lt, nltb→le, lit≤, lit<, not-T}
+use lib.Dec.{T, eqb, ltb, leb, eqb→eq, ltb→lt, leb→le, nleb→lt, lit≤, lit<}
 use lib.Ieee as Ieee
-use lib.Ieee.{Float, nan, inf, fin, binary64, prec, up, down, unlike, round, units, odd}
+use lib.Ieee.{Float, nan, inf, fin, binary64, up, down, unlike, round, units, odd}
 use lib.Ieee.Exact.{HasValue}
 use lib.Ieee.Back.{round-whole}
 use lib.Ieee.Scale.{round-same}
 use lib.Ieee.Order.{round-mono, kept, drop}
-use lib.Ieee.Fits.{up-pos, down-pos, round-is}
-use lib.Ieee.Positive.{positive, above, above-of-le, positive-of-value, own-value, values-of-le, num, den}
+use lib.Ieee.Fits.{down-pos, round-is}
+use lib.Ieee.Positive.{above, above-of-le, positive-of-value, own-value, values-of-le}
 use Rattle.tree.specs.Outcome.{Refusal, Outcome, ok, refused, by}
 use Rattle.tree.specs.Tree.{Tree, Forest, Sym, Const, Op, nil, _◂_}
 use Rattle.tree.specs.Kinds.{Neg, Mul}

@@ -1,22 +1,20 @@
--- How often an expression stands: over lists, inside a tree, and against `found` and `hits` of the laws on savings. Assumes nothing.
-use Prim.Native.Nat.{ℕ, zero, suc, _+_, _≤_, _<_}
-use mathlib.Core.Path.{_≡_, refl, sym, _∙_, ap, ap₂, subst}
-use mathlib.Core.Bool.{Bool, true, false}
+-- How often an expression stands: over lists, and inside a tree. Equal trees do not overlap, so that what each measures adds up. Assumes nothing.
+use Prim.Native.Nat.{ℕ, zero, suc, _+_, _*_, _≤_, _<_}
+use mathlib.Core.Path.{_≡_, refl, sym, _∙_, ap, subst}
+use mathlib.Core.Bool.{Bool, true, false, _&&_}
 use mathlib.Core.Logic.{_⊎_, inl, inr}
 use mathlib.Core.List.{List, [], _∷_, _++_}
 use native.Mathlib.Omega.{arith}
-use native.Mathlib.Nat.{zero-add}
+use native.Mathlib.Nat.{zero-add, mul-add, mul-zero, mul-one, mul-suc}
 use lib.IntN.{ℤ}
-use lib.Dec.{T, eqb}
-use Rattle.tree.specs.Tree.{Name, Tree, Forest, Sym, Const, Op, nil, _◂_, eq-tree, eq-forest}
-use Rattle.tree.specs.Kinds.{Mul, arity-ok}
+use lib.Dec.{T}
+use Rattle.tree.specs.Tree.{Name, Tree, Forest, Sym, Const, Op, nil, _◂_, eq-tree}
+use Rattle.tree.specs.Kinds.{arity-ok}
 use Rattle.tree.proofs.Formed.{well-formed, well-formed-each, operand-count}
 use Rattle.tree.proofs.TreeLaws.{eq-tree-sound}
 use Rattle.tree.specs.Facts.{all-operations, size, operations, nodes, nodes-of, all-nodes, count}
 use Rattle.tree.proofs.Logic.{and-left, and-right, and-both}
-use Rattle.rewrite.proofs.Operations.{forest-operations, operations-op, well-formed-all, all-append}
-use Rattle.rewrite.proofs.Savings.{sizes, size-op, one-of, count-cons, hits, hits-each}
-use Rattle.rewrite.proofs.Plain.{found, found-each}
+use Rattle.rewrite.proofs.Measure.{sum-of, sum-each, sizes, size-op, operations-sum, Measure, by-operations, one-of, one-self, count-cons}
 use Rattle.rewrite.proofs.Names.{holds, holds-each, holds-all}
 
 -- ---- lists
@@ -43,21 +41,6 @@ pub operations-append : (s t : List Tree) → all-operations (s ++ t) ≡ all-op
 unfolding all-operations
 operations-append [] t = sym (zero-add (all-operations t))
 operations-append (e ∷ s) t = (let c = operations-append s t in omega arith)
-
--- a measure of trees, summed
-unfoldable pub sum-of : (Tree → ℕ) → List Tree → ℕ
-sum-of μ [] = 0
-sum-of μ (t ∷ l) = μ t + sum-of μ l
-
-pub sum-append : (μ : Tree → ℕ) (s t : List Tree) → sum-of μ (s ++ t) ≡ sum-of μ s + sum-of μ t
-unfolding sum-of
-sum-append μ [] t = sym (zero-add (sum-of μ t))
-sum-append μ (e ∷ s) t = (let c = sum-append μ s t in omega arith)
-
-pub operations-sum : (l : List Tree) → all-operations l ≡ sum-of operations l
-unfolding all-operations sum-of
-operations-sum [] = refl
-operations-sum (e ∷ l) = ap (λ (m : ℕ). operations e + m) (operations-sum l)
 
 -- equal, or counted 0
 pub one-cases : (y x : Tree) (b : Bool) → eq-tree y x ≡ b → one-of y x ≡ elim b [ true ↦ 1 | false ↦ 0 ]
@@ -104,6 +87,18 @@ counted-holds p x (y ∷ l) w h =
       | inr c ↦ counted-holds p x l (and-right (holds p y) (holds-all p l) w) c
     ]
 
+unfoldable pub well-formed-all : List Tree → Bool
+unfolding well-formed
+well-formed-all [] = true
+well-formed-all (t ∷ l) = well-formed t && well-formed-all l
+
+pub all-append : (s t : List Tree) → T (well-formed-all s) → T (well-formed-all t) → T (well-formed-all (s ++ t))
+unfolding well-formed-all
+all-append [] t g h = h
+all-append (x ∷ s) t g h =
+    and-both (well-formed x) (well-formed-all (s ++ t)) (and-left (well-formed x) (well-formed-all s) g)
+    (all-append s t (and-right (well-formed x) (well-formed-all s) g) h)
+
 pub counted-formed : (x : Tree) (l : List Tree) → T (well-formed-all l) → 1 ≤ count x l → T (well-formed x)
 unfolding well-formed-all
 counted-formed x [] w h = (let z = count-nil x in absurd (omega arith))
@@ -116,7 +111,7 @@ counted-formed x (y ∷ l) w h =
 mutual
   unfolding well-formed nodes well-formed-all
 
-  pub nodes-formed : (e : Tree) → T (well-formed e) → T (well-formed-all (nodes e))
+  nodes-formed : (e : Tree) → T (well-formed e) → T (well-formed-all (nodes e))
   nodes-formed (Sym n) w = tt
   nodes-formed (Const c) w = tt
   nodes-formed (Op k f) w =
@@ -134,7 +129,7 @@ all-nodes-formed [] w = tt
 all-nodes-formed (t ∷ l) w =
     all-append (nodes t) (all-nodes l) (nodes-formed t (and-left (well-formed t) (well-formed-all l) w)) (all-nodes-formed l (and-right (well-formed t) (well-formed-all l) w))
 
--- ---- a node has at most the operations of the tree that it stands in
+-- ---- inside a tree
 
 pub count-sym : (x : Tree) (s : Name) → count x (nodes (Sym s)) ≡ one-of (Sym s) x
 unfolding nodes
@@ -160,39 +155,11 @@ pub either : (m n : ℕ) → 1 ≤ m + n → (1 ≤ m) ⊎ (1 ≤ n)
 either zero n h = inr (omega arith)
 either (suc m) n h = inl (omega arith)
 
+-- ---- equal trees do not overlap
+
+-- no tree stands in a smaller one
 mutual
-  unfolding forest-operations
-
-  pub part-operations : (x e : Tree) → 1 ≤ count x (nodes e) → operations x ≤ operations e
-  part-operations x (Sym s) h = (let c = count-sym x s in let q = ap operations (one-equal (Sym s) x (omega arith)) in omega arith)
-  part-operations x (Const a) h = (let c = count-const x a in let q = ap operations (one-equal (Const a) x (omega arith)) in omega arith)
-  part-operations x (Op k f) h =
-      elim (either (one-of (Op k f) x) (count x (nodes-of f)) (let c = count-op x k f in omega arith)) [
-        | inl e ↦ (let q = ap operations (one-equal (Op k f) x e) in omega arith)
-        | inr c ↦ (let q = part-operations-each x f c in let r = operations-op k f in omega arith)
-      ]
-
-  part-operations-each : (x : Tree) (f : Forest) → 1 ≤ count x (nodes-of f) → operations x ≤ forest-operations f
-  part-operations-each x nil h = (let z = count-none x in absurd (omega arith))
-  part-operations-each x (t ◂ f) h =
-      elim (either (count x (nodes t)) (count x (nodes-of f)) (let q = count-operands x t f in omega arith)) [
-        | inl a ↦ (let q = part-operations x t a in omega arith)
-        | inr b ↦ (let q = part-operations-each x f b in omega arith)
-      ]
-
-pub part-all-operations : (x : Tree) (l : List Tree) → 1 ≤ count x (all-nodes l) → operations x ≤ all-operations l
-unfolding all-operations
-part-all-operations x [] h = (let z : count x (all-nodes []) ≡ 0 = (unfold all-nodes count in refl) in absurd (omega arith))
-part-all-operations x (e ∷ l) h =
-    elim (either (count x (nodes e)) (count x (all-nodes l)) (let q = all-nodes-cons x e l in omega arith)) [
-      | inl a ↦ (let q = part-operations x e a in omega arith)
-      | inr b ↦ (let q = part-all-operations x l b in omega arith)
-    ]
-
--- ---- `found` and `hits` count the nodes equal to the target: none lies inside another
-
-mutual
-  unfolding sizes
+  unfolding sum-each
 
   pub small : (x e : Tree) → size e < size x → count x (nodes e) ≡ 0
   small x (Sym s) h = (let a = count-sym x s in let b = one-none (Sym s) x (λ e. (let q = ap size e in omega arith)) in omega arith)
@@ -200,58 +167,92 @@ mutual
   small x (Op k f) h =
       (let a = count-op x k f in
       let b = one-none (Op k f) x (λ e. (let q = ap size e in omega arith)) in
-      let s = size-op nil k f in
+      let s = size-op k f in
       let c = small-each x f (omega arith) in
       omega arith)
 
-  pub small-each : (x : Tree) (f : Forest) → sizes nil f < size x → count x (nodes-of f) ≡ 0
+  small-each : (x : Tree) (f : Forest) → sizes f < size x → count x (nodes-of f) ≡ 0
   small-each x nil h = count-none x
   small-each x (t ◂ f) h = (let a = count-operands x t f in let b = small x t (omega arith) in let c = small-each x f (omega arith) in omega arith)
 
-leaf-found : (b : Bool) (z : ℕ) → z ≡ 0 → _≡_ {A = ℕ} (elim b [ true ↦ 1 | false ↦ 0 ]) (elim b [ true ↦ suc z | false ↦ z ])
-leaf-found true z e = ap suc (sym e)
-leaf-found false z e = sym e
+-- a tree stands in itself once
+pub whole-count : (x : Tree) → count x (nodes x) ≡ 1
+whole-count (Sym s) = (let a = count-sym (Sym s) s in let b = one-self (Sym s) in omega arith)
+whole-count (Const c) = (let a = count-const (Const c) c in let b = one-self (Const c) in omega arith)
+whole-count (Op k f) =
+    (let a = count-op (Op k f) k f in
+    let b = one-self (Op k f) in
+    let s = size-op k f in
+    let c = small-each (Op k f) f (omega arith) in
+    omega arith)
 
-op-found : (b : Bool) (m c : ℕ) → (T b → c ≡ 0) → m ≡ c → _≡_ {A = ℕ} (elim b [ true ↦ 1 | false ↦ m ]) (elim b [ true ↦ suc c | false ↦ c ])
-op-found true m c z e = ap suc (sym (z tt))
-op-found false m c z e = e
+-- a node is the tree, or the tree stands in its operands alone
+pub count-cases : (x : Tree) (k : ℕ) (f : Forest) → (Op k f ≡ x) ⊎ (count x (nodes (Op k f)) ≡ count x (nodes-of f))
+count-cases x k f = go (one-of (Op k f) x) refl
+  where
+    go : (m : ℕ) → one-of (Op k f) x ≡ m → (Op k f ≡ x) ⊎ (count x (nodes (Op k f)) ≡ count x (nodes-of f))
+    go zero e = inr (let a = count-op x k f in omega arith)
+    go (suc m) e = inl (one-equal (Op k f) x (omega arith))
 
-mutual
-  unfolding found nodes count
+-- so the trees equal to one measure together no more than the tree that they stand in
+module _ (M : Measure) (x : Tree) where
+  part-leaf : (e : Tree) (m : ℕ) → m ≡ one-of e x → M .of x * m ≤ M .of e
+  part-leaf e m q = go (one-of e x) refl
+    where
+      go : (j : ℕ) → one-of e x ≡ j → M .of x * m ≤ M .of e
+      go zero z = (let a : M .of x * m ≡ 0 = ap (λ (j : ℕ). M .of x * j) (q ∙ z) ∙ mul-zero (M .of x) in omega arith)
+      go (suc j) z =
+          (let b = one-le e x in
+          let y : m ≡ 1 = omega arith in
+          let a : M .of x * m ≡ M .of x = ap (λ (j : ℕ). M .of x * j) y ∙ mul-one (M .of x) in
+          let c = ap (λ (t : Tree). M .of t) (one-equal e x (omega arith)) in
+          omega arith)
 
-  pub found-count : (x e : Tree) → found x e ≡ count x (nodes e)
-  found-count x (Sym s) = leaf-found (eq-tree (Sym s) x) (count x []) (count-nil x)
-  found-count x (Const c) = leaf-found (eq-tree (Const c) x) (count x []) (count-nil x)
-  found-count x (Op k f) =
-      op-found (eq-tree (Op k f) x) (found-each x f) (count x (nodes-of f))
-      (λ t. small-each x f (let a = ap size (eq-tree-sound (Op k f) x t) in let b = size-op nil k f in omega arith)) (found-count-each x f)
+  part-op : (k : ℕ) (f : Forest) → M .of x * count x (nodes-of f) ≤ sum-each (M .of) f → M .of x * count x (nodes (Op k f)) ≤ M .of (Op k f)
+  part-op k f h =
+      elim (count-cases x k f) [
+        | inl e ↦ part-leaf (Op k f) (count x (nodes (Op k f)))
+            (let a = ap (λ (t : Tree). count x (nodes t)) e in let b = whole-count x in let c = ap (λ (t : Tree). one-of t x) e in let d = one-self x in omega arith)
+        | inr e ↦ (let a = ap (λ (m : ℕ). M .of x * m) e in let s = M .at-node k f in omega arith)
+      ]
 
-  found-count-each : (x : Tree) (f : Forest) → found-each x f ≡ count x (nodes-of f)
-  found-count-each x nil = refl
-  found-count-each x (t ◂ f) = ap₂ _+_ (found-count x t) (found-count-each x f) ∙ sym (count-append x (nodes t) (nodes-of f))
+  mutual
+    unfolding sum-each
 
-hits-step :
-    (b c : Bool) (m n : ℕ) → m ≡ n
-    → _≡_ {A = ℕ} (elim b [ true ↦ elim c [ true ↦ 1 | false ↦ m ] | false ↦ m ])
-    (elim (elim b as (λ _. Bool) [ true ↦ c | false ↦ false ]) [ true ↦ 1 | false ↦ n ])
-hits-step true true m n e = refl
-hits-step true false m n e = e
-hits-step false c m n e = e
+    pub part-of : (e : Tree) → M .of x * count x (nodes e) ≤ M .of e
+    part-of (Sym s) = part-leaf (Sym s) (count x (nodes (Sym s))) (count-sym x s)
+    part-of (Const c) = part-leaf (Const c) (count x (nodes (Const c))) (count-const x c)
+    part-of (Op k f) = part-op k f (part-each f)
 
-mutual
-  unfolding hits found eq-tree
+    part-each : (f : Forest) → M .of x * count x (nodes-of f) ≤ sum-each (M .of) f
+    part-each nil = (let a = ap (λ (m : ℕ). M .of x * m) (count-none x) ∙ mul-zero (M .of x) in omega arith)
+    part-each (t ◂ f) =
+        (let a = part-of t in
+        let b = part-each f in
+        let c = ap (λ (m : ℕ). M .of x * m) (count-operands x t f) ∙ mul-add (M .of x) (count x (nodes t)) (count x (nodes-of f)) in
+        omega arith)
 
-  pub hits-found : (g : Forest) (e : Tree) → hits g e ≡ found (Op Mul g) e
-  hits-found g (Sym s) = refl
-  hits-found g (Const c) = refl
-  hits-found g (Op k f) = hits-step (eqb k Mul) (eq-forest f g) (hits-each g f) (found-each (Op Mul g) f) (hits-found-each g f)
+  pub part-sum : (l : List Tree) → M .of x * count x (all-nodes l) ≤ sum-of (M .of) l
+  unfolding sum-of
+  part-sum [] =
+      (let z : count x (all-nodes []) ≡ 0 = (unfold all-nodes count in refl) in let a = ap (λ (m : ℕ). M .of x * m) z ∙ mul-zero (M .of x) in omega arith)
+  part-sum (e ∷ l) =
+      (let a = part-of e in
+      let b = part-sum l in
+      let c = ap (λ (m : ℕ). M .of x * m) (all-nodes-cons x e l) ∙ mul-add (M .of x) (count x (nodes e)) (count x (all-nodes l)) in
+      omega arith)
 
-  hits-found-each : (g : Forest) (f : Forest) → hits-each g f ≡ found-each (Op Mul g) f
-  hits-found-each g nil = refl
-  hits-found-each g (t ◂ f) = ap₂ _+_ (hits-found g t) (hits-found-each g f)
+-- a node has at most the operations of the tree that it stands in
+times-up : (o c : ℕ) → 1 ≤ c → o ≤ o * c
+times-up o zero h = absurd (omega arith)
+times-up o (suc c) h = (let a = mul-suc o c in omega arith)
 
-pub hits-count : (g : Forest) (e : Tree) → hits g e ≡ count (Op Mul g) (nodes e)
-hits-count g e = hits-found g e ∙ found-count (Op Mul g) e
+pub part-operations : (x e : Tree) → 1 ≤ count x (nodes e) → operations x ≤ operations e
+part-operations x e h = (let a = part-of by-operations x e in let b = times-up (operations x) (count x (nodes e)) h in omega arith)
+
+pub part-all-operations : (x : Tree) (l : List Tree) → 1 ≤ count x (all-nodes l) → operations x ≤ all-operations l
+part-all-operations x l h =
+    (let a = part-sum by-operations x l in let b = times-up (operations x) (count x (all-nodes l)) h in let c = operations-sum l in omega arith)
 
 -- ---- the new name stands in no tree made before it
 

@@ -1,5 +1,5 @@
--- `replace_divisor` lets neither operations nor nodes grow, keeps trees well-formed, can be undone, and leaves no division by d: so an operation
--- stands after it no more often than what it came from stood before. Assumes nothing.
+-- `replace_divisor` lets no measure grow by which the new name counts least, so neither operations nor nodes, keeps trees well-formed, can be undone,
+-- and leaves no division by d: so an operation stands after it no more often than what it came from stood before. Assumes nothing.
 use Prim.Native.Nat.{ℕ, zero, suc, _≤_}
 use mathlib.Core.Path.{_≡_, refl, sym, _∙_, ap, ap₂, subst}
 use mathlib.Core.Logic.{_⊎_, inl, inr}
@@ -13,8 +13,7 @@ use Rattle.tree.proofs.TreeLaws.{eq-tree-sound, eq-tree-refl, eq-name-sound, eq
 use Rattle.tree.specs.Facts.{operations, size, nodes, nodes-of, count}
 use Rattle.rewrite.specs.Rewrite.{divides-by, replace-divisor, replace-divisors, dividend}
 use Rattle.tree.proofs.Logic.{and-left, and-right, and-both}
-use Rattle.rewrite.proofs.Operations.{forest-operations, operations-op}
-use Rattle.rewrite.proofs.Savings.{sizes, size-op, one-of, one-self}
+use Rattle.rewrite.proofs.Measure.{sum-each, Measure, Least, by-operations, by-size, least-operations, least-size, one-of, one-self}
 use Rattle.rewrite.proofs.Names.{holds, holds-each}
 use Rattle.rewrite.proofs.Counts.{count-sym, count-const, count-op, count-none, count-operands, one-none, one-le, one-equal}
 
@@ -38,66 +37,41 @@ pub or-right : (b c : Bool) → T c → T (b || c)
 or-right true c t = tt
 or-right false c t = t
 
--- ---- operations, nodes, operand counts
+-- ---- any measure by which the name counts least, and operand counts
 
-pub size-up : (e : Tree) → 1 ≤ size e
-size-up (Sym s) = (unfold size in omega arith)
-size-up (Const c) = (unfold size in omega arith)
-size-up (Op k f) = (let q = size-op nil k f in omega arith)
+module _ (M : Measure) (d : Tree) (n : Name) (least : Least M n) where
+  divisor-step :
+      (k : ℕ) (f : Forest) (b : Bool) → (T b → T (divides-by d f)) → (T (divides-by d f) → sum-each (M .of) (dividend d n f) ≤ sum-each (M .of) f)
+      → sum-each (M .of) (replace-divisors d n f) ≤ sum-each (M .of) f
+      → M .of (elim b [ true ↦ Op Mul (dividend d n f) | false ↦ Op k (replace-divisors d n f) ]) ≤ M .of (Op k f)
+  divisor-step k f true t g h = (let a = M .at-node Mul (dividend d n f) in let b = M .at-node k f in let c = g (t tt) in omega arith)
+  divisor-step k f false t g h = (let a = M .at-node k (replace-divisors d n f) in let b = M .at-node k f in omega arith)
+
+  mutual
+    unfolding replace-divisor sum-each divides-by
+
+    pub divisor-measure : (e : Tree) → M .of (replace-divisor d n e) ≤ M .of e
+    divisor-measure (Sym s) = omega arith
+    divisor-measure (Const c) = omega arith
+    divisor-measure (Op k f) = divisor-step k f (eqb k Div && divides-by d f) (and-right (eqb k Div) (divides-by d f)) (λ c. dividend-of f c) (divisors-of f)
+
+    divisors-of : (f : Forest) → sum-each (M .of) (replace-divisors d n f) ≤ sum-each (M .of) f
+    divisors-of nil = omega arith
+    divisors-of (t ◂ f) = (let a = divisor-measure t in let b = divisors-of f in omega arith)
+
+    -- a name in place of a divisor
+    dividend-of : (f : Forest) → T (divides-by d f) → sum-each (M .of) (dividend d n f) ≤ sum-each (M .of) f
+    dividend-of nil c = absurd c
+    dividend-of (t ◂ nil) c = absurd c
+    dividend-of (t ◂ (b ◂ f)) c = (let a = divisor-measure t in let q = least b in omega arith)
+
+pub divisor-operations : (d : Tree) (n : Name) (e : Tree) → operations (replace-divisor d n e) ≤ operations e
+divisor-operations d n = divisor-measure by-operations d n (least-operations n)
+
+pub divisor-size : (d : Tree) (n : Name) (e : Tree) → size (replace-divisor d n e) ≤ size e
+divisor-size d n = divisor-measure by-size d n (least-size n)
 
 module _ (d : Tree) (n : Name) where
-  operations-step :
-      (k : ℕ) (f : Forest) (b : Bool) → forest-operations (dividend d n f) ≤ forest-operations f → forest-operations (replace-divisors d n f) ≤ forest-operations f
-      → operations (elim b [ true ↦ Op Mul (dividend d n f) | false ↦ Op k (replace-divisors d n f) ]) ≤ operations (Op k f)
-  operations-step k f true g h = (let a = operations-op Mul (dividend d n f) in let b = operations-op k f in omega arith)
-  operations-step k f false g h = (let a = operations-op k (replace-divisors d n f) in let b = operations-op k f in omega arith)
-
-  mutual
-    unfolding replace-divisor operations forest-operations
-
-    pub divisor-operations : (e : Tree) → operations (replace-divisor d n e) ≤ operations e
-    divisor-operations (Sym s) = omega arith
-    divisor-operations (Const c) = omega arith
-    divisor-operations (Op k f) = operations-step k f (eqb k Div && divides-by d f) (dividend-operations f) (divisors-operations f)
-
-    divisors-operations : (f : Forest) → forest-operations (replace-divisors d n f) ≤ forest-operations f
-    divisors-operations nil = omega arith
-    divisors-operations (t ◂ f) = (let a = divisor-operations t in let b = divisors-operations f in omega arith)
-
-    dividend-operations : (f : Forest) → forest-operations (dividend d n f) ≤ forest-operations f
-    dividend-operations nil = omega arith
-    dividend-operations (t ◂ f) = (let a = divisor-operations t in omega arith)
-
-  size-step :
-      (k : ℕ) (f : Forest) (b : Bool) → (T b → T (divides-by d f)) → (T (divides-by d f) → sizes nil (dividend d n f) ≤ sizes nil f)
-      → sizes nil (replace-divisors d n f) ≤ sizes nil f
-      → size (elim b [ true ↦ Op Mul (dividend d n f) | false ↦ Op k (replace-divisors d n f) ]) ≤ size (Op k f)
-  size-step k f true t g h = (let a = size-op nil Mul (dividend d n f) in let b = size-op nil k f in let c = g (t tt) in omega arith)
-  size-step k f false t g h = (let a = size-op nil k (replace-divisors d n f) in let b = size-op nil k f in omega arith)
-
-  -- a name in place of a divisor
-  dividend-size-step : (t u : Tree) (f : Forest) → size u ≤ size t → T (divides-by d (t ◂ f)) → sizes nil (u ◂ Sym n ◂ nil) ≤ sizes nil (t ◂ f)
-  unfolding divides-by sizes size
-  dividend-size-step t u nil h c = absurd c
-  dividend-size-step t u (b ◂ f) h c = (let q = size-up b in omega arith)
-
-  mutual
-    unfolding replace-divisor size sizes
-
-    pub divisor-size : (e : Tree) → size (replace-divisor d n e) ≤ size e
-    divisor-size (Sym s) = omega arith
-    divisor-size (Const c) = omega arith
-    divisor-size (Op k f) =
-        size-step k f (eqb k Div && divides-by d f) (and-right (eqb k Div) (divides-by d f)) (λ c. dividend-size f c) (divisors-size f)
-
-    divisors-size : (f : Forest) → sizes nil (replace-divisors d n f) ≤ sizes nil f
-    divisors-size nil = omega arith
-    divisors-size (t ◂ f) = (let a = divisor-size t in let b = divisors-size f in omega arith)
-
-    dividend-size : (f : Forest) → T (divides-by d f) → sizes nil (dividend d n f) ≤ sizes nil f
-    dividend-size nil c = omega arith
-    dividend-size (t ◂ f) c = dividend-size-step t (replace-divisor d n t) f (divisor-size t) c
-
   formed-step :
       (k : ℕ) (f : Forest) (b : Bool) → (T b → T (divides-by d f)) → (T (divides-by d f) → T (well-formed-each (dividend d n f)) × (operand-count (dividend d n f) ≡ 2))
       → T (well-formed-each (replace-divisors d n f)) × (operand-count (replace-divisors d n f) ≡ operand-count f) → T (arity-ok k (operand-count f))

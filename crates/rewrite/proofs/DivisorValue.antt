@@ -1,8 +1,8 @@
 -- `replace_divisor` and `replace_outside_arms` keep values: the first where the name holds the value of 1 / d, the second where it holds the target's.
 -- Assumes nothing.
-use Prim.Native.Nat.{ℕ, zero, suc, _*_, _%_}
+use Prim.Native.Nat.{ℕ, _*_, _%_}
 use mathlib.Core.Path.{_≡_, refl, sym, _∙_, ap, ap₂}
-use mathlib.Core.Bool.{Bool, true, false, _&&_, cond}
+use mathlib.Core.Bool.{Bool, true, false, _&&_}
 use mathlib.Core.List.{List, [], _∷_}
 use native.Mathlib.Nat.{mul-one, one-mul}
 use lib.IntN.{pos}
@@ -12,7 +12,7 @@ use Rattle.tree.specs.Tree.{Name, Tree, Forest, Sym, Const, Op, nil, _◂_, eq-
 use Rattle.tree.specs.Kinds.{Mul, Div, is-switch}
 use Rattle.tree.proofs.TreeLaws.{eq-tree-sound}
 use Rattle.rewrite.specs.Rewrite.{divides-by, replace-divisor, replace-divisors, dividend, replace-outside-arms, replace-operands, replace-key}
-use Rattle.tree.specs.Value.{Reading, Env, value, operand-values, apply, other, residue, binary, product}
+use Rattle.tree.specs.Value.{Reading, Env, value, operand-values, apply, other, residue}
 use Rattle.rewrite.proofs.Residues.{mod-mul-left, mod-mul-right}
 
 both-pass : (b c : Bool) → T (b && c) → T b × T c

@@ -1,21 +1,22 @@
 -- Which symbols a tree holds: values turn on those alone, and rewriting brings in the new name and no other. Assumes nothing.
-use Prim.Native.Nat.{ℕ, zero, suc, _+_, _*_, _%_, _≤_, _<_}
-use mathlib.Core.Path.{_≡_, refl, sym, _∙_, ap, ap₂, subst}
-use mathlib.Core.Bool.{Bool, true, false, _&&_, cond}
+use Prim.Native.Nat.{ℕ, zero, suc, _*_, _%_, _≤_}
+use mathlib.Core.Path.{_≡_, refl, sym, ap, ap₂, subst}
+use mathlib.Core.Bool.{Bool, true, false, _&&_}
 use mathlib.Core.Option.{Option, none, some}
 use mathlib.Core.List.{List, [], _∷_, _++_}
 use native.Mathlib.Omega.{arith}
 use lib.IntN.{ℤ, pos, negsuc}
 use lib.Dec.{T, eqb, ltb, ltb→lt, lt→ltb}
-use lib.Ieee as Ieee
 use Rattle.tree.specs.Outcome.{Outcome, ok, refused, _>>=_}
 use Rattle.tree.specs.Tree.{Name, input, xname, mname, Tree, Forest, Sym, Const, Op, nil, _◂_, eq-tree, eq-int}
-use Rattle.tree.specs.Kinds.{Neg, Mul, Div, is-switch}
+use Rattle.tree.specs.Kinds.{Neg, Mul, Div}
 use Rattle.tree.proofs.TreeLaws.{eq-tree-sound}
 use Rattle.tree.specs.Facts.{size, nodes, nodes-of, all-nodes}
-use Rattle.rewrite.specs.Rewrite.{Factors, one, flatten-mul-factors, flatten-operands, flatten-after, times, negated, constant-of, nested-product as product-tree, with-coefficient, built, build-mul-from-factors, remove-first, remove-each, is-mul, match-factors, each-operand, replace-within, replace, divides-by, replace-divisor, replace-divisors, dividend}
+use Rattle.rewrite.specs.Rewrite.{Factors, flatten-mul-factors, flatten-operands, flatten-after, times, constant-of, nested-product as product-tree, with-coefficient, built, build-mul-from-factors, match-factors, each-operand, replace-within, replace, divides-by, replace-divisor, replace-divisors, dividend}
 use Rattle.tree.specs.Value.{Reading, Env, value, operand-values, values, apply}
 use Rattle.tree.proofs.Logic.{and-left, and-right, and-both}
+use Rattle.rewrite.proofs.Measure.{sum-of}
+use Rattle.rewrite.proofs.Factors.{factors-of, factors-cases, puts-sum, Matched, matched}
 
 -- ---- symbols
 
@@ -139,23 +140,14 @@ module _ (p : Name → Bool) where
   all-nodes-hold (t ∷ l) h =
       holds-append p (nodes t) (all-nodes l) (nodes-hold t (and-left (holds p t) (holds-all p l) h)) (all-nodes-hold l (and-right (holds p t) (holds-all p l) h))
 
-  three-hold :
-      (b c : Bool) (F G H : Factors) → T (holds-all p (F .factors)) → T (holds-all p (G .factors)) → T (holds-all p (H .factors))
-      → T (holds-all p ((elim b as (λ _. Factors) [ true ↦ F | false ↦ elim c [ true ↦ G | false ↦ H ] ]) .factors))
-  three-hold true c F G H f g h = f
-  three-hold false true F G H f g h = g
-  three-hold false false F G H f g h = h
-
   mutual
-    unfolding flatten-mul-factors holds negated times holds-all
+    unfolding flatten-mul-factors holds times holds-all
 
-    factors-hold : (t : Tree) → T (holds p t) → T (holds-all p (flatten-mul-factors t .factors))
+    factors-hold : (t : Tree) → T (holds p t) → T (holds-all p (factors-of t))
     factors-hold (Sym n) w = and-both (p n) true w tt
     factors-hold (Const c) w = tt
     factors-hold (Op k f) w =
-        let e = operands-hold f w in
-        three-hold (eqb k Mul) (eqb k Neg) (flatten-operands f) (negated (flatten-operands f)) (record { coefficient = one; factors = Op k f ∷ [] }) e e
-        (and-both (holds-each p f) true w tt)
+        factors-cases (λ l. T (holds-all p l)) k f (operands-hold f w) (λ e. and-both (holds-each p f) true w tt)
 
     operands-hold : (f : Forest) → T (holds-each p f) → T (holds-all p (flatten-operands f .factors))
     operands-hold nil w = tt
@@ -168,86 +160,45 @@ module _ (p : Name → Bool) where
         after-hold f (times q (flatten-mul-factors t)) (and-right (holds p t) (holds-each p f) w)
         (holds-append p (q .factors) (flatten-mul-factors t .factors) g (factors-hold t (and-left (holds p t) (holds-each p f) w)))
 
-  Left : List Tree → Option (List Tree) → Type 0
-  Left l none = Unit {0}
-  Left l (some r) = T (holds-all p l) → T (holds-all p r)
+  -- a tree that does not pass counts 1: a list passes where the sum is 0
+  fails : Tree → ℕ
+  fails t = elim (holds p t) [ true ↦ 0 | false ↦ 1 ]
 
-  left-step : (f : Tree) (l : List Tree) (b : Bool) (o : Option (List Tree)) → Left l o → Left (f ∷ l) (elim b [ true ↦ some l | false ↦ elim o [ none ↦ none | some r ↦ some (f ∷ r) ] ])
-  unfolding Left holds-all
-  left-step f l true o h = λ w. and-right (holds p f) (holds-all p l) w
-  left-step f l false none h = tt
-  left-step f l false (some r) h = λ w. and-both (holds p f) (holds-all p r) (and-left (holds p f) (holds-all p l) w) (h (and-right (holds p f) (holds-all p l) w))
-
-  left : (t : Tree) (l : List Tree) → Left l (remove-first t l)
-  unfolding Left remove-first
-  left t [] = tt
-  left t (f ∷ l) = left-step f l (eq-tree f t) (remove-first t l) (left t l)
-
-  left-each-step : (l : List Tree) (o : Option (List Tree)) (ts : List Tree) → Left l o → ((r : List Tree) → Left r (remove-each ts r)) → Left l (elim o [ none ↦ none | some r ↦ remove-each ts r ])
-  unfolding Left
-  left-each-step l none ts h g = tt
-  left-each-step l (some r) ts h g = via l r (remove-each ts r) h (g r)
+  fails-none : (t : Tree) → T (holds p t) → fails t ≡ 0
+  unfolding fails
+  fails-none t = go (holds p t)
     where
-      via : (l r : List Tree) (o : Option (List Tree)) → (T (holds-all p l) → T (holds-all p r)) → Left r o → Left l o
-      via l r none h k = tt
-      via l r (some s) h k = λ w. k (h w)
+      go : (b : Bool) → T b → _≡_ {A = ℕ} (elim b [ true ↦ 0 | false ↦ 1 ]) 0
+      go true w = refl
+      go false w = absurd w
 
-  left-each : (ts l : List Tree) → Left l (remove-each ts l)
-  unfolding Left remove-each
-  left-each [] l = λ w. w
-  left-each (t ∷ ts) l = left-each-step l (remove-first t l) ts (left t l) (λ r. left-each ts r)
-
-  -- what is taken out holds what the list holds
-  Out : List Tree → List Tree → Option (List Tree) → Type 0
-  Out ts l none = Unit {0}
-  Out ts l (some r) = T (holds-all p l) → T (holds-all p ts)
-
-  out-step :
-      (t f : Tree) (l : List Tree) (b : Bool) → (T b → f ≡ t) → (o : Option (List Tree)) → Out (t ∷ []) l o
-      → Out (t ∷ []) (f ∷ l) (elim b [ true ↦ some l | false ↦ elim o [ none ↦ none | some r ↦ some (f ∷ r) ] ])
-  unfolding Out holds-all
-  out-step t f l true e o h = λ w. and-both (holds p t) true (subst (λ (x : Tree). T (holds p x)) (e tt) (and-left (holds p f) (holds-all p l) w)) tt
-  out-step t f l false e none h = tt
-  out-step t f l false e (some r) h = λ w. h (and-right (holds p f) (holds-all p l) w)
-
-  out : (t : Tree) (l : List Tree) → Out (t ∷ []) l (remove-first t l)
-  unfolding Out remove-first
-  out t [] = tt
-  out t (f ∷ l) = out-step t f l (eq-tree f t) (eq-tree-sound f t) (remove-first t l) (out t l)
-
-  out-each-step :
-      (t : Tree) (ts l : List Tree) (o : Option (List Tree)) → Out (t ∷ []) l o → Left l o → ((r : List Tree) → Out ts r (remove-each ts r))
-      → Out (t ∷ ts) l (elim o [ none ↦ none | some r ↦ remove-each ts r ])
-  unfolding Out Left holds-all
-  out-each-step t ts l none h k g = tt
-  out-each-step t ts l (some r) h k g = via (remove-each ts r) (g r)
+  none-fails : (t : Tree) → fails t ≡ 0 → T (holds p t)
+  unfolding fails
+  none-fails t = go (holds p t)
     where
-      via : (o : Option (List Tree)) → Out ts r o → Out (t ∷ ts) l o
-      via none q = tt
-      via (some s) q = λ w. and-both (holds p t) (holds-all p ts) (and-left (holds p t) true (h w)) (q (k w))
+      go : (b : Bool) → _≡_ {A = ℕ} (elim b [ true ↦ 0 | false ↦ 1 ]) 0 → T b
+      go true z = tt
+      go false z = absurd (omega arith)
 
-  out-each : (ts l : List Tree) → Out ts l (remove-each ts l)
-  unfolding Out remove-each holds-all
-  out-each [] l = λ w. tt
-  out-each (t ∷ ts) l = out-each-step t ts l (remove-first t l) (out t l) (left t l) (λ r. out-each ts r)
+  all-pass : (l : List Tree) → T (holds-all p l) → sum-of fails l ≡ 0
+  unfolding holds-all sum-of
+  all-pass [] w = refl
+  all-pass (t ∷ l) w = (let a = fails-none t (and-left (holds p t) (holds-all p l) w) in let b = all-pass l (and-right (holds p t) (holds-all p l) w) in omega arith)
+
+  pass-all : (l : List Tree) → sum-of fails l ≡ 0 → T (holds-all p l)
+  unfolding holds-all sum-of
+  pass-all [] z = tt
+  pass-all (t ∷ l) z = and-both (holds p t) (holds-all p l) (none-fails t (omega arith)) (pass-all l (omega arith))
 
   -- a tree holds what its factors hold
-  three-back :
-      (b c : Bool) (F G H : Factors) (P : Type 0) → (T (holds-all p (F .factors)) → P) → (T (holds-all p (G .factors)) → P) → (T (holds-all p (H .factors)) → P)
-      → T (holds-all p ((elim b as (λ _. Factors) [ true ↦ F | false ↦ elim c [ true ↦ G | false ↦ H ] ]) .factors)) → P
-  three-back true c F G H P f g h w = f w
-  three-back false true F G H P f g h w = g w
-  three-back false false F G H P f g h w = h w
-
   mutual
-    unfolding flatten-mul-factors holds negated times holds-all
+    unfolding flatten-mul-factors holds times holds-all
 
-    factors-back : (t : Tree) → T (holds-all p (flatten-mul-factors t .factors)) → T (holds p t)
+    factors-back : (t : Tree) → T (holds-all p (factors-of t)) → T (holds p t)
     factors-back (Sym n) w = and-left (p n) true w
     factors-back (Const c) w = tt
     factors-back (Op k f) w =
-        three-back (eqb k Mul) (eqb k Neg) (flatten-operands f) (negated (flatten-operands f)) (record { coefficient = one; factors = Op k f ∷ [] }) (T (holds-each p f))
-        (λ u. operands-back f u) (λ u. operands-back f u) (λ u. and-left (holds-each p f) true u) w
+        factors-cases (λ l. T (holds-all p l) → T (holds-each p f)) k f (λ u. operands-back f u) (λ e u. and-left (holds-each p f) true u) w
 
     operands-back : (f : Forest) → T (holds-all p (flatten-operands f .factors)) → T (holds-each p f)
     operands-back nil w = tt
@@ -296,33 +247,14 @@ module _ (p : Name → Bool) (target : Tree) (n : Name) (new : T (holds p target
   Holds-each (ok f) = T (holds-each p f)
   Holds-each (refused i) = Unit {0}
 
-  Matched : Tree → Option Factors → Type 0
-  Matched e none = Unit {0}
-  Matched e (some q) = T (holds p e) → T (holds-all p (q .factors))
-
-  matched-step :
-      (e : Tree) (b : Bool) (o : Option (List Tree)) → Left p (flatten-mul-factors e .factors) o
-      → Out p (flatten-mul-factors target .factors) (flatten-mul-factors e .factors) o
-      → Matched e
-      (elim b [
-        | true ↦ elim o [
-          | none ↦ none
-          | some r ↦ some (record { coefficient = flatten-mul-factors e .coefficient; factors = r ++ (Sym n ∷ []) })
-        ]
-        | false ↦ none
-      ])
-  unfolding Matched Left Out holds holds-all
-  matched-step e true none g u = tt
-  matched-step e true (some r) g u = λ w. holds-append p r (Sym n ∷ []) (g (factors-hold p e w)) (and-both (p n) true (new (factors-back p target (u (factors-hold p e w)))) tt)
-  matched-step e false o g u = tt
-
-  matched : (e : Tree) → Matched e (match-factors target n e)
-  unfolding match-factors
-  matched e =
-      matched-step e (is-mul target && Ieee.eq (flatten-mul-factors target .coefficient) one)
-      (remove-each (flatten-mul-factors target .factors) (flatten-mul-factors e .factors))
-      (left-each p (flatten-mul-factors target .factors) (flatten-mul-factors e .factors))
-      (out-each p (flatten-mul-factors target .factors) (flatten-mul-factors e .factors))
+  -- a rebuilt product has some of the factors that were there, and the name in place of others
+  matched-holds : (e : Tree) (q : Factors) → Matched target n e (some q) → T (holds p e) → T (holds-all p (q .factors))
+  unfolding Matched holds holds-all
+  matched-holds e q (r, z, h, t) w =
+      subst (λ (q : Factors). T (holds-all p (q .factors))) (sym z)
+      (let s = puts-sum (fails p) h in
+      let a = all-pass p (factors-of e) (factors-hold p e (unfold holds in w)) in
+      holds-append p r (Sym n ∷ []) (pass-all p r (omega arith)) (and-both (p n) true (new (factors-back p target (pass-all p (factors-of target) (omega arith)))) tt))
 
   rebuilt-step : (l : List Tree) → T (holds-all p l) → (o : Outcome ℤ) → Holds (o >>= λ c. ok (built c l))
   unfolding Holds
@@ -357,7 +289,7 @@ module _ (p : Name → Bool) (target : Tree) (n : Name) (new : T (holds p target
 
   node-holds :
       (k : ℕ) (f : Forest) (g : Tree → Outcome Tree) → ((t : Tree) → T (holds p t) → Holds (g t)) → (b d : Bool) → (T b → Op k f ≡ target) → T (holds p (Op k f))
-      → (o : Option Factors) → Matched (Op k f) o
+      → (o : Option Factors) → Matched target n (Op k f) o
       → Holds
       (elim b [
         | true ↦ ok (Sym n)
@@ -369,10 +301,10 @@ module _ (p : Name → Bool) (target : Tree) (n : Name) (new : T (holds p target
           | false ↦ (each-operand g f >>= λ r. ok (Op k r))
         ]
       ])
-  unfolding Holds Matched holds
+  unfolding Holds holds
   node-holds k f g s true d q w o a = new (subst (λ (t : Tree). T (holds p t)) (q tt) (unfold holds in w))
   node-holds k f g s false true q w none a = operation-holds k (each-operand g f) (each-holds g s f w)
-  node-holds k f g s false true e w (some q) a = then-holds (build-mul-from-factors q) (rebuilt q (a w)) g s
+  node-holds k f g s false true e w (some q) a = then-holds (build-mul-from-factors q) (rebuilt q (matched-holds (Op k f) q a (unfold holds in w))) g s
   node-holds k f g s false false q w o a = operation-holds k (each-operand g f) (each-holds g s f w)
 
   leaf-holds : (t : Tree) (b : Bool) → (T b → t ≡ target) → T (holds p t) → Holds (elim b [ true ↦ ok (Sym n) | false ↦ ok t ])
@@ -387,7 +319,7 @@ module _ (p : Name → Bool) (target : Tree) (n : Name) (new : T (holds p target
   replace-within-holds (suc fuel) (Const c) w = leaf-holds (Const c) (eq-tree (Const c) target) (eq-tree-sound (Const c) target) w
   replace-within-holds (suc fuel) (Op k f) w =
       node-holds k f (λ t. replace-within fuel target n t) (λ t v. replace-within-holds fuel t v) (eq-tree (Op k f) target) (eqb k Mul) (eq-tree-sound (Op k f) target) w
-      (match-factors target n (Op k f)) (matched (Op k f))
+      (match-factors target n (Op k f)) (matched target n (Op k f))
 
   pub replace-holds : (e : Tree) → T (holds p e) → Holds (replace target n e)
   unfolding replace

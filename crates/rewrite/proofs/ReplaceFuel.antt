@@ -1,73 +1,41 @@
 -- `replace` has fuel enough: any more gives the same, so that its end decides nothing. Assumes nothing.
 use Prim.Native.Nat.{ℕ, zero, suc, _+_, _-_, _*_, _≤_}
 use mathlib.Core.Path.{_≡_, refl, sym, _∙_, ap, ap₂, subst}
-use mathlib.Core.Bool.{Bool, true, false, _&&_}
+use mathlib.Core.Bool.{Bool, true, false}
 use mathlib.Core.Option.{Option, none, some}
 use mathlib.Core.List.{List, [], _∷_, _++_}
 use native.Mathlib.Omega.{arith}
 use native.Mathlib.Nat.{zero-add, suc-add}
 use lib.IntN.{ℤ}
 use lib.Dec.{T, eqb}
-use lib.Ieee as Ieee
+use lib.ListN.{length}
 use Rattle.tree.specs.Outcome.{Outcome, ok, refused, _>>=_}
 use Rattle.tree.specs.Tree.{Name, Tree, Forest, Sym, Const, Op, nil, _◂_, eq-tree}
-use Rattle.tree.specs.Kinds.{Neg, Mul, arity-ok}
+use Rattle.tree.specs.Kinds.{Mul, arity-ok}
 use Rattle.tree.specs.Facts.{size, count}
 use Rattle.tree.proofs.Formed.{operand-count, well-formed, well-formed-each}
 use Rattle.tree.proofs.Logic.{and-left, and-right}
-use Rattle.rewrite.specs.Rewrite.{Factors, one, flatten-mul-factors, flatten-operands, negated, constant-of, built, build-mul-from-factors, remove-each, is-mul, match-factors, each-operand, replace-within, replace}
-use Rattle.rewrite.proofs.Operations.{spread, spread-append, well-formed-all, all-append, factors-formed, Removed-each, removed-each, built-operations}
+use Rattle.rewrite.specs.Rewrite.{Factors, constant-of, built, build-mul-from-factors, match-factors, each-operand, replace-within, replace}
+use Rattle.rewrite.proofs.Factors.{factors-of, built-factors, rest-all, Matched, matched}
 use Rattle.rewrite.proofs.Coefficient.{exactly}
 use Rattle.rewrite.proofs.Weight.{weight, weights, weight-up, twice-size, falls}
 
--- the factors of a Mul are those of its operands
-mul-operands : (t : Tree) → T (is-mul t) → (g : Forest) × (flatten-mul-factors t .factors ≡ flatten-operands g .factors)
-unfolding is-mul flatten-mul-factors
-mul-operands (Sym n) h = absurd h
-mul-operands (Const c) h = absurd h
-mul-operands (Op k g) h = (g, go (eqb k Mul) h)
-  where
-    go : (b : Bool) → T b
-        → (elim b as (λ _. Factors) [ true ↦ flatten-operands g | false ↦ elim (eqb k Neg) [ true ↦ negated (flatten-operands g) | false ↦ record { coefficient = one; factors = Op k g ∷ [] } ] ])
-        .factors
-        ≡ flatten-operands g .factors
-    go true t = refl
-    go false t = absurd t
-
-module _ (target : Tree) (n : Name) (some-factor : 1 ≤ spread (flatten-mul-factors target .factors)) (new : count (Sym n) (flatten-mul-factors target .factors) ≡ 0) where
+module _ (target : Tree) (n : Name) (some-factor : 1 ≤ length (factors-of target)) (new : count (Sym n) (factors-of target) ≡ 0) where
   -- a product rebuilt weighs less
   Lighter : Tree → Option Factors → Type 0
   Lighter e none = Unit {0}
   Lighter e (some p) = (c : ℤ) → constant-of (p .coefficient) ≡ ok c → (suc (weight n (built c (p .factors))) ≤ weight n e) × T (well-formed (built c (p .factors)))
 
-  lighter-step :
-      (e : Tree) → T (well-formed e) → (b : Bool) → (T b → T (is-mul target)) → (o : Option (List Tree)) → remove-each (flatten-mul-factors target .factors) (flatten-mul-factors e .factors) ≡ o
-      → Removed-each (flatten-mul-factors target .factors) (flatten-mul-factors e .factors) o
-      → Lighter e
-      (elim b [
-        | true ↦ elim o [
-          | none ↦ none
-          | some r ↦ some (record { coefficient = flatten-mul-factors e .coefficient; factors = r ++ (Sym n ∷ []) })
-        ]
-        | false ↦ none
-      ])
-  unfolding Lighter Removed-each
-  lighter-step e w true m none q R = tt
-  lighter-step e w true m (some r) q R = λ c z.
-      (let (g, G) = mul-operands target (m tt) in (
-        falls n g (rw G at some-factor) (rw G at new) e r c w (rw G at q) (exactly .accepted e c z),
-        built-operations c (r ++ (Sym n ∷ [])) (let x = spread-append r (Sym n ∷ []) in (unfold spread in omega arith))
-            (all-append r (Sym n ∷ []) (R .1 (factors-formed e w)) (unfold well-formed-all well-formed in tt)) .1,
-      ))
-  lighter-step e w false m o q R = tt
+  lighter-step : (e : Tree) → T (well-formed e) → (o : Option Factors) → Matched target n e o → Lighter e o
+  unfolding Lighter Matched
+  lighter-step e w none m = tt
+  lighter-step e w (some p) (r, q, h, t) = λ c z.
+      subst (λ (l : List Tree). (suc (weight n (built c l)) ≤ weight n e) × T (well-formed (built c l))) (sym (ap (λ (p : Factors). p .factors) q))
+      (let x = exactly .accepted e c (ap (λ (p : Factors). constant-of (p .coefficient)) (sym q) ∙ z) in
+      (falls n target some-factor new e r c w h x, built-factors c (r ++ (Sym n ∷ [])) (rest-all n e w h) .1))
 
   lighter : (e : Tree) → T (well-formed e) → Lighter e (match-factors target n e)
-  unfolding match-factors
-  lighter e w =
-      lighter-step e w (is-mul target && Ieee.eq (flatten-mul-factors target .coefficient) one)
-      (and-left (is-mul target) (Ieee.eq (flatten-mul-factors target .coefficient) one))
-      (remove-each (flatten-mul-factors target .factors) (flatten-mul-factors e .factors)) refl
-      (removed-each (flatten-mul-factors target .factors) (flatten-mul-factors e .factors))
+  lighter e w = lighter-step e w (match-factors target n e) (matched target n e)
 
   -- two ways that agree on whatever weighs less than the node
   module _ (fuel : ℕ) (s u : Tree → Outcome Tree) (same : (t : Tree) → weight n t ≤ fuel → T (well-formed t) → s t ≡ u t) where
@@ -132,7 +100,7 @@ module _ (target : Tree) (n : Name) (some-factor : 1 ≤ spread (flatten-mul-fac
   unfolding replace
   some-more zero e w = rw (zero-add (2 * size e)) refl
   some-more (suc more) e w =
-      rw (suc-add more (2 * size e)) (one-more (more + 2 * size e) e (let h = twice-size n nil e in omega arith) w ∙ some-more more e w)
+      rw (suc-add more (2 * size e)) (one-more (more + 2 * size e) e (let h = twice-size n e in omega arith) w ∙ some-more more e w)
 
   -- any fuel from twice the size on
   pub replace-enough : (fuel : ℕ) (e : Tree) → 2 * size e ≤ fuel → T (well-formed e) → replace-within fuel target n e ≡ replace target n e

@@ -1,8 +1,9 @@
 -- `replace` keeps values: where the new name holds the target's value, what comes out has the value of what went in.
--- Assumes nothing. What is still owed is a parameter of the last section, `Exact`: a coefficient that is accepted is the exact product.
-use Prim.Native.Nat.{ℕ, zero, suc, _+_, _-_, _*_, _%_, _≤_}
-use mathlib.Core.Path.{_≡_, refl, sym, _∙_, ap, ap₂, subst, _≡⟨_⟩_, _∎}
-use mathlib.Core.Bool.{Bool, true, false, _&&_, cond}
+-- Assumes nothing. That a coefficient accepted is the exact product is a parameter of the last section, `Exact`: `Coefficient` proves it, from
+-- `exact` of this file.
+use Prim.Native.Nat.{ℕ, zero, suc, _*_, _%_}
+use mathlib.Core.Path.{_≡_, refl, sym, _∙_, ap, ap₂, subst}
+use mathlib.Core.Bool.{Bool, true, false, cond}
 use mathlib.Core.Option.{Option, none, some}
 use mathlib.Core.List.{List, [], _∷_, _++_}
 use native.Mathlib.Nat.{mul-comm, mul-assoc, mul-left-comm, mul-one, one-mul, mod-mod}
@@ -12,8 +13,10 @@ use lib.Ieee as Ieee
 use Rattle.tree.specs.Outcome.{Outcome, ok, refused, _>>=_}
 use Rattle.tree.specs.Tree.{Name, Tree, Forest, Sym, Const, Op, nil, _◂_, eq-tree, eq-int}
 use Rattle.tree.specs.Kinds.{Neg, Mul}
+use Rattle.tree.proofs.Logic.{and-right}
+use Rattle.rewrite.proofs.Factors.{factors-of, Put, here, past, Puts, done, also, Matched, matched}
 use Rattle.tree.proofs.TreeLaws.{eq-tree-sound, eq-int-sound}
-use Rattle.rewrite.specs.Rewrite.{Factors, one, flatten-mul-factors, flatten-operands, flatten-after, times, negated, constant-of, nested-product as product-tree, with-coefficient, built, build-mul-from-factors, remove-first, remove-each, is-mul, match-factors, each-operand, replace-within, replace}
+use Rattle.rewrite.specs.Rewrite.{Factors, one, flatten-mul-factors, flatten-operands, flatten-after, times, negated, constant-of, nested-product as product-tree, with-coefficient, built, build-mul-from-factors, is-mul, match-factors, each-operand, replace-within, replace}
 use Rattle.tree.specs.Value.{Reading, Env, value, operand-values, values, product, residue, mul-mod, apply}
 use Rattle.tree.specs.Facts.{size}
 use Rattle.rewrite.proofs.Residues.{mod-mul-left, mod-mul-right, residue-mul-at, residue-reduced, neg-times}
@@ -129,44 +132,15 @@ module _ (R : Reading) (ρ : Env) where
 
   -- ---- factors taken out
 
-  Removed : Tree → List Tree → Option (List Tree) → Type 0
-  Removed t l none = Unit {0}
-  Removed t l (some r) = all l ≡ value R ρ t * all r
+  put-all : {t : Tree} {r l : List Tree} → Put t r l → all l ≡ value R ρ t * all r
+  unfolding all
+  put-all here = refl
+  put-all (past {t = t} {f = f} {r = r} p) = ap (λ (n : ℕ). value R ρ f * n) (put-all p) ∙ mul-left-comm (value R ρ f) (value R ρ t) (all r)
 
-  removed-step :
-      (t f : Tree) (l : List Tree) (b : Bool) → (T b → f ≡ t) → (o : Option (List Tree)) → Removed t l o
-      → Removed t (f ∷ l) (elim b [ true ↦ some l | false ↦ elim o [ none ↦ none | some r ↦ some (f ∷ r) ] ])
-  unfolding Removed all
-  removed-step t f l true e o h = ap (λ (s : Tree). value R ρ s * all l) (e tt)
-  removed-step t f l false e none h = tt
-  removed-step t f l false e (some r) h = ap (λ (n : ℕ). value R ρ f * n) h ∙ mul-left-comm (value R ρ f) (value R ρ t) (all r)
-
-  removed : (t : Tree) (l : List Tree) → Removed t l (remove-first t l)
-  unfolding Removed remove-first
-  removed t [] = tt
-  removed t (f ∷ l) = removed-step t f l (eq-tree f t) (eq-tree-sound f t) (remove-first t l) (removed t l)
-
-  Removed-each : List Tree → List Tree → Option (List Tree) → Type 0
-  Removed-each ts l none = Unit {0}
-  Removed-each ts l (some r) = all l ≡ all ts * all r
-
-  removed-each-after :
-      (t : Tree) (ts l r : List Tree) → all l ≡ value R ρ t * all r → (o : Option (List Tree)) → Removed-each ts r o → Removed-each (t ∷ ts) l o
-  unfolding Removed-each all
-  removed-each-after t ts l r e none h = tt
-  removed-each-after t ts l r e (some s) h = e ∙ ap (λ (n : ℕ). value R ρ t * n) h ∙ sym (mul-assoc (value R ρ t) (all ts) (all s))
-
-  removed-each-step :
-      (t : Tree) (ts l : List Tree) (o : Option (List Tree)) → Removed t l o → ((r : List Tree) → Removed-each ts r (remove-each ts r))
-      → Removed-each (t ∷ ts) l (elim o [ none ↦ none | some r ↦ remove-each ts r ])
-  unfolding Removed Removed-each
-  removed-each-step t ts l none h g = tt
-  removed-each-step t ts l (some r) h g = removed-each-after t ts l r h (remove-each ts r) (g r)
-
-  removed-each : (ts l : List Tree) → Removed-each ts l (remove-each ts l)
-  unfolding Removed-each remove-each all
-  removed-each [] l = sym (one-mul (all l))
-  removed-each (t ∷ ts) l = removed-each-step t ts l (remove-first t l) (removed t l) (λ r. removed-each ts r)
+  puts-all : {ts r l : List Tree} → Puts ts r l → all l ≡ all ts * all r
+  unfolding all
+  puts-all (done {r = r}) = sym (one-mul (all r))
+  puts-all (also {t = t} {ts = ts} {r = r} p q) = put-all p ∙ ap (λ (n : ℕ). value R ρ t * n) (puts-all q) ∙ sym (mul-assoc (value R ρ t) (all ts) (all r))
 
   -- ---- products built
 
@@ -213,11 +187,6 @@ pub record Exact : Type 0 where
   pub accepted : (e : Tree) (z : ℤ) → constant-of (flatten-mul-factors e .coefficient) ≡ ok z → z ≡ exact e
   pub unit : (e : Tree) → T (Ieee.eq (flatten-mul-factors e .coefficient) one) → exact e ≡ pos 1
 
--- the second of two tests that both pass
-second : (b c : Bool) → T (b && c) → T c
-second true c t = t
-second false c t = absurd t
-
 module _ (R : Reading) (ρ : Env) (X : Exact) (target : Tree) (n : Name) (h : value R ρ (Sym n) ≡ value R ρ target) where
   -- what comes out, if anything does, has the value v
   unfoldable pub Keeps : ℕ → Outcome Tree → Type 0
@@ -227,11 +196,6 @@ module _ (R : Reading) (ρ : Env) (X : Exact) (target : Tree) (n : Name) (h : va
   Keeps-each : List ℕ → Outcome Forest → Type 0
   Keeps-each vs (ok f) = operand-values R ρ f ≡ vs
   Keeps-each vs (refused i) = Unit {0}
-
-  Matched : Tree → Option Factors → Type 0
-  Matched e none = Unit {0}
-  Matched e (some p) =
-      (p .coefficient ≡ flatten-mul-factors e .coefficient) × (all R ρ (p .factors) % R .modulus ≡ all R ρ (flatten-mul-factors e .factors) % R .modulus)
 
   target-value : exact target ≡ pos 1 → value R ρ target ≡ all R ρ (flatten-mul-factors target .factors) % R .modulus
   unfolding residue
@@ -250,35 +214,22 @@ module _ (R : Reading) (ρ : Env) (X : Exact) (target : Tree) (n : Name) (h : va
       ∙ mod-mul-right (R .modulus) (all R ρ r) (all R ρ (flatten-mul-factors target .factors))
       ∙ ap (λ (k : ℕ). k % R .modulus) (mul-comm (all R ρ r) (all R ρ (flatten-mul-factors target .factors)) ∙ sym g)
 
-  matched-step :
-      (e : Tree) (b : Bool) → (T b → exact target ≡ pos 1) → (o : Option (List Tree))
-      → Removed-each R ρ (flatten-mul-factors target .factors) (flatten-mul-factors e .factors) o
-      → Matched e
-      (elim b [
-        | true ↦ elim o [
-          | none ↦ none
-          | some r ↦ some (record { coefficient = flatten-mul-factors e .coefficient; factors = r ++ (Sym n ∷ []) })
-        ]
-        | false ↦ none
-      ])
-  unfolding Matched Removed-each
-  matched-step e true u none g = tt
-  matched-step e true u (some r) g = (refl, exchanged (flatten-mul-factors e .factors) r (u tt) g)
-  matched-step e false u o g = tt
-
-  matched : (e : Tree) → Matched e (match-factors target n e)
-  unfolding match-factors
-  matched e =
-      matched-step e (is-mul target && Ieee.eq (flatten-mul-factors target .coefficient) one)
-      (λ t. X .unit target (second (is-mul target) _ t)) (remove-each (flatten-mul-factors target .factors) (flatten-mul-factors e .factors))
-      (removed-each R ρ (flatten-mul-factors target .factors) (flatten-mul-factors e .factors))
+  matched-value :
+      (e : Tree) (p : Factors) → Matched target n e (some p)
+      → (p .coefficient ≡ flatten-mul-factors e .coefficient) × (all R ρ (p .factors) % R .modulus ≡ all R ρ (factors-of e) % R .modulus)
+  unfolding Matched
+  matched-value e p (r, q, h, t) = (
+    ap (λ (p : Factors). p .coefficient) q,
+    ap (λ (p : Factors). all R ρ (p .factors) % R .modulus) q ∙ exchanged (factors-of e) r (X .unit target (and-right (is-mul target) _ t)) (puts-all R ρ h),
+  )
 
   -- a product rebuilt from a match
   rebuilt-step :
-      (e : Tree) (p : Factors) → Matched e (some p) → (o : Outcome ℤ) → constant-of (p .coefficient) ≡ o
+      (e : Tree) (p : Factors) → Matched target n e (some p) → (o : Outcome ℤ) → constant-of (p .coefficient) ≡ o
       → Keeps (value R ρ e) (o >>= λ c. ok (built c (p .factors)))
-  unfolding Matched Keeps
-  rebuilt-step e p g (ok c) q =
+  unfolding Keeps
+  rebuilt-step e p m (ok c) q =
+      let g = matched-value e p m in
       built-value R ρ c (p .factors)
       ∙ sym (mod-mul-right (R .modulus) (residue (R .modulus) c) (all R ρ (p .factors)))
       ∙ ap (λ (k : ℕ). residue (R .modulus) c * k % R .modulus) (g .1)
@@ -288,7 +239,7 @@ module _ (R : Reading) (ρ : Env) (X : Exact) (target : Tree) (n : Name) (h : va
       ∙ sym (by-factors R ρ e)
   rebuilt-step e p g (refused i) q = tt
 
-  rebuilt : (e : Tree) (p : Factors) → Matched e (some p) → Keeps (value R ρ e) (build-mul-from-factors p)
+  rebuilt : (e : Tree) (p : Factors) → Matched target n e (some p) → Keeps (value R ρ e) (build-mul-from-factors p)
   unfolding build-mul-from-factors
   rebuilt e p g = rebuilt-step e p g (constant-of (p .coefficient)) refl
 
@@ -324,7 +275,7 @@ module _ (R : Reading) (ρ : Env) (X : Exact) (target : Tree) (n : Name) (h : va
   -- a node that is no leaf: equal to the target, a Mul whose factors match, a Mul whose factors do not, or of another kind
   node-keeps :
       (k : ℕ) (f : Forest) (g : Tree → Outcome Tree) → ((t : Tree) → Keeps (value R ρ t) (g t)) → (b d : Bool) → (T b → Op k f ≡ target)
-      → (o : Option Factors) → Matched (Op k f) o
+      → (o : Option Factors) → Matched target n (Op k f) o
       → Keeps (value R ρ (Op k f))
       (elim b [
         | true ↦ ok (Sym n)
@@ -355,7 +306,7 @@ module _ (R : Reading) (ρ : Env) (X : Exact) (target : Tree) (n : Name) (h : va
   replace-within-keeps (suc fuel) (Const c) = leaf-keeps (Const c) (eq-tree (Const c) target) (eq-tree-sound (Const c) target)
   replace-within-keeps (suc fuel) (Op k f) =
       node-keeps k f (λ t. replace-within fuel target n t) (λ t. replace-within-keeps fuel t) (eq-tree (Op k f) target) (eqb k Mul)
-      (eq-tree-sound (Op k f) target) (match-factors target n (Op k f)) (matched (Op k f))
+      (eq-tree-sound (Op k f) target) (match-factors target n (Op k f)) (matched target n (Op k f))
 
   -- law (a)
   pub replace-keeps : (e r : Tree) → replace target n e ≡ ok r → value R ρ r ≡ value R ρ e

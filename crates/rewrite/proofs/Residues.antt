@@ -1,6 +1,6 @@
 -- Laws of the arithmetic of residues. Assumes nothing.
 use Prim.Native.Nat.{ℕ, zero, suc, _+_, _-_, _*_, _%_, _/_, _≤_, _<_}
-use mathlib.Core.Path.{_≡_, refl, sym, _∙_, ap, _≡⟨_⟩_, _∎}
+use mathlib.Core.Path.{_≡_, sym, _∙_, ap, _≡⟨_⟩_, _∎}
 use native.Mathlib.Nat.{mul-comm, mul-assoc, mul-left-comm, add-mul, one-mul, mul-zero, mod-add-div, add-mul-mod-self-left, mod-mod, mod-lt, suc-mul, zero-mod, mul-suc, mul-add-mod-self-left, mul-add-mod-self-right}
 use native.Mathlib.Omega.{arith}
 use lib.IntN.{ℤ, pos, negsuc, negℤ, _*ℤ_}
@@ -22,18 +22,6 @@ module _ (m : ℕ) where
   pub mul-mod-comm : (a b : ℕ) → mul-mod m a b ≡ mul-mod m b a
   unfolding mul-mod
   mul-mod-comm a b = ap (λ (x : ℕ). x % m) (mul-comm a b)
-
-  pub mul-mod-assoc : (a b c : ℕ) → mul-mod m (mul-mod m a b) c ≡ mul-mod m a (mul-mod m b c)
-  unfolding mul-mod
-  mul-mod-assoc a b c = mod-mul-left m (a * b) c ∙ ap (λ (x : ℕ). x % m) (mul-assoc a b c) ∙ sym (mod-mul-right m a (b * c))
-
-  pub mul-mod-one : (a : ℕ) → mul-mod m (1 % m) a ≡ a % m
-  unfolding mul-mod
-  mul-mod-one a = mod-mul-left m 1 a ∙ ap (λ (x : ℕ). x % m) (one-mul a)
-
-  pub mul-mod-reduced : (a b : ℕ) → mul-mod m a b % m ≡ mul-mod m a b
-  unfolding mul-mod
-  mul-mod-reduced a b = mod-mod (a * b) m
 
   pub mul-mod-reduce-left : (a b : ℕ) → mul-mod m (a % m) b ≡ mul-mod m a b
   unfolding mul-mod

@@ -1,9 +1,9 @@
 -- `replace`, `replace_divisor` and `replace_outside_arms` of the source, on trees (01, "Rewriting", "Reciprocals", "Scoped fusion"). Assumes nothing.
 use Prim.Native.Nat.{ℕ, zero, suc, _+_, _*_, _/_, _%_, _^_}
-use mathlib.Core.Bool.{Bool, true, false, not, _&&_, _||_, cond}
+use mathlib.Core.Bool.{Bool, true, false, _&&_}
 use mathlib.Core.Option.{Option, none, some}
 use mathlib.Core.List.{List, [], _∷_, _++_}
-use lib.IntN.{ℤ, pos, negsuc, negℤ}
+use lib.IntN.{ℤ, pos, negsuc}
 use lib.Dec.{eqb, ltb}
 use lib.Ieee as Ieee
 use lib.Ieee.{Float, nan, inf, fin, binary64, up, down}
@@ -105,7 +105,7 @@ is-mul (Sym n) = false
 is-mul (Const c) = false
 is-mul (Op k f) = eqb k Mul
 
--- The nested-product e with the target's factors taken out and the name put at its end, where the target is a Mul with coefficient 1
+-- The product e with the target's factors taken out and the name put at its end, where the target is a Mul with coefficient 1
 -- whose factors are all there. The coefficient is e's.
 unfoldable pub match-factors : Tree → Name → Tree → Option Factors
 unfolding flatten-mul-factors remove-each is-mul one Ieee.eq
@@ -124,7 +124,7 @@ each-operand g nil = ok nil
 each-operand g (t ◂ f) = g t >>= λ u. each-operand g f >>= λ r. ok (u ◂ r)
 
 -- The first argument bounds how deep the calls go. Weigh the new name 1 and every other node 2: an operand weighs less than its
--- node, and a nested-product rebuilt after a match less than the nested-product, so twice the size is enough.
+-- node, and a product rebuilt after a match less than the product, so twice the size is enough.
 unfoldable pub replace-within : ℕ → Tree → Name → Tree → Outcome Tree
 unfolding eq-tree match-factors build-mul-from-factors each-operand
 replace-within zero target n e = ok e

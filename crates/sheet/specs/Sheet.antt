@@ -1,21 +1,16 @@
--- Loading a sheet: from bytes to node rows and roots, or a refusal with its record (01, "Sheet and printing", "Turned down": Outcome). Assumes nothing.
-use Prim.Native.Nat.{ℕ, zero, suc, _+_, _-_, _*_, _^_, max}
+-- Loading a sheet: from bytes to node rows and roots, or a refusal with its record (01, "Sheet and printing", "Turned down": Load). Assumes nothing.
+use Prim.Native.Nat.{ℕ, zero, suc, _+_, _-_, _*_, _^_}
 use mathlib.Core.Bool.{Bool, true, false, not, _&&_, _||_, cond}
 use mathlib.Core.Option.{Option, none, some}
 use mathlib.Core.List.{List, [], _∷_, _++_, reverse}
 use lib.IntN.{ℤ, pos, negsuc}
 use lib.ListN.{length, getD}
 use lib.Dec.{eqb, leb, ltb}
-use Rattle.tree.specs.Bytes.{every}
+use Rattle.tree.specs.Bytes.{every, eq-bytes, bytes}
 use Rattle.tree.specs.Symbol.{is-digit, is-name}
 use Rattle.tree.specs.Rows.{Row, row-sym, row-const, row-op, Table, trees, within-limits}
-use Rattle.tree.specs.Kinds.{Kind, kinds}
+use Rattle.tree.specs.Kinds.{Kind, kinds, arity-ok}
 use Rattle.tree.specs.Outcome.{Outcome, ok, refused, _at-record_}
-use Rattle.tree.specs.Tree.{Name, input, Tree, Sym, Const, Op, nil, forest}
-use Rattle.tree.specs.Bytes.{eq-bytes}
-use Rattle.tree.specs.Kinds.{arity-ok}
-use Rattle.tree.specs.Facts.{size, nesting}
-use Rattle.tree.specs.Bytes.{bytes}
 
 -- ---- records and fields
 

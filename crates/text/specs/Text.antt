@@ -1,30 +1,14 @@
 -- The text of an expression, `Display` for `Expr`, and the order of texts (01, "Text"). Assumes nothing.
-use Prim.Native.Nat.{ℕ, zero, suc, _+_, _*_, _/_, _%_}
+use Prim.Native.Nat.{ℕ}
 use Prim.Native.String.{String}
-use mathlib.Core.Bool.{Bool, true, false, _&&_, _||_, cond}
+use mathlib.Core.Bool.{Bool, true, false, _||_, cond}
 use mathlib.Core.List.{List, [], _∷_, _++_}
-use lib.IntN.{ℤ, pos, negsuc}
 use lib.Dec.{eqb, leb, ltb}
-use Rattle.tree.specs.Bytes.{bytes}
-use Rattle.tree.specs.Kinds.{printed-name}
+use Rattle.tree.specs.Bytes.{bytes, decimal, integer, joined}
 use Rattle.tree.specs.Tree.{Name, input, xname, mname, Tree, fold}
-use Rattle.tree.specs.Kinds.{Neg, Add, Sub, Mul, Div, Pow, Heaviside}
+use Rattle.tree.specs.Kinds.{printed-name, Neg, Add, Sub, Mul, Div, Pow}
 
--- ---- numbers and names
-
--- decimal digits; a number has fewer digits than its own value, so that the value is fuel enough
-unfoldable pub digits : ℕ → ℕ → List ℕ
-digits zero n = (48 + n) ∷ []
-digits (suc fuel) n = elim (ltb n 10) [ true ↦ (48 + n) ∷ [] | false ↦ digits fuel (n / 10) ++ ((48 + n % 10) ∷ []) ]
-
-unfoldable pub decimal : ℕ → List ℕ
-unfolding digits
-decimal n = digits n n
-
-unfoldable pub integer : ℤ → List ℕ
-unfolding decimal
-integer (pos n) = decimal n
-integer (negsuc n) = 45 ∷ decimal (suc n)
+-- ---- names
 
 unfoldable pub name-text : Name → List ℕ
 unfolding decimal
@@ -49,12 +33,6 @@ Part = record { prec : ℕ; text : List ℕ }
 unfoldable pub bracketed : Bool → List ℕ → List ℕ
 bracketed true s = bytes "(" ++ s ++ bytes ")"
 bracketed false s = s
-
--- parts with a separator between them
-unfoldable pub joined : List ℕ → List (List ℕ) → List ℕ
-joined sep [] = []
-joined sep (s ∷ []) = s
-joined sep (s ∷ (t ∷ l)) = s ++ sep ++ joined sep (t ∷ l)
 
 unfoldable pub texts : List Part → List (List ℕ)
 texts [] = []

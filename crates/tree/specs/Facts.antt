@@ -1,11 +1,9 @@
 -- What extraction decides by: cost, depth, symbols, operations, and the nodes of a tree in reading order (01, "Expressions and facts", "Uses").
 -- Assumes nothing.
-use Prim.Native.Nat.{ℕ, zero, suc, _+_, _-_, _*_, max}
-use mathlib.Core.Bool.{Bool, true, false, _&&_, _||_, cond}
+use Prim.Native.Nat.{ℕ, suc, _+_, _-_, max}
+use mathlib.Core.Bool.{Bool, true, false, _||_, cond}
 use mathlib.Core.List.{List, [], _∷_, _++_}
-use lib.IntN.{ℤ}
-use lib.Dec.{eqb, leb}
-use Rattle.tree.specs.Tree.{Name, Tree, Forest, Sym, Const, Op, nil, _◂_, fold, folds, eq-tree}
+use Rattle.tree.specs.Tree.{Tree, Forest, Sym, Const, Op, nil, _◂_, fold, eq-tree}
 use Rattle.tree.specs.Kinds.{is-select, is-switch}
 
 -- ---- lists of numbers and of tests

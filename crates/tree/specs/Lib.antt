@@ -7,3 +7,6 @@ pub mod Value
 pub mod Symbol
 pub mod Rows
 pub mod Passes
+pub mod Records
+pub mod Layout
+pub mod Tokens

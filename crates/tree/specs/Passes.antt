@@ -1,12 +1,12 @@
 -- A list that passes 9, as far as trees go: operand counts, names, constants and limits of 01. Assumes nothing.
-use Prim.Native.Nat.{ℕ, zero, suc, _^_}
-use mathlib.Core.Bool.{Bool, true, false, _&&_, _||_, cond}
+use Prim.Native.Nat.{ℕ, suc, _^_}
+use mathlib.Core.Bool.{Bool, true, false, _&&_}
 use mathlib.Core.List.{List, [], _∷_}
 use lib.IntN.{ℤ, pos, negsuc}
 use lib.ListN.{length}
-use lib.Dec.{T, eqb, leb, ltb}
+use lib.Dec.{leb, ltb}
 use Rattle.tree.specs.Tree.{Name, input, xname, mname, Tree, fold}
-use Rattle.tree.specs.Kinds.{arity-ok, Neg, SelectOr}
+use Rattle.tree.specs.Kinds.{arity-ok, Neg}
 use Rattle.tree.specs.Symbol.{is-name}
 use Rattle.tree.specs.Rows.{within-limits}
 

@@ -1,12 +1,12 @@
 -- Readings of symbols and operations as residues, the value of a tree and of an answer (01, "Value, for demand 3"). Assumes nothing.
-use Prim.Native.Nat.{ℕ, zero, suc, _+_, _-_, _*_, _%_, _≤_, min}
-use mathlib.Core.Bool.{Bool, true, false, cond}
-use mathlib.Core.List.{List, [], _∷_, _++_}
+use Prim.Native.Nat.{ℕ, suc, _+_, _-_, _*_, _%_, _≤_, min}
+use mathlib.Core.Bool.{Bool, cond}
+use mathlib.Core.List.{List, [], _∷_}
 use lib.IntN.{ℤ, pos, negsuc}
 use lib.ListN.{length, getD}
 use lib.Dec.{eqb}
-use Rattle.tree.specs.Tree.{Name, Tree, Forest, fold, folds, eq-name}
-use Rattle.tree.specs.Kinds.{Neg, Add, Sub, Mul, Div, Branch, Select, SelectOr, is-switch}
+use Rattle.tree.specs.Tree.{Name, Tree, Forest, fold, folds}
+use Rattle.tree.specs.Kinds.{Neg, Add, Sub, Mul, Div, Branch, Select, is-switch}
 
 -- A modulus from 2 up, and the fixed rules: r of a / b, what Pow and the named functions give by their kind's number, the arm number of
 -- a Select's index, and the side of a Branch (true picks the first). Results are taken modulo the modulus, so every rule on residues is one of these.

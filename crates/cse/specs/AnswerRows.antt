@@ -1,0 +1,251 @@
+-- Answer rows as words (01, "Turned down", refusals 12 and 13): an answer in its order, one word for each expression occurrence, each let, each match, each
+-- match name, each arm or default, and each result or arm value, each before what stands below it. Assumes nothing.
+use Prim.Native.Nat.{ℕ, zero, suc, _+_, _-_, _/_, _%_}
+use mathlib.Core.Bool.{Bool, true, false, _&&_, _||_, cond}
+use mathlib.Core.List.{List, [], _∷_, _++_}
+use lib.IntN.{pos}
+use lib.ListN.{length, getD, take, drop}
+use lib.Dec.{eqb, leb, ltb}
+use Rattle.tree.specs.Bytes.{eq-bytes}
+use Rattle.tree.specs.Kinds.{Branch, Select, SelectOr, is-switch, arity-ok}
+use Rattle.tree.specs.Tree.{Name, input, xname, mname, Tree, Const, fold, forest}
+use Rattle.tree.specs.Symbol.{is-name}
+use Rattle.tree.specs.Rows.{Row, row-sym, row-const, row-op}
+use Rattle.tree.specs.Passes.{all-of, of-paper, operands-ok}
+use Rattle.tree.specs.Tokens.{word, name-code, tokens, number-in, kind-of, below-of, name-by, tree-of-word}
+use Rattle.cse.specs.Answer.{Intermediate, Intermediates, Arms, Answer, Let, Match, end, step, no-arm, arm, block}
+use Rattle.cse.specs.Read.{arm-count}
+
+-- ---- the kinds of rows beside the kinds of expressions, which are below 29
+
+abbrev pub let-row : ℕ
+let-row = 29
+
+-- a match's row by the kind of its switches: 30 for Branch, 31 for Select, 32 for a Select with a default
+abbrev pub match-row : ℕ → ℕ
+match-row k = k + 4
+
+abbrev pub name-row : ℕ
+name-row = 33
+
+abbrev pub arm-row : ℕ
+arm-row = 34
+
+abbrev pub value-row : ℕ
+value-row = 35
+
+abbrev pub result-row : ℕ
+result-row = 36
+
+-- ---- from an answer to words
+
+unfoldable pub step-count : Intermediates → ℕ
+step-count end = 0
+step-count (step s l) = suc (step-count l)
+
+-- `number` gives the number of a symbol of the list
+module _ (number : List ℕ → ℕ) where
+  unfoldable pub names-words : List Name → List ℕ
+  unfolding name-code
+  names-words [] = []
+  names-words (n ∷ l) = word name-row (name-code number n) ∷ names-words l
+
+  -- results, or an arm's values
+  unfoldable pub each-words : ℕ → List Tree → List ℕ
+  unfolding tokens
+  each-words row [] = []
+  each-words row (t ∷ l) = word row 0 ∷ (tokens number t ++ each-words row l)
+
+  -- below a match stand its key, its names and its arms; below an arm its statements and its values
+  unfoldable mutual
+    unfolding tokens name-code names-words each-words step-count arm-count
+
+    pub intermediate-words : Intermediate → List ℕ
+    intermediate-words (Let n e) = word let-row (name-code number n) ∷ tokens number e
+    intermediate-words (Match k key ns arms) =
+        word (match-row k) (suc (length ns + arm-count arms)) ∷ (tokens number key ++ (names-words ns ++ arms-words arms))
+
+    pub intermediates-words : Intermediates → List ℕ
+    intermediates-words end = []
+    intermediates-words (step s l) = intermediate-words s ++ intermediates-words l
+
+    pub arms-words : Arms → List ℕ
+    arms-words no-arm = []
+    arms-words (arm s vs l) =
+        word arm-row (step-count s + length vs) ∷ (intermediates-words s ++ (each-words value-row vs ++ arms-words l))
+
+  unfoldable pub answer-words : Answer → List ℕ
+  unfolding intermediates-words each-words
+  answer-words a = intermediates-words (a .inters) ++ each-words result-row (a .results)
+
+-- ---- from words to an answer, whatever the words are
+
+-- a row and the parts below it
+mutual
+  pub data Part : Type 0 where
+    part : ℕ → Parts → Part
+
+  pub data Parts : Type 0 where
+    no-part : Parts
+    parts : Part → Parts → Parts
+
+unfoldable pub take-parts : ℕ → Parts → Parts
+take-parts zero l = no-part
+take-parts (suc n) no-part = no-part
+take-parts (suc n) (parts p l) = parts p (take-parts n l)
+
+unfoldable pub drop-parts : ℕ → Parts → Parts
+drop-parts zero l = l
+drop-parts (suc n) no-part = no-part
+drop-parts (suc n) (parts p l) = drop-parts n l
+
+-- how many of the parts after a row stand below it
+unfoldable pub stands-below : ℕ → ℕ
+stands-below w =
+    cond (leb (kind-of w) 1 || eqb (kind-of w) name-row) 0
+    (cond (eqb (kind-of w) let-row || leb value-row (kind-of w)) 1 (below-of w))
+
+unfoldable pub read-parts : List ℕ → Parts
+unfolding stands-below take-parts drop-parts
+read-parts [] = no-part
+read-parts (w ∷ ws) =
+    let after = read-parts ws in
+    parts (part w (take-parts (stands-below w) after)) (drop-parts (stands-below w) after)
+
+unfoldable pub row-of-part : Part → ℕ
+row-of-part (part w l) = w
+
+-- `name-at` gives the name of a symbol of the list by its number
+module _ (name-at : ℕ → List ℕ) where
+  abbrev named : ℕ → Name
+  named w = name-by name-at (below-of w % 3) (below-of w / 3)
+
+  unfoldable mutual
+    unfolding tree-of-word
+
+    pub tree-of-part : Part → Tree
+    tree-of-part (part w l) = tree-of-word name-at w (trees-of-parts l)
+
+    pub trees-of-parts : Parts → List Tree
+    trees-of-parts no-part = []
+    trees-of-parts (parts p l) = tree-of-part p ∷ trees-of-parts l
+
+  -- the tree below the first of some parts; that of a missing one is 0, which no row lays out so
+  unfoldable pub first-tree : Parts → Tree
+  unfolding tree-of-part
+  first-tree no-part = Const (pos 0)
+  first-tree (parts p l) = tree-of-part p
+
+  unfoldable pub tree-below : Part → Tree
+  unfolding first-tree
+  tree-below (part w l) = first-tree l
+
+  -- the trees below those parts that have a given row
+  unfoldable pub trees-below : ℕ → Parts → List Tree
+  unfolding tree-below row-of-part
+  trees-below row no-part = []
+  trees-below row (parts p l) = elim (eqb (kind-of (row-of-part p)) row) [ true ↦ tree-below p ∷ trees-below row l | false ↦ trees-below row l ]
+
+  unfoldable pub names-of-parts : Parts → List Name
+  unfolding row-of-part name-by
+  names-of-parts no-part = []
+  names-of-parts (parts p l) = elim (eqb (kind-of (row-of-part p)) name-row) [ true ↦ named (row-of-part p) ∷ names-of-parts l | false ↦ names-of-parts l ]
+
+  unfoldable mutual
+    unfolding first-tree trees-below names-of-parts name-by row-of-part
+
+    -- a let or a match
+    pub intermediate-of-part : Part → Intermediate
+    intermediate-of-part (part w l) =
+        elim (eqb (kind-of w) let-row) [
+          | true ↦ Let (named w) (first-tree l)
+          | false ↦ Match (kind-of w - 4) (first-tree l) (names-of-parts l) (arms-of-parts l)
+        ]
+
+    -- the statements among some parts
+    pub intermediates-of-parts : Parts → Intermediates
+    intermediates-of-parts no-part = end
+    intermediates-of-parts (parts p l) =
+        elim (leb let-row (kind-of (row-of-part p)) && ltb (kind-of (row-of-part p)) name-row) [
+          | true ↦ step (intermediate-of-part p) (intermediates-of-parts l)
+          | false ↦ intermediates-of-parts l
+        ]
+
+    -- the arms among some parts
+    pub arms-of-parts : Parts → Arms
+    arms-of-parts no-part = no-arm
+    arms-of-parts (parts p l) = arm-of-part p (arms-of-parts l)
+
+    pub arm-of-part : Part → Arms → Arms
+    arm-of-part (part w below) l =
+        elim (eqb (kind-of w) arm-row) [ true ↦ arm (intermediates-of-parts below) (trees-below value-row below) l | false ↦ l ]
+
+  -- an answer but for its extraction count, which no row holds
+  unfoldable pub answer-of : ℕ → List ℕ → Answer
+  unfolding read-parts intermediates-of-parts trees-below
+  answer-of extracted ws =
+      let all = read-parts ws in
+      record { inters = intermediates-of-parts all; results = trees-below result-row all; extracted = extracted }
+
+-- ---- 13: by kind, operand count, reference, name or constant
+
+unfoldable pub name-of-row : Row → List ℕ
+name-of-row (row-sym s) = s
+name-of-row (row-const c) = []
+name-of-row (row-op k ns) = []
+
+-- the name of a symbol of the list by its row's number
+unfoldable pub name-in : List Row → ℕ → List ℕ
+unfolding name-of-row
+name-in rows n = name-of-row (getD rows n (row-const (pos 0)))
+
+-- a symbol is one of the list, or a name of an answer
+unfoldable pub symbol-ok : Name → Bool
+unfolding is-name
+symbol-ok (input s) = is-name s
+symbol-ok (xname n) = true
+symbol-ok (mname n) = true
+
+unfoldable pub tree-ok : Tree → Bool
+unfolding fold symbol-ok of-paper operands-ok all-of
+tree-ok = fold symbol-ok of-paper (λ k tests. operands-ok k (length tests) && all-of tests)
+
+unfoldable pub trees-ok : List Tree → Bool
+unfolding tree-ok
+trees-ok [] = true
+trees-ok (t ∷ l) = tree-ok t && trees-ok l
+
+unfoldable pub let-name : Name → Bool
+let-name (input s) = false
+let-name (xname n) = true
+let-name (mname n) = false
+
+unfoldable pub match-names : List Name → Bool
+match-names [] = true
+match-names (input s ∷ l) = false
+match-names (xname n ∷ l) = false
+match-names (mname n ∷ l) = match-names l
+
+-- a match has the arms that its kind of switch may have, at least one name, and in each arm a value for each name
+unfoldable mutual
+  unfolding tree-ok trees-ok let-name match-names arity-ok arm-count
+
+  pub intermediate-ok : Intermediate → Bool
+  intermediate-ok (Let n e) = let-name n && tree-ok e
+  intermediate-ok (Match k key ns arms) =
+      (is-switch k && arity-ok k (suc (arm-count arms))) && (tree-ok key && ((leb 1 (length ns) && match-names ns) && arms-ok (length ns) arms))
+
+  pub intermediates-ok : Intermediates → Bool
+  intermediates-ok end = true
+  intermediates-ok (step s l) = intermediate-ok s && intermediates-ok l
+
+  pub arms-ok : ℕ → Arms → Bool
+  arms-ok n no-arm = true
+  arms-ok n (arm s vs l) = (intermediates-ok s && (eqb (length vs) n && trees-ok vs)) && arms-ok n l
+
+-- the words are the rows of an answer over the symbols of these node rows
+unfoldable pub answer-laid-out : List Row → List ℕ → Bool
+unfolding answer-of answer-words number-in name-in eq-bytes intermediates-ok trees-ok
+answer-laid-out rows ws =
+    let a = answer-of (name-in rows) 0 ws in
+    eq-bytes (answer-words (number-in rows) a) ws && (intermediates-ok (a .inters) && trees-ok (a .results))

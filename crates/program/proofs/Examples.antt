@@ -1,0 +1,97 @@
+-- Spot checks beyond the marked lists, by computing: a scoped answer from a sheet's bytes to text and by way of rows, its names' scopes, its rows, rows that print
+-- refuses, and each refusal of load. Assumes nothing.
+use Prim.Native.Nat.{ℕ, suc}
+use mathlib.Core.Path.{_≡_, refl}
+use mathlib.Core.Bool.{true, false}
+use mathlib.Core.List.{List, [], _∷_}
+use Rattle.tree.specs.Outcome.{Outcome, ok, refused, by, _>>=_}
+use Rattle.tree.specs.Bytes.{bytes}
+use Rattle.tree.specs.Kinds.{Branch, Select, SelectOr}
+use Rattle.tree.specs.Tree.{Tree, Op, nil, _◂_}
+use Rattle.tree.specs.Rows.{row-sym, row-op}
+use Rattle.tree.specs.Layout.{table-words}
+use Rattle.tree.specs.Tokens.{word}
+use Rattle.cse.specs.Answer.{rows}
+use Rattle.cse.specs.AnswerRows.{result-row, let-row}
+use Rattle.cse.specs.Scope.{cse-scope, answer}
+use Rattle.cse.specs.Demand.{well-scoped}
+use Rattle.cse.specs.Call.{extract-call}
+use Rattle.print.specs.Print.{print-call}
+use Rattle.program.specs.Program.{csesheet, csescoped}
+use Rattle.program.specs.Calls.{by-calls}
+use Rattle.program.proofs.Marked.{v, _⊕_, _⊗_, sin, cos}
+
+-- two selects on one index and a branch, with work shared inside an arm
+abbrev mixed : List Tree
+mixed =
+    Op SelectOr (v "i" ◂ (sin (v "a" ⊕ v "b") ⊗ cos (v "a" ⊕ v "b")) ◂ v "c" ◂ v "d" ◂ nil)
+    ∷ Op SelectOr (v "i" ◂ (v "a" ⊕ v "b") ◂ v "e" ◂ Op Branch (v "q" ◂ sin (v "c") ⊗ sin (v "c") ◂ v "d" ◂ nil) ◂ nil)
+    ∷ []
+
+abbrev mixed-sheet : List ℕ
+mixed-sheet =
+    bytes "Sym,i\r\nSym,a\r\nSym,b\r\nAdd,1,2\r\nSin,3\r\nCos,3\r\nMul,4,5\r\nSym,c\r\nSym,d\r\nSelectOr,0,6,7,8\r\nSym,e\r\nSym,q\r\nSin,7\r\nMul,12,12\r\nBranch,11,13,8\r\nSelectOr,0,3,10,14\r\nRoot,9\r\nRoot,15"
+
+abbrev mixed-text : List ℕ
+mixed-text =
+    bytes "let (__m0, __m1) = match i { 0 => { let __x2 = a + b; (sin(__x2) * cos(__x2), __x2) }, 1 => (c, e), _ => { let __m3 = if q >= 0 { let __x4 = sin(c); __x4 * __x4 } else { d }; (d, __m3) } };\n__m0\n__m1\n"
+
+-- the rows of a and of a + a
+abbrev few : List ℕ
+few = table-words (row-sym (bytes "a") ∷ row-op 3 (0 ∷ 0 ∷ []) ∷ [])
+
+-- how many numbers select(i, a + b) takes where the open scopes have so many rows: it needs five, and its arm three more
+abbrev numbers-in : ℕ → Outcome ℕ
+numbers-in room = cse-scope (suc room) room true 0 (Op Select (v "i" ◂ (v "a" ⊕ v "b") ◂ nil) ∷ []) >>= λ a. ok (a .next)
+
+pub record Examples : Type 0 where
+  mixed-scoped : csescoped mixed-sheet ≡ mixed-text
+  mixed-by-calls : by-calls true 45 200 mixed-sheet ≡ ok mixed-text
+  mixed-no-row : by-calls true 44 200 mixed-sheet ≡ refused (by 12)
+  mixed-no-byte : by-calls true 45 199 mixed-sheet ≡ refused (by 14)
+  mixed-in-scope : (answer true mixed >>= λ a. ok (well-scoped mixed a)) ≡ ok true
+  mixed-rows : (answer true mixed >>= λ a. ok (rows a)) ≡ ok 45
+  room-enough : numbers-in 8 ≡ ok 1
+  room-for-one : numbers-in 7 ≡ refused (by 23)
+  room-for-none : numbers-in 4 ≡ refused (by 23)
+  work-too-short : extract-call false 65535 131072 few (1 ∷ []) 9 ≡ refused (by 8)
+  text-too-short : extract-call false 65536 131071 few (1 ∷ []) 9 ≡ refused (by 8)
+  no-such-root : extract-call false 65536 131072 few (2 ∷ []) 9 ≡ refused (by 9)
+  a-result : print-call few (word result-row 0 ∷ 0 ∷ []) 2 ≡ ok (bytes "a\n")
+  no-result-row : print-call few (0 ∷ []) 2 ≡ refused (by 13)
+  no-symbol-row : print-call few (word result-row 0 ∷ word 0 3 ∷ []) 2 ≡ refused (by 13)
+  no-operand : print-call few (word result-row 0 ∷ word 8 1 ∷ []) 9 ≡ refused (by 13)
+  a-let-of-the-list : print-call few (word let-row 0 ∷ 0 ∷ []) 20 ≡ refused (by 13)
+  no-bytes : csesheet [] ≡ bytes "refused 1 0\n"
+  leading-zero : csesheet (bytes "Sym,a\r\nAdd,0,01") ≡ bytes "refused 2 1\n"
+  made-name : csesheet (bytes "Sym,__x12\r\n") ≡ bytes "refused 3 0\n"
+  minus-zero : csesheet (bytes "Const,-0") ≡ bytes "refused 4 0\n"
+  no-earlier-node : csesheet (bytes "Sym,a\r\nRoot,1") ≡ bytes "refused 5 1\n"
+
+pub examples : Examples
+unfolding cse-scope answer well-scoped rows by-calls csesheet csescoped extract-call print-call
+examples =
+    record {
+      mixed-scoped = refl;
+      mixed-by-calls = refl;
+      mixed-no-row = refl;
+      mixed-no-byte = refl;
+      mixed-in-scope = refl;
+      mixed-rows = refl;
+      room-enough = refl;
+      room-for-one = refl;
+      room-for-none = refl;
+      work-too-short = refl;
+      text-too-short = refl;
+      no-such-root = refl;
+      a-result = refl;
+      no-result-row = refl;
+      no-symbol-row = refl;
+      no-operand = refl;
+      a-let-of-the-list = refl;
+      no-bytes = refl;
+      leading-zero = refl;
+      made-name = refl;
+      minus-zero = refl;
+      no-earlier-node = refl;
+    }

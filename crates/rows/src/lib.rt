@@ -1,0 +1,2 @@
+// Node rows lent as words.
+mod bytes;
