@@ -11,45 +11,46 @@ use lib.Dec.{T, eqb, leb, eqb→eq, le→leb}
 use Rattle.tree.specs.Outcome.{Outcome, ok, refused, _>>=_}
 use Rattle.tree.specs.Tree.{Name, xname, Tree, Forest, Sym, Const, Op, nil, _◂_, fold, folds, eq-tree, eq-int}
 use Rattle.tree.specs.Kinds.{Neg, Mul, Div, is-switch}
-use Rattle.tree.specs.Facts.{size, cost, has-symbol, some-of, nodes, nodes-of, all-nodes, outer, outer-of, outer-first, all-outer, outside, count, uses, uses-outside, all-operations}
+use Rattle.tree.specs.Facts.{size, cost, has-symbol, some-of, nodes, nodes-of, all-nodes, outer, outer-of, outer-first, all-outer, outside, count, uses, uses-outside}
 use Rattle.tree.proofs.Logic.{and-left, and-right, and-both}
 use Rattle.rewrite.specs.Rewrite.{Factors, one, flatten-mul-factors, flatten-operands, flatten-after, times, negated, constant-of, nested-product, with-coefficient, built, build-mul-from-factors, remove-each, is-mul, match-factors, each-operand, replace-within, replace, divides-by, replace-divisor, replace-divisors, dividend}
 use Rattle.rewrite.proofs.Measure.{count-cons, one-self}
-use Rattle.cse.specs.Extract.{State, Candidate, roots, is-candidate, best, extract, rounds, extract-all, divisor-of, divisors, replace-divisor-each, bind-reciprocal, bind-reciprocals, reciprocals}
+use Rattle.cse.specs.Extract.{State, roots, is-candidate, best, extract, extract-all, divisor-of, divisors, replace-divisor-each, bind-reciprocal, bind-reciprocals, reciprocals}
+use Rattle.cse.proofs.RoundsGood.{extract-all-good}
 use Rattle.cse.proofs.Outcomes.{Good, then-good, good-ok, good-at}
-use Rattle.cse.proofs.RoundsCount.{Replaced, extracted, best-fits, none-fits, candidate-facts, begin, begin-roots}
+use Rattle.cse.proofs.RoundsCount.{Replaced, extracted, none-fits, candidate-facts, begin-roots}
 use Rattle.cse.proofs.ReciprocalsCount.{AllTrees, all-map, divisors-all, bound-divisors, bound-twice, bound-outside, inverse, roots-reciprocal, reciprocals-are}
 use Rattle.cse.proofs.Levels.{trees-append, trees-at, All-left, left-each}
-use Rattle.cse.proofs.ArmLoads.{load, loads, load-first}
+use Rattle.cse.proofs.ArmNodes.{arm-nodes, arm-nodes-each, arm-nodes-first}
 
 -- ---- trees each of whose operations passes a test of its kind and operands
 
 module _ (q : ℕ → Forest → Bool) where
   unfoldable mutual
-    pub every : Tree → Bool
-    every (Sym n) = true
-    every (Const c) = true
-    every (Op k f) = q k f && every-each f
+    pub all-ops : Tree → Bool
+    all-ops (Sym n) = true
+    all-ops (Const c) = true
+    all-ops (Op k f) = q k f && all-ops-each f
 
-    pub every-each : Forest → Bool
-    every-each nil = true
-    every-each (t ◂ f) = every t && every-each f
+    pub all-ops-each : Forest → Bool
+    all-ops-each nil = true
+    all-ops-each (t ◂ f) = all-ops t && all-ops-each f
 
   abbrev Pass : Tree → Type 0
-  Pass t = T (every t)
+  Pass t = T (all-ops t)
 
   mutual
-    unfolding every nodes
+    unfolding all-ops nodes
 
-    nodes-pass : (t : Tree) → T (every t) → AllTrees Pass (nodes t)
+    nodes-pass : (t : Tree) → T (all-ops t) → AllTrees Pass (nodes t)
     nodes-pass (Sym n) h = (tt, tt)
     nodes-pass (Const c) h = (tt, tt)
-    nodes-pass (Op k f) h = (h, nodes-of-pass f (and-right (q k f) (every-each f) h))
+    nodes-pass (Op k f) h = (h, nodes-of-pass f (and-right (q k f) (all-ops-each f) h))
 
-    nodes-of-pass : (f : Forest) → T (every-each f) → AllTrees Pass (nodes-of f)
+    nodes-of-pass : (f : Forest) → T (all-ops-each f) → AllTrees Pass (nodes-of f)
     nodes-of-pass nil h = tt
     nodes-of-pass (t ◂ f) h =
-        trees-append Pass (nodes t) (nodes-of f) (nodes-pass t (and-left (every t) (every-each f) h)) (nodes-of-pass f (and-right (every t) (every-each f) h))
+        trees-append Pass (nodes t) (nodes-of f) (nodes-pass t (and-left (all-ops t) (all-ops-each f) h)) (nodes-of-pass f (and-right (all-ops t) (all-ops-each f) h))
 
   all-nodes-pass : (l : List Tree) → AllTrees Pass l → AllTrees Pass (all-nodes l)
   unfolding all-nodes
@@ -64,55 +65,55 @@ module _ (q : ℕ → Forest → Bool) where
     three-factors false false F G H f g h = h
 
     mutual
-      unfolding flatten-mul-factors every times negated
+      unfolding flatten-mul-factors all-ops times negated
 
-      factors-pass : (t : Tree) → T (every t) → AllTrees Pass (flatten-mul-factors t .factors)
+      factors-pass : (t : Tree) → T (all-ops t) → AllTrees Pass (flatten-mul-factors t .factors)
       factors-pass (Sym n) h = (tt, tt)
       factors-pass (Const c) h = tt
       factors-pass (Op k f) h =
-          let a = operand-factors-pass f (and-right (q k f) (every-each f) h) in
+          let a = operand-factors-pass f (and-right (q k f) (all-ops-each f) h) in
           three-factors (eqb k Mul) (eqb k Neg) (flatten-operands f) (negated (flatten-operands f)) (record { coefficient = one; factors = Op k f ∷ [] }) a a (h, tt)
 
-      operand-factors-pass : (f : Forest) → T (every-each f) → AllTrees Pass (flatten-operands f .factors)
+      operand-factors-pass : (f : Forest) → T (all-ops-each f) → AllTrees Pass (flatten-operands f .factors)
       operand-factors-pass nil h = tt
-      operand-factors-pass (t ◂ f) h = after-pass f (and-right (every t) (every-each f) h) (flatten-mul-factors t) (factors-pass t (and-left (every t) (every-each f) h))
+      operand-factors-pass (t ◂ f) h = after-pass f (and-right (all-ops t) (all-ops-each f) h) (flatten-mul-factors t) (factors-pass t (and-left (all-ops t) (all-ops-each f) h))
 
-      after-pass : (f : Forest) → T (every-each f) → (p : Factors) → AllTrees Pass (p .factors) → AllTrees Pass (flatten-after f p .factors)
+      after-pass : (f : Forest) → T (all-ops-each f) → (p : Factors) → AllTrees Pass (p .factors) → AllTrees Pass (flatten-after f p .factors)
       after-pass nil h p g = g
       after-pass (t ◂ f) h p g =
-          after-pass f (and-right (every t) (every-each f) h) (times p (flatten-mul-factors t))
-          (trees-append Pass (p .factors) (flatten-mul-factors t .factors) g (factors-pass t (and-left (every t) (every-each f) h)))
+          after-pass f (and-right (all-ops t) (all-ops-each f) h) (times p (flatten-mul-factors t))
+          (trees-append Pass (p .factors) (flatten-mul-factors t .factors) g (factors-pass t (and-left (all-ops t) (all-ops-each f) h)))
 
-    pair-pass : (a b : Tree) → T (every a) → T (every b) → T (every (Op Mul (a ◂ b ◂ nil)))
-    unfolding every
-    pair-pass a b g h = and-both (q Mul (a ◂ b ◂ nil)) (every a && (every b && true)) (mul (a ◂ b ◂ nil)) (and-both (every a) (every b && true) g (and-both (every b) true h tt))
+    pair-pass : (a b : Tree) → T (all-ops a) → T (all-ops b) → T (all-ops (Op Mul (a ◂ b ◂ nil)))
+    unfolding all-ops
+    pair-pass a b g h = and-both (q Mul (a ◂ b ◂ nil)) (all-ops a && (all-ops b && true)) (mul (a ◂ b ◂ nil)) (and-both (all-ops a) (all-ops b && true) g (and-both (all-ops b) true h tt))
 
-    product-pass : (t : Tree) (l : List Tree) → T (every t) → AllTrees Pass l → T (every (nested-product t l))
+    product-pass : (t : Tree) (l : List Tree) → T (all-ops t) → AllTrees Pass l → T (all-ops (nested-product t l))
     unfolding nested-product
     product-pass t [] g h = g
     product-pass t (f ∷ l) g h = product-pass (Op Mul (t ◂ f ◂ nil)) l (pair-pass t f g (h .0)) (h .1)
 
-    coefficient-pass : (c : ℤ) (t : Tree) → T (every t) → (b d : Bool) → T (every (elim b [ true ↦ t | false ↦ elim d [ true ↦ Op Neg (t ◂ nil) | false ↦ Op Mul (Const c ◂ t ◂ nil) ] ]))
+    coefficient-pass : (c : ℤ) (t : Tree) → T (all-ops t) → (b d : Bool) → T (all-ops (elim b [ true ↦ t | false ↦ elim d [ true ↦ Op Neg (t ◂ nil) | false ↦ Op Mul (Const c ◂ t ◂ nil) ] ]))
     coefficient-pass c t h true d = h
-    coefficient-pass c t h false true = (unfold every in and-both (q Neg (t ◂ nil)) (every t && true) (neg (t ◂ nil)) (and-both (every t) true h tt))
-    coefficient-pass c t h false false = pair-pass (Const c) t (unfold every in tt) h
+    coefficient-pass c t h false true = (unfold all-ops in and-both (q Neg (t ◂ nil)) (all-ops t && true) (neg (t ◂ nil)) (and-both (all-ops t) true h tt))
+    coefficient-pass c t h false false = pair-pass (Const c) t (unfold all-ops in tt) h
 
-    built-pass : (c : ℤ) (l : List Tree) → AllTrees Pass l → T (every (built c l))
+    built-pass : (c : ℤ) (l : List Tree) → AllTrees Pass l → T (all-ops (built c l))
     unfolding built with-coefficient
-    built-pass c [] h = (unfold every in tt)
+    built-pass c [] h = (unfold all-ops in tt)
     built-pass c (t ∷ l) h = coefficient-pass c (nested-product t l) (product-pass t l (h .0) (h .1)) (eq-int c (pos 1)) (eq-int c (negsuc 0))
 
     -- what is left after a match, and the new name
-    rest-pass : (n : Name) (c : ℤ) (ts : List Tree) (e : Tree) (r : List Tree) → remove-each ts (flatten-mul-factors e .factors) ≡ some r → T (every e) → T (every (built c (r ++ (Sym n ∷ []))))
+    rest-pass : (n : Name) (c : ℤ) (ts : List Tree) (e : Tree) (r : List Tree) → remove-each ts (flatten-mul-factors e .factors) ≡ some r → T (all-ops e) → T (all-ops (built c (r ++ (Sym n ∷ []))))
     rest-pass n c ts e r z h =
         built-pass c (r ++ (Sym n ∷ []))
-        (trees-append Pass r (Sym n ∷ []) (unfold All-left in subst (All-left Pass) z (left-each Pass ts (flatten-mul-factors e .factors) (factors-pass e h))) ((unfold every in tt), tt))
+        (trees-append Pass r (Sym n ∷ []) (unfold All-left in subst (All-left Pass) z (left-each Pass ts (flatten-mul-factors e .factors) (factors-pass e h))) ((unfold all-ops in tt), tt))
 
 -- ---- without a switch; and with each divisor plain
 
 unfoldable pub no-switch : Tree → Bool
-unfolding every
-no-switch = every (λ k f. not (is-switch k))
+unfolding all-ops
+no-switch = all-ops (λ k f. not (is-switch k))
 
 -- a divisor that holds a symbol, or no switch
 unfoldable pub plain : Tree → Bool
@@ -126,8 +127,8 @@ divides-plain k (a ◂ nil) = true
 divides-plain k (a ◂ (b ◂ f)) = not (eqb k Div) || plain b
 
 unfoldable pub clean : Tree → Bool
-unfolding every divides-plain
-clean = every divides-plain
+unfolding all-ops divides-plain
+clean = all-ops divides-plain
 
 plain-mul : (f : Forest) → T (divides-plain Mul f)
 unfolding divides-plain
@@ -172,23 +173,23 @@ symbols-for nil (u ◂ h) F t = absurd F
 symbols-for (e ◂ f) nil F t = absurd F
 symbols-for (e ◂ f) (u ◂ h) F t = or-map (has-symbol e) (some-of (Tests f)) (has-symbol u) (some-of (Tests h)) (F .0 .0) (symbols-for f h (F .1)) t
 
-switches-for : (f h : Forest) → For-each f h → T (every-each (λ k f. not (is-switch k)) f) → T (every-each (λ k f. not (is-switch k)) h)
-unfolding every no-switch
+switches-for : (f h : Forest) → For-each f h → T (all-ops-each (λ k f. not (is-switch k)) f) → T (all-ops-each (λ k f. not (is-switch k)) h)
+unfolding all-ops no-switch
 switches-for nil nil F t = t
 switches-for nil (u ◂ h) F t = absurd F
 switches-for (e ◂ f) nil F t = absurd F
 switches-for (e ◂ f) (u ◂ h) F t =
-    and-both (no-switch u) (every-each (λ k f. not (is-switch k)) h) (F .0 .1 (and-left (no-switch e) (every-each (λ k f. not (is-switch k)) f) t))
-    (switches-for f h (F .1) (and-right (no-switch e) (every-each (λ k f. not (is-switch k)) f) t))
+    and-both (no-switch u) (all-ops-each (λ k f. not (is-switch k)) h) (F .0 .1 (and-left (no-switch e) (all-ops-each (λ k f. not (is-switch k)) f) t))
+    (switches-for f h (F .1) (and-right (no-switch e) (all-ops-each (λ k f. not (is-switch k)) f) t))
 
-cleans-for : (f h : Forest) → For-each f h → T (every-each divides-plain f) → T (every-each divides-plain h)
-unfolding every clean
+cleans-for : (f h : Forest) → For-each f h → T (all-ops-each divides-plain f) → T (all-ops-each divides-plain h)
+unfolding all-ops clean
 cleans-for nil nil F t = t
 cleans-for nil (u ◂ h) F t = absurd F
 cleans-for (e ◂ f) nil F t = absurd F
 cleans-for (e ◂ f) (u ◂ h) F t =
-    and-both (clean u) (every-each divides-plain h) (F .0 .2 (and-left (clean e) (every-each divides-plain f) t))
-    (cleans-for f h (F .1) (and-right (clean e) (every-each divides-plain f) t))
+    and-both (clean u) (all-ops-each divides-plain h) (F .0 .2 (and-left (clean e) (all-ops-each divides-plain f) t))
+    (cleans-for f h (F .1) (and-right (clean e) (all-ops-each divides-plain f) t))
 
 divides-for : (k : ℕ) (f h : Forest) → For-each f h → T (divides-plain k f) → T (divides-plain k h)
 unfolding divides-plain plain
@@ -203,13 +204,13 @@ divides-for k (a ◂ (b ◂ f)) (u ◂ (v ◂ h)) F t =
     (or-map (has-symbol b) (no-switch b) (has-symbol v) (no-switch v) (F .1 .0 .0) (F .1 .0 .1)) t
 
 node-for : (k : ℕ) (f h : Forest) → For-each f h → For (Op k f) (Op k h)
-unfolding has-symbol no-switch clean every
+unfolding has-symbol no-switch clean all-ops
 node-for k f h F = (
   symbols-for f h F,
-  (λ t. and-both (not (is-switch k)) (every-each (λ k f. not (is-switch k)) h) (and-left (not (is-switch k)) (every-each (λ k f. not (is-switch k)) f) t)
-      (switches-for f h F (and-right (not (is-switch k)) (every-each (λ k f. not (is-switch k)) f) t))),
-  (λ t. and-both (divides-plain k h) (every-each divides-plain h) (divides-for k f h F (and-left (divides-plain k f) (every-each divides-plain f) t))
-      (cleans-for f h F (and-right (divides-plain k f) (every-each divides-plain f) t))),
+  (λ t. and-both (not (is-switch k)) (all-ops-each (λ k f. not (is-switch k)) h) (and-left (not (is-switch k)) (all-ops-each (λ k f. not (is-switch k)) f) t)
+      (switches-for f h F (and-right (not (is-switch k)) (all-ops-each (λ k f. not (is-switch k)) f) t))),
+  (λ t. and-both (divides-plain k h) (all-ops-each divides-plain h) (divides-for k f h F (and-left (divides-plain k f) (all-ops-each divides-plain f) t))
+      (cleans-for f h F (and-right (divides-plain k f) (all-ops-each divides-plain f) t))),
 )
 
 for-then : (e r s : Tree) → For e r → For r s → For e s
@@ -343,11 +344,11 @@ module _ (d : Tree) (n : Name) where
   division-for k f false t g h = node-for k f (replace-divisors d n f) h
 
   dividend-for : (k : ℕ) (a r : Tree) (f : Forest) → For a r → For (Op k (a ◂ f)) (Op Mul (r ◂ Sym n ◂ nil))
-  unfolding no-switch clean every
+  unfolding no-switch clean all-ops
   dividend-for k a r f F = (
     (λ t. pair-symbol Mul r (Sym n) (unfold has-symbol in tt)),
-    (λ t. and-both (no-switch r) true (F .1 (and-left (no-switch a) (every-each (λ k f. not (is-switch k)) f) (and-right (not (is-switch k)) (no-switch a && every-each (λ k f. not (is-switch k)) f) t))) tt),
-    (λ t. pair-pass divides-plain plain-mul plain-neg r (Sym n) (F .2 (and-left (clean a) (every-each divides-plain f) (and-right (divides-plain k (a ◂ f)) (clean a && every-each divides-plain f) t))) tt),
+    (λ t. and-both (no-switch r) true (F .1 (and-left (no-switch a) (all-ops-each (λ k f. not (is-switch k)) f) (and-right (not (is-switch k)) (no-switch a && all-ops-each (λ k f. not (is-switch k)) f) t))) tt),
+    (λ t. pair-pass divides-plain plain-mul plain-neg r (Sym n) (F .2 (and-left (clean a) (all-ops-each divides-plain f) (and-right (divides-plain k (a ◂ f)) (clean a && all-ops-each divides-plain f) t))) tt),
   )
 
   mutual
@@ -389,35 +390,19 @@ extract-clean scoped x s t c e h =
     (trees-append (λ t. T (clean t)) (E .made) (x ∷ []) (replaced-clean x (xname (s .next)) (roots s) (E .made) (E .replaced) h)
     (trees-at (λ t. T (clean t)) x (all-nodes (roots s)) (nodes-clean (roots s) h) (let q = f .2 in omega arith), tt))
 
-round-clean :
-    (scoped : Bool) (s : State) → All-clean (roots s) → (g : State → Outcome State) → ((t : State) → All-clean (roots t) → Good (λ u. All-clean (roots u)) (g t))
-    → (o : Option Candidate) → best scoped (roots s) ≡ o → Good {A = State} (λ u. All-clean (roots u)) (elim o [ none ↦ ok s | some c ↦ (extract (c .tree) s >>= λ t. g t) ])
-round-clean scoped s h g k none e = good-ok (λ (u : State). All-clean (roots u)) s h
-round-clean scoped s h g k (some c) e = go (extract (c .tree) s) refl
-  where
-    go : (o : Outcome State) → extract (c .tree) s ≡ o → Good (λ u. All-clean (roots u)) (o >>= λ t. g t)
-    go (ok t) z = k t (extract-clean scoped (c .tree) s t (best-fits scoped (roots s) c e) z h)
-    go (refused i) z = (unfold Good in tt)
-
-rounds-clean : (fuel : ℕ) (scoped : Bool) (s : State) → All-clean (roots s) → Good (λ u. All-clean (roots u)) (rounds fuel scoped s)
-unfolding rounds
-rounds-clean zero scoped s h = good-ok (λ (u : State). All-clean (roots u)) s h
-rounds-clean (suc fuel) scoped s h = round-clean scoped s h (λ t. rounds fuel scoped t) (λ t g. rounds-clean fuel scoped t g) (best scoped (roots s)) refl
-
 pub extract-all-clean : (scoped : Bool) (next : ℕ) (es : List Tree) → All-clean es → Good (λ u. All-clean (roots u)) (extract-all scoped next es)
 extract-all-clean scoped next es h =
-    (unfold extract-all begin in
-    rounds-clean (all-operations es) scoped (begin es next) (subst All-clean (sym (begin-roots es next)) h))
+    extract-all-good scoped (λ u. All-clean (roots u)) (λ x s t c e g. extract-clean scoped x s t c e g) next es (subst All-clean (sym (begin-roots es next)) h)
 
 -- ---- divisors of clean nodes are plain
 
 plain-divisor : (t : Tree) → T (clean t) → (d : Tree) → divisor-of t ≡ some d → T (plain d)
-unfolding divisor-of clean every divides-plain
+unfolding divisor-of clean all-ops divides-plain
 plain-divisor (Sym n) h d e = (let z : _≡_ {A = ℕ} 0 1 = cc in absurd (omega arith))
 plain-divisor (Const c) h d e = (let z : _≡_ {A = ℕ} 0 1 = cc in absurd (omega arith))
 plain-divisor (Op k nil) h d e = (let z : _≡_ {A = ℕ} 0 1 = cc in absurd (omega arith))
 plain-divisor (Op k (a ◂ nil)) h d e = (let z : _≡_ {A = ℕ} 0 1 = cc in absurd (omega arith))
-plain-divisor (Op k (a ◂ (b ◂ f))) h d e = go (eqb k Div) (and-left (not (eqb k Div) || plain b) (every-each divides-plain (a ◂ (b ◂ f))) h) e
+plain-divisor (Op k (a ◂ (b ◂ f))) h d e = go (eqb k Div) (and-left (not (eqb k Div) || plain b) (all-ops-each divides-plain (a ◂ (b ◂ f))) h) e
   where
     same : (x y : Tree) → _≡_ {A = Option Tree} (some x) (some y) → x ≡ y
     same x y e = cc
@@ -463,20 +448,20 @@ first-plain k (a ◂ (b ◂ f)) l h = go (eqb k Div) h
     go false h = (tt, h)
 
 mutual
-  unfolding nodes divisors clean every
+  unfolding nodes divisors clean all-ops
 
   clean-from : (t : Tree) → AllTrees (λ d. T (plain d)) (divisors (nodes t)) → T (clean t)
   clean-from (Sym n) h = tt
   clean-from (Const c) h = tt
   clean-from (Op k f) h =
       let q = first-plain k f (divisors (nodes-of f)) h in
-      and-both (divides-plain k f) (every-each divides-plain f) (q .0) (clean-from-each f (q .1))
+      and-both (divides-plain k f) (all-ops-each divides-plain f) (q .0) (clean-from-each f (q .1))
 
-  clean-from-each : (f : Forest) → AllTrees (λ d. T (plain d)) (divisors (nodes-of f)) → T (every-each divides-plain f)
+  clean-from-each : (f : Forest) → AllTrees (λ d. T (plain d)) (divisors (nodes-of f)) → T (all-ops-each divides-plain f)
   clean-from-each nil h = tt
   clean-from-each (t ◂ f) h =
       let q = divisors-split (λ d. T (plain d)) (nodes t) (nodes-of f) h in
-      and-both (clean t) (every-each divides-plain f) (clean-from t (q .0)) (clean-from-each f (q .1))
+      and-both (clean t) (all-ops-each divides-plain f) (clean-from t (q .0)) (clean-from-each f (q .1))
 
 pub all-clean-from : (l : List Tree) → Plain-divisors l → All-clean l
 unfolding all-nodes
@@ -491,7 +476,7 @@ divided-clean d n [] h = tt
 divided-clean d n (t ∷ l) h = (divisor-for d n t .2 (h .0), divided-clean d n l (h .1))
 
 inverse-clean : (d : Tree) → T (plain d) → T (clean d) → T (clean (inverse d))
-unfolding inverse clean every divides-plain
+unfolding inverse clean all-ops divides-plain
 inverse-clean d p c = and-both (plain d) (clean d && true) p (and-both (clean d) true c tt)
 
 each-clean : (ds : List Tree) (s : State) → AllTrees (λ d. T (clean (inverse d))) ds → All-clean (roots s) → All-clean (roots (bind-reciprocals ds s))
@@ -630,45 +615,45 @@ light s e d u o c h =
     (and-both (has-symbol d) _ h
     (and-both (leb 2 (count d (all-nodes (roots s)))) _ (le→leb 2 (count d (all-nodes (roots s))) (omega arith)) (le→leb 1 (count d (all-outer (roots s))) b))))
 
-no-switch-load-op : (k : ℕ) (f : Forest) (b : Bool) → T (not b) → loads f ≤ 0 → elim b as (λ _. ℕ) [ true ↦ load-first f | false ↦ loads f ] ≤ 0
-no-switch-load-op k f true t h = absurd t
-no-switch-load-op k f false t h = h
+no-arm-nodes-op : (k : ℕ) (f : Forest) (b : Bool) → T (not b) → arm-nodes-each f ≤ 0 → elim b as (λ _. ℕ) [ true ↦ arm-nodes-first f | false ↦ arm-nodes-each f ] ≤ 0
+no-arm-nodes-op k f true t h = absurd t
+no-arm-nodes-op k f false t h = h
 
 mutual
-  unfolding load no-switch every
+  unfolding arm-nodes no-switch all-ops
 
-  calm-load : (t : Tree) → T (no-switch t) → load t ≤ 0
-  calm-load (Sym n) h = omega arith
-  calm-load (Const c) h = omega arith
-  calm-load (Op k f) h =
-      no-switch-load-op k f (is-switch k) (and-left (not (is-switch k)) (every-each (λ k f. not (is-switch k)) f) h)
-      (calm-loads f (and-right (not (is-switch k)) (every-each (λ k f. not (is-switch k)) f) h))
+  no-arm-nodes : (t : Tree) → T (no-switch t) → arm-nodes t ≤ 0
+  no-arm-nodes (Sym n) h = omega arith
+  no-arm-nodes (Const c) h = omega arith
+  no-arm-nodes (Op k f) h =
+      no-arm-nodes-op k f (is-switch k) (and-left (not (is-switch k)) (all-ops-each (λ k f. not (is-switch k)) f) h)
+      (no-arm-nodes-each f (and-right (not (is-switch k)) (all-ops-each (λ k f. not (is-switch k)) f) h))
 
-  calm-loads : (f : Forest) → T (every-each (λ k f. not (is-switch k)) f) → loads f ≤ 0
-  calm-loads nil h = omega arith
-  calm-loads (t ◂ f) h =
-      (let a = calm-load t (and-left (no-switch t) (every-each (λ k f. not (is-switch k)) f) h) in
-      let b = calm-loads f (and-right (no-switch t) (every-each (λ k f. not (is-switch k)) f) h) in
+  no-arm-nodes-each : (f : Forest) → T (all-ops-each (λ k f. not (is-switch k)) f) → arm-nodes-each f ≤ 0
+  no-arm-nodes-each nil h = omega arith
+  no-arm-nodes-each (t ◂ f) h =
+      (let a = no-arm-nodes t (and-left (no-switch t) (all-ops-each (λ k f. not (is-switch k)) f) h) in
+      let b = no-arm-nodes-each f (and-right (no-switch t) (all-ops-each (λ k f. not (is-switch k)) f) h) in
       omega arith)
 
 -- a plain one that is a leaf or has no symbol
-plain-load : (d : Tree) → T (plain d) → (1 ≤ cost d → T (has-symbol d) → ⊥) → load d ≤ 0
-plain-load (Sym n) p h = (unfold load in omega arith)
-plain-load (Const c) p h = (unfold load in omega arith)
-plain-load (Op k f) p h = go (has-symbol (Op k f)) (λ t. h (unfold cost in omega arith) t) (unfold plain in p)
+plain-arm-nodes : (d : Tree) → T (plain d) → (1 ≤ cost d → T (has-symbol d) → ⊥) → arm-nodes d ≤ 0
+plain-arm-nodes (Sym n) p h = (unfold arm-nodes in omega arith)
+plain-arm-nodes (Const c) p h = (unfold arm-nodes in omega arith)
+plain-arm-nodes (Op k f) p h = go (has-symbol (Op k f)) (λ t. h (unfold cost in omega arith) t) (unfold plain in p)
   where
-    go : (b : Bool) → (T b → ⊥) → T (b || no-switch (Op k f)) → load (Op k f) ≤ 0
+    go : (b : Bool) → (T b → ⊥) → T (b || no-switch (Op k f)) → arm-nodes (Op k f) ≤ 0
     go true g t = absurd (g tt)
-    go false g t = calm-load (Op k f) t
+    go false g t = no-arm-nodes (Op k f) t
 
-pub bound-load : (s : State) → best true (roots s) ≡ none → All-clean (roots s) → AllTrees (λ d. load d ≤ 0) (bound-divisors true s)
-bound-load s e h = both (bound-divisors true s) (bound-twice true s) (bound-outside true s)
+pub bound-arm-nodes : (s : State) → best true (roots s) ≡ none → All-clean (roots s) → AllTrees (λ d. arm-nodes d ≤ 0) (bound-divisors true s)
+bound-arm-nodes s e h = both (bound-divisors true s) (bound-twice true s) (bound-outside true s)
   where
-    at : (d : Tree) → 2 ≤ count d (divisors (all-nodes (roots s))) → 1 ≤ count d (divisors (outside true (roots s))) → load d ≤ 0
+    at : (d : Tree) → 2 ≤ count d (divisors (all-nodes (roots s))) → 1 ≤ count d (divisors (outside true (roots s))) → arm-nodes d ≤ 0
     at d u o =
-        plain-load d (trees-at (λ d. T (plain d)) d (divisors (all-nodes (roots s))) (plain-divisors (all-nodes (roots s)) (nodes-clean (roots s) h)) (omega arith))
+        plain-arm-nodes d (trees-at (λ d. T (plain d)) d (divisors (all-nodes (roots s))) (plain-divisors (all-nodes (roots s)) (nodes-clean (roots s) h)) (omega arith))
         (light s e d u (unfold outside in o))
 
-    both : (l : List Tree) → AllTrees (λ d. 2 ≤ count d (divisors (all-nodes (roots s)))) l → AllTrees (λ d. 1 ≤ count d (divisors (outside true (roots s)))) l → AllTrees (λ d. load d ≤ 0) l
+    both : (l : List Tree) → AllTrees (λ d. 2 ≤ count d (divisors (all-nodes (roots s)))) l → AllTrees (λ d. 1 ≤ count d (divisors (outside true (roots s)))) l → AllTrees (λ d. arm-nodes d ≤ 0) l
     both [] u o = tt
     both (d ∷ l) u o = (at d (u .0) (o .0), both l (u .1) (o .1))

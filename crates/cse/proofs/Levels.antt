@@ -10,14 +10,15 @@ use lib.Dec.{T, eqb}
 use Rattle.tree.specs.Outcome.{Outcome, ok, refused, _>>=_}
 use Rattle.tree.specs.Tree.{Name, xname, Tree, Forest, Sym, Const, Op, nil, _◂_, fold, folds, eq-tree, eq-int}
 use Rattle.tree.specs.Kinds.{Neg, Mul, Div}
-use Rattle.tree.specs.Facts.{size, nodes, nodes-of, all-nodes, count, all-operations}
+use Rattle.tree.specs.Facts.{size, nodes, nodes-of, all-nodes, count}
 use Rattle.tree.proofs.Logic.{and-right}
 use Rattle.rewrite.specs.Rewrite.{Factors, one, flatten-mul-factors, flatten-operands, flatten-after, times, negated, constant-of, nested-product, with-coefficient, built, build-mul-from-factors, remove-first, remove-each, is-mul, match-factors, each-operand, replace-within, replace, divides-by, replace-divisor, replace-divisors, dividend}
 use Rattle.rewrite.proofs.Measure.{one-of, count-cons}
 use Rattle.rewrite.proofs.Counts.{one-equal, count-nil}
-use Rattle.cse.specs.Extract.{State, Candidate, roots, is-candidate, best, extract, rounds, extract-all, divisors, replace-divisor-each, bind-reciprocal, bind-reciprocals, reciprocals}
+use Rattle.cse.specs.Extract.{State, roots, is-candidate, extract, extract-all, divisors, replace-divisor-each, bind-reciprocal, bind-reciprocals, reciprocals}
+use Rattle.cse.proofs.RoundsGood.{extract-all-good}
 use Rattle.cse.proofs.Outcomes.{Good, then-good, good-ok, good-at}
-use Rattle.cse.proofs.RoundsCount.{Replaced, extracted, best-fits, candidate-facts, begin, begin-roots}
+use Rattle.cse.proofs.RoundsCount.{Replaced, extracted, candidate-facts, begin-roots}
 use Rattle.cse.proofs.ReciprocalsCount.{AllTrees, all-map, bound-divisors, bound-twice, inverse, roots-reciprocal, reciprocals-are}
 
 -- ---- lists of trees
@@ -267,25 +268,9 @@ module _ (op : ℕ → List ℕ → ℕ) (L : Level op) where
         (trees-append (λ x. μ x ≤ N) (E .made) (x ∷ []) (replaced-most x (xname (s .next)) (roots s) (E .made) (E .replaced) h)
         (trees-at (λ x. μ x ≤ N) x (all-nodes (roots s)) (all-nodes-most (roots s) h) (let q = f .2 in omega arith), tt))
 
-    round-most :
-        (scoped : Bool) (s : State) → Within (roots s) → (g : State → Outcome State) → ((t : State) → Within (roots t) → Good (λ u. Within (roots u)) (g t))
-        → (o : Option Candidate) → best scoped (roots s) ≡ o → Good {A = State} (λ u. Within (roots u)) (elim o [ none ↦ ok s | some c ↦ (extract (c .tree) s >>= λ t. g t) ])
-    round-most scoped s h g k none e = good-ok (λ (u : State). Within (roots u)) s h
-    round-most scoped s h g k (some c) e = go (extract (c .tree) s) refl
-      where
-        go : (o : Outcome State) → extract (c .tree) s ≡ o → Good (λ u. Within (roots u)) (o >>= λ t. g t)
-        go (ok t) z = k t (extract-most scoped (c .tree) s t (best-fits scoped (roots s) c e) z h)
-        go (refused i) z = (unfold Good in tt)
-
-    rounds-most : (fuel : ℕ) (scoped : Bool) (s : State) → Within (roots s) → Good (λ u. Within (roots u)) (rounds fuel scoped s)
-    unfolding rounds
-    rounds-most zero scoped s h = good-ok (λ (u : State). Within (roots u)) s h
-    rounds-most (suc fuel) scoped s h = round-most scoped s h (λ t. rounds fuel scoped t) (λ t g. rounds-most fuel scoped t g) (best scoped (roots s)) refl
-
-    pub extract-all-most : (scoped : Bool) (next : ℕ) (es : List Tree) → Within es → Good (λ u. Within (roots u)) (extract-all scoped next es)
-    extract-all-most scoped next es h =
-        (unfold extract-all begin in
-        rounds-most (all-operations es) scoped (begin es next) (subst Within (sym (begin-roots es next)) h))
+    pub extract-all-within : (scoped : Bool) (next : ℕ) (es : List Tree) → Within es → Good (λ u. Within (roots u)) (extract-all scoped next es)
+    extract-all-within scoped next es h =
+        extract-all-good scoped (λ u. Within (roots u)) (λ x s t c e g. extract-most scoped x s t c e g) next es (subst Within (sym (begin-roots es next)) h)
 
     divided-most : (d : Tree) (n : Name) (l : List Tree) → Within l → Within (replace-divisor-each d n l)
     unfolding replace-divisor-each
@@ -300,9 +285,9 @@ module _ (op : ℕ → List ℕ → ℕ) (L : Level op) where
         (subst Within (sym (roots-reciprocal d s))
         (trees-append (λ x. μ x ≤ N) (replace-divisor-each d (xname (s .next)) (roots s)) (inverse d ∷ []) (divided-most d (xname (s .next)) (roots s) h) (g .0, tt)))
 
-    pub reciprocals-most :
+    pub reciprocals-within :
         (scoped : Bool) (s : State) → ((d : Tree) → 1 ≤ count d (divisors (all-nodes (roots s))) → μ (inverse d) ≤ N) → Within (roots s) → Within (roots (reciprocals scoped s))
-    reciprocals-most scoped s f h =
+    reciprocals-within scoped s f h =
         subst (λ (u : State). Within (roots u)) (sym (reciprocals-are scoped s))
         (each-most (bound-divisors scoped s) s
         (all-map (λ d. 2 ≤ count d (divisors (all-nodes (roots s)))) (λ d. μ (inverse d) ≤ N) (λ d q. f d (omega arith)) (bound-divisors scoped s) (bound-twice scoped s)) h)

@@ -1,5 +1,6 @@
 pub mod Outcomes
 pub mod RoundsCount
+pub mod RoundsGood
 pub mod RoundsFuel
 pub mod SortCount
 pub mod Dependence
@@ -27,5 +28,5 @@ pub mod ScopedCount
 pub mod Levels
 pub mod NestingLevel
 pub mod CleanDivisors
-pub mod ArmLoads
+pub mod ArmNodes
 pub mod RoomEnough

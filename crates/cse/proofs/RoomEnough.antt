@@ -36,10 +36,10 @@ use Rattle.cse.proofs.ScopeValue.{under, under-le, under-below, name-me
 use Rattle.cse.proofs.ScopeRoom.{scope-in, scope-opens}
 use Rattle.cse.proofs.ScopedCount.{Started, started}
 use Rattle.cse.proofs.Refusals.{Only, only-at, Ten, extract-all-ten}
-use Rattle.cse.proofs.Levels.{trees-append, trees-at, Most, μ, all-nodes-most, extract-all-most, reciprocals-most}
+use Rattle.cse.proofs.Levels.{trees-append, trees-at, Most, μ, all-nodes-most, extract-all-within, reciprocals-within}
 use Rattle.cse.proofs.NestingLevel.{nesting-op, nesting-level, nesting-is, arms-deeper}
-use Rattle.cse.proofs.CleanDivisors.{every, every-each, divides-plain, clean, All-clean, extract-all-clean, reciprocals-clean, Plain-divisors, all-clean-from, bound-load}
-use Rattle.cse.proofs.ArmLoads.{arms-total, load, reciprocals-load, All-arms, Groups, groups-arms, Small-groups, collected-small, Columns, group-columns}
+use Rattle.cse.proofs.CleanDivisors.{all-ops, all-ops-each, divides-plain, clean, All-clean, extract-all-clean, reciprocals-clean, Plain-divisors, all-clean-from, bound-arm-nodes}
+use Rattle.cse.proofs.ArmNodes.{arms-total, arm-nodes, reciprocals-arm-nodes, All-arms, Groups, groups-arms, Small-groups, collected-small, Columns, group-columns}
 
 -- ---- what a scope's input has
 
@@ -59,12 +59,12 @@ module _ (p : Name → Bool) where
   All-operands D nil = Unit {0}
   All-operands D (t ◂ f) = Fit D t × All-operands D f
 
-  each-fit : (m : ℕ) (f : Forest) → T (well-formed-each f) → T (holds-each p f) → T (every-each divides-plain f) → Most m (deeps f) → All-operands (suc m) f
-  unfolding well-formed holds fold clean every
+  each-fit : (m : ℕ) (f : Forest) → T (well-formed-each f) → T (holds-each p f) → T (all-ops-each divides-plain f) → Most m (deeps f) → All-operands (suc m) f
+  unfolding well-formed holds fold clean all-ops
   each-fit m nil w h s d = tt
   each-fit m (t ◂ f) w h s d = (
-    (and-left (well-formed t) (well-formed-each f) w, and-left (holds p t) (holds-each p f) h, and-left (clean t) (every-each divides-plain f) s, d .0),
-    each-fit m f (and-right (well-formed t) (well-formed-each f) w) (and-right (holds p t) (holds-each p f) h) (and-right (clean t) (every-each divides-plain f) s) (d .1),
+    (and-left (well-formed t) (well-formed-each f) w, and-left (holds p t) (holds-each p f) h, and-left (clean t) (all-ops-each divides-plain f) s, d .0),
+    each-fit m f (and-right (well-formed t) (well-formed-each f) w) (and-right (holds p t) (holds-each p f) h) (and-right (clean t) (all-ops-each divides-plain f) s) (d .1),
   )
 
   most-down : (M N : ℕ) → M ≤ N → (ls : List ℕ) → Most M ls → Most N ls
@@ -72,10 +72,10 @@ module _ (p : Name → Bool) where
   most-down M N h (l ∷ ls) g = ((let a = g .0 in omega arith), most-down M N h ls (g .1))
 
   operands-fit : (m k : ℕ) (f : Forest) → Fit (suc m) (Op k f) → All-operands (suc m) f
-  unfolding well-formed holds fold clean every
+  unfolding well-formed holds fold clean all-ops
   operands-fit m k f F =
       each-fit m f (and-right (arity-ok k (operand-count f)) (well-formed-each f) (F .0)) (F .1)
-      (and-right (divides-plain k f) (every-each divides-plain f) (F .2))
+      (and-right (divides-plain k f) (all-ops-each divides-plain f) (F .2))
       (most-down (nesting-op k (deeps f)) m (F .3) (deeps f) (nesting-level .parts k (deeps f)))
 
   as-list : (D : ℕ) (f : Forest) → All-operands D f → AllTrees (Fit D) (operands f)
@@ -93,15 +93,15 @@ module _ (p : Name → Bool) where
   no-arms n l ls h = omega arith
 
   arms-fit : (m k : ℕ) (q : Tree) (f : Forest) → T (is-switch k) → Fit (suc m) (Op k (q ◂ f)) → AllTrees (Fit m) (operands f)
-  unfolding well-formed holds fold clean every
+  unfolding well-formed holds fold clean all-ops
   arms-fit zero k q nil t F = (unfold operands in tt)
   arms-fit zero k q (a ◂ f) t F = absurd (no-arms (deep q) (deep a) (deeps f) (deeper-op 0 (deep q) (deep a ∷ deeps f) (is-switch k) t (F .3)))
   arms-fit (suc m) k q f t F =
       let d = deeper-op (suc m) (deep q) (deeps f) (is-switch k) t (F .3) in
       let w = and-right (arity-ok k (operand-count (q ◂ f))) (well-formed-each (q ◂ f)) (F .0) in
-      let c = and-right (divides-plain k (q ◂ f)) (every-each divides-plain (q ◂ f)) (F .2) in
+      let c = and-right (divides-plain k (q ◂ f)) (all-ops-each divides-plain (q ◂ f)) (F .2) in
       as-list (suc m) f
-      (each-fit m f (and-right (well-formed q) (well-formed-each f) w) (and-right (holds p q) (holds-each p f) (F .1)) (and-right (clean q) (every-each divides-plain f) c) (arms-deeper (suc m) (deep q) (deeps f) d m refl))
+      (each-fit m f (and-right (well-formed q) (well-formed-each f) w) (and-right (holds p q) (holds-each p f) (F .1)) (and-right (clean q) (all-ops-each divides-plain f) c) (arms-deeper (suc m) (deep q) (deeps f) d m refl))
 
   -- ---- the nodes outside arms, and the switches among them
 
@@ -302,7 +302,7 @@ module _ (start m : ℕ) (es : List Tree) (F : AllTrees (Fit (under start) (suc 
     shallow : AllTrees (λ x. deep x ≤ m) (roots s)
     shallow =
         good-at (λ (u : State). AllTrees (λ x. deep x ≤ m) (roots u)) (extract-all true start es) s e
-        (extract-all-most nesting-op nesting-level m true start es (all-map (Fit (under start) (suc m)) (λ x. deep x ≤ m) (λ x f. f .3) es F))
+        (extract-all-within nesting-op nesting-level m true start es (all-map (Fit (under start) (suc m)) (λ x. deep x ≤ m) (λ x f. f .3) es F))
 
     roots-fit : AllTrees (Fit (under (t .next)) (suc m)) (roots t)
     roots-fit =
@@ -310,12 +310,12 @@ module _ (start m : ℕ) (es : List Tree) (F : AllTrees (Fit (under start) (suc 
         (reciprocals-formed true s (extract-all-end true start es formed made s e .0 .formed))
         (weaken-all (below (λ s. true) start (t .next)) (under (t .next)) (under-below (λ s. true) start (t .next) (after .later)) (roots t) (roots-known some-reading (λ s. true) start (λ n. 0) vs t after))
         (reciprocals-clean true s clean-roots)
-        (reciprocals-most nesting-op nesting-level m true s
+        (reciprocals-within nesting-op nesting-level m true s
         (λ d c. inverse-deep m d (trees-at (λ x. deep x ≤ m) d (all-nodes (roots s)) (all-nodes-most nesting-op nesting-level m (roots s) shallow) (let q = divisors-all d (roots s) in omega arith))) shallow)
 
-    roots-load : sum-of load (roots t) ≤ occurrences es
-    roots-load =
-        (let a = reciprocals-load true s (bound-load s (extract-all-end true start es formed made s e .1) clean-roots) in
+    roots-arm-nodes : sum-of arm-nodes (roots t) ≤ occurrences es
+    roots-arm-nodes =
+        (let a = reciprocals-arm-nodes true s (bound-arm-nodes s (extract-all-end true start es formed made s e .1) clean-roots) in
         let b = extract-all-size true start es formed made s e in
         let c = total-is es in
         omega arith)
@@ -328,7 +328,7 @@ module _ (start m : ℕ) (es : List Tree) (F : AllTrees (Fit (under start) (suc 
     fused-fine N h scope ih =
         then-fine (λ (w : Work). t .next ≤ w .next) (After start) (fuse-groups scope (groups-from [] (collect-switches (roots t))) (unfused (length (s .lets)) t))
         (groups-fine N m scope ih (t .next) (groups-from [] (collect-switches (roots t))) (unfused (length (s .lets)) t) (unfold unfused in omega arith)
-        (groups-fit (under (t .next)) m (roots t) roots-fit) (collected-small N (roots t) (let q = roots-load in omega arith))) _
+        (groups-fit (under (t .next)) m (roots t) roots-fit) (collected-small N (roots t) (let q = roots-arm-nodes in omega arith))) _
         (λ w h. finish-fine start w (let q = after .later in omega arith))
 
 -- an empty scope

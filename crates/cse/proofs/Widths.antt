@@ -2,17 +2,15 @@
 use Prim.Native.Nat.{ℕ, zero, suc, _-_}
 use mathlib.Core.Path.{_≡_, refl, sym, _∙_, ap, subst}
 use mathlib.Core.Bool.{Bool, true, false, _&&_}
-use mathlib.Core.Option.{Option, none, some}
 use mathlib.Core.List.{List, [], _∷_, _++_}
 use native.Mathlib.Omega.{arith}
 use lib.ListN.{length}
 use lib.Dec.{T, eqb, leb, eqb-refl}
 use Rattle.tree.specs.Outcome.{Outcome, ok, refused, _>>=_, each}
-use Rattle.tree.specs.Facts.{all-operations}
 use Rattle.tree.specs.Tree.{Name, xname, mname, Tree, Forest, Sym, Const, Op, nil, _◂_}
 use Rattle.rewrite.specs.Rewrite.{replace}
 use Rattle.tree.specs.Rows.{occurrences}
-use Rattle.cse.specs.Extract.{Binding, State, Candidate, roots, best, replace-bound, extract, rounds, extract-all, replace-divisor-each, bind-reciprocal, bind-reciprocals, reciprocals}
+use Rattle.cse.specs.Extract.{Binding, State, roots, replace-bound, extract, extract-all, replace-divisor-each, bind-reciprocal, bind-reciprocals, reciprocals}
 use Rattle.cse.specs.Answer.{Intermediate, Intermediates, Arms, Answer, Let, Match, end, step, no-arm, arm, block}
 use Rattle.cse.specs.Order.{topo-sort-intermediates}
 use Rattle.cse.specs.Scope.{Switch, Group, Work, Scoped, Armed, members, collect-switches, groups-from, replace-in-results, replace-in-stmts, name-members, member-names, first-arms, rest-arms, columns, arms-of-members, scope-arms, fuse-group, fuse-groups, fuse-all, binds, unfused, finish, cse-scope, area-rows, as-answer, answer}
@@ -22,6 +20,8 @@ use Rattle.cse.proofs.SwitchLaws.{Fair-group, Fair-groups, groups-fair,
 use Rattle.cse.proofs.SortCount.{Every, sorted-every}
 use Rattle.cse.proofs.ReciprocalsCount.{bound-divisors, reciprocals-are}
 use Rattle.cse.proofs.ScopeRoom.{or-no-room}
+use Rattle.cse.proofs.RoundsGood.{extract-all-good}
+use Rattle.cse.proofs.RoundsCount.{begin}
 use Rattle.cse.proofs.Outcomes.{Good, then-good, any-good, good-ok, good-at}
 
 -- ---- the law
@@ -59,19 +59,9 @@ extract-long m x s h =
     (λ rs g. any-good (Long m) (each (λ b. replace-bound x (xname (s .next)) b) (s .lets)) _
     (λ ls. good-ok (Long m) (record { results = rs; lets = ls ++ (record { name = xname (s .next); expr = x } ∷ []); next = suc (s .next) }) (g ∙ h)))
 
-round-long : (m : ℕ) (s : State) → Long m s → (o : Option Candidate) (g : State → Outcome State) → ((t : State) → Long m t → Good (Long m) (g t))
-    → Good {A = State} (Long m) (elim o [ none ↦ ok s | some c ↦ (extract (c .tree) s >>= λ t. g t) ])
-round-long m s h none g f = good-ok (Long m) s h
-round-long m s h (some c) g f = then-good (Long m) (Long m) (extract (c .tree) s) (extract-long m (c .tree) s h) g f
-
-rounds-long : (m fuel : ℕ) (scoped : Bool) (s : State) → Long m s → Good (Long m) (rounds fuel scoped s)
-unfolding rounds
-rounds-long m zero scoped s h = good-ok (Long m) s h
-rounds-long m (suc fuel) scoped s h = round-long m s h (best scoped (roots s)) (λ t. rounds fuel scoped t) (λ t g. rounds-long m fuel scoped t g)
-
 extract-all-long : (scoped : Bool) (next : ℕ) (es : List Tree) → Good (Long (length es)) (extract-all scoped next es)
-unfolding extract-all
-extract-all-long scoped next es = rounds-long (length es) (all-operations es) scoped (record { results = es; lets = []; next = next }) refl
+extract-all-long scoped next es =
+    extract-all-good scoped (Long (length es)) (λ x s t c e h. good-at (Long (length es)) (extract x s) t e (extract-long (length es) x s h)) next es (unfold begin in refl)
 
 divided-long : (d : Tree) (n : Name) (l : List Tree) → length (replace-divisor-each d n l) ≡ length l
 unfolding replace-divisor-each

@@ -170,7 +170,7 @@ unfolding topo-sort-intermediates
 finish w = topo-sort-intermediates (w .inters) >>= λ l. ok (record { inters = l; results = w .results; next = w .next; extracted = w .extracted })
 
 -- The work area's rows for the inputs of open scopes, one for each occurrence: seven words of 64 bits a row, of 65,536 (01's limit is 131,072 words of 32 bits).
--- Nine inputs of 1,024 occurrences fit, and a list whose arms nest 8 deep opens no more; a switch in a bound divisor alone can make inputs outgrow the list.
+-- Nine inputs of 1,024 occurrences fit, and a list whose arms nest 8 deep opens no more; a switch in a bound divisor alone can make inputs outgrow the list (RoomEnough).
 unfoldable pub area-rows : ℕ
 area-rows = 9362
 

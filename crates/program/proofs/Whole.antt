@@ -51,7 +51,7 @@ refused-by-10-11-or-23 = refusals.refused-by-10-11-or-23
 pub scoped-refused-by-10-or-11 : (es : List Tree) → T (passes es) → Plain-divisors es → (i : Refusal) → answer true es ≡ refused i → (i ≡ by 10) ⊎ (i ≡ by 11)
 unfolding passes
 scoped-refused-by-10-or-11 es h p =
-    room.refused-by-10-or-11 es (passes-formed es (unfold passes in h)) (passes-unmade es (unfold passes in h)) (and-left (within-limits es) _ (and-right (leb (length es) 64) _ h)) p
+    room.refused-by-10-or-11 es (passes-formed es h) (passes-unmade es h) (and-left (within-limits es) _ (and-right (leb (length es) 64) _ h)) p
 
 -- in a flat answer each statement binds some `__xi`, and where i is not below the extraction count, to 1 / d
 pub flat-reciprocals : (es : List Tree) → T (passes es) → (a : Answer) → answer false es ≡ ok a → All-flat (a .extracted) (a .inters)

@@ -19,7 +19,7 @@ use Rattle.cse.specs.Extract.{State, roots, among, distinct, replace-div
 use Rattle.cse.specs.Scope.{Switch, Group, switches, collect-switches, joins, place, groups-from, members, first-arms, rest-arms, columns, arms-of-members}
 use Rattle.cse.proofs.ReciprocalsCount.{AllTrees, bound-divisors, inverse, roots-reciprocal, reciprocals-are}
 
--- ---- a tree's load: the nodes in arms of its switches outside arms
+-- ---- the nodes in arms of a tree's switches outside arms
 
 unfoldable pub sizes-of : Forest → ℕ
 unfolding size
@@ -37,38 +37,38 @@ size-is k f = ap suc (same f)
 unfoldable mutual
   unfolding sizes-of
 
-  pub load : Tree → ℕ
-  load (Sym n) = 0
-  load (Const c) = 0
-  load (Op k f) = elim (is-switch k) [ true ↦ load-first f | false ↦ loads f ]
+  pub arm-nodes : Tree → ℕ
+  arm-nodes (Sym n) = 0
+  arm-nodes (Const c) = 0
+  arm-nodes (Op k f) = elim (is-switch k) [ true ↦ arm-nodes-first f | false ↦ arm-nodes-each f ]
 
-  pub loads : Forest → ℕ
-  loads nil = 0
-  loads (t ◂ f) = load t + loads f
+  pub arm-nodes-each : Forest → ℕ
+  arm-nodes-each nil = 0
+  arm-nodes-each (t ◂ f) = arm-nodes t + arm-nodes-each f
 
-  pub load-first : Forest → ℕ
-  load-first nil = 0
-  load-first (t ◂ f) = load t + sizes-of f
+  pub arm-nodes-first : Forest → ℕ
+  arm-nodes-first nil = 0
+  arm-nodes-first (t ◂ f) = arm-nodes t + sizes-of f
 
 mutual
-  unfolding load sizes-of
+  unfolding arm-nodes sizes-of
 
-  pub load-size : (t : Tree) → load t ≤ size t
-  load-size (Sym n) = omega arith
-  load-size (Const c) = omega arith
-  load-size (Op k f) = go (is-switch k) (loads-size f) (load-first-size f)
+  pub arm-nodes-size : (t : Tree) → arm-nodes t ≤ size t
+  arm-nodes-size (Sym n) = omega arith
+  arm-nodes-size (Const c) = omega arith
+  arm-nodes-size (Op k f) = go (is-switch k) (arm-nodes-each-size f) (arm-nodes-first-size f)
     where
-      go : (b : Bool) → loads f ≤ sizes-of f → load-first f ≤ sizes-of f → elim b as (λ _. ℕ) [ true ↦ load-first f | false ↦ loads f ] ≤ size (Op k f)
+      go : (b : Bool) → arm-nodes-each f ≤ sizes-of f → arm-nodes-first f ≤ sizes-of f → elim b as (λ _. ℕ) [ true ↦ arm-nodes-first f | false ↦ arm-nodes-each f ] ≤ size (Op k f)
       go true g h = (let q = size-is k f in omega arith)
       go false g h = (let q = size-is k f in omega arith)
 
-  loads-size : (f : Forest) → loads f ≤ sizes-of f
-  loads-size nil = omega arith
-  loads-size (t ◂ f) = (let a = load-size t in let b = loads-size f in omega arith)
+  arm-nodes-each-size : (f : Forest) → arm-nodes-each f ≤ sizes-of f
+  arm-nodes-each-size nil = omega arith
+  arm-nodes-each-size (t ◂ f) = (let a = arm-nodes-size t in let b = arm-nodes-each-size f in omega arith)
 
-  load-first-size : (f : Forest) → load-first f ≤ sizes-of f
-  load-first-size nil = omega arith
-  load-first-size (t ◂ f) = (let a = load-size t in omega arith)
+  arm-nodes-first-size : (f : Forest) → arm-nodes-first f ≤ sizes-of f
+  arm-nodes-first-size nil = omega arith
+  arm-nodes-first-size (t ◂ f) = (let a = arm-nodes-size t in omega arith)
 
 -- no replaced divisor raises it
 module _ (d : Tree) (n : Name) where
@@ -77,72 +77,72 @@ module _ (d : Tree) (n : Name) where
   sizes-divided nil = omega arith
   sizes-divided (t ◂ f) = (let a = divisor-size d n t in let b = sizes-divided f in omega arith)
 
-  load-step :
-      (k : ℕ) (f : Forest) (b c : Bool) → (T b → T (divides-by d f)) → (T (divides-by d f) → (loads (dividend d n f) ≤ loads f) × (loads (dividend d n f) ≤ load-first f))
-      → loads (replace-divisors d n f) ≤ loads f → load-first (replace-divisors d n f) ≤ load-first f → (c ≡ is-switch k)
-      → load (elim b [ true ↦ Op Mul (dividend d n f) | false ↦ Op k (replace-divisors d n f) ]) ≤ elim c as (λ _. ℕ) [ true ↦ load-first f | false ↦ loads f ]
-  unfolding load
-  load-step k f true true t g h i e = g (t tt) .1
-  load-step k f true false t g h i e = g (t tt) .0
-  load-step k f false true t g h i e =
-      subst (λ (b : Bool). elim b as (λ _. ℕ) [ true ↦ load-first (replace-divisors d n f) | false ↦ loads (replace-divisors d n f) ] ≤ load-first f) e i
-  load-step k f false false t g h i e =
-      subst (λ (b : Bool). elim b as (λ _. ℕ) [ true ↦ load-first (replace-divisors d n f) | false ↦ loads (replace-divisors d n f) ] ≤ loads f) e h
+  arm-nodes-step :
+      (k : ℕ) (f : Forest) (b c : Bool) → (T b → T (divides-by d f)) → (T (divides-by d f) → (arm-nodes-each (dividend d n f) ≤ arm-nodes-each f) × (arm-nodes-each (dividend d n f) ≤ arm-nodes-first f))
+      → arm-nodes-each (replace-divisors d n f) ≤ arm-nodes-each f → arm-nodes-first (replace-divisors d n f) ≤ arm-nodes-first f → (c ≡ is-switch k)
+      → arm-nodes (elim b [ true ↦ Op Mul (dividend d n f) | false ↦ Op k (replace-divisors d n f) ]) ≤ elim c as (λ _. ℕ) [ true ↦ arm-nodes-first f | false ↦ arm-nodes-each f ]
+  unfolding arm-nodes
+  arm-nodes-step k f true true t g h i e = g (t tt) .1
+  arm-nodes-step k f true false t g h i e = g (t tt) .0
+  arm-nodes-step k f false true t g h i e =
+      subst (λ (b : Bool). elim b as (λ _. ℕ) [ true ↦ arm-nodes-first (replace-divisors d n f) | false ↦ arm-nodes-each (replace-divisors d n f) ] ≤ arm-nodes-first f) e i
+  arm-nodes-step k f false false t g h i e =
+      subst (λ (b : Bool). elim b as (λ _. ℕ) [ true ↦ arm-nodes-first (replace-divisors d n f) | false ↦ arm-nodes-each (replace-divisors d n f) ] ≤ arm-nodes-each f) e h
 
   mutual
-    unfolding replace-divisor load divides-by
+    unfolding replace-divisor arm-nodes divides-by
 
-    pub load-divided : (t : Tree) → load (replace-divisor d n t) ≤ load t
-    load-divided (Sym s) = omega arith
-    load-divided (Const c) = omega arith
-    load-divided (Op k f) =
-        load-step k f (eqb k Div && divides-by d f) (is-switch k) (and-right (eqb k Div) (divides-by d f)) (λ t. load-dividend f t) (loads-divided f) (load-first-divided f) refl
+    pub arm-nodes-divided : (t : Tree) → arm-nodes (replace-divisor d n t) ≤ arm-nodes t
+    arm-nodes-divided (Sym s) = omega arith
+    arm-nodes-divided (Const c) = omega arith
+    arm-nodes-divided (Op k f) =
+        arm-nodes-step k f (eqb k Div && divides-by d f) (is-switch k) (and-right (eqb k Div) (divides-by d f)) (λ t. arm-nodes-dividend f t) (arm-nodes-each-divided f) (arm-nodes-first-divided f) refl
 
-    loads-divided : (f : Forest) → loads (replace-divisors d n f) ≤ loads f
-    loads-divided nil = omega arith
-    loads-divided (t ◂ f) = (let a = load-divided t in let b = loads-divided f in omega arith)
+    arm-nodes-each-divided : (f : Forest) → arm-nodes-each (replace-divisors d n f) ≤ arm-nodes-each f
+    arm-nodes-each-divided nil = omega arith
+    arm-nodes-each-divided (t ◂ f) = (let a = arm-nodes-divided t in let b = arm-nodes-each-divided f in omega arith)
 
-    load-first-divided : (f : Forest) → load-first (replace-divisors d n f) ≤ load-first f
-    load-first-divided nil = omega arith
-    load-first-divided (t ◂ f) = (let a = load-divided t in let b = sizes-divided f in omega arith)
+    arm-nodes-first-divided : (f : Forest) → arm-nodes-first (replace-divisors d n f) ≤ arm-nodes-first f
+    arm-nodes-first-divided nil = omega arith
+    arm-nodes-first-divided (t ◂ f) = (let a = arm-nodes-divided t in let b = sizes-divided f in omega arith)
 
-    load-dividend : (f : Forest) → T (divides-by d f) → (loads (dividend d n f) ≤ loads f) × (loads (dividend d n f) ≤ load-first f)
-    load-dividend nil t = absurd t
-    load-dividend (a ◂ f) t = (let q = load-divided a in (omega arith, omega arith))
+    arm-nodes-dividend : (f : Forest) → T (divides-by d f) → (arm-nodes-each (dividend d n f) ≤ arm-nodes-each f) × (arm-nodes-each (dividend d n f) ≤ arm-nodes-first f)
+    arm-nodes-dividend nil t = absurd t
+    arm-nodes-dividend (a ◂ f) t = (let q = arm-nodes-divided a in (omega arith, omega arith))
 
--- ---- the load of a scope's roots after its reciprocals, where the bound divisors have none
+-- ---- the same of a scope's roots after its reciprocals, where the bound divisors have none
 
-divided-load : (d : Tree) (n : Name) (l : List Tree) → sum-of load (replace-divisor-each d n l) ≤ sum-of load l
+divided-arm-nodes : (d : Tree) (n : Name) (l : List Tree) → sum-of arm-nodes (replace-divisor-each d n l) ≤ sum-of arm-nodes l
 unfolding replace-divisor-each sum-of
-divided-load d n [] = omega arith
-divided-load d n (t ∷ l) = (let a = load-divided d n t in let b = divided-load d n l in omega arith)
+divided-arm-nodes d n [] = omega arith
+divided-arm-nodes d n (t ∷ l) = (let a = arm-nodes-divided d n t in let b = divided-arm-nodes d n l in omega arith)
 
-inverse-load : (d : Tree) → sum-of load (inverse d ∷ []) ≡ load d
-unfolding inverse load sum-of
-inverse-load d = omega arith
+inverse-arm-nodes : (d : Tree) → sum-of arm-nodes (inverse d ∷ []) ≡ arm-nodes d
+unfolding inverse arm-nodes sum-of
+inverse-arm-nodes d = omega arith
 
-each-load : (ds : List Tree) (s : State) → AllTrees (λ d. load d ≤ 0) ds → sum-of load (roots (bind-reciprocals ds s)) ≤ sum-of load (roots s)
+each-arm-nodes : (ds : List Tree) (s : State) → AllTrees (λ d. arm-nodes d ≤ 0) ds → sum-of arm-nodes (roots (bind-reciprocals ds s)) ≤ sum-of arm-nodes (roots s)
 unfolding bind-reciprocals
-each-load [] s h = omega arith
-each-load (d ∷ ds) s h =
-    (let a = each-load ds (bind-reciprocal d s) (h .1) in
-    let b : sum-of load (roots (bind-reciprocal d s)) ≡ sum-of load (replace-divisor-each d (xname (s .next)) (roots s)) + sum-of load (inverse d ∷ []) =
-    ap (sum-of load) (roots-reciprocal d s) ∙ sum-append load (replace-divisor-each d (xname (s .next)) (roots s)) (inverse d ∷ []) in
-    let c = divided-load d (xname (s .next)) (roots s) in
-    let e = inverse-load d in
+each-arm-nodes [] s h = omega arith
+each-arm-nodes (d ∷ ds) s h =
+    (let a = each-arm-nodes ds (bind-reciprocal d s) (h .1) in
+    let b : sum-of arm-nodes (roots (bind-reciprocal d s)) ≡ sum-of arm-nodes (replace-divisor-each d (xname (s .next)) (roots s)) + sum-of arm-nodes (inverse d ∷ []) =
+    ap (sum-of arm-nodes) (roots-reciprocal d s) ∙ sum-append arm-nodes (replace-divisor-each d (xname (s .next)) (roots s)) (inverse d ∷ []) in
+    let c = divided-arm-nodes d (xname (s .next)) (roots s) in
+    let e = inverse-arm-nodes d in
     let z = h .0 in
     omega arith)
 
-sum-load-size : (l : List Tree) → sum-of load l ≤ sum-of size l
+sum-arm-nodes : (l : List Tree) → sum-of arm-nodes l ≤ sum-of size l
 unfolding sum-of
-sum-load-size [] = omega arith
-sum-load-size (t ∷ l) = (let a = load-size t in let b = sum-load-size l in omega arith)
+sum-arm-nodes [] = omega arith
+sum-arm-nodes (t ∷ l) = (let a = arm-nodes-size t in let b = sum-arm-nodes l in omega arith)
 
-pub reciprocals-load : (scoped : Bool) (s : State) → AllTrees (λ d. load d ≤ 0) (bound-divisors scoped s) → sum-of load (roots (reciprocals scoped s)) ≤ sum-of size (roots s)
-reciprocals-load scoped s h =
-    (let a = each-load (bound-divisors scoped s) s h in
-    let b = ap (λ (u : State). sum-of load (roots u)) (reciprocals-are scoped s) in
-    let c = sum-load-size (roots s) in
+pub reciprocals-arm-nodes : (scoped : Bool) (s : State) → AllTrees (λ d. arm-nodes d ≤ 0) (bound-divisors scoped s) → sum-of arm-nodes (roots (reciprocals scoped s)) ≤ sum-of size (roots s)
+reciprocals-arm-nodes scoped s h =
+    (let a = each-arm-nodes (bound-divisors scoped s) s h in
+    let b = ap (λ (u : State). sum-of arm-nodes (roots u)) (reciprocals-are scoped s) in
+    let c = sum-arm-nodes (roots s) in
     omega arith)
 
 -- ---- the switches outside arms
@@ -159,31 +159,31 @@ arms-size (Const c) = 0
 arms-size (Op k f) = elim (is-switch k) [ true ↦ rest-sizes f | false ↦ 0 ]
 
 mutual
-  unfolding outer load arms-size sum-of
+  unfolding outer arm-nodes arms-size sum-of
 
-  outer-load : (t : Tree) → sum-of arms-size (outer t) ≤ load t
-  outer-load (Sym n) = omega arith
-  outer-load (Const c) = omega arith
-  outer-load (Op k f) = go (is-switch k) (outer-of-load f) (outer-first-load f)
+  outer-arm-nodes : (t : Tree) → sum-of arms-size (outer t) ≤ arm-nodes t
+  outer-arm-nodes (Sym n) = omega arith
+  outer-arm-nodes (Const c) = omega arith
+  outer-arm-nodes (Op k f) = go (is-switch k) (outer-of-arm-nodes f) (outer-first-arm-nodes f)
     where
-      go : (b : Bool) → sum-of arms-size (outer-of f) ≤ loads f → rest-sizes f + sum-of arms-size (outer-first f) ≤ load-first f
+      go : (b : Bool) → sum-of arms-size (outer-of f) ≤ arm-nodes-each f → rest-sizes f + sum-of arms-size (outer-first f) ≤ arm-nodes-first f
           → elim b as (λ _. ℕ) [ true ↦ rest-sizes f | false ↦ 0 ] + sum-of arms-size (elim b as (λ _. List Tree) [ true ↦ outer-first f | false ↦ outer-of f ])
-          ≤ elim b as (λ _. ℕ) [ true ↦ load-first f | false ↦ loads f ]
+          ≤ elim b as (λ _. ℕ) [ true ↦ arm-nodes-first f | false ↦ arm-nodes-each f ]
       go true g h = h
       go false g h = omega arith
 
-  outer-first-load : (f : Forest) → rest-sizes f + sum-of arms-size (outer-first f) ≤ load-first f
-  outer-first-load nil = omega arith
-  outer-first-load (q ◂ f) = (let a = outer-load q in omega arith)
+  outer-first-arm-nodes : (f : Forest) → rest-sizes f + sum-of arms-size (outer-first f) ≤ arm-nodes-first f
+  outer-first-arm-nodes nil = omega arith
+  outer-first-arm-nodes (q ◂ f) = (let a = outer-arm-nodes q in omega arith)
 
-  outer-of-load : (f : Forest) → sum-of arms-size (outer-of f) ≤ loads f
-  outer-of-load nil = omega arith
-  outer-of-load (t ◂ f) = (let a = outer-load t in let b = outer-of-load f in let c = sum-append arms-size (outer t) (outer-of f) in omega arith)
+  outer-of-arm-nodes : (f : Forest) → sum-of arms-size (outer-of f) ≤ arm-nodes-each f
+  outer-of-arm-nodes nil = omega arith
+  outer-of-arm-nodes (t ◂ f) = (let a = outer-arm-nodes t in let b = outer-of-arm-nodes f in let c = sum-append arms-size (outer t) (outer-of f) in omega arith)
 
-all-outer-load : (l : List Tree) → sum-of arms-size (all-outer l) ≤ sum-of load l
+all-outer-arm-nodes : (l : List Tree) → sum-of arms-size (all-outer l) ≤ sum-of arm-nodes l
 unfolding all-outer sum-of
-all-outer-load [] = omega arith
-all-outer-load (t ∷ l) = (let a = outer-load t in let b = all-outer-load l in let c = sum-append arms-size (outer t) (all-outer l) in omega arith)
+all-outer-arm-nodes [] = omega arith
+all-outer-arm-nodes (t ∷ l) = (let a = outer-arm-nodes t in let b = all-outer-arm-nodes l in let c = sum-append arms-size (outer t) (all-outer l) in omega arith)
 
 distinct-sum : (v : Tree → ℕ) (seen l : List Tree) → sum-of v (distinct seen l) ≤ sum-of v l
 unfolding distinct sum-of
@@ -220,9 +220,9 @@ switches-total (Op k (q ◂ f) ∷ l) = go (is-switch k) (switches-total l)
     go true h = (let a = operands-total f in omega arith)
     go false h = omega arith
 
-pub collected-total : (rs : List Tree) → arms-total (collect-switches rs) ≤ sum-of load rs
+pub collected-total : (rs : List Tree) → arms-total (collect-switches rs) ≤ sum-of arm-nodes rs
 unfolding collect-switches
-collected-total rs = (let a = switches-total (distinct [] (all-outer rs)) in let b = distinct-sum arms-size [] (all-outer rs) in let c = all-outer-load rs in omega arith)
+collected-total rs = (let a = switches-total (distinct [] (all-outer rs)) in let b = distinct-sum arms-size [] (all-outer rs) in let c = all-outer-arm-nodes rs in omega arith)
 
 -- ---- groups and columns: N bounds the arms of each group, and each arm has a property
 
@@ -287,7 +287,7 @@ unfolding groups-total
 groups-small N [] h = tt
 groups-small N (g ∷ gs) h = (omega arith, groups-small N gs (omega arith))
 
-pub collected-small : (N : ℕ) (rs : List Tree) → sum-of load rs ≤ N → Small-groups N (groups-from [] (collect-switches rs))
+pub collected-small : (N : ℕ) (rs : List Tree) → sum-of arm-nodes rs ≤ N → Small-groups N (groups-from [] (collect-switches rs))
 collected-small N rs h =
     groups-small N (groups-from [] (collect-switches rs))
     (let a = from-total [] (collect-switches rs) in let b = collected-total rs in let c : groups-total [] ≡ 0 = (unfold groups-total in refl) in omega arith)
