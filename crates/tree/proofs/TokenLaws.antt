@@ -41,6 +41,14 @@ pub operation-takes : (w : ℕ) → 1 < kind-of w → takes w ≡ below-of w
 unfolding takes
 operation-takes w h = rw (lt-leb (kind-of w) 1 h)
 
+pub takes-below : (w : ℕ) → takes w ≤ below-of w
+takes-below w = go (word-is w)
+  where
+    go : Word w → takes w ≤ below-of w
+    go (a-symbol h) = omega (arith, leaf-takes w (omega arith))
+    go (a-constant h) = omega (arith, leaf-takes w (omega arith))
+    go (an-operation h) = omega (arith, operation-takes w h)
+
 module _ (name-at : ℕ → List ℕ) where
   pub symbol-tree : (w : ℕ) (l : List Tree) → kind-of w ≡ 0 → tree-of-word name-at w l ≡ Sym (name-by name-at (below-of w % 3) (below-of w / 3))
   unfolding tree-of-word
