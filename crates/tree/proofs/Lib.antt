@@ -3,3 +3,4 @@ pub mod Logic
 pub mod Formed
 pub mod Examples
 pub mod TokenLaws
+pub mod FactLaws

@@ -318,8 +318,13 @@ module _ (name-at : ℕ → List ℕ) where
       let t = complete-tail w ws n e in
       let l = complete-length ws (t .trees) (t .are) in
       let h : takes w ≤ length (read name-at ws) = omega (arith, t) in
-      rw (read-cons name-at w (ws ++ more), read-cons name-at w ws, complete-read ws more (t .trees) (t .are),
-        take-append-le (takes w) (read name-at ws) (read name-at more) h, drop-append-le (takes w) (read name-at ws) (read name-at more) h)
+      rw (
+        read-cons name-at w (ws ++ more),
+        read-cons name-at w ws,
+        complete-read ws more (t .trees) (t .are),
+        take-append-le (takes w) (read name-at ws) (read name-at more) h,
+        drop-append-le (takes w) (read name-at ws) (read name-at more) h,
+      )
 
 -- ---- the words of the first trees
 

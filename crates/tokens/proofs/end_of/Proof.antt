@@ -42,7 +42,7 @@ operand-count-requires : tie.Need-operand-count-requires Inv-loop μ-loop
 operand-count-requires c κs = search needs
 
 add-left : tie.Need-add-left Inv-loop μ-loop
-add-left c = 
+add-left c =
     let w = getD (c .before .before .before .before .before .before .before .args .tokens .now) (c .before .before .before .before .loop .i) 0 in
     omega (arith, c .before .before .before .before .loop .inv, c .before .before .before .before .before .before .before .good .0, c .operand-count .ensures, takes-below w, c .before .shared-slice-known2 .given (c .before .before .before .before .loop .i))
 
