@@ -4,3 +4,4 @@ pub mod Formed
 pub mod Examples
 pub mod TokenLaws
 pub mod FactLaws
+pub mod TokenCode
