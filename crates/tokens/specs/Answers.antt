@@ -10,6 +10,8 @@ use Rattle.tokens.specs.declared.Trees.{Trees}
 use Rattle.tokens.specs.declared.Trees.the-variants as trees
 use Rattle.tokens.specs.declared.Run.{Run}
 use Rattle.tokens.specs.declared.Run.the-variants as run
+use Rattle.tokens.specs.declared.Equality.{Equality}
+use Rattle.tokens.specs.declared.Equality.the-variants as equality
 use Rattle.tokens.specs.declared.Measured.{Measured}
 use Rattle.tokens.specs.declared.Measured.the-variants as measure
 
@@ -21,6 +23,12 @@ counted (some n) = trees.Count n
 unfoldable pub ended : ℕ → Option ℕ → Run
 ended at none = run.Broken
 ended at (some n) = run.Ends (at + n)
+
+-- whether two trees are equal, where both are there
+unfoldable pub compared : Option Bool → Equality
+compared none = equality.Broken
+compared (some true) = equality.Equal
+compared (some false) = equality.Different
 
 -- what `measure` answers, and the facts after it
 pub record Measurement : Type 0 where

@@ -3,10 +3,11 @@
 ghost use mathlib.Core.Path.{_≡_};
 ghost use mathlib.Core.List.{_++_};
 ghost use Prim.Native.Nat.{_+_, _*_, _^_, _≤_, _<_, max};
-ghost use lib.ListN.{length, getD, drop};
+ghost use lib.ListN.{length, getD, take, drop};
+ghost use Rattle.tree.specs.Bytes.{eq-bytes};
 ghost use Rattle.tree.specs.Facts.{total, greatest};
-ghost use Rattle.tree.specs.Tokens.{takes, trees-in, run-at, numbered, trees-at, all-facts};
-ghost use Rattle.tokens.specs.Answers.{counted, ended, measured};
+ghost use Rattle.tree.specs.Tokens.{takes, trees-in, run-at, same-at, numbered, trees-at, all-facts};
+ghost use Rattle.tokens.specs.Answers.{counted, ended, compared, measured};
 ghost use Rattle.tokens.specs.Columns.{column, Inside, Ready, own-operation, own-symbol, operand-costs, WordFacts, Complete};
 
 pub enum Trees {
@@ -17,6 +18,12 @@ pub enum Trees {
 pub enum Run {
     // The place after the tree.
     Ends(usize),
+    Broken,
+}
+
+pub enum Equality {
+    Equal,
+    Different,
     Broken,
 }
 
@@ -208,4 +215,40 @@ pub fn measure(tokens: &[u64], facts: &mut [u64]) -> Measured
     };
     fill(tokens, facts);
     Measured::Done
+}
+
+// Whether the n words from i on are those from j on.
+fn equal_runs(tokens: &[u64], i: usize, j: usize, n: usize) -> bool
+    requires { ⌜ (i + n ≤ length (now tokens)) × (j + n ≤ length (now tokens)) ⌝ }
+    ensures { λ r. ⌜ r ≡ eq-bytes (take n (drop i (now (tokens .entry)))) (take n (drop j (now (tokens .entry)))) ⌝ }
+{
+    let mut k = 0;
+    while k < n {
+        if tokens[i + k] != tokens[j + k] {
+            return false;
+        }
+        k += 1;
+    }
+    true
+}
+
+// Whether the trees at i and j are equal: their words are, as many of them and each the same.
+pub fn same(tokens: &[u64], i: usize, j: usize) -> Equality
+    ensures { λ r. ⌜ r ≡ compared (same-at (now (tokens .entry)) i j) ⌝ }
+{
+    let Run::Ends(e) = end_of(tokens, i) else {
+        return Equality::Broken;
+    };
+    let Run::Ends(f) = end_of(tokens, j) else {
+        return Equality::Broken;
+    };
+    let n = e - i;
+    if n != f - j {
+        return Equality::Different;
+    }
+    if equal_runs(tokens, i, j, n) {
+        Equality::Equal
+    } else {
+        Equality::Different
+    }
 }
