@@ -8,9 +8,6 @@ use Rattle.tokens.proofs.Counting.{Counting, counting-starts, counting-
 use borrow.Author.Needs.{needs}
 use Rattle.tokens.proofs.count_trees.Statement.{statement}
 use Rattle.tokens.proofs.count_trees.Tie as tie
-use Rattle.tokens.proofs.count_trees.Reads as reads
-use Rattle.tokens.proofs.count_trees.Lts as lts
-use Rattle.tokens.proofs.operand_count.Reads as operand-count-reads
 
 abbrev Inv-loop : tie.InvT-loop
 Inv-loop tokens count₀ i₀ count i = Counting tokens i count

@@ -7,9 +7,6 @@ use Rattle.tokens.proofs.Counting.{Ending, ending-starts, ending-past, 
 use borrow.Author.Needs.{needs}
 use Rattle.tokens.proofs.end_of.Statement.{statement}
 use Rattle.tokens.proofs.end_of.Tie as tie
-use Rattle.tokens.proofs.end_of.Reads as reads
-use Rattle.tokens.proofs.end_of.Lts as lts
-use Rattle.tokens.proofs.operand_count.Reads as operand-count-reads
 
 abbrev Inv-loop : tie.InvT-loop
 Inv-loop tokens at i₀ left₀ i left = Ending tokens at i left

@@ -8,8 +8,6 @@ use Rattle.tokens.proofs.Comparing.{runs-equal, runs-differ}
 use borrow.Author.Needs.{needs}
 use Rattle.tokens.proofs.equal_runs.Statement.{statement}
 use Rattle.tokens.proofs.equal_runs.Tie as tie
-use Rattle.tokens.proofs.equal_runs.Reads as reads
-use Rattle.tokens.proofs.equal_runs.Lts as lts
 
 abbrev Inv-loop : tie.InvT-loop
 Inv-loop tokens i j n k₀ k = (k ≤ n) × ((m : ℕ) → m < k → getD tokens (i + m) 0 ≡ getD tokens (j + m) 0)

@@ -8,14 +8,6 @@ use Rattle.tokens.proofs.Walking.{Small, small, operands-small, own-one
 use borrow.Author.Needs.{needs}
 use Rattle.tokens.proofs.facts_at.Statement.{statement}
 use Rattle.tokens.proofs.facts_at.Tie as tie
-use Rattle.tokens.proofs.facts_at.Reads as reads
-use Rattle.tokens.proofs.facts_at.Lts as lts
-use Rattle.tokens.proofs.greatest_of.Reads as greatest-of-reads
-use Rattle.tokens.proofs.operand_count.Reads as operand-count-reads
-use Rattle.tokens.proofs.operands_cost.Reads as operands-cost-reads
-use Rattle.tokens.proofs.operation_of.Reads as operation-of-reads
-use Rattle.tokens.proofs.symbol_of.Reads as symbol-of-reads
-use Rattle.tokens.proofs.total_of.Reads as total-of-reads
 
 pub facts-at-spec : {M : Type 1} → statement M
 facts-at-spec =

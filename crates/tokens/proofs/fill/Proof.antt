@@ -5,9 +5,6 @@ use Rattle.tokens.proofs.Filling.{Filling, filling-starts, filling-read
 use borrow.Author.Needs.{needs}
 use Rattle.tokens.proofs.fill.Statement.{statement}
 use Rattle.tokens.proofs.fill.Tie as tie
-use Rattle.tokens.proofs.fill.Reads as reads
-use Rattle.tokens.proofs.fill.Lts as lts
-use Rattle.tokens.proofs.facts_at.Reads as facts-at-reads
 
 abbrev Inv-loop : tie.InvT-loop
 Inv-loop tokens facts₀ i₀ facts i = Filling tokens facts₀ facts i

@@ -4,9 +4,6 @@ use Rattle.tokens.proofs.Walking.{Seeking, seeking, seek-turn, seek-end
 use borrow.Author.Needs.{needs}
 use Rattle.tokens.proofs.greatest_of.Statement.{statement}
 use Rattle.tokens.proofs.greatest_of.Tie as tie
-use Rattle.tokens.proofs.greatest_of.Reads as reads
-use Rattle.tokens.proofs.greatest_of.Lts as lts
-use Rattle.tokens.proofs.larger.Reads as larger-reads
 
 abbrev Inv-loop : tie.InvT-loop
 Inv-loop facts fact place count most₀ p₀ left₀ most p left = Seeking facts fact place count most p left

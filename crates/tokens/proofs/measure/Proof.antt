@@ -5,10 +5,6 @@ use Rattle.tokens.proofs.Measuring.{gives-no-room, gives-broken, gives-
 use borrow.Author.Needs.{needs}
 use Rattle.tokens.proofs.measure.Statement.{statement}
 use Rattle.tokens.proofs.measure.Tie as tie
-use Rattle.tokens.proofs.measure.Reads as reads
-use Rattle.tokens.proofs.measure.Lts as lts
-use Rattle.tokens.proofs.count_trees.Reads as count-trees-reads
-use Rattle.tokens.proofs.fill.Reads as fill-reads
 
 pub measure-spec : {M : Type 1} → statement M
 measure-spec =

@@ -1,11 +1,8 @@
 -- `tokens::operand_count` meets its contract. Assumes nothing.
 use mathlib.Core.Path.{sym}
 use Rattle.tree.proofs.TokenLaws.{leaf-takes, operation-takes}
-use borrow.Author.Needs.{needs}
 use Rattle.tokens.proofs.operand_count.Statement.{statement}
 use Rattle.tokens.proofs.operand_count.Tie as tie
-use Rattle.tokens.proofs.operand_count.Reads as reads
-use Rattle.tokens.proofs.operand_count.Lts as lts
 
 returns : tie.Need-returns
 returns c = sym (leaf-takes (c .before .args .w) (c .if1 .taken))

@@ -6,10 +6,6 @@ use Rattle.tokens.proofs.Walking.{Arms, arms, costs-sum, costs-none}
 use borrow.Author.Needs.{needs}
 use Rattle.tokens.proofs.operands_cost.Statement.{statement}
 use Rattle.tokens.proofs.operands_cost.Tie as tie
-use Rattle.tokens.proofs.operands_cost.Reads as reads
-use Rattle.tokens.proofs.operands_cost.Lts as lts
-use Rattle.tokens.proofs.greatest_of.Reads as greatest-of-reads
-use Rattle.tokens.proofs.total_of.Reads as total-of-reads
 
 pub operands-cost-spec : {M : Type 1} → statement M
 operands-cost-spec =

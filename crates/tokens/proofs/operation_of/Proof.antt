@@ -1,11 +1,8 @@
 -- `tokens::operation_of` meets its contract. Assumes nothing.
 use mathlib.Core.Path.{sym}
 use Rattle.tokens.proofs.WordFacts.{leaf-own, operation-own}
-use borrow.Author.Needs.{needs}
 use Rattle.tokens.proofs.operation_of.Statement.{statement}
 use Rattle.tokens.proofs.operation_of.Tie as tie
-use Rattle.tokens.proofs.operation_of.Reads as reads
-use Rattle.tokens.proofs.operation_of.Lts as lts
 
 returns : tie.Need-returns
 returns c = sym (leaf-own (c .before .args .w) (c .if1 .taken))

@@ -8,10 +8,6 @@ use Rattle.tokens.proofs.Comparing.{run-ends, run-after, first-broken, 
 use borrow.Author.Needs.{needs}
 use Rattle.tokens.proofs.same.Statement.{statement}
 use Rattle.tokens.proofs.same.Tie as tie
-use Rattle.tokens.proofs.same.Reads as reads
-use Rattle.tokens.proofs.same.Lts as lts
-use Rattle.tokens.proofs.end_of.Reads as end-of-reads
-use Rattle.tokens.proofs.equal_runs.Reads as equal-runs-reads
 
 returns-4 : tie.Need-returns-4
 unfolding compared

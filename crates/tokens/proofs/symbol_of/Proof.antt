@@ -2,11 +2,8 @@
 use native.Mathlib.Omega.{arith}
 use mathlib.Core.Path.{sym}
 use Rattle.tokens.proofs.WordFacts.{symbol-own, other-own}
-use borrow.Author.Needs.{needs}
 use Rattle.tokens.proofs.symbol_of.Statement.{statement}
 use Rattle.tokens.proofs.symbol_of.Tie as tie
-use Rattle.tokens.proofs.symbol_of.Reads as reads
-use Rattle.tokens.proofs.symbol_of.Lts as lts
 
 returns : tie.Need-returns
 returns c = sym (symbol-own (c .before .args .w) (c .if1 .taken))
