@@ -1,5 +1,5 @@
 -- Equal runs of words are equal trees, and what `same` answers in each case. Assumes nothing.
-use Prim.Native.Nat.{ℕ, zero, suc, _+_, _-_, _≤_, _<_}
+use Prim.Native.Nat.{ℕ, _+_, _-_, _≤_, _<_}
 use native.Mathlib.Omega.{arith}
 use mathlib.Core.Path.{_≡_, refl, sym, _∙_, ap, subst}
 use mathlib.Core.Bool.{Bool, true, false}
@@ -10,14 +10,13 @@ use lib.Seq.{ext-getD, getD-take, getD-drop, length-take-le}
 use lib.Dec.{T}
 use Rattle.tree.specs.Bytes.{eq-bytes}
 use Rattle.tree.specs.Tree.{Tree, Op, nil, eq-tree}
-use Rattle.tree.specs.Tokens.{trees-in, trees-at, read, numbered, all-tokens, words-of, run-at, same-at}
+use Rattle.tree.specs.Tokens.{trees-at, read, numbered, all-tokens, words-of, run-at, same-at}
 use Rattle.tree.proofs.TreeLaws.{eq-bytes-sound, eq-bytes-refl, eq-tree-sound, eq-tree-refl}
-use Rattle.tree.proofs.TokenLaws.{words-tail, words-complete, complete-read, complete-length}
+use Rattle.tree.proofs.TokenLaws.{tree-at, words-tail, words-complete, complete-read, complete-length}
 use Rattle.tree.proofs.TokenCode.{unnumbered, writes-back}
 use Rattle.tokens.specs.Answers.{ended, compared}
 use Rattle.tokens.specs.declared.Run.the-variants as run
 use Rattle.tokens.specs.declared.Equality.the-variants as equality
-use Rattle.tokens.proofs.Filling.{tree-at}
 
 -- ---- a test as an equation
 
@@ -56,7 +55,7 @@ runs-differ ws i j n k h ne =
 
 -- ---- the tree of a run
 
-abbrev tree : List ℕ → ℕ → Tree
+abbrev pub tree : List ℕ → ℕ → Tree
 tree ws i = getD (trees-at numbered ws) i (Op 0 nil)
 
 record RunTree (ws : List ℕ) (i n : ℕ) : Type 0 where
@@ -85,7 +84,7 @@ run-tree ws i n e =
     let r = complete-read numbered words (drop n us) 1 (k .1) in
     let whole : read numbered us ≡ read numbered words ++ read numbered (drop n us) = rw take-append-drop at r in
     let is : tree ws i ≡ getD (read numbered words) 0 (Op 0 nil) =
-    tree-at ws i ∙ (ap (λ (q : List Tree). getD q 0 (Op 0 nil)) whole ∙ first (read numbered words) (read numbered (drop n us)) l) in
+    tree-at numbered ws i ∙ (ap (λ (q : List Tree). getD q 0 (Op 0 nil)) whole ∙ first (read numbered words) (read numbered (drop n us)) l) in
     record {
       within = k .0;
       from = is;
@@ -119,7 +118,7 @@ run-some [] k e = absurd (let z : _≡_ {A = ℕ} 0 1 = nothing k e in omega ari
 run-some (w ∷ us) k e = omega (arith, words-tail w us 0 k e)
 
 module _ (ws : List ℕ) (i j n m : ℕ) (ri : run-at ws i ≡ some n) (rj : run-at ws j ≡ some m) where
-  compared-is : compared (same-at ws i j) ≡ compared (some (eq-tree (tree ws i) (tree ws j)))
+  pub compared-is : compared (same-at ws i j) ≡ compared (some (eq-tree (tree ws i) (tree ws j)))
   unfolding same-at
   compared-is = ap compared (both-runs (run-at ws i) (run-at ws j) (eq-tree (tree ws i) (tree ws j)) n m ri rj)
 

@@ -1,16 +1,15 @@
 -- What the loops of `count_trees` and `end_of` keep, with no code in it. Assumes nothing.
-use Prim.Native.Nat.{ℕ, zero, suc, _+_, _-_, _≤_, _<_}
+use Prim.Native.Nat.{ℕ, suc, _+_, _-_, _≤_, _<_}
 use native.Mathlib.Omega.{arith}
 use mathlib.Core.Path.{_≡_, refl, sym, _∙_, ap}
 use mathlib.Core.Option.{Option, none, some}
-use mathlib.Core.List.{List, [], _∷_}
+use mathlib.Core.List.{List, _∷_}
 use lib.ListN.{length, getD, drop, length-drop, drop-of-length-le}
 use lib.Seq.{drop-cons, drop-length}
 use Rattle.tree.specs.Tokens.{takes, trees-in, words-of, run-at}
 use Rattle.tree.proofs.TokenLaws.{complete-cons, broken-here, broken-end, complete-within, words-none, words-short}
 use Rattle.tokens.specs.Answers.{counted, ended}
 use Rattle.tokens.specs.declared.Trees.the-variants as trees
-use Rattle.tokens.specs.declared.Run.{Run}
 use Rattle.tokens.specs.declared.Run.the-variants as run
 
 -- the words from one place earlier on

@@ -2,15 +2,15 @@
 use Prim.Native.Nat.{ℕ, zero, suc, _+_, _-_, _*_, _≤_, _<_}
 use native.Mathlib.Omega.{arith}
 use native.Mathlib.Nat.{add-zero}
-use mathlib.Core.Path.{_≡_, refl, sym, _∙_, ap, subst}
+use mathlib.Core.Path.{_≡_, refl, sym, _∙_, ap}
 use mathlib.Core.Option.{Option, none, some}
 use mathlib.Core.List.{List, [], _∷_, _++_, append-assoc, map}
-use lib.ListN.{length, getD, take, drop, set, length-append, length-take, length-drop, length-set, List·getD-append, take-append-drop}
-use lib.Seq.{sets, sets-eq, take-append-le, take-take, take-at, drop-at, drop-drop, drop-cons, drop-length, getD-append-add, getD-drop, length-take-le}
+use lib.ListN.{length, getD, take, drop, set, length-append, length-drop, List·getD-append, take-append-drop}
+use lib.Seq.{sets, sets-eq, take-append-le, take-take, drop-at, drop-drop, drop-cons, drop-length, getD-append-add, length-take-le}
 use Rattle.tree.specs.Tree.{Tree, Op, nil}
 use Rattle.tree.specs.Facts.{total, size, cost, depth, operations, has-symbol}
 use Rattle.tree.specs.Tokens.{takes, trees-in, trees-at, read, numbered, flag, facts, all-facts}
-use Rattle.tree.proofs.TokenLaws.{sizes, sizes-append, size-made, read-past, read-size, read-cons, trees-length, trees-drop, trees-cons, made, complete-tail, broken-end, complete-length}
+use Rattle.tree.proofs.TokenLaws.{sizes, sizes-append, size-made, read-past, read-size, trees-length, trees-cons, made, tree-at, complete-tail, broken-end, complete-length}
 use Rattle.tree.proofs.FactLaws.{cost-size, depth-size, operations-size, flag-one, size-one}
 use Rattle.tokens.specs.Columns.{column, Inside, Ready, WordFacts, Complete}
 use Rattle.tokens.proofs.WordFacts.{cost-made, depth-made, operations-made, symbol-made}
@@ -20,12 +20,12 @@ use Rattle.tokens.proofs.WordFacts.{cost-made, depth-made, operations-m
 abbrev pub fact : ℕ → Tree → ℕ
 fact c t = getD (facts t) c 0
 
-all-facts-length : (l : List Tree) → length (all-facts l) ≡ 5 * length l
+pub all-facts-length : (l : List Tree) → length (all-facts l) ≡ 5 * length l
 unfolding all-facts facts
 all-facts-length [] = refl
 all-facts-length (t ∷ l) = omega (arith, all-facts-length l)
 
-all-facts-at : (l : List Tree) (k c : ℕ) → k < length l → c < 5 → getD (all-facts l) (5 * k + c) 0 ≡ fact c (getD l k (Op 0 nil))
+pub all-facts-at : (l : List Tree) (k c : ℕ) → k < length l → c < 5 → getD (all-facts l) (5 * k + c) 0 ≡ fact c (getD l k (Op 0 nil))
 unfolding all-facts facts
 all-facts-at [] k c h b = absurd (omega arith)
 all-facts-at (t ∷ l) zero c h b =
@@ -56,17 +56,6 @@ facts-sizes c (t ∷ l) h = omega (arith, fact-size c t h, facts-sizes c l h)
 unfoldable pub filled : List ℕ → List ℕ → ℕ → List ℕ
 filled ws old i = take (5 * i) old ++ (all-facts (trees-at numbered (drop i ws)) ++ drop (5 * length ws) old)
 
-first-tree : (ws : List ℕ) → getD (trees-at numbered ws) 0 (Op 0 nil) ≡ getD (read numbered ws) 0 (Op 0 nil)
-unfolding trees-at read
-first-tree [] = refl
-first-tree (w ∷ ws) = refl
-
--- the tree at a place is the first that is read from there
-pub tree-at : (ws : List ℕ) (k : ℕ) → getD (trees-at numbered ws) k (Op 0 nil) ≡ getD (read numbered (drop k ws)) 0 (Op 0 nil)
-tree-at ws k =
-    let e : k + 0 ≡ k = omega arith in
-    rw (← first-tree (drop k ws), ← trees-drop numbered k ws, getD-drop k (trees-at numbered ws) 0 (Op 0 nil), e)
-
 module _ (ws old : List ℕ) (long : 5 * length ws ≤ length old) where
   filled-at : (i q c : ℕ) → i ≤ q → q < length ws → c < 5 → getD (filled ws old i) (5 * q + c) 0 ≡ fact c (getD (read numbered (drop q ws)) 0 (Op 0 nil))
   unfolding filled
@@ -80,7 +69,7 @@ module _ (ws old : List ℕ) (long : 5 * length ws ≤ length old) where
       let e : 5 * q + c ≡ length front + (5 * (q - i) + c) = omega (arith, lf) in
       let inside : 5 * (q - i) + c < length (all-facts ts) = omega (arith, all-facts-length ts, lt) in
       let d : i + (q - i) ≡ q = omega arith in
-      let t = tree-at (drop i ws) (q - i) in
+      let t = tree-at numbered (drop i ws) (q - i) in
       rw (
         e,
         getD-append-add front (all-facts ts ++ back) (5 * (q - i) + c) 0,

@@ -1,15 +1,13 @@
 -- What `measure` answers in each case. Assumes nothing.
-use Prim.Native.Nat.{ℕ, _+_, _*_, _/_, _≤_, _<_}
+use Prim.Native.Nat.{ℕ, _*_, _/_, _≤_, _<_}
 use native.Mathlib.Omega.{arith}
-use mathlib.Core.Path.{_≡_, refl, sym, _∙_, ap}
-use mathlib.Core.Bool.{Bool, true, false}
+use mathlib.Core.Path.{_≡_, refl, sym, ap}
 use mathlib.Core.Option.{Option, none, some}
-use mathlib.Core.List.{List, [], _∷_, _++_}
+use mathlib.Core.List.{List, _++_}
 use borrow.Author.Tests.{lt-ltb, le-ltb}
 use lib.ListN.{length, drop}
-use lib.Dec.{ltb}
 use Rattle.tree.specs.Tokens.{trees-in, trees-at, numbered, all-facts, facts-of-words}
-use Rattle.tokens.specs.Answers.{counted, Measurement, measured-by, measured}
+use Rattle.tokens.specs.Answers.{counted, measured}
 use Rattle.tokens.specs.Columns.{Complete}
 use Rattle.tokens.specs.declared.Trees.the-variants as trees
 use Rattle.tokens.specs.declared.Measured.{Measured}

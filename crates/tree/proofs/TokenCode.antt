@@ -3,18 +3,22 @@ use Prim.Native.Nat.{ℕ, zero, suc, _+_, _-_, _*_, _/_, _%_, _≤_, _<_}
 use native.Mathlib.Omega.{arith}
 use mathlib.Core.Path.{_≡_, refl, sym, _∙_, ap, ap₂, subst}
 use mathlib.Core.Bool.{Bool, true, false, _&&_, cond}
-use mathlib.Core.Option.{Option, none, some}
-use mathlib.Core.List.{List, [], _∷_, _++_, append-assoc, append-nil, map}
-use borrow.Author.Tests.{eqb-true, eqb-false, eq-eqb, ne-eqb}
+use mathlib.Core.Option.{some}
+use mathlib.Core.List.{List, [], _∷_, _++_, append-assoc}
+use borrow.Author.Tests.{eqb-true, eqb-false, ltb-true, ltb-false}
 use lib.IntN.{ℤ, pos, negsuc}
-use lib.ListN.{length, getD, take, drop, length-append, length-take, take-append-drop}
+use lib.ListN.{length, getD, take, drop, length-append, take-append-drop, List·getD-eq-default}
 use lib.Seq.{take-at, drop-at, length-take-le}
-use lib.Dec.{T, eqb, leb, ltb, leb→le, ltb→lt}
+use lib.Dec.{T, eqb, leb, ltb, leb→le, ltb→lt, lt→ltb}
+use Rattle.tree.specs.Kinds.{Kind, kinds, kind-at, arity-ok}
 use Rattle.tree.specs.Tree.{Name, input, xname, mname, Tree, Forest, Sym, Const, Op, nil, _◂_, operands, forest}
 use Rattle.tree.specs.Facts.{total, size}
 use Rattle.tree.specs.Rows.{occurrences}
-use Rattle.tree.specs.Tokens.{word, constant-code, name-code, tokens, tokens-of, all-tokens, kind-of, below-of, takes, constant-at, name-by, tree-of-word, read, trees-in, numbered}
+use Rattle.tree.specs.Symbol.{is-name}
+use Rattle.tree.specs.Passes.{all-of, of-list, operands-ok, expression, expressions}
+use Rattle.tree.specs.Tokens.{word, constant-code, name-code, tokens, tokens-of, all-tokens, kind-of, below-of, takes, constant-at, name-by, read, trees-in, numbered}
 use Rattle.tree.proofs.Logic.{and-left, and-right, and-both}
+use Rattle.tree.proofs.Formed.{tests}
 use Rattle.tree.proofs.TokenLaws.{Word, a-symbol, a-constant, an-operation, word-is, leaf-takes, operation-takes, symbol-tree, constant-tree, operation-tree, operands-forest, forest-operands, made, read-cons, complete-tail, complete-cons, complete-length}
 
 -- ---- trees that fit the code: every symbol of the list is one that `known` passes, and every operation's kind fits a word
@@ -376,3 +380,55 @@ writes-back (w ∷ ws) n e =
     let both = all-tokens-append unnumbered (take (takes w) rs) (drop (takes w) rs) in
     rw (read-cons numbered w ws, all-tokens-cons unnumbered (made numbered w rs) (drop (takes w) rs), made-written w rs (omega (arith, l, t)))
     (ap (λ (r : List ℕ). w ∷ r) (sym both ∙ rw (take-append-drop (takes w) rs) (writes-back ws (t .trees) (t .are))))
+
+-- ---- the expressions of 01 fit the code
+
+-- past the table of kinds no count of operands is right
+kind-below : (k n : ℕ) → T (arity-ok k n) → k < 64
+unfolding arity-ok kind-at kinds
+kind-below k n h = go (ltb k 64) refl
+  where
+    go : (b : Bool) → ltb k 64 ≡ b → k < 64
+    go true e = ltb-true k 64 e
+    go false e =
+        let far = ltb-false k 64 e in
+        let l : length kinds ≤ k = omega arith in
+        let d = List·getD-eq-default kinds (record { word = []; printed = []; fewest = 1; most = 0 }) {n = k} l in
+        let t : T (leb 1 n && leb n 0) = subst (λ (q : Kind). T (leb (q .fewest) n && leb n (q .most))) d h in
+        let a = leb→le 1 n (and-left (leb 1 n) (leb n 0) t) in
+        let b = leb→le n 0 (and-right (leb 1 n) (leb n 0) t) in
+        absurd (omega arith)
+
+kind-fits : (k n : ℕ) → T (operands-ok k n) → T (fits-word k)
+unfolding operands-ok
+kind-fits k n h =
+    and-both (leb 2 k) (ltb k 64) (and-left (leb 2 k) (arity-ok k n) h) (lt→ltb k 64 (kind-below k n (and-right (leb 2 k) (arity-ok k n) h)))
+
+name-of-list : (n : Name) → T (of-list n) → T (known-name is-name n)
+unfolding of-list known-name
+name-of-list (input s) h = h
+name-of-list (xname n) h = tt
+name-of-list (mname n) h = tt
+
+mutual
+  unfolding expression coded all-of
+
+  pub expression-coded : (t : Tree) → T (expression t) → T (coded is-name t)
+  expression-coded (Sym n) h = name-of-list n h
+  expression-coded (Const c) h = tt
+  expression-coded (Op k f) h =
+      and-both (fits-word k) (coded-each is-name f) (kind-fits k (length (tests f)) (and-left (operands-ok k (length (tests f))) (all-of (tests f)) h))
+      (each-coded f (and-right (operands-ok k (length (tests f))) (all-of (tests f)) h))
+
+  each-coded : (f : Forest) → T (all-of (tests f)) → T (coded-each is-name f)
+  each-coded nil h = tt
+  each-coded (t ◂ f) h =
+      and-both (coded is-name t) (coded-each is-name f) (expression-coded t (and-left (expression t) (all-of (tests f)) h))
+      (each-coded f (and-right (expression t) (all-of (tests f)) h))
+
+pub expressions-coded : (ts : List Tree) → T (expressions ts) → T (all-coded is-name ts)
+unfolding expressions all-coded
+expressions-coded [] h = tt
+expressions-coded (t ∷ ts) h =
+    and-both (coded is-name t) (all-coded is-name ts) (expression-coded t (and-left (expression t) (expressions ts) h))
+    (expressions-coded ts (and-right (expression t) (expressions ts) h))

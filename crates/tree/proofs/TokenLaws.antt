@@ -1,19 +1,19 @@
 -- Words read as trees (Tokens): what a word is by its kind, what a complete list of words is, where the next tree starts, that places are nodes in reading
 -- order, and that a fold that does not look at names has one value however symbols are named. Assumes nothing.
-use Prim.Native.Nat.{ℕ, zero, suc, _+_, _-_, _*_, _/_, _%_, _≤_, _<_}
+use Prim.Native.Nat.{ℕ, zero, suc, _+_, _-_, _/_, _%_, _≤_, _<_}
 use native.Mathlib.Omega.{arith}
-use mathlib.Core.Path.{_≡_, refl, sym, _∙_, ap, ap₂, subst}
+use mathlib.Core.Path.{_≡_, refl, sym, _∙_, ap, ap₂}
 use mathlib.Core.Bool.{Bool, true, false, cond}
 use mathlib.Core.Option.{Option, none, some}
-use mathlib.Core.List.{List, [], _∷_, _++_, append-assoc, append-nil, map}
-use borrow.Author.Tests.{eqb-true, eqb-false, leb-true, leb-false, eq-eqb, ne-eqb, le-leb, lt-leb}
+use mathlib.Core.List.{List, [], _∷_, _++_, append-assoc, map}
+use borrow.Author.Tests.{eqb-true, eqb-false, leb-true, eq-eqb, ne-eqb, le-leb, lt-leb}
 use lib.IntN.{ℤ}
-use lib.ListN.{length, getD, take, drop, length-append, length-take, length-drop, take-append-drop}
-use lib.Seq.{take-append-le, drop-append-le, take-nil, drop-nil, drop-drop, take-add, drop-cons}
+use lib.ListN.{length, getD, take, drop, length-drop, take-append-drop}
+use lib.Seq.{getD-drop, take-append-le, drop-append-le, drop-drop, take-add}
 use lib.Dec.{eqb, leb}
 use Rattle.tree.specs.Tree.{Name, Tree, Forest, Sym, Const, Op, nil, _◂_, fold, folds, operands, forest}
 use Rattle.tree.specs.Facts.{total, size, nodes, nodes-of, all-nodes}
-use Rattle.tree.specs.Tokens.{kind-of, below-of, takes, constant-at, name-by, tree-of-word, read, trees-at, trees-in, words-of}
+use Rattle.tree.specs.Tokens.{kind-of, below-of, takes, constant-at, name-by, tree-of-word, read, trees-at, trees-in, words-of, run-at}
 
 -- ---- a word by its kind
 
@@ -366,3 +366,59 @@ words-complete (w ∷ ws) (suc n) m e =
     let k : takes w ≤ n + takes w = omega arith in
     let d : suc (n + takes w - takes w) ≡ suc n = omega arith in
     (omega (arith, t, h .0), rw (t .one-more) (complete-cons w (take (t .words) ws) (n + takes w) (h .1) k ∙ ap some d))
+
+-- ---- the tree at a place
+
+no-trees : (n : ℕ) → trees-in [] ≡ some n → 0 ≡ n
+unfolding trees-in
+no-trees n e = some-is e
+
+one-at-least : (ts : List Tree) → 0 < sizes ts → 1 ≤ length ts
+unfolding sizes total
+one-at-least [] h = absurd (omega arith)
+one-at-least (t ∷ ts) h = omega arith
+
+first-size : (ts : List Tree) → 1 ≤ length ts → sizes (take 1 ts) ≡ size (getD ts 0 (Op 0 nil))
+unfolding sizes total
+first-size [] h = absurd (omega arith)
+first-size (t ∷ ts) h = omega arith
+
+module _ (name-at : ℕ → List ℕ) where
+  first-tree : (ws : List ℕ) → getD (trees-at name-at ws) 0 (Op 0 nil) ≡ getD (read name-at ws) 0 (Op 0 nil)
+  unfolding trees-at read
+  first-tree [] = refl
+  first-tree (w ∷ ws) = refl
+
+  -- it is the first that is read from there
+  pub tree-at : (ws : List ℕ) (k : ℕ) → getD (trees-at name-at ws) k (Op 0 nil) ≡ getD (read name-at (drop k ws)) 0 (Op 0 nil)
+  tree-at ws k =
+      let e : k + 0 ≡ k = omega arith in
+      rw (← first-tree (drop k ws), ← trees-drop name-at k ws, getD-drop k (trees-at name-at ws) 0 (Op 0 nil), e)
+
+  -- the first trees of a complete list are as many words as their nodes
+  pub words-sizes : (ws : List ℕ) (n k : ℕ) → trees-in ws ≡ some n → k ≤ n → words-of ws k ≡ some (sizes (take k (read name-at ws)))
+  unfolding words-of read sizes total
+  words-sizes [] n zero e h = refl
+  words-sizes [] n (suc k) e h = absurd (let z : 0 ≡ n = no-trees n e in omega arith)
+  words-sizes (w ∷ ws) n zero e h = refl
+  words-sizes (w ∷ ws) n (suc k) e h =
+      let t = complete-tail w ws n e in
+      let rs = read name-at ws in
+      let a = takes w in
+      let s : a + k ≡ k + a = omega arith in
+      let more = words-sizes ws (t .trees) (k + a) (t .are) (omega (arith, t)) in
+      let both = sizes-append (take a rs) (take k (drop a rs)) in
+      let all : suc (sizes (take (k + a) rs)) ≡ sizes (take (suc k) (read name-at (w ∷ ws))) =
+      rw (← s, take-add a k rs, size-made name-at w rs) (omega (arith, both)) in
+      rw more (ap some all)
+
+  -- the tree at a place of a complete list is as many words as it has nodes
+  pub run-size : (ws : List ℕ) (n i : ℕ) → trees-in ws ≡ some n → i < length ws → run-at ws i ≡ some (size (getD (trees-at name-at ws) i (Op 0 nil)))
+  unfolding run-at
+  run-size ws n i e h =
+      let c = complete-end i ws n e in
+      let l = complete-length name-at (drop i ws) (c .0) (c .1) in
+      let s = read-size name-at (drop i ws) in
+      let d = length-drop i ws in
+      let t = one-at-least (read name-at (drop i ws)) (omega (arith, s, d)) in
+      rw (tree-at ws i) (words-sizes (drop i ws) (c .0) 1 (c .1) (omega (arith, l, t)) ∙ ap some (first-size (read name-at (drop i ws)) t))

@@ -1,9 +1,5 @@
 -- `tokens::count_trees` meets its contract. Assumes nothing.
-use Prim.Native.Nat.{_-_}
 use native.Mathlib.Omega.{arith}
-use mathlib.Core.Path.{_≡_, sym}
-use lib.ListN.{getD, length}
-use Rattle.tree.specs.Tokens.{takes}
 use Rattle.tokens.proofs.Counting.{Counting, counting-starts, counting-turns, counting-stops, counting-ends}
 use borrow.Author.Needs.{needs}
 use Rattle.tokens.proofs.count_trees.Statement.{statement}

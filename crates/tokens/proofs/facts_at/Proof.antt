@@ -4,7 +4,7 @@ use native.Mathlib.Omega.{arith}
 use lib.ListN.{getD}
 use lib.Dec.{lit<}
 use Rattle.tokens.specs.Columns.{column}
-use Rattle.tokens.proofs.Walking.{Small, small, operands-small, own-one, own-symbol-one, word-facts}
+use Rattle.tokens.proofs.Walking.{small, operands-small, own-one, own-symbol-one, word-facts}
 use borrow.Author.Needs.{needs}
 use Rattle.tokens.proofs.facts_at.Statement.{statement}
 use Rattle.tokens.proofs.facts_at.Tie as tie

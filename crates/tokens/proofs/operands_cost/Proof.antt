@@ -2,7 +2,7 @@
 use native.Mathlib.Omega.{arith}
 use mathlib.Core.Path.{_∙_}
 use lib.Dec.{lit<}
-use Rattle.tokens.proofs.Walking.{Arms, arms, costs-sum, costs-none}
+use Rattle.tokens.proofs.Walking.{arms, costs-sum, costs-none}
 use borrow.Author.Needs.{needs}
 use Rattle.tokens.proofs.operands_cost.Statement.{statement}
 use Rattle.tokens.proofs.operands_cost.Tie as tie

@@ -1,7 +1,7 @@
 -- `tokens::same` meets its contract. Assumes nothing.
 use Prim.Native.Nat.{_-_}
 use native.Mathlib.Omega.{arith}
-use mathlib.Core.Path.{_≡_, sym, _∙_}
+use mathlib.Core.Path.{sym, _∙_}
 use mathlib.Core.Bool.{true, false}
 use Rattle.tokens.specs.Answers.{compared}
 use Rattle.tokens.proofs.Comparing.{run-ends, run-after, first-broken, second-broken, same-length-differs, same-runs, runs-inside}
