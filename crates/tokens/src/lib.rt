@@ -10,6 +10,28 @@ ghost use Rattle.tree.specs.Tokens.{takes, trees-in, run-at, same-at, numbered,
 ghost use Rattle.tokens.specs.Answers.{counted, ended, compared, measured};
 ghost use Rattle.tokens.specs.Columns.{column, Inside, Ready, own-operation, own-symbol, operand-costs, WordFacts, Complete};
 
+// A word is kind + KINDS * below; the kinds are numbered as 01 lists them.
+const KINDS: u64 = 64;
+
+const SYM: u64 = 0;
+
+const CONST: u64 = 1;
+
+const SELECT: u64 = 27;
+
+// Each place has PER_PLACE words of facts, in this order.
+const PER_PLACE: usize = 5;
+
+const SIZE: usize = 0;
+
+const COST: usize = 1;
+
+const DEPTH: usize = 2;
+
+const OPERATIONS: usize = 3;
+
+const SYMBOL: usize = 4;
+
 pub enum Trees {
     Count(usize),
     Broken,
@@ -47,7 +69,7 @@ struct Facts {
 pub fn operand_count(w: u64) -> u64
     ensures { λ r. ⌜ r ≡ takes w ⌝ }
 {
-    if w % 64 <= 1 { 0 } else { w / 64 }
+    if w % KINDS <= CONST { 0 } else { w / KINDS }
 }
 
 // How many trees the words are. Read from the right, a word takes its operands off the trees found so far and is one itself.
@@ -86,7 +108,7 @@ pub fn end_of(tokens: &[u64], at: usize) -> Run
     Run::Ends(i)
 }
 
-// The sum of one fact over the `count` trees from `place` on. The size of each says where the next one starts.
+// The sum of one fact, by its place among the five, over the `count` trees from `place` on. The size of each says where the next one starts.
 fn total_of(facts: &[u64], fact: usize, place: usize, count: usize) -> u64
     requires { ⌜ fact < 5 ⌝ }
     requires { ⌜ Inside (now facts) place count ⌝ }
@@ -97,7 +119,7 @@ fn total_of(facts: &[u64], fact: usize, place: usize, count: usize) -> u64
     let mut p = place;
     let mut left = count;
     while left > 0 {
-        let row = 5 * p;
+        let row = PER_PLACE * p;
         sum += facts[row + fact];
         p += facts[row] as usize;
         left -= 1;
@@ -105,6 +127,7 @@ fn total_of(facts: &[u64], fact: usize, place: usize, count: usize) -> u64
     sum
 }
 
+// The larger of two numbers.
 fn larger(a: u64, b: u64) -> u64
     ensures { λ r. ⌜ r ≡ max a b ⌝ }
 {
@@ -121,7 +144,7 @@ fn greatest_of(facts: &[u64], fact: usize, place: usize, count: usize) -> u64
     let mut p = place;
     let mut left = count;
     while left > 0 {
-        let row = 5 * p;
+        let row = PER_PLACE * p;
         most = larger(most, facts[row + fact]);
         p += facts[row] as usize;
         left -= 1;
@@ -135,29 +158,29 @@ fn operands_cost(facts: &[u64], kind: u64, place: usize, count: usize) -> u64
     requires { ⌜ total (column (now facts) 1 place count) < 2 ^ 64 ⌝ }
     ensures { λ r. ⌜ r ≡ operand-costs kind (column (now (facts .entry)) 1 place count) ⌝ }
 {
-    if kind < 27 {
-        return total_of(facts, 1, place, count);
+    if kind < SELECT {
+        return total_of(facts, COST, place, count);
     }
     if count == 0 {
         return 0;
     }
-    let row = 5 * place;
+    let row = PER_PLACE * place;
     let arms = place + facts[row] as usize;
-    facts[row + 1] + greatest_of(facts, 1, arms, count - 1)
+    facts[row + COST] + greatest_of(facts, COST, arms, count - 1)
 }
 
 // 1 for an operation, 0 for a leaf: what an operation adds to the cost, the depth and the operations below it.
 fn operation_of(w: u64) -> u64
     ensures { λ r. ⌜ r ≡ own-operation w ⌝ }
 {
-    if w % 64 <= 1 { 0 } else { 1 }
+    if w % KINDS <= CONST { 0 } else { 1 }
 }
 
 // 1 for a symbol.
 fn symbol_of(w: u64) -> u64
     ensures { λ r. ⌜ r ≡ own-symbol w ⌝ }
 {
-    if w % 64 == 0 { 1 } else { 0 }
+    if w % KINDS == SYM { 1 } else { 0 }
 }
 
 // The facts of the tree at a place, from those of its operands, which come after it.
@@ -170,11 +193,11 @@ fn facts_at(tokens: &[u64], facts: &[u64], at: usize) -> Facts
     let place = at + 1;
     let count = operand_count(w) as usize;
     let own = operation_of(w);
-    let size = 1 + total_of(facts, 0, place, count);
-    let cost = own + operands_cost(facts, w % 64, place, count);
-    let depth = own + greatest_of(facts, 2, place, count);
-    let operations = own + total_of(facts, 3, place, count);
-    let symbol = symbol_of(w) + greatest_of(facts, 4, place, count);
+    let size = 1 + total_of(facts, SIZE, place, count);
+    let cost = own + operands_cost(facts, w % KINDS, place, count);
+    let depth = own + greatest_of(facts, DEPTH, place, count);
+    let operations = own + total_of(facts, OPERATIONS, place, count);
+    let symbol = symbol_of(w) + greatest_of(facts, SYMBOL, place, count);
     Facts {
         size,
         cost,
@@ -194,12 +217,12 @@ fn fill(tokens: &[u64], facts: &mut [u64])
     while i > 0 {
         i -= 1;
         let f = facts_at(tokens, facts, i);
-        let row = 5 * i;
+        let row = PER_PLACE * i;
         facts[row] = f.size;
-        facts[row + 1] = f.cost;
-        facts[row + 2] = f.depth;
-        facts[row + 3] = f.operations;
-        facts[row + 4] = f.symbol;
+        facts[row + COST] = f.cost;
+        facts[row + DEPTH] = f.depth;
+        facts[row + OPERATIONS] = f.operations;
+        facts[row + SYMBOL] = f.symbol;
     }
 }
 
@@ -207,7 +230,7 @@ fn fill(tokens: &[u64], facts: &mut [u64])
 pub fn measure(tokens: &[u64], facts: &mut [u64]) -> Measured
     ensures { λ r. ⌜ (r ≡ measured (now (tokens .entry)) (now (facts .entry)) .answer) × (now (facts .exit) ≡ measured (now (tokens .entry)) (now (facts .entry)) .facts) ⌝ }
 {
-    if facts.len() / 5 < tokens.len() {
+    if facts.len() / PER_PLACE < tokens.len() {
         return Measured::NoRoom;
     }
     let Trees::Count(_) = count_trees(tokens) else {
