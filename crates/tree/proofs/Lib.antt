@@ -5,3 +5,6 @@ pub mod RecordLaws
 pub mod Formed
 pub mod Examples
 pub mod DomainPasses
+pub mod TokenLaws
+pub mod FactLaws
+pub mod TokenCode
