@@ -1,7 +1,18 @@
 // Node rows lent as words: the operand counts of the kinds, and the test for refusal 9.
 ghost use mathlib.Core.Path.{_≡_};
+ghost use mathlib.Core.Bool.{true, _||_};
+ghost use Prim.Native.Nat.{ℕ, suc, _+_, _*_, _≤_, _<_, min, max};
+ghost use lib.Dec.{T};
+ghost use lib.ListN.{length, getD};
+ghost use Rattle.tree.specs.Bytes.{every};
 ghost use Rattle.tree.specs.Kinds.{kind-at};
+ghost use Rattle.tree.specs.Facts.{total, greatest};
+ghost use Rattle.tree.specs.Symbol.{is-digit, is-letter, is-made, is-name};
+ghost use Rattle.tree.specs.Rows.{trees-from};
+ghost use Rattle.tree.specs.Layout.{rows-of};
 ghost use Rattle.rows.specs.Counts.{kind-number};
+ghost use Rattle.rows.specs.Check.{checked, check-rows, below, constant-test, operation-test, plain-test, fields-test, row-test, rows-test};
+ghost use Rattle.rows.specs.Measure.{pick, capped-size, capped-level, level-by, row-operands, Measured};
 
 // The fewest and the most operands of a kind.
 pub struct Counts {
@@ -36,4 +47,196 @@ pub fn operand_counts(kind: u64, default: bool) -> Counts
         }
         _ => Counts { fewest: 1, most: 0 },
     }
+}
+
+// What the test for refusal 9 says: how many occurrences the roots have, or that load lays no such rows out.
+pub enum Checked {
+    Laid(usize),
+    Refused,
+}
+
+// ---- the tests of one row
+
+fn is_digit(b: u64) -> bool
+    ensures { λ r. ⌜ r ≡ is-digit b ⌝ }
+{
+    match b {
+        48..=57 => true,
+        _ => false,
+    }
+}
+
+fn is_letter(b: u64) -> bool
+    ensures { λ r. ⌜ r ≡ is-letter b ⌝ }
+{
+    match b {
+        65..=90 => true,
+        95..=95 => true,
+        97..=122 => true,
+        _ => false,
+    }
+}
+
+fn is_word_byte(b: u64) -> bool
+    ensures { λ r. ⌜ r ≡ (is-letter b || is-digit b) ⌝ }
+{
+    if is_letter(b) {
+        return true;
+    }
+    is_digit(b)
+}
+
+fn all_digits(s: &[u64]) -> bool
+    ensures { λ r. ⌜ r ≡ every is-digit (now (s .entry)) ⌝ }
+{
+    let mut i = 0;
+    while i < s.len() {
+        if !is_digit(s[i]) {
+            return false;
+        }
+        i += 1;
+    }
+    true
+}
+
+fn all_word_bytes(s: &[u64]) -> bool
+    ensures { λ r. ⌜ r ≡ every (λ c. is-letter c || is-digit c) (now (s .entry)) ⌝ }
+{
+    let mut i = 0;
+    while i < s.len() {
+        if !is_word_byte(s[i]) {
+            return false;
+        }
+        i += 1;
+    }
+    true
+}
+
+// Operands and roots name earlier rows: each number is below a bound. Words that are all below 1 are 0.
+fn all_below(s: &[u64], bound: u64) -> bool
+    ensures { λ r. ⌜ r ≡ below bound (now (s .entry)) ⌝ }
+{
+    let mut i = 0;
+    while i < s.len() {
+        if s[i] >= bound {
+            return false;
+        }
+        i += 1;
+    }
+    true
+}
+
+// Whether a name is spelled like one that an answer makes.
+fn is_made(s: &[u64]) -> bool
+    ensures { λ r. ⌜ r ≡ is-made (now (s .entry)) ⌝ }
+{
+    if s.len() < 4 {
+        return false;
+    }
+    if s[0] != 95 {
+        return false;
+    }
+    if s[1] != 95 {
+        return false;
+    }
+    let c = s[2];
+    match c {
+        109 | 120 => all_digits(&s[3..]),
+        _ => false,
+    }
+}
+
+fn is_name(s: &[u64]) -> bool
+    ensures { λ r. ⌜ r ≡ is-name (now (s .entry)) ⌝ }
+{
+    if s.len() == 0 {
+        return false;
+    }
+    if !is_letter(s[0]) {
+        return false;
+    }
+    if !all_word_bytes(&s[1..]) {
+        return false;
+    }
+    if s.len() > 32 {
+        return false;
+    }
+    !is_made(s)
+}
+
+fn constant_ok(f: &[u64]) -> bool
+    ensures { λ r. ⌜ r ≡ constant-test (now (f .entry)) ⌝ }
+{
+    if f.len() != 2 {
+        return false;
+    }
+    let sign = f[0];
+    let size = f[1];
+    if size >= 1000000000000000 {
+        return false;
+    }
+    if sign == 0 {
+        return true;
+    }
+    if sign != 1 {
+        return false;
+    }
+    size > 0
+}
+
+fn operation_ok(kind: u64, default: bool, operands: &[u64], i: u64) -> bool
+    ensures { λ r. ⌜ r ≡ operation-test kind default (now (operands .entry)) i ⌝ }
+{
+    let counts = operand_counts(kind, default);
+    let n = operands.len() as u64;
+    if n < counts.fewest {
+        return false;
+    }
+    if n > counts.most {
+        return false;
+    }
+    all_below(operands, i)
+}
+
+fn plain_ok(kind: u64, f: &[u64], i: u64) -> bool
+    ensures { λ r. ⌜ r ≡ plain-test kind (now (f .entry)) i ⌝ }
+{
+    if kind == 0 {
+        return is_name(f);
+    }
+    if kind == 1 {
+        return constant_ok(f);
+    }
+    operation_ok(kind, false, f, i)
+}
+
+// Only a Select has a default.
+fn fields_ok(kind: u64, default: u64, f: &[u64], i: u64) -> bool
+    ensures { λ r. ⌜ r ≡ fields-test kind default (now (f .entry)) i ⌝ }
+{
+    if default == 0 {
+        return plain_ok(kind, f, i);
+    }
+    if default != 1 {
+        return false;
+    }
+    if kind != 27 {
+        return false;
+    }
+    operation_ok(27, true, f, i)
+}
+
+// A row after i others: its kind, default flag and fields, and 0 in every word that is left.
+fn row_ok(row: &[u64], i: u64) -> bool
+    requires { ⌜ length (now row) ≡ 35 ⌝ }
+    ensures { λ r. ⌜ r ≡ row-test i (now (row .entry)) ⌝ }
+{
+    if row[2] > 32 {
+        return false;
+    }
+    let end = 3 + row[2] as usize;
+    if !all_below(&row[end..], 1) {
+        return false;
+    }
+    fields_ok(row[0], row[1], &row[3..end], i)
 }
