@@ -240,3 +240,96 @@ fn row_ok(row: &[u64], i: u64) -> bool
     }
     fields_ok(row[0], row[1], &row[3..end], i)
 }
+
+// ---- sizes and levels
+
+// A sum that stops at 1,025: a shared node counts once for each path, so that 1,024 rows can have 2 to the 900th occurrences.
+fn capped_sum(a: u64, b: u64) -> u64
+    requires { ⌜ a ≤ 1025 ⌝ }
+    ensures { λ r. ⌜ r ≡ capped-size (a + b) ⌝ }
+{
+    if b < 1025 - a { a + b } else { 1025 }
+}
+
+fn larger(a: u64, b: u64) -> u64
+    ensures { λ r. ⌜ r ≡ max a b ⌝ }
+{
+    if a < b { b } else { a }
+}
+
+// A level that stops at 9, one more than arms may nest.
+fn capped(level: u64) -> u64
+    ensures { λ r. ⌜ r ≡ capped-level level ⌝ }
+{
+    if level < 9 { level } else { 9 }
+}
+
+// The occurrences under some rows together.
+fn total_size(sizes: &[u64], numbers: &[u64]) -> u64
+    requires { ⌜ T (below (length (now sizes)) (now numbers)) ⌝ }
+    ensures { λ r. ⌜ r ≡ capped-size (total (pick (now (sizes .entry)) (now (numbers .entry)))) ⌝ }
+{
+    let mut sum = 0;
+    let mut i = 0;
+    while i < numbers.len() {
+        let at = numbers[i] as usize;
+        sum = capped_sum(sum, sizes[at]);
+        i += 1;
+    }
+    sum
+}
+
+// The deepest of some rows' levels.
+fn deepest(levels: &[u64], numbers: &[u64]) -> u64
+    requires { ⌜ T (below (length (now levels)) (now numbers)) ⌝ }
+    ensures { λ r. ⌜ r ≡ greatest (pick (now (levels .entry)) (now (numbers .entry))) ⌝ }
+{
+    let mut level = 0;
+    let mut i = 0;
+    while i < numbers.len() {
+        let at = numbers[i] as usize;
+        level = larger(level, levels[at]);
+        i += 1;
+    }
+    level
+}
+
+// Every operand of a Branch or a Select after the first is an arm, one level further in.
+fn level_of(kind: u64, levels: &[u64], operands: &[u64]) -> u64
+    requires { ⌜ T (below (length (now levels)) (now operands)) ⌝ }
+    ensures { λ r. ⌜ r ≡ capped-level (level-by kind (pick (now (levels .entry)) (now (operands .entry)))) ⌝ }
+{
+    if kind < 26 {
+        return capped(deepest(levels, operands));
+    }
+    if operands.len() < 2 {
+        return capped(deepest(levels, operands));
+    }
+    let first = operands[0] as usize;
+    let arms = capped(deepest(levels, &operands[1..]));
+    capped(larger(levels[first], arms + 1))
+}
+
+struct Measure {
+    size: u64,
+    level: u64,
+}
+
+// The size and the level of a row's tree, from those of the rows before it.
+fn measure_row(row: &[u64], sizes: &[u64], levels: &[u64]) -> Measure
+    requires { ⌜ (length (now row) ≡ 35) × (getD (now row) 2 0 ≤ 32) ⌝ }
+    requires { ⌜ T (below (length (now sizes)) (row-operands (now row))) × T (below (length (now levels)) (row-operands (now row))) ⌝ }
+    ensures { λ r. ⌜ (r .size ≡ capped-size (suc (total (pick (now (sizes .entry)) (row-operands (now (row .entry)))))))
+        × (r .level ≡ capped-level (level-by (getD (now (row .entry)) 0 0) (pick (now (levels .entry)) (row-operands (now (row .entry)))))) ⌝ }
+{
+    if row[0] < 2 {
+        return Measure { size: 1, level: 0 };
+    }
+    let end = 3 + row[2] as usize;
+    let operands = &row[3..end];
+    let below = total_size(sizes, operands);
+    Measure {
+        size: capped_sum(1, below),
+        level: level_of(row[0], levels, operands),
+    }
+}
