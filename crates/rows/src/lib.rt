@@ -8,11 +8,9 @@ ghost use Rattle.tree.specs.Bytes.{every};
 ghost use Rattle.tree.specs.Kinds.{kind-at};
 ghost use Rattle.tree.specs.Facts.{total, greatest};
 ghost use Rattle.tree.specs.Symbol.{is-digit, is-letter, is-made, is-name};
-ghost use Rattle.tree.specs.Rows.{trees-from};
-ghost use Rattle.tree.specs.Layout.{rows-of};
 ghost use Rattle.rows.specs.Counts.{kind-number};
-ghost use Rattle.rows.specs.Check.{checked, check-rows, below, constant-test, operation-test, plain-test, fields-test, row-test, rows-test};
-ghost use Rattle.rows.specs.Measure.{pick, capped-size, capped-level, level-by, row-operands, Measured};
+ghost use Rattle.rows.specs.Check.{checked, check-rows, below, constant-test, operation-test, plain-test, fields-test, row-test};
+ghost use Rattle.rows.specs.Measure.{pick, capped-size, capped-level, level-by, row-operands, Filled};
 
 // The fewest and the most operands of a kind.
 pub struct Counts {
@@ -332,4 +330,59 @@ fn measure_row(row: &[u64], sizes: &[u64], levels: &[u64]) -> Measure
         size: capped_sum(1, below),
         level: level_of(row[0], levels, operands),
     }
+}
+
+// ---- the table
+
+// Each row is tested, and the size and the level of its tree are kept, one row after another.
+fn fill(rows: &[u64], n: usize, sizes: &mut [u64], levels: &mut [u64]) -> bool
+    requires { ⌜ (length (now rows) ≡ n * 35) × (n ≤ length (now sizes)) × (n ≤ length (now levels)) ⌝ }
+    ensures { λ r. ⌜ Filled (now (rows .entry)) n (now (sizes .exit)) (now (levels .exit)) r ⌝ }
+{
+    let mut i = 0;
+    while i < n {
+        let at = i * 35;
+        let end = at + 35;
+        let row = &rows[at..end];
+        if !row_ok(row, i as u64) {
+            return false;
+        }
+        let m = measure_row(row, sizes, levels);
+        sizes[i] = m.size;
+        levels[i] = m.level;
+        i += 1;
+    }
+    true
+}
+
+// Whether load could have laid the rows out: refusal 9 where it couldn't, and otherwise the occurrences under all roots.
+pub fn check_rows(rows: &[u64], roots: &[u64]) -> Checked
+    ensures { λ r. ⌜ checked r ≡ check-rows (now (rows .entry)) (now (roots .entry)) ⌝ }
+{
+    let n = rows.len() / 35;
+    if rows.len() != n * 35 {
+        return Checked::Refused;
+    }
+    if n > 1024 {
+        return Checked::Refused;
+    }
+    if roots.len() > 64 {
+        return Checked::Refused;
+    }
+    let mut sizes = [0u64; 1024];
+    let mut levels = [0u64; 1024];
+    if !fill(rows, n, &mut sizes, &mut levels) {
+        return Checked::Refused;
+    }
+    if !all_below(roots, n as u64) {
+        return Checked::Refused;
+    }
+    if deepest(&levels, roots) > 8 {
+        return Checked::Refused;
+    }
+    let occurrences = total_size(&sizes, roots);
+    if occurrences > 1024 {
+        return Checked::Refused;
+    }
+    Checked::Laid(occurrences as usize)
 }
