@@ -19,6 +19,7 @@ use Rattle.tree.specs.Passes.{of-paper, operands-ok}
 use Rattle.tree.specs.Layout.{row-kind, row-default, row-fields, row-words, signed, row-by, row-of, row-ok}
 use Rattle.tree.proofs.Logic.{and-left, and-right, and-both}
 use Rattle.tree.proofs.TreeLaws.{eq-bytes-sound, eq-bytes-refl}
+use Rattle.tree.proofs.LayoutLaws.{row-number}
 use Rattle.rows.specs.Counts.{kind-number}
 use Rattle.rows.specs.Check.{below, constant-test, operation-test, plain-test, fields-test, row-test}
 use Rattle.rows.proofs.RowTrees.{flag-cases}
@@ -257,17 +258,12 @@ module _ (i k d n : ℕ) (rest : List ℕ) (long : length rest ≡ 32) where
           let c = signed (getD fields 0 0) (getD fields 1 0) in
           fine-at (row-const c) (by 1 (omega arith)) (whole (row-const c) (sym b) (sym a) (C .fields) h z, (unfold row-ok in C .paper))
 
-      number : (m : ℕ) → 2 ≤ m → row-by m fields ≡ row-op m fields
-      number zero l = absurd (omega arith)
-      number (suc zero) l = absurd (omega arith)
-      number (suc (suc m)) l = refl
-
       operation : d ≡ 0 → 2 ≤ k → T (plain-test k fields i) → Fine (row-by (k + d) fields)
       operation a b u =
           let v = subst T (plain-op-test k fields i b) u in
           let no : (k ≡ SelectOr) → ⊥ = λ e. no-such-kind fields i (subst (λ (x : ℕ). T (operation-test x false fields i)) e v) in
           let q = ne-eqb k SelectOr no in
-          fine-at (row-op k fields) (by k (omega arith) ∙ number k b)
+          fine-at (row-op k fields) (by k (omega arith) ∙ row-number k fields b)
           (whole (row-op k fields) (ap (λ (c : Bool). cond c Select k) q) (ap (λ (c : Bool). cond c 1 0) q ∙ sym a) refl h z, subst T (sym (plain-op i k fields b no)) v)
 
       three : (m : ℕ) → (m ≡ 0) ⊎ ((m ≡ 1) ⊎ (2 ≤ m))

@@ -15,6 +15,7 @@ use Rattle.tree.specs.Rows.{Row, row-sym, row-const, row-op, Table, at, tree-of
 use Rattle.tree.specs.Layout.{row-fields, row-words, table-words, signed, row-by, row-of, rows-of, table-of, row-ok, rows-ok, loadable, laid-out, table-or-9}
 use Rattle.tree.proofs.Logic.{and-left, and-right, and-both}
 use Rattle.tree.proofs.TreeLaws.{eq-bytes-sound}
+use Rattle.tree.proofs.LayoutLaws.{words-long}
 use lib.IntN.{ℤ, pos, negsuc}
 use Rattle.rows.specs.Check.{check-rows, below, row-test, rows-test}
 use Rattle.rows.specs.Measure.{pick, capped-size, capped-level, Filled}
@@ -46,13 +47,6 @@ fields-few (suc zero) f h = go (signed (getD f 0 0) (getD f 1 0))
     go (pos n) = omega arith
     go (negsuc n) = omega arith
 fields-few (suc (suc m)) f h = h
-
-words-long : (r : Row) → length (row-fields r) ≤ 32 → length (row-words r) ≡ 35
-unfolding row-words
-words-long r h =
-    let a = length-append (row-fields r) (replicate (32 - length (row-fields r)) 0) in
-    let b = length-replicate {A = ℕ} (32 - length (row-fields r)) 0 in
-    omega arith
 
 pub read-long : (ws : List ℕ) → length (row-words (row-of (take 35 ws))) ≡ 35
 unfolding row-of
