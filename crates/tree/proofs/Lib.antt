@@ -8,3 +8,4 @@ pub mod DomainPasses
 pub mod TokenLaws
 pub mod FactLaws
 pub mod TokenCode
+pub mod LayoutLaws
