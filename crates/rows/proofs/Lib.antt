@@ -5,4 +5,3 @@ pub mod RowTrees
 pub mod Filling
 pub mod RowLaws
 pub mod TableLaws
-pub mod Accepted

@@ -1,4 +1,4 @@
--- The tests that the code makes of the words of a table and its roots, taken together, are `laid-out`. Assumes nothing.
+-- The tests that the code makes of the words of a table and its roots, taken together, are `laid-in-domain`. Assumes nothing.
 use Prim.Native.Nat.{ℕ, zero, suc, _+_, _*_, _/_, _≤_, _<_, max}
 use mathlib.Core.Path.{_≡_, refl, sym, _∙_, ap, ap₂, subst}
 use mathlib.Core.Bool.{Bool, true, false, not, _&&_}
@@ -12,12 +12,12 @@ use Rattle.tree.specs.Bytes.{eq-bytes}
 use Rattle.tree.specs.Tree.{Tree}
 use Rattle.tree.specs.Facts.{total, size, nesting, greatest}
 use Rattle.tree.specs.Rows.{Row, row-const, at, tree-of-row, trees-from, trees, occurrences, within-limits}
-use Rattle.tree.specs.Layout.{row-fields, row-words, table-words, signed, row-by, row-of, rows-of, table-of, row-ok, rows-ok, loadable, laid-out, table-or-9}
+use Rattle.tree.specs.Layout.{row-fields, row-words, table-words, signed, row-by, row-of, rows-of, table-of, row-ok, rows-ok, in-domain}
 use Rattle.tree.proofs.Logic.{and-left, and-right, and-both}
 use Rattle.tree.proofs.TreeLaws.{eq-bytes-sound}
 use Rattle.tree.proofs.LayoutLaws.{words-long}
 use lib.IntN.{ℤ, pos, negsuc}
-use Rattle.rows.specs.Check.{check-rows, below, rows-test}
+use Rattle.rows.specs.Check.{laid-in-domain, check-domain, below, rows-test}
 use Rattle.rows.specs.Measure.{pick, capped-size, capped-level, Filled}
 use Rattle.rows.proofs.RowTrees.{nestings, picked-sizes, picked-levels}
 use Rattle.rows.proofs.RowLaws.{same-test, row-fine, row-fine-is}
@@ -103,11 +103,11 @@ row-count ws = length ws / 35
 abbrev pub row-trees : List ℕ → List Tree
 row-trees ws = trees-from [] (rows-of (row-count ws) ws)
 
-pub uneven : (ws ns : List ℕ) → (length ws ≡ row-count ws * 35 → ⊥) → laid-out ws ns ≡ false
-unfolding laid-out table-of
+pub uneven : (ws ns : List ℕ) → (length ws ≡ row-count ws * 35 → ⊥) → laid-in-domain ws ns ≡ false
+unfolding laid-in-domain table-of
 uneven ws ns h = go (eq-bytes (table-words (rows-of (row-count ws) ws)) ws) (λ t. h (sym (ap length (eq-bytes-sound (table-words (rows-of (row-count ws) ws)) ws t)) ∙ table-long (row-count ws) ws))
   where
-    go : (b : Bool) → (T b → ⊥) → (b && loadable (table-of ws ns)) ≡ false
+    go : (b : Bool) → (T b → ⊥) → (b && in-domain (table-of ws ns)) ≡ false
     go true f = absurd (f tt)
     go false f = refl
 
@@ -120,12 +120,12 @@ regroup false true false r v w = refl
 regroup false false b r v w = refl
 
 -- in the code's order
-pub laid-out-by :
+pub laid-by :
     (ws ns : List ℕ) → length ws ≡ row-count ws * 35
-    → laid-out ws ns
+    → laid-in-domain ws ns
     ≡ (leb (row-count ws) 1024 && (leb (length ns) 64 && (rows-test 0 (row-count ws) ws && (below (row-count ws) ns && within-limits (at (row-trees ws) ns)))))
-unfolding laid-out table-of loadable trees
-laid-out-by ws ns e =
+unfolding laid-in-domain table-of in-domain trees
+laid-by ws ns e =
     let n = row-count ws in
     let E = eq-bytes (table-words (rows-of n ws)) ws in
     let R = rows-ok 0 (rows-of n ws) in
@@ -173,38 +173,38 @@ limits-within (t ∷ l) h =
 
 -- ---- what the code answers
 
-refuse : (ws ns : List ℕ) → laid-out ws ns ≡ false → refused (by 9) ≡ check-rows ws ns
-unfolding check-rows table-or-9
+refuse : (ws ns : List ℕ) → laid-in-domain ws ns ≡ false → refused (by 9) ≡ check-domain ws ns
+unfolding check-domain
 refuse ws ns e = rw e
 
-accept : (ws ns : List ℕ) → laid-out ws ns ≡ true → ok (occurrences (at (row-trees ws) ns)) ≡ check-rows ws ns
-unfolding check-rows table-or-9 trees table-of
+accept : (ws ns : List ℕ) → laid-in-domain ws ns ≡ true → ok (occurrences (at (row-trees ws) ns)) ≡ check-domain ws ns
+unfolding check-domain trees table-of
 accept ws ns e = rw e
 
-pub stop-uneven : (ws ns : List ℕ) → (length ws ≡ row-count ws * 35 → ⊥) → refused (by 9) ≡ check-rows ws ns
+pub stop-uneven : (ws ns : List ℕ) → (length ws ≡ row-count ws * 35 → ⊥) → refused (by 9) ≡ check-domain ws ns
 stop-uneven ws ns h = refuse ws ns (uneven ws ns h)
 
 module _ (ws ns : List ℕ) (even : length ws ≡ row-count ws * 35) where
-  pub stop-rows : 1024 < row-count ws → refused (by 9) ≡ check-rows ws ns
-  stop-rows h = refuse ws ns (laid-out-by ws ns even ∙ rw (lt-leb (row-count ws) 1024 h))
+  pub stop-rows : 1024 < row-count ws → refused (by 9) ≡ check-domain ws ns
+  stop-rows h = refuse ws ns (laid-by ws ns even ∙ rw (lt-leb (row-count ws) 1024 h))
 
   module _ (few : row-count ws ≤ 1024) where
-    pub stop-roots : 64 < length ns → refused (by 9) ≡ check-rows ws ns
-    stop-roots h = refuse ws ns (laid-out-by ws ns even ∙ rw (le-leb (row-count ws) 1024 few, lt-leb (length ns) 64 h))
+    pub stop-roots : 64 < length ns → refused (by 9) ≡ check-domain ws ns
+    stop-roots h = refuse ws ns (laid-by ws ns even ∙ rw (le-leb (row-count ws) 1024 few, lt-leb (length ns) 64 h))
 
     module _ (short : length ns ≤ 64) (sizes levels : List ℕ) (r : Bool) (F : Filled ws (row-count ws) sizes levels r) where
-      tested : laid-out ws ns ≡ (r && (below (row-count ws) ns && within-limits (at (row-trees ws) ns)))
-      tested = laid-out-by ws ns even ∙ rw (le-leb (row-count ws) 1024 few, le-leb (length ns) 64 short, sym (F .tested))
+      tested : laid-in-domain ws ns ≡ (r && (below (row-count ws) ns && within-limits (at (row-trees ws) ns)))
+      tested = laid-by ws ns even ∙ rw (le-leb (row-count ws) 1024 few, le-leb (length ns) 64 short, sym (F .tested))
 
-      pub stop-tests : r ≡ false → refused (by 9) ≡ check-rows ws ns
+      pub stop-tests : r ≡ false → refused (by 9) ≡ check-domain ws ns
       stop-tests e = refuse ws ns (tested ∙ rw e)
 
       module _ (passed : r ≡ true) where
-        pub stop-below : below (row-count ws) ns ≡ false → refused (by 9) ≡ check-rows ws ns
+        pub stop-below : below (row-count ws) ns ≡ false → refused (by 9) ≡ check-domain ws ns
         stop-below e = refuse ws ns (tested ∙ rw (passed, e))
 
         module _ (inside : below (row-count ws) ns ≡ true) where
-          limited : laid-out ws ns ≡ within-limits (at (row-trees ws) ns)
+          limited : laid-in-domain ws ns ≡ within-limits (at (row-trees ws) ns)
           limited = tested ∙ rw (passed, inside)
 
           all-inside : T (below (length (row-trees ws)) ns)
@@ -216,7 +216,7 @@ module _ (ws ns : List ℕ) (even : length ws ≡ row-count ws * 35) where
           level-is : capped-level (greatest (pick levels ns)) ≡ capped-level (greatest (nestings (at (row-trees ws) ns)))
           level-is = picked-levels (row-trees ws) sizes levels (F .measured passed) ns all-inside
 
-          pub stop-deep : (g : ℕ) → g ≡ greatest (pick levels ns) → 8 < g → refused (by 9) ≡ check-rows ws ns
+          pub stop-deep : (g : ℕ) → g ≡ greatest (pick levels ns) → 8 < g → refused (by 9) ≡ check-domain ws ns
           stop-deep g e h = refuse ws ns (limited ∙ either (leb (occurrences (at (row-trees ws) ns)) 1024) (leb→le (occurrences (at (row-trees ws) ns)) 1024) (nleb→lt (occurrences (at (row-trees ws) ns)) 1024))
             where
               deep : 8 < greatest (nestings (at (row-trees ws) ns))
@@ -226,10 +226,10 @@ module _ (ws ns : List ℕ) (even : length ws ≡ row-count ws * 35) where
               either true p q = limits-within (at (row-trees ws) ns) (p tt) ∙ lt-leb (greatest (nestings (at (row-trees ws) ns))) 8 deep
               either false p q = limits-over (at (row-trees ws) ns) (q tt)
 
-          pub stop-many : (s : ℕ) → s ≡ capped-size (total (pick sizes ns)) → 1024 < s → refused (by 9) ≡ check-rows ws ns
+          pub stop-many : (s : ℕ) → s ≡ capped-size (total (pick sizes ns)) → 1024 < s → refused (by 9) ≡ check-domain ws ns
           stop-many s e h = refuse ws ns (limited ∙ limits-over (at (row-trees ws) ns) (let q = sum-is in omega arith))
 
-          pub laid : (g s : ℕ) → g ≡ greatest (pick levels ns) → g ≤ 8 → s ≡ capped-size (total (pick sizes ns)) → s ≤ 1024 → ok s ≡ check-rows ws ns
+          pub laid : (g s : ℕ) → g ≡ greatest (pick levels ns) → g ≤ 8 → s ≡ capped-size (total (pick sizes ns)) → s ≤ 1024 → ok s ≡ check-domain ws ns
           laid g s e h d k =
               let p = sum-is in
               let q = level-is in

@@ -1,24 +1,29 @@
 -- The test for refusal 9 (01, "Turned down, by operation"), and the tests that the code makes of one row after another, in its order.
--- TableLaws shows that together they are `laid-out`. Assumes nothing.
+-- TableLaws shows that together they are `laid-in-domain`. Assumes nothing.
 use Prim.Native.Nat.{ℕ, zero, suc, _+_}
 use mathlib.Core.Bool.{Bool, true, false, _&&_, cond}
 use mathlib.Core.List.{List}
 use lib.ListN.{length, getD, take, drop}
 use lib.Dec.{eqb, leb, ltb}
 use Rattle.tree.specs.Outcome.{Outcome, ok, refused, by, _>>=_}
-use Rattle.tree.specs.Bytes.{every}
+use Rattle.tree.specs.Bytes.{eq-bytes, every}
 use Rattle.tree.specs.Kinds.{kind-at, Select}
 use Rattle.tree.specs.Symbol.{is-name}
 use Rattle.tree.specs.Rows.{trees, occurrences}
-use Rattle.tree.specs.Layout.{table-or-9}
+use Rattle.tree.specs.Layout.{table-words, table-of, in-domain}
 use Rattle.rows.specs.Counts.{kind-number}
 use Rattle.rows.specs.declared.Checked.{Checked}
 use Rattle.rows.specs.declared.Checked.the-variants.{Laid, Refused}
 
--- how many occurrences the roots of the rows have, or 9
-unfoldable pub check-rows : List ℕ → List ℕ → Outcome ℕ
-unfolding table-or-9 trees occurrences
-check-rows ws ns = table-or-9 ws ns >>= λ t. ok (occurrences (trees t))
+-- the words are the rows of a list within every limit of 01's first section
+unfoldable pub laid-in-domain : List ℕ → List ℕ → Bool
+unfolding table-of table-words eq-bytes in-domain
+laid-in-domain ws ns = eq-bytes (table-words (table-of ws ns .rows)) ws && in-domain (table-of ws ns)
+
+-- how many occurrences the roots of such rows have, or 9
+unfoldable pub check-domain : List ℕ → List ℕ → Outcome ℕ
+unfolding laid-in-domain table-of trees occurrences
+check-domain ws ns = cond (laid-in-domain ws ns) (ok (table-of ws ns)) (refused (by 9)) >>= λ t. ok (occurrences (trees t))
 
 abbrev pub checked : Checked → Outcome ℕ
 checked (Laid n) = ok n

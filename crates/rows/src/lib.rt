@@ -9,7 +9,7 @@ ghost use Rattle.tree.specs.Kinds.{kind-at};
 ghost use Rattle.tree.specs.Facts.{total, greatest};
 ghost use Rattle.tree.specs.Symbol.{is-digit, is-letter, is-made, is-name};
 ghost use Rattle.rows.specs.Counts.{kind-number};
-ghost use Rattle.rows.specs.Check.{checked, check-rows, below, constant-test, operation-test, plain-test, fields-test, row-test};
+ghost use Rattle.rows.specs.Check.{checked, check-domain, below, constant-test, operation-test, plain-test, fields-test, row-test};
 ghost use Rattle.rows.specs.Measure.{pick, capped-size, capped-level, level-by, row-operands, Filled};
 
 // The fewest and the most operands of a kind.
@@ -355,9 +355,9 @@ fn fill(rows: &[u64], n: usize, sizes: &mut [u64], levels: &mut [u64]) -> bool
     true
 }
 
-// Whether load could have laid the rows out: refusal 9 where it couldn't, and otherwise the occurrences under all roots.
-pub fn check_rows(rows: &[u64], roots: &[u64]) -> Checked
-    ensures { λ r. ⌜ checked r ≡ check-rows (now (rows .entry)) (now (roots .entry)) ⌝ }
+// Whether the words are the rows of a list within every limit of 01's first section: refusal 9 where they aren't, and otherwise the occurrences under all roots.
+pub fn check_domain(rows: &[u64], roots: &[u64]) -> Checked
+    ensures { λ r. ⌜ checked r ≡ check-domain (now (rows .entry)) (now (roots .entry)) ⌝ }
 {
     let n = rows.len() / 35;
     if rows.len() != n * 35 {

@@ -16,7 +16,8 @@ use Rattle.tree.specs.Symbol.{is-letter, is-digit, is-made, is-name}
 use Rattle.tree.specs.Tree.{Tree, Op, nil, _◂_, forest}
 use Rattle.tree.specs.Rows.{Row, row-sym, row-const, row-op, Table, at, tree-of-row, trees-from, trees, within-limits}
 use Rattle.tree.specs.Passes.{all-of, operands-ok, expression, expressions, passes}
-use Rattle.tree.specs.Layout.{row-kind, row-default, row-fields, row-words, table-words, signed, row-by, row-of, rows-of, table-of, row-ok, rows-ok, loadable, laid-out}
+use Rattle.tree.specs.Layout.{row-kind, row-default, row-fields, row-words, table-words, signed, row-by, row-of, rows-of, table-of, row-ok, rows-ok, in-domain, sheet-fits, loadable, laid-out}
+use Rattle.tree.proofs.DomainPasses.{Domain, domain, loadable-passes}
 use Rattle.tree.proofs.Logic.{and-left, and-right, and-both}
 use Rattle.tree.proofs.TreeLaws.{eq-bytes-sound, eq-bytes-refl}
 use Rattle.tree.proofs.Formed.{tests}
@@ -122,17 +123,14 @@ pub record Laid (ws ns : List ℕ) : Type 0 where
   pub words : ws ≡ table-words (table .rows)
   pub roots : ns ≡ table .roots
 
-loadable-rows : (t : Table) → T (loadable t) → T (rows-ok 0 (t .rows))
+loadable-domain : (t : Table) → T (loadable t) → T (in-domain t)
 unfolding loadable
-loadable-rows t h =
-    let a = leb (length (t .rows)) 1024 && leb (length (t .roots)) 64 in
-    let c = every (λ n. ltb n (length (t .rows))) (t .roots) && within-limits (trees t) in
-    and-left (rows-ok 0 (t .rows)) c (and-right a (rows-ok 0 (t .rows) && c) h)
+loadable-domain t h = and-left (in-domain t) (sheet-fits t) h
 
-pub table-back : (t : Table) → T (loadable t) → table-of (table-words (t .rows)) (t .roots) ≡ t
+pub table-back : (t : Table) → T (in-domain t) → table-of (table-words (t .rows)) (t .roots) ≡ t
 unfolding table-of
 table-back t h =
-    let r = loadable-rows t h in
+    let r = domain t h .good-rows in
     let n : length (table-words (t .rows)) / 35 ≡ length (t .rows) = ap (λ (m : ℕ). m / 35) (table-long 0 (t .rows) r) ∙ mul-div-cancel (length (t .rows)) (omega arith) in
     ap (λ (l : List Row). record { rows = l; roots = t .roots }) (ap (λ (m : ℕ). rows-of m (table-words (t .rows))) n ∙ rows-back 0 (t .rows) r)
 
@@ -151,99 +149,11 @@ pub laid-out-complete : (ws ns : List ℕ) → Laid ws ns → T (laid-out ws ns)
 unfolding laid-out
 laid-out-complete ws ns L =
     let t = L .table in
-    let b : table-of ws ns ≡ t = ap₂ table-of (L .words) (L .roots) ∙ table-back t (L .loads) in
+    let b : table-of ws ns ≡ t = ap₂ table-of (L .words) (L .roots) ∙ table-back t (loadable-domain t (L .loads)) in
     subst (λ (u : Table). T (eq-bytes (table-words (u .rows)) ws && loadable u)) (sym b)
     (and-both (eq-bytes (table-words (t .rows)) ws) (loadable t)
     (subst (λ (l : List ℕ). T (eq-bytes (table-words (t .rows)) l)) (sym (L .words)) (eq-bytes-refl (table-words (t .rows)))) (L .loads))
 
--- ---- the trees of a loadable table pass
-
-picked : (ts : List Tree) (n : ℕ) → T (expressions ts) → n < length ts → T (expression (getD ts n (Op 0 nil)))
-unfolding expressions
-picked [] n h l = absurd (omega arith)
-picked (t ∷ ts) zero h l = and-left (expression t) (expressions ts) h
-picked (t ∷ ts) (suc n) h l = picked ts n (and-right (expression t) (expressions ts) h) (omega arith)
-
-all-picked : (ts : List Tree) (ns : List ℕ) → T (expressions ts) → T (every (λ n. ltb n (length ts)) ns) → T (expressions (at ts ns))
-unfolding expressions at every
-all-picked ts [] h e = tt
-all-picked ts (n ∷ ns) h e =
-    and-both (expression (getD ts n (Op 0 nil))) (expressions (at ts ns)) (picked ts n h (ltb→lt n (length ts) (and-left (ltb n (length ts)) (every (λ n. ltb n (length ts)) ns) e)))
-    (all-picked ts ns h (and-right (ltb n (length ts)) (every (λ n. ltb n (length ts)) ns) e))
-
-length-at : (ts : List Tree) (ns : List ℕ) → length (at ts ns) ≡ length ns
-unfolding at
-length-at ts [] = refl
-length-at ts (n ∷ ns) = ap suc (length-at ts ns)
-
-tests-long : (l : List Tree) → length (tests (forest l)) ≡ length l
-unfolding forest
-tests-long [] = (unfold expression in refl)
-tests-long (t ∷ l) = more (tests-long l)
-  where
-    more : length (tests (forest l)) ≡ length l → length (tests (t ◂ forest l)) ≡ suc (length l)
-    more h = (unfold expression in ap suc h)
-
-tests-pass : (l : List Tree) → T (expressions l) → T (all-of (tests (forest l)))
-unfolding forest expressions expression
-tests-pass [] h = tt
-tests-pass (t ∷ l) h = and-both (expression t) (all-of (tests (forest l))) (and-left (expression t) (expressions l) h) (tests-pass l (and-right (expression t) (expressions l) h))
-
-row-passes : (ts : List Tree) (r : Row) → T (expressions ts) → T (row-ok (length ts) r) → T (expression (tree-of-row ts r))
-unfolding tree-of-row row-ok expression
-row-passes ts (row-sym s) h g = g
-row-passes ts (row-const c) h g = g
-row-passes ts (row-op k ns) h g =
-    let e : length (tests (forest (at ts ns))) ≡ length ns = tests-long (at ts ns) ∙ length-at ts ns in
-    and-both (operands-ok k (length (tests (forest (at ts ns))))) (all-of (tests (forest (at ts ns))))
-    (subst (λ (m : ℕ). T (operands-ok k m)) (sym e) (and-left (operands-ok k (length ns)) (every (λ n. ltb n (length ts)) ns) g))
-    (tests-pass (at ts ns) (all-picked ts ns h (and-right (operands-ok k (length ns)) (every (λ n. ltb n (length ts)) ns) g)))
-
-expressions-append : (l : List Tree) (t : Tree) → T (expressions l) → T (expression t) → T (expressions (l ++ (t ∷ [])))
-unfolding expressions
-expressions-append [] t g h = and-both (expression t) true h tt
-expressions-append (u ∷ l) t g h =
-    and-both (expression u) (expressions (l ++ (t ∷ []))) (and-left (expression u) (expressions l) g) (expressions-append l t (and-right (expression u) (expressions l) g) h)
-
-pub rows-pass :
-    (ts : List Tree) (l : List Row) → T (expressions ts) → T (rows-ok (length ts) l)
-    → T (expressions (trees-from ts l)) × (length (trees-from ts l) ≡ length ts + length l)
-unfolding trees-from rows-ok
-rows-pass ts [] h g = (h, omega arith)
-rows-pass ts (r ∷ l) h g =
-    let t = tree-of-row ts r in
-    let n : length (ts ++ (t ∷ [])) ≡ suc (length ts) = length-append ts (t ∷ []) ∙ (omega arith) in
-    let q = rows-pass (ts ++ (t ∷ [])) l (expressions-append ts t h (row-passes ts r h (and-left (row-ok (length ts) r) (rows-ok (suc (length ts)) l) g)))
-    (subst (λ (m : ℕ). T (rows-ok m l)) (sym n) (and-right (row-ok (length ts) r) (rows-ok (suc (length ts)) l) g)) in
-    (q .0, (let a = q .1 in omega arith))
-
--- whatever the number of rows: what load has made of a sheet is such a table
-pub table-passes :
-    (t : Table) → T (rows-ok 0 (t .rows)) → T (every (λ n. ltb n (length (t .rows))) (t .roots)) → length (t .roots) ≤ 64 → T (within-limits (trees t))
-    → T (passes (trees t))
-unfolding passes trees
-table-passes t g v few w =
-    let ts = trees-from [] (t .rows) in
-    let q = rows-pass [] (t .rows) (unfold expressions in tt) g in
-    let e : length ts ≡ length (t .rows) = (let a = q .1 in omega arith) in
-    and-both (leb (length (at ts (t .roots))) 64) (within-limits (at ts (t .roots)) && expressions (at ts (t .roots)))
-    (le→leb (length (at ts (t .roots))) 64 (let a = length-at ts (t .roots) in omega arith))
-    (and-both (within-limits (at ts (t .roots))) (expressions (at ts (t .roots))) w
-    (all-picked ts (t .roots) (q .0) (subst (λ (m : ℕ). T (every (λ n. ltb n m) (t .roots))) (sym e) v)))
-
-pub loadable-passes : (t : Table) → T (loadable t) → T (passes (trees t))
-unfolding loadable
-loadable-passes t h =
-    let a = leb (length (t .rows)) 1024 in
-    let b = leb (length (t .roots)) 64 in
-    let r = rows-ok 0 (t .rows) in
-    let v = every (λ n. ltb n (length (t .rows))) (t .roots) in
-    let w = within-limits (trees t) in
-    let rest = and-right (a && b) (r && (v && w)) h in
-    let last = and-right r (v && w) rest in
-    table-passes t (and-left r (v && w) rest) (and-left v w last) (leb→le (length (t .roots)) 64 (and-right a b (and-left (a && b) (r && (v && w)) h))) (and-right v w last)
-
--- what passes 9 is what demand 3 asks
 pub laid-out-passes : (ws ns : List ℕ) → T (laid-out ws ns) → T (passes (trees (table-of ws ns)))
 unfolding laid-out
 laid-out-passes ws ns t = loadable-passes (table-of ws ns) (and-right (eq-bytes (table-words (table-of ws ns .rows)) ws) (loadable (table-of ws ns)) t)

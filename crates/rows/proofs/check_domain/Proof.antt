@@ -1,4 +1,4 @@
--- `rows::check_rows` meets its contract. Assumes nothing.
+-- `rows::check_domain` meets its contract. Assumes nothing.
 use Prim.Native.Nat.{_/_}
 use mathlib.Core.Path.{_≡_, sym, _∙_, subst}
 use native.Mathlib.Omega.{arith}
@@ -8,11 +8,11 @@ use borrow.Author.Tests.{not-true, not-false}
 use Rattle.rows.proofs.Sums.{below-less}
 use Rattle.rows.proofs.TableLaws.{stop-uneven, stop-rows, stop-roots, stop-tests, stop-below, stop-deep, stop-many, laid}
 use borrow.Author.Needs.{needs}
-use Rattle.rows.proofs.check_rows.Statement.{statement}
-use Rattle.rows.proofs.check_rows.Tie as tie
+use Rattle.rows.proofs.check_domain.Statement.{statement}
+use Rattle.rows.proofs.check_domain.Tie as tie
 
-pub check-rows-spec : {M : Type 1} → statement M
-check-rows-spec =
+pub check-domain-spec : {M : Type 1} → statement M
+check-domain-spec =
     tie.close
     (tie.spec
     (λ c. search needs)
