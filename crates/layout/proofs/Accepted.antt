@@ -1,7 +1,7 @@
 -- What the answer of `check_rows` says: words that it lets through are a loadable table's, whose trees are what demand 3 asks of a list, and it refuses no
 -- others. Assumes nothing.
 use Prim.Native.Nat.{ℕ}
-use mathlib.Core.Path.{_≡_, sym}
+use mathlib.Core.Path.{_≡_}
 use mathlib.Core.Bool.{Bool, true, false, cond}
 use mathlib.Core.List.{List}
 use native.Mathlib.Omega.{arith}
@@ -11,7 +11,7 @@ use Rattle.tree.specs.Rows.{trees, occurrences}
 use Rattle.tree.specs.Passes.{passes}
 use Rattle.tree.specs.Layout.{table-of, laid-out, table-or-9}
 use Rattle.tree.proofs.LayoutLaws.{Laid, laid-out-sound, laid-out-complete, laid-out-passes}
-use Rattle.rows.specs.Check.{check-rows}
+use Rattle.layout.specs.Nine.{check-rows}
 
 abbrev answer : List ℕ → List ℕ → Bool → Outcome ℕ
 answer ws ns b = cond b (ok (table-of ws ns)) (refused (by 9)) >>= λ t. ok (occurrences (trees t))

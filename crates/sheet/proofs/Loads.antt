@@ -22,7 +22,8 @@ use Rattle.sheet.specs.Sheet.{records-from, fields-from, plain, words, R
 use Rattle.tree.proofs.Tests.{is-true, every-more}
 use Rattle.sheet.proofs.Numerals.{constant-integer}
 use Rattle.sheet.proofs.Inner.{inner-plain, inner-no-comma, name-inner, decimal-inner, integer-inner}
-use Rattle.sheet.proofs.Words.{Word, word, kind-word, arity-kind}
+use Rattle.sheet.proofs.Words.{Word, word, kind-word}
+use Rattle.tree.proofs.KindLaws.{arity-kind}
 use Rattle.tree.proofs.RecordLaws.{joined-bytes, records-long}
 use Rattle.sheet.proofs.Splitting.{Sound, records-joined, two-fields, texts, number-fields, numbers-texts, texts-length}
 

@@ -11,6 +11,7 @@ use lib.ListN.{length, getD, List·getD-eq-default}
 use lib.Dec.{T, eqb, leb, ltb, eqb→eq, leb→le}
 use Rattle.tree.specs.Bytes.{bytes, eq-bytes, every}
 use Rattle.tree.specs.Kinds.{Kind, kinds, kind-at, arity-ok}
+use Rattle.tree.proofs.KindLaws.{kinds-long}
 use Rattle.tree.proofs.Logic.{and-left, and-right}
 use Rattle.tree.proofs.TreeLaws.{eq-bytes-sound}
 use Rattle.sheet.specs.Sheet.{plain, words-of, words, Root, find}
@@ -60,10 +61,6 @@ word k h =
 
 -- ---- the words of the kinds
 
-kinds-long : length kinds ≡ 29
-unfolding kinds
-kinds-long = refl
-
 word-of : (ks : List Kind) (d : Kind) (k : ℕ) → k < length ks → getD (words-of ks) k [] ≡ getD ks k d .word
 unfolding words-of
 word-of [] d k h = absurd (omega arith)
@@ -77,27 +74,6 @@ kind-word k h = word-of kinds _ k (let l = kinds-long in omega arith)
 pub root-word : getD words Root [] ≡ bytes "Root"
 unfolding words
 root-word = refl
-
--- past the table no count of operands is right
-past : (k : ℕ) → 29 ≤ k → (kind-at k .fewest ≡ 1) × (kind-at k .most ≡ 0)
-unfolding kind-at
-past k h =
-    let g : length kinds ≤ k = (let l = kinds-long in omega arith) in
-    (ap (λ (q : Kind). q .fewest) (List·getD-eq-default kinds _ g), ap (λ (q : Kind). q .most) (List·getD-eq-default kinds _ g))
-
-pub arity-kind : (k n : ℕ) → T (arity-ok k n) → k < 29
-arity-kind k n h = go (ltb k 29) refl
-  where
-    unfit : T (arity-ok k n) → 29 ≤ k → ⊥
-    unfit h l =
-        let p = past k l in
-        let a = leb→le (kind-at k .fewest) n (and-left (leb (kind-at k .fewest) n) (leb n (kind-at k .most)) (unfold arity-ok in h)) in
-        let b = leb→le n (kind-at k .most) (and-right (leb (kind-at k .fewest) n) (leb n (kind-at k .most)) (unfold arity-ok in h)) in
-        omega arith
-
-    go : (b : Bool) → ltb k 29 ≡ b → k < 29
-    go true e = ltb-true k 29 e
-    go false e = absurd (unfit h (ltb-false k 29 e))
 
 -- ---- what is found is what was sought
 

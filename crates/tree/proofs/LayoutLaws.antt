@@ -1,26 +1,24 @@
 -- The layout of rows as words. Words pass 9 exactly where they are a loadable table's, which is read back from them; and the trees of a loadable table are
 -- what demand 3 asks of a list. Assumes nothing.
-use Prim.Native.Nat.{ℕ, zero, suc, _+_, _-_, _*_, _/_, _≤_, _<_}
+use Prim.Native.Nat.{ℕ, zero, suc, _+_, _-_, _*_, _/_, _≤_}
 use mathlib.Core.Path.{_≡_, refl, sym, _∙_, ap, ap₂, subst}
 use mathlib.Core.Bool.{Bool, true, false, not, _&&_, _||_, cond}
-use mathlib.Core.List.{List, [], _∷_, _++_}
+use mathlib.Core.List.{List, [], _∷_}
 use native.Mathlib.Nat.{add-zero, mul-div-cancel}
 use native.Mathlib.Omega.{arith}
 use lib.IntN.{pos, negsuc}
-use lib.Dec.{T, eqb, leb, ltb, eqb→eq, leb→le, le→leb, ltb→lt}
+use lib.Dec.{T, eqb, leb, ltb, eqb→eq, leb→le}
 use lib.ListN.{length, getD, replicate, length-append, length-replicate}
 use lib.Seq.{take-append-seam, take-at, drop-at}
 use Rattle.tree.specs.Bytes.{eq-bytes, every}
 use Rattle.tree.specs.Kinds.{Kind, kinds, kind-at, arity-ok, Neg, Select, SelectOr}
 use Rattle.tree.specs.Symbol.{is-letter, is-digit, is-made, is-name}
-use Rattle.tree.specs.Tree.{Tree, Op, nil, _◂_, forest}
-use Rattle.tree.specs.Rows.{Row, row-sym, row-const, row-op, Table, at, tree-of-row, trees-from, trees, within-limits}
-use Rattle.tree.specs.Passes.{all-of, operands-ok, expression, expressions, passes}
+use Rattle.tree.specs.Rows.{Row, row-sym, row-const, row-op, Table, trees}
+use Rattle.tree.specs.Passes.{operands-ok, passes}
 use Rattle.tree.specs.Layout.{row-kind, row-default, row-fields, row-words, table-words, signed, row-by, row-of, rows-of, table-of, row-ok, rows-ok, in-domain, sheet-fits, loadable, laid-out}
-use Rattle.tree.proofs.DomainPasses.{Domain, domain, loadable-passes}
+use Rattle.tree.proofs.DomainPasses.{domain, loadable-passes}
 use Rattle.tree.proofs.Logic.{and-left, and-right, and-both}
 use Rattle.tree.proofs.TreeLaws.{eq-bytes-sound, eq-bytes-refl}
-use Rattle.tree.proofs.Formed.{tests}
 
 -- ---- a row that load lays out has at most 32 fields
 

@@ -3,6 +3,7 @@ pub mod Logic
 pub mod Tests
 pub mod RecordLaws
 pub mod Formed
+pub mod KindLaws
 pub mod Examples
 pub mod DomainPasses
 pub mod TokenLaws
