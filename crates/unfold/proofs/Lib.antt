@@ -1,0 +1,6 @@
+pub mod RowLaws
+pub mod RunLaws
+pub mod NameLaws
+pub mod WriteLaws
+pub mod WordLaws
+pub mod CycleLaws

@@ -1,0 +1,136 @@
+// Node rows unfolded into the words of their roots' trees: one word for each occurrence, a node before its operands, left to right. The functions here ask
+// that the rows are laid out as load lays them out, which `check_rows` decides; so they are not for callers, who have `unfold`.
+ghost use mathlib.Core.Path.{_≡_};
+ghost use mathlib.Core.List.{List};
+ghost use Prim.Native.Nat.{_+_, _*_, _≤_, _<_, _^_};
+ghost use lib.Dec.{T, ltb};
+ghost use lib.ListN.{length, getD, take, drop};
+ghost use Rattle.tree.specs.Bytes.{eq-bytes, every};
+ghost use Rattle.tree.specs.Rows.{trees};
+ghost use Rattle.tree.specs.Layout.{row-fields, signed, laid-out, table-of};
+ghost use Rattle.tree.specs.Tokens.{number-in, constant-code, all-tokens};
+ghost use Rattle.unfold.specs.Write.{Wrote};
+ghost use Rattle.unfold.specs.Unfold.{row-count, rows-in, row-at, words-at, row-operands, run, runs, Laid};
+
+pub enum Unfolded {
+    // How many words the trees are.
+    Tokens(usize),
+    // 8 or 9.
+    Refused(u64),
+}
+
+// Words of a row: its kind, whether a Select has a default, its number of fields, and 32 fields.
+const WIDTH: usize = 35;
+
+// Whether two runs of one length are the same words.
+fn same_words(a: &[u64], b: &[u64]) -> bool
+    requires { ⌜ length (now a) ≡ length (now b) ⌝ }
+    ensures { λ r. ⌜ r ≡ eq-bytes (now (a .entry)) (now (b .entry)) ⌝ }
+{
+    let mut i = 0;
+    while i < a.len() {
+        if a[i] != b[i] {
+            return false;
+        }
+        i += 1;
+    }
+    true
+}
+
+// The first row that is the same as row r: a symbol's number. Unused words are 0, so symbols with one name have equal rows. A search for each occurrence
+// costs no more than a table of all symbols would: there are as many occurrences as rows, at most.
+fn first_named(rows: &[u64], r: usize) -> usize
+    requires { ⌜ Laid (now rows) ⌝ }
+    requires { ⌜ (r < row-count (now rows)) × (getD (now rows) (r * 35) 0 + getD (now rows) (r * 35 + 1) 0 ≡ 0) ⌝ }
+    ensures { λ e. ⌜ (e ≡ number-in (rows-in (now (rows .entry))) (row-fields (row-at (now (rows .entry)) r))) × (e ≤ r) ⌝ }
+{
+    let own = r * WIDTH;
+    let mut i = 0;
+    while i < r {
+        let at = i * WIDTH;
+        if same_words(&rows[at..at + WIDTH], &rows[own..own + WIDTH]) {
+            return i;
+        }
+        i += 1;
+    }
+    r
+}
+
+// Constants in the order 0, -1, 1, -2, 2, ..
+fn constant_code(sign: u64, size: u64) -> u64
+    requires { ⌜ (size < 10 ^ 15) × (0 < sign → 0 < size) ⌝ }
+    ensures { λ r. ⌜ (r ≡ constant-code (signed sign size)) × (r < 2 * 10 ^ 15) ⌝ }
+{
+    if sign == 0 { 2 * size } else { 2 * size - 1 }
+}
+
+// The word of row r's node: its kind, and a symbol's or a constant's code or the number of operands.
+fn node_word(rows: &[u64], r: usize) -> u64
+    requires { ⌜ Laid (now rows) ⌝ }
+    requires { ⌜ r < row-count (now rows) ⌝ }
+    ensures { λ w. ⌜ w ≡ getD (run (now (rows .entry)) r) 0 0 ⌝ }
+{
+    let at = r * WIDTH;
+    let kind = rows[at] + rows[at + 1];
+    if kind == 0 {
+        return 192 * (first_named(rows, r) as u64);
+    }
+    if kind == 1 {
+        return 1 + 64 * constant_code(rows[at + 3], rows[at + 4]);
+    }
+    kind + 64 * rows[at + 2]
+}
+
+// A leaf's fields are no operands.
+fn operand_count(rows: &[u64], r: usize) -> usize
+    requires { ⌜ Laid (now rows) ⌝ }
+    requires { ⌜ r < row-count (now rows) ⌝ }
+    ensures { λ n. ⌜ n ≡ length (row-operands (row-at (now (rows .entry)) r)) ⌝ }
+{
+    let at = r * WIDTH;
+    let kind = rows[at] + rows[at + 1];
+    if kind < 2 {
+        return 0;
+    }
+    rows[at + 2] as usize
+}
+
+// Row r's tree, written from `at` on; gives the end. Its operands are earlier rows, so this ends.
+fn unfold_row(rows: &[u64], r: usize, out: &mut [u64], at: usize) -> usize
+    requires { ⌜ Laid (now rows) ⌝ }
+    requires { ⌜ r < row-count (now rows) ⌝ }
+    requires { ⌜ at + length (run (now rows) r) ≤ length (now out) ⌝ }
+    ensures { λ e. ⌜ Wrote (now (out .entry)) at (run (now (rows .entry)) r) e (now (out .exit)) ⌝ }
+{
+    out[at] = node_word(rows, r);
+    let first = r * WIDTH + 3;
+    let end = first + operand_count(rows, r);
+    unfold_each(rows, &rows[first..end], out, at + 1)
+}
+
+// The trees of several rows, one after another.
+fn unfold_each(rows: &[u64], list: &[u64], out: &mut [u64], at: usize) -> usize
+    requires { ⌜ Laid (now rows) ⌝ }
+    requires { ⌜ T (every (λ n. ltb n (row-count (now rows))) (now list)) ⌝ }
+    requires { ⌜ at + length (runs (now rows) (now list)) ≤ length (now out) ⌝ }
+    ensures { λ e. ⌜ Wrote (now (out .entry)) at (runs (now (rows .entry)) (now (list .entry))) e (now (out .exit)) ⌝ }
+{
+    let mut to = at;
+    let mut i = 0;
+    while i < list.len() {
+        to = unfold_row(rows, list[i] as usize, out, to);
+        i += 1;
+    }
+    to
+}
+
+// The roots' trees, written from the start on; gives how many words they are.
+fn unfold_roots(rows: &[u64], roots: &[u64], out: &mut [u64]) -> usize
+    requires { ⌜ T (laid-out (now rows) (now roots)) ⌝ }
+    requires { ⌜ 1024 ≤ length (now out) ⌝ }
+    ensures { λ e. ⌜ Wrote (now (out .entry)) 0
+        (all-tokens (number-in (table-of (now (rows .entry)) (now (roots .entry)) .rows)) (trees (table-of (now (rows .entry)) (now (roots .entry)))))
+        e (now (out .exit)) ⌝ }
+{
+    unfold_each(rows, roots, out, 0)
+}
