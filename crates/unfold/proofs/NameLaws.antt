@@ -14,8 +14,8 @@ use Rattle.tree.specs.Tokens.{first-named, number-in}
 use Rattle.tree.specs.Passes.{operands-ok}
 use Rattle.tree.proofs.Logic.{and-left}
 use Rattle.tree.proofs.TreeLaws.{eq-bytes-sound, eq-bytes-refl}
-use Rattle.unfold.specs.Unfold.{row-count, rows-in, row-at, words-at, Laid}
-use Rattle.unfold.proofs.RowLaws.{length-rows-of, Stands, stands, row-number, few-kinds}
+use Rattle.unfold.specs.Unfold.{row-count, rows-in, row-at, words-at, row-number, Laid}
+use Rattle.unfold.proofs.RowLaws.{length-rows-of, Stands, stands, few-kinds}
 
 true-is : (b : Bool) → T b → b ≡ true
 true-is true t = refl
@@ -57,12 +57,12 @@ symbol-is i (row-op k ns) t e = absurd (omega (arith, few-kinds k (length ns) (a
 
 -- the first row that is the same as a symbol's is the symbol's number
 pub found :
-    {ws : List ℕ} → Laid ws → (r e : ℕ) → r < row-count ws → getD ws (r * 35) 0 + getD ws (r * 35 + 1) 0 ≡ 0 → e ≤ r
+    {ws : List ℕ} → Laid ws → (r e : ℕ) → r < row-count ws → row-number (row-at ws r) ≡ 0 → e ≤ r
     → row-at ws e ≡ row-at ws r → None-before ws r e → e ≡ number-in (rows-in ws) (row-fields (row-at ws r))
 unfolding rows-in row-at number-in
 found {ws} laid r e h z l p f =
     let c = stands laid r h in
-    let q : row-at ws r ≡ row-sym (row-fields (row-at ws r)) = symbol-is r (row-at ws r) (c .tested) (omega (arith, c .kind)) in
+    let q : row-at ws r ≡ row-sym (row-fields (row-at ws r)) = symbol-is r (row-at ws r) (c .tested) z in
     let n : e < length (rows-in ws) = rw (length-rows-of (row-count ws) ws) (omega arith) in
     sym (first-is (rows-in ws) 0 e (row-fields (row-at ws r)) (row-op 0 []) n (p ∙ q) (λ k m g. f k m (g ∙ sym q)) ∙ zero-add e)
 

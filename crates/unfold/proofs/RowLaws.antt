@@ -14,7 +14,7 @@ use Rattle.tree.specs.Passes.{operands-ok}
 use Rattle.tree.specs.Rows.{Row, row-sym, row-const, row-op}
 use Rattle.tree.specs.Layout.{row-width, row-kind, row-default, row-fields, row-words, table-words, signed, row-by, row-of, rows-of, row-ok, rows-ok}
 use Rattle.tree.proofs.Logic.{and-left, and-right}
-use Rattle.unfold.specs.Unfold.{row-count, rows-in, row-at, words-at, Laid}
+use Rattle.unfold.specs.Unfold.{row-count, rows-in, row-at, words-at, row-number, Laid}
 
 -- ---- rows of words
 
@@ -110,12 +110,6 @@ few-kinds k n t =
     go : (b : Bool) → (T b → k ≤ 28) → (T (not b) → 28 < k) → T (arity-ok k n) → k ≤ 28
     go true f g a = f tt
     go false f g a = absurd (kinds-end k n (g tt) a)
-
--- the number that a row's first two words add up to
-unfoldable pub row-number : Row → ℕ
-row-number (row-sym s) = 0
-row-number (row-const c) = 1
-row-number (row-op k ns) = k
 
 default-is : (k : ℕ) (b : Bool) → (T b → k ≡ 28) → cond b 27 k + cond b 1 0 ≡ k
 default-is k true e = sym (e tt)

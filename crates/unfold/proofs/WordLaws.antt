@@ -16,8 +16,8 @@ use Rattle.tree.specs.Layout.{row-fields, row-ok, signed}
 use Rattle.tree.specs.Tokens.{constant-code, number-in}
 use Rattle.tree.proofs.Logic.{and-left}
 use Rattle.tree.proofs.TreeLaws.{eq-bytes-sound, eq-bytes-refl}
-use Rattle.unfold.specs.Unfold.{row-count, rows-in, row-at, row-operands, run, Laid}
-use Rattle.unfold.proofs.RowLaws.{Stands, row-number, few-kinds}
+use Rattle.unfold.specs.Unfold.{row-count, rows-in, row-at, row-number, row-operands, run, Laid}
+use Rattle.unfold.proofs.RowLaws.{Stands, few-kinds}
 use Rattle.unfold.proofs.RunLaws.{row-word, run-is}
 
 -- field j of row i
@@ -113,45 +113,45 @@ agree a b e f = true-is (eq-bytes a b) (subst (λ (l : List ℕ). T (eq-bytes a 
 -- ---- the ends of `operand_count` and `node_word`
 
 module _ {ws : List ℕ} {i : ℕ} (c : Stands ws i) where
-  -- the sum of the first two words
-  abbrev pub kind-word : ℕ
-  kind-word = getD ws (i * 35) 0 + getD ws (i * 35 + 1) 0
+  abbrev kind : ℕ
+  kind = row-number (row-at ws i)
 
-  pub kind-small : kind-word ≤ 28
-  kind-small = omega (arith, c .kind, number-fits i (row-at ws i) (c .tested))
+  pub kind-done : (getD ws (i * 35) 0 + getD ws (i * 35 + 1) 0 ≡ kind) × (getD ws (i * 35) 0 + getD ws (i * 35 + 1) 0 ≤ 28)
+  kind-done = (c .kind, omega (arith, c .kind, number-fits i (row-at ws i) (c .tested)))
 
   pub count-small : getD ws (i * 35 + 2) 0 ≤ 32
   count-small = omega (arith, c .count, c .most)
 
-  pub no-operands : kind-word < 2 → 0 ≡ length (row-operands (row-at ws i))
-  no-operands h = ap length (sym (leaf-operands i (row-at ws i) (c .tested) (omega (arith, c .kind))))
+  pub no-operands : kind < 2 → 0 ≡ length (row-operands (row-at ws i))
+  no-operands h = ap length (sym (leaf-operands i (row-at ws i) (c .tested) h))
 
-  pub all-operands : 2 ≤ kind-word → getD ws (i * 35 + 2) 0 ≡ length (row-operands (row-at ws i))
-  all-operands h = c .count ∙ ap length (sym (operation-operands (row-at ws i) (omega (arith, c .kind))))
+  pub all-operands : 2 ≤ kind → getD ws (i * 35 + 2) 0 ≡ length (row-operands (row-at ws i))
+  all-operands h = c .count ∙ ap length (sym (operation-operands (row-at ws i) h))
 
   module _ (laid : Laid ws) (inside : i < row-count ws) where
-    pub symbol-done : (n : ℕ) → kind-word ≡ 0 → n ≡ number-in (rows-in ws) (row-fields (row-at ws i)) → 192 * n ≡ getD (run ws i) 0 0
+    pub symbol-done : (n : ℕ) → kind ≡ 0 → n ≡ number-in (rows-in ws) (row-fields (row-at ws i)) → 192 * n ≡ getD (run ws i) 0 0
     symbol-done n z e =
-        let w = symbol-word (number-in (rows-in ws)) i (row-at ws i) (c .tested) (omega (arith, c .kind)) in
+        let w = symbol-word (number-in (rows-in ws)) i (row-at ws i) (c .tested) z in
         omega (arith, head-is laid i inside)
 
-    pub operation-done : 2 ≤ kind-word → kind-word + 64 * getD ws (i * 35 + 2) 0 ≡ getD (run ws i) 0 0
-    operation-done h =
-        let w = operation-word (number-in (rows-in ws)) i (row-at ws i) (c .tested) (omega (arith, c .kind)) in
-        omega (arith, c .kind, c .count, head-is laid i inside)
+    pub operation-done : (k : ℕ) → k ≡ kind → 2 ≤ k → k + 64 * getD ws (i * 35 + 2) 0 ≡ getD (run ws i) 0 0
+    operation-done k e h =
+        let w = operation-word (number-in (rows-in ws)) i (row-at ws i) (c .tested) (omega arith) in
+        omega (arith, c .count, head-is laid i inside)
 
-    pub constant-here : kind-word ≡ 1 → Constant (number-in (rows-in ws)) (row-at ws i)
-    constant-here e = constant-word (number-in (rows-in ws)) i (row-at ws i) (c .tested) (omega (arith, c .kind))
+    pub constant-here : kind ≡ 1 → Constant (number-in (rows-in ws)) (row-at ws i)
+    constant-here e = constant-word (number-in (rows-in ws)) i (row-at ws i) (c .tested) e
 
-    pub sign-is : kind-word ≡ 1 → getD ws (i * 35 + 3) 0 ≡ getD (row-fields (row-at ws i)) 0 0
+    pub sign-is : kind ≡ 1 → getD ws (i * 35 + 3) 0 ≡ getD (row-fields (row-at ws i)) 0 0
     sign-is e = ap (λ (j : ℕ). getD ws j 0) (sym (add-zero (i * 35 + 3))) ∙ field-at c 0 (omega (arith, constant-here e .two))
 
-    pub size-is : kind-word ≡ 1 → getD ws (i * 35 + 4) 0 ≡ getD (row-fields (row-at ws i)) 1 0
+    pub size-is : kind ≡ 1 → getD ws (i * 35 + 4) 0 ≡ getD (row-fields (row-at ws i)) 1 0
     size-is e =
         let p : i * 35 + 4 ≡ i * 35 + 3 + 1 = omega arith in
         ap (λ (j : ℕ). getD ws j 0) p ∙ field-at c 1 (omega (arith, constant-here e .two))
 
-    pub constant-done : (n : ℕ) → kind-word ≡ 1 → n ≡ constant-code (signed (getD ws (i * 35 + 3) 0) (getD ws (i * 35 + 4) 0)) → 1 + 64 * n ≡ getD (run ws i) 0 0
+    pub constant-done :
+        (n : ℕ) → kind ≡ 1 → n ≡ constant-code (signed (getD ws (i * 35 + 3) 0) (getD ws (i * 35 + 4) 0)) → 1 + 64 * n ≡ getD (run ws i) 0 0
     constant-done n e h =
         let k = constant-here e .word-is in
         let m = rw (sign-is e, size-is e) at h in

@@ -34,6 +34,12 @@ trees-of-rows ws = trees-from [] (rows-in ws)
 unfoldable pub words-at : List ℕ → ℕ → List ℕ
 words-at ws i = take row-width (drop (i * row-width) ws)
 
+-- a row's kind; its first two words add up to this number
+unfoldable pub row-number : Row → ℕ
+row-number (row-sym s) = 0
+row-number (row-const c) = 1
+row-number (row-op k ns) = k
+
 -- the row numbers of a node's operands
 unfoldable pub row-operands : Row → List ℕ
 row-operands (row-sym s) = []

@@ -10,7 +10,7 @@ ghost use Rattle.tree.specs.Rows.{trees};
 ghost use Rattle.tree.specs.Layout.{row-fields, signed, laid-out, table-of};
 ghost use Rattle.tree.specs.Tokens.{number-in, constant-code, all-tokens};
 ghost use Rattle.unfold.specs.Write.{Wrote};
-ghost use Rattle.unfold.specs.Unfold.{row-count, rows-in, row-at, words-at, row-operands, run, runs, Laid};
+ghost use Rattle.unfold.specs.Unfold.{row-count, rows-in, row-at, words-at, row-number, row-operands, run, runs, Laid};
 
 pub enum Unfolded {
     // How many words the trees are.
@@ -27,21 +27,32 @@ fn same_words(a: &[u64], b: &[u64]) -> bool
     requires { ⌜ length (now a) ≡ length (now b) ⌝ }
     ensures { λ r. ⌜ r ≡ eq-bytes (now (a .entry)) (now (b .entry)) ⌝ }
 {
-    let mut i = 0;
-    while i < a.len() {
-        if a[i] != b[i] {
+    let mut k = 0;
+    while k < a.len() {
+        if a[k] != b[k] {
             return false;
         }
-        i += 1;
+        k += 1;
     }
     true
+}
+
+// The number of row r's kind. A Select with a default has the next number after a Select.
+fn kind_of(rows: &[u64], r: usize) -> u64
+    requires { ⌜ Laid (now rows) ⌝ }
+    requires { ⌜ r < row-count (now rows) ⌝ }
+    ensures { λ k. ⌜ (k ≡ row-number (row-at (now (rows .entry)) r)) × (k ≤ 28) ⌝ }
+{
+    let at = r * WIDTH;
+    rows[at] + rows[at + 1]
 }
 
 // The first row that is the same as row r: a symbol's number. Unused words are 0, so symbols with one name have equal rows. A search for each occurrence
 // costs no more than a table of all symbols would: there are as many occurrences as rows, at most.
 fn first_named(rows: &[u64], r: usize) -> usize
     requires { ⌜ Laid (now rows) ⌝ }
-    requires { ⌜ (r < row-count (now rows)) × (getD (now rows) (r * 35) 0 + getD (now rows) (r * 35 + 1) 0 ≡ 0) ⌝ }
+    requires { ⌜ r < row-count (now rows) ⌝ }
+    requires { ⌜ row-number (row-at (now rows) r) ≡ 0 ⌝ }
     ensures { λ e. ⌜ (e ≡ number-in (rows-in (now (rows .entry))) (row-fields (row-at (now (rows .entry)) r))) × (e ≤ r) ⌝ }
 {
     let own = r * WIDTH;
@@ -71,7 +82,7 @@ fn node_word(rows: &[u64], r: usize) -> u64
     ensures { λ w. ⌜ w ≡ getD (run (now (rows .entry)) r) 0 0 ⌝ }
 {
     let at = r * WIDTH;
-    let kind = rows[at] + rows[at + 1];
+    let kind = kind_of(rows, r);
     if kind == 0 {
         return 192 * (first_named(rows, r) as u64);
     }
@@ -87,11 +98,10 @@ fn operand_count(rows: &[u64], r: usize) -> usize
     requires { ⌜ r < row-count (now rows) ⌝ }
     ensures { λ n. ⌜ n ≡ length (row-operands (row-at (now (rows .entry)) r)) ⌝ }
 {
-    let at = r * WIDTH;
-    let kind = rows[at] + rows[at + 1];
-    if kind < 2 {
+    if kind_of(rows, r) < 2 {
         return 0;
     }
+    let at = r * WIDTH;
     rows[at + 2] as usize
 }
 
@@ -116,10 +126,10 @@ fn unfold_each(rows: &[u64], list: &[u64], out: &mut [u64], at: usize) -> usize
     ensures { λ e. ⌜ Wrote (now (out .entry)) at (runs (now (rows .entry)) (now (list .entry))) e (now (out .exit)) ⌝ }
 {
     let mut to = at;
-    let mut i = 0;
-    while i < list.len() {
-        to = unfold_row(rows, list[i] as usize, out, to);
-        i += 1;
+    let mut done = 0;
+    while done < list.len() {
+        to = unfold_row(rows, list[done] as usize, out, to);
+        done += 1;
     }
     to
 }

@@ -46,37 +46,10 @@ unfold-row-below t =
     and 2 unfold-row-kinds.ps (falls 2 unfold-row-kinds.ps _<_ μ-unfold-row t) unfold-row.Pre
 
 abbrev unfold-each-Inv-loop : unfold-each-lts.InvT-loop
-unfold-each-Inv-loop rows list out₀ at to₀ i₀ out to i = (i ≤ length list) × Wrote out₀ at (runs rows (take i list)) to out
+unfold-each-Inv-loop rows list out₀ at to₀ done₀ out to done = (done ≤ length list) × Wrote out₀ at (runs rows (take done list)) to out
 
 abbrev unfold-each-μ-loop : unfold-each-lts.MeasureT-loop
-unfold-each-μ-loop rows list out₀ at to₀ i₀ out to i = length list - i
-
-unfold-each-shared-slice-read-unfold-row :
-    (t : ℕ) → unfold-each-lts.Need-shared-slice-read-unfold-row (
-      unfold-row-below t,
-      unfold-row.Post,
-    ) (unfold-each-at t) unfold-each.Post unfold-each-Inv-loop unfold-each-μ-loop
-unfold-each-shared-slice-read-unfold-row t c = search needs
-
-unfold-each-add-i :
-    (t : ℕ) →
-    unfold-each-lts.Need-add-i
-    (unfold-row-below t, unfold-row.Post)
-    (unfold-each-at t)
-    unfold-each.Post
-    unfold-each-Inv-loop
-    unfold-each-μ-loop
-unfold-each-add-i t c = search needs
-
-unfold-each-returns :
-    (t : ℕ) →
-    unfold-each-lts.Need-returns
-    (unfold-row-below t, unfold-row.Post)
-    (unfold-each-at t)
-    unfold-each.Post
-    unfold-each-Inv-loop
-    unfold-each-μ-loop
-unfold-each-returns t c = each-done (c .before .before .before .before .before .args .rows .now) (c .before .before .before .before .before .args .list .now) (c .before .loop .i) (c .before .loop .inv .1) (omega arith)
+unfold-each-μ-loop rows list out₀ at to₀ done₀ out to done = length list - done
 
 pub +unfold-each+unfold-row-spec : {M : Type 1} → statement M
 +unfold-each+unfold-row-spec = close μ-unfold-each μ-unfold-row (λ t. unfold-each-lts.spec (unfold-row-below t, unfold-row.Post)
@@ -86,18 +59,18 @@ pub +unfold-each+unfold-row-spec : {M : Type 1} → statement M
     unfold-each-μ-loop
     (λ c. let s = c .before .before .before in (omega arith, each-begins (s .args .rows .now) (s .args .list .now) (s .args .out .now) (s .args .at) (omega arith)))
     (λ c. search needs)
-    (unfold-each-shared-slice-read-unfold-row t)
+    (λ c. search needs)
     (λ c κs. let s = c .before .before .before .before .before .before .before in
     let ws = s .args .rows .now in
     let ns = s .args .list .now in
-    let i = c .before .before .before .loop .i in
+    let i = c .before .before .before .loop .done in
     let h = c .before .before .loop-test .taken in
     (omega (arith, s .pre .0, bound-at ns i h), (s .pre .1 .0, (below-at _ ns i (s .pre .1 .1 .0) h, each-room ws ns i (c .before .before .before .loop .inv .1) h (s .pre .1 .1 .1)))))
-    (unfold-each-add-i t)
     (λ c. search needs)
-    (λ c. let s = c .before .before .before .before .before .before .before .before .before .before in (omega arith, each-more (s .args .rows .now) (s .args .list .now) (c .before .before .before .before .before .before .loop .i) (c .before .before .before .before .before .before .loop .inv .1) (c .before .before .before .before .before .loop-test .taken) (c .before .before .unfold-row .ensures)))
+    (λ c. search needs)
+    (λ c. let s = c .before .before .before .before .before .before .before .before .before .before in (omega arith, each-more (s .args .rows .now) (s .args .list .now) (c .before .before .before .before .before .before .loop .done) (c .before .before .before .before .before .before .loop .inv .1) (c .before .before .before .before .before .loop-test .taken) (c .before .before .unfold-row .ensures)))
     (λ c. wrote-long (c .before .loop .inv .1))
-    (unfold-each-returns t))
+    (λ c. let s = c .before .before .before .before .before in each-done (s .args .rows .now) (s .args .list .now) (c .before .loop .done) (c .before .loop .inv .1) (omega arith)))
     λ t. unfold-row-lts.spec (
       node-word-reads.Asked,
       node-word-reads.Learnt,

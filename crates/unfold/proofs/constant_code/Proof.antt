@@ -12,5 +12,5 @@ constant-code-spec =
     (λ c. search needs)
     (λ c. search needs)
     (λ c. omega (arith, c .before .pre .1 (omega arith)))
-    (λ c. (plus-code (c .before .args .sign) (c .before .args .size) (c .if1 .taken), omega arith))
-    (λ c. (minus-code (c .before .args .sign) (c .before .args .size) (c .if1 .left) (c .before .pre .1 (omega arith)), omega arith)))
+    (λ c. let s = c .before in (plus-code (s .args .sign) (s .args .size) (c .if1 .taken), omega arith))
+    (λ c. let s = c .before in (minus-code (s .args .sign) (s .args .size) (c .if1 .left) (s .pre .1 (omega arith)), omega arith)))

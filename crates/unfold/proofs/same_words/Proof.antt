@@ -10,10 +10,10 @@ use Rattle.unfold.proofs.same_words.Statement.{statement}
 use Rattle.unfold.proofs.same_words.Tie as tie
 
 abbrev Inv-loop : tie.InvT-loop
-Inv-loop a b i₀ i = (i ≤ length a) × ((k : ℕ) → k < i → getD a k 0 ≡ getD b k 0)
+Inv-loop a b k₀ k = (k ≤ length a) × ((j : ℕ) → j < k → getD a j 0 ≡ getD b j 0)
 
 abbrev μ-loop : tie.MeasureT-loop
-μ-loop a b i₀ i = length a - i
+μ-loop a b k₀ k = length a - k
 
 pub same-words-spec : {M : Type 1} → statement M
 same-words-spec =
@@ -26,7 +26,7 @@ same-words-spec =
     (λ c. search needs)
     (λ c. search needs)
     (λ c. search needs)
-    (λ c. let s = c .before .before .before .before .before in differ (s .args .a .now) (s .args .b .now) (c .before .before .before .before .loop .i) (c .if1 .taken))
+    (λ c. let s = c .before .before .before .before .before in differ (s .args .a .now) (s .args .b .now) (c .before .before .before .before .loop .k) (c .if1 .taken))
     (λ c. search needs)
     (λ c. search needs)
     (λ c. (search needs, below-more _ _ (c .before .before .before .before .loop .inv .1) (c .if1 .left)))

@@ -9,14 +9,11 @@ pub unfold-roots-spec : {M : Type 1} → statement M
 unfold-roots-spec =
     tie.close
     (tie.spec
-    (λ c κs.
-    let s = c .before .before .before .before in
+    (λ c κs. let s = c .before .before .before .before in
     let ws = s .args .rows .now in
     let roots = s .args .roots .now in
     let t = s .pre .0 in
     let f = runs-few ws roots t in
     (laid ws roots t, (roots-below ws roots t, omega arith)))
     (λ c. search needs)
-    (λ c.
-    let s = c .before .before .before .before .before .before .before in
-    rw (← runs-are (s .args .rows .now) (s .args .roots .now) (s .pre .0)) (c .before .before .unfold-each .ensures)))
+    (λ c. let s = c .before .before .before .before .before .before .before in rw (← runs-are (s .args .rows .now) (s .args .roots .now) (s .pre .0)) (c .before .before .unfold-each .ensures)))
