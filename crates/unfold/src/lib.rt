@@ -1,5 +1,5 @@
-// Node rows unfolded into the words of their roots' trees: one word for each occurrence, a node before its operands, left to right. The functions here ask
-// that the rows are laid out as load lays them out, which `check_rows` decides; so they are not for callers, who have `unfold`.
+// Node rows unfolded into the words of their roots' trees: one word for each occurrence, a node before its operands, left to right. The functions here are
+// internal: they ask that the rows are laid out as load lays them out, which the check for refusal 9 decides before they are called.
 ghost use mathlib.Core.Path.{_≡_};
 ghost use mathlib.Core.List.{List};
 ghost use Prim.Native.Nat.{_+_, _*_, _≤_, _<_, _^_};
@@ -44,11 +44,12 @@ fn kind_of(rows: &[u64], r: usize) -> u64
     ensures { λ k. ⌜ (k ≡ row-number (row-at (now (rows .entry)) r)) × (k ≤ 28) ⌝ }
 {
     let at = r * WIDTH;
-    rows[at] + rows[at + 1]
+    let default = rows[at + 1];
+    rows[at] + default
 }
 
-// The first row that is the same as row r: a symbol's number. Unused words are 0, so symbols with one name have equal rows. A search for each occurrence
-// costs no more than a table of all symbols would: there are as many occurrences as rows, at most.
+// The first row that is the same as row r: a symbol's number. Unused words are 0, so symbols with one name have equal rows. There are at most 1,024
+// occurrences and as many rows, so a search for each occurrence costs about what a table of the symbols' numbers would.
 fn first_named(rows: &[u64], r: usize) -> usize
     requires { ⌜ Laid (now rows) ⌝ }
     requires { ⌜ r < row-count (now rows) ⌝ }

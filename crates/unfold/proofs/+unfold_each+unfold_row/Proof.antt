@@ -65,7 +65,7 @@ pub +unfold-each+unfold-row-spec : {M : Type 1} → statement M
     let ns = s .args .list .now in
     let i = c .before .before .before .loop .done in
     let h = c .before .before .loop-test .taken in
-    (omega (arith, s .pre .0, bound-at ns i h), (s .pre .1 .0, (below-at _ ns i (s .pre .1 .1 .0) h, each-room ws ns i (c .before .before .before .loop .inv .1) h (s .pre .1 .1 .1)))))
+    (omega (arith, s .pre .0, bound-at ns i h), (s .pre .1 .0, (below-at _ ns i (s .pre .1 .1 .0) h, omega (arith, c .before .before .before .loop .inv .1 .end-is, each-room ws ns i (c .before .before .before .loop .inv .1) h (s .pre .1 .1 .1))))))
     (λ c. search needs)
     (λ c. search needs)
     (λ c. let s = c .before .before .before .before .before .before .before .before .before .before in (omega arith, each-more (s .args .rows .now) (s .args .list .now) (c .before .before .before .before .before .before .loop .done) (c .before .before .before .before .before .before .loop .inv .1) (c .before .before .before .before .before .loop-test .taken) (c .before .before .unfold-row .ensures)))

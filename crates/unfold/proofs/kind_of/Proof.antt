@@ -11,8 +11,8 @@ kind-of-spec =
     (tie.spec
     (λ c. omega (arith, stands (c .pre .0) (c .args .r) (c .pre .1), c .good .0))
     (λ c. omega (arith, stands (c .pre .0) (c .args .r) (c .pre .1), c .good .0))
+    (λ c. omega (arith, stands (c .pre .0) (c .args .r) (c .pre .1), c .good .0))
     (λ c. let s = c .before in omega (arith, stands (s .pre .0) (s .args .r) (s .pre .1)))
-    (λ c. let s = c .before in omega (arith, stands (s .pre .0) (s .args .r) (s .pre .1), s .good .0))
     (λ c. let s = c .before in omega (arith, stands (s .pre .0) (s .args .r) (s .pre .1), s .good .0))
     (λ c. let s = c .before .before in omega (arith, stands (s .pre .0) (s .args .r) (s .pre .1)))
     (λ c. let s = c .before .before in omega (arith, kind-done (stands (s .pre .0) (s .args .r) (s .pre .1))))
