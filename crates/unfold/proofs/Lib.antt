@@ -4,3 +4,4 @@ pub mod NameLaws
 pub mod WriteLaws
 pub mod WordLaws
 pub mod CycleLaws
+pub mod EntryLaws

@@ -1,5 +1,5 @@
-// Node rows unfolded into the words of their roots' trees: one word for each occurrence, a node before its operands, left to right. The functions here are
-// internal: they ask that the rows are laid out as load lays them out, which the check for refusal 9 decides before they are called.
+// Node rows unfolded into the words of their roots' trees: one word for each occurrence, a node before its operands, left to right. `unfold` is
+// for callers. The functions before it ask that the rows are laid out as load lays them out, which `check_rows` decides before they are called.
 ghost use mathlib.Core.Path.{_≡_};
 ghost use mathlib.Core.List.{List};
 ghost use Prim.Native.Nat.{_+_, _*_, _≤_, _<_, _^_};
@@ -10,7 +10,8 @@ ghost use Rattle.tree.specs.Rows.{trees};
 ghost use Rattle.tree.specs.Layout.{row-fields, signed, laid-out, table-of};
 ghost use Rattle.tree.specs.Tokens.{number-in, constant-code, all-tokens};
 ghost use Rattle.unfold.specs.Write.{Wrote};
-ghost use Rattle.unfold.specs.Unfold.{row-count, rows-in, row-at, words-at, row-number, row-operands, run, runs, Laid};
+ghost use Rattle.unfold.specs.Unfold.{row-count, rows-in, row-at, words-at, row-number, row-operands, run, runs, Laid, unfolded, Answers};
+use rows::Checked;
 
 pub enum Unfolded {
     // How many words the trees are.
@@ -144,4 +145,18 @@ fn unfold_roots(rows: &[u64], roots: &[u64], out: &mut [u64]) -> usize
         e (now (out .exit)) ⌝ }
 {
     unfold_each(rows, roots, out, 0)
+}
+
+// The words of the roots' trees, first in `out`: 8 where `out` has fewer than 1,024 words, then 9 where load could lay out no such rows. What stands in `out`
+// past the words stays, and all of it where the call is refused.
+pub fn unfold(rows: &[u64], roots: &[u64], out: &mut [u64]) -> Unfolded
+    ensures { λ a. ⌜ Answers (unfolded (length (now (out .entry))) (now (rows .entry)) (now (roots .entry))) (now (out .entry)) a (now (out .exit)) ⌝ }
+{
+    if out.len() < 1024 {
+        return Unfolded::Refused(8);
+    }
+    let Checked::Laid(_) = rows::check_rows(rows, roots) else {
+        return Unfolded::Refused(9);
+    };
+    Unfolded::Tokens(unfold_roots(rows, roots, out))
 }
