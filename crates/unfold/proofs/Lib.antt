@@ -5,3 +5,4 @@ pub mod WriteLaws
 pub mod WordLaws
 pub mod CycleLaws
 pub mod EntryLaws
+pub mod Examples
