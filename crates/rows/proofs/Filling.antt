@@ -1,5 +1,5 @@
 -- The pass over the rows: those before i are tested, and the measures of their trees are kept. Assumes nothing.
-use Prim.Native.Nat.{ℕ, zero, suc, _+_, _-_, _*_, _≤_, _<_}
+use Prim.Native.Nat.{ℕ, suc, _+_, _-_, _*_, _≤_, _<_}
 use mathlib.Core.Path.{_≡_, refl, sym, _∙_, ap, subst}
 use mathlib.Core.Bool.{Bool, true, false, _&&_}
 use mathlib.Core.Logic.{_≢_, ⊎-elim}
@@ -11,14 +11,14 @@ use lib.Dec.{T}
 use lib.ListN.{length, getD, take, drop, set, length-append, length-take, length-drop, List·getD-append}
 use lib.Seq.{drop-drop, getD-set-same, getD-set-other, getD-at}
 use Rattle.tree.specs.Tree.{Tree, Op, nil}
-use Rattle.tree.specs.Facts.{total, greatest, size, nesting}
+use Rattle.tree.specs.Facts.{total, size, nesting}
 use Rattle.tree.specs.Rows.{Row, at, tree-of-row, trees-from, occurrences}
 use Rattle.tree.specs.Layout.{row-of, rows-of}
 use Rattle.rows.specs.Check.{below, row-test, rows-test}
 use Rattle.rows.specs.Measure.{pick, capped-size, capped-level, level-by, row-operands, Measured, Filled}
 use Rattle.rows.proofs.Leaves.{back}
 use Rattle.rows.proofs.Sums.{below-less}
-use Rattle.rows.proofs.RowTrees.{row-count, operands-below, row-size, row-nesting, picked-sizes, picked-level-by, nestings}
+use Rattle.rows.proofs.RowTrees.{row-count, operands-below, row-size, row-nesting, picked-sizes, picked-level-by}
 
 abbrev pub row-at : List ℕ → ℕ → List ℕ
 row-at ws i = take 35 (drop (i * 35) ws)

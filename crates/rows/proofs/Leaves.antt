@@ -1,13 +1,13 @@
 -- The tests of names and words in the order in which the code makes them. Assumes nothing.
-use Prim.Native.Nat.{ℕ, zero, suc, _+_, _-_, _≤_, _<_}
-use mathlib.Core.Path.{_≡_, refl, sym, _∙_, ap, subst}
+use Prim.Native.Nat.{ℕ, suc, _+_, _-_, _≤_, _<_}
+use mathlib.Core.Path.{_≡_, refl, sym, _∙_, subst}
 use mathlib.Core.Bool.{Bool, true, false, not, _&&_, _||_}
 use mathlib.Core.Logic.{_⊎_, inl, inr, ⊎-elim}
 use mathlib.Core.List.{List, [], _∷_}
 use native.Mathlib.Omega.{arith}
 use native.Mathlib.Numerals.{add-one}
-use borrow.Author.Tests.{lt-ltb, le-ltb, le-leb, lt-leb, eq-eqb, ne-eqb}
-use lib.Dec.{T, eqb, leb, ltb}
+use borrow.Author.Tests.{le-leb, lt-leb, eq-eqb, ne-eqb}
+use lib.Dec.{T, eqb, leb}
 use lib.ListN.{length, getD, take, drop, length-drop, drop-of-length-le}
 use lib.Seq.{drop-cons, take-all}
 use Rattle.tree.specs.Bytes.{every}
@@ -58,9 +58,6 @@ letter-high b h =
 -- ---- a test of every word, from the front
 
 module _ (P : ℕ → Bool) (l : List ℕ) where
-  pub every-begin : every P l ≡ every P (drop 0 l)
-  every-begin = refl
-
   pub every-next : (i : ℕ) → i < length l → P (getD l i 0) ≡ true → every P l ≡ every P (drop i l) → every P l ≡ every P (drop (i + 1) l)
   unfolding every
   every-next i h e q = q ∙ rw (drop-cons l i 0 h, e, add-one i)

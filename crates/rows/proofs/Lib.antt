@@ -5,3 +5,4 @@ pub mod RowTrees
 pub mod Filling
 pub mod RowLaws
 pub mod TableLaws
+pub mod Accepted

@@ -1,14 +1,14 @@
 -- The tests that the code makes of a row's 35 words are those of the layout: the words are the row's that they are read as, and that row is one that load
 -- lays out. Assumes nothing.
-use Prim.Native.Nat.{ℕ, zero, suc, _+_, _-_, _≤_, _<_, _^_, min}
+use Prim.Native.Nat.{ℕ, zero, suc, _+_, _-_, _≤_, _<_, _^_}
 use mathlib.Core.Path.{_≡_, refl, sym, _∙_, ap, ap₂, subst}
-use mathlib.Core.Bool.{Bool, true, false, not, _&&_, cond}
+use mathlib.Core.Bool.{Bool, true, false, _&&_, cond}
 use mathlib.Core.Logic.{_⊎_, inl, inr, ⊎-elim}
 use mathlib.Core.List.{List, [], _∷_, _++_}
 use native.Mathlib.Omega.{arith}
-use borrow.Author.Tests.{lt-ltb, le-ltb, lt-leb, le-leb, eq-eqb, ne-eqb}
-use lib.IntN.{ℤ, pos, negsuc, negℤ}
-use lib.Dec.{T, eqb, leb, ltb, eqb→eq, eqb-refl, leb→le, le→leb, ltb→lt, lt→ltb, nltb→le}
+use borrow.Author.Tests.{le-leb, eq-eqb, ne-eqb}
+use lib.IntN.{ℤ, pos, negsuc}
+use lib.Dec.{T, eqb, leb, ltb, eqb→eq, leb→le, le→leb, ltb→lt, lt→ltb}
 use lib.ListN.{length, getD, take, drop, replicate, length-append, length-take, length-drop, length-replicate, take-append-drop, List·getD-eq-default}
 use lib.Seq.{take-at, drop-at}
 use Rattle.tree.specs.Bytes.{eq-bytes, every}
@@ -19,6 +19,7 @@ use Rattle.tree.specs.Passes.{of-paper, operands-ok}
 use Rattle.tree.specs.Layout.{row-kind, row-default, row-fields, row-words, signed, row-by, row-of, row-ok}
 use Rattle.tree.proofs.Logic.{and-left, and-right, and-both}
 use Rattle.tree.proofs.TreeLaws.{eq-bytes-sound, eq-bytes-refl}
+use Rattle.tree.proofs.LayoutLaws.{row-number}
 use Rattle.rows.specs.Counts.{kind-number}
 use Rattle.rows.specs.Check.{below, constant-test, operation-test, plain-test, fields-test, row-test}
 use Rattle.rows.proofs.RowTrees.{flag-cases}
@@ -257,17 +258,12 @@ module _ (i k d n : ℕ) (rest : List ℕ) (long : length rest ≡ 32) where
           let c = signed (getD fields 0 0) (getD fields 1 0) in
           fine-at (row-const c) (by 1 (omega arith)) (whole (row-const c) (sym b) (sym a) (C .fields) h z, (unfold row-ok in C .paper))
 
-      number : (m : ℕ) → 2 ≤ m → row-by m fields ≡ row-op m fields
-      number zero l = absurd (omega arith)
-      number (suc zero) l = absurd (omega arith)
-      number (suc (suc m)) l = refl
-
       operation : d ≡ 0 → 2 ≤ k → T (plain-test k fields i) → Fine (row-by (k + d) fields)
       operation a b u =
           let v = subst T (plain-op-test k fields i b) u in
           let no : (k ≡ SelectOr) → ⊥ = λ e. no-such-kind fields i (subst (λ (x : ℕ). T (operation-test x false fields i)) e v) in
           let q = ne-eqb k SelectOr no in
-          fine-at (row-op k fields) (by k (omega arith) ∙ number k b)
+          fine-at (row-op k fields) (by k (omega arith) ∙ row-number k fields b)
           (whole (row-op k fields) (ap (λ (c : Bool). cond c Select k) q) (ap (λ (c : Bool). cond c 1 0) q ∙ sym a) refl h z, subst T (sym (plain-op i k fields b no)) v)
 
       three : (m : ℕ) → (m ≡ 0) ⊎ ((m ≡ 1) ⊎ (2 ≤ m))

@@ -1,20 +1,20 @@
 -- The tree of a row that passes its tests: its operands are earlier rows, and its size and nesting follow from theirs. Assumes nothing.
-use Prim.Native.Nat.{ℕ, zero, suc, _+_, _-_, _≤_, _<_, min, max}
-use mathlib.Core.Path.{_≡_, refl, sym, _∙_, ap, ap₂, subst}
+use Prim.Native.Nat.{ℕ, zero, suc, _+_, _≤_, _<_, max}
+use mathlib.Core.Path.{_≡_, refl, sym, _∙_, ap, ap₂}
 use mathlib.Core.Bool.{Bool, true, false, _&&_, cond}
 use mathlib.Core.Logic.{_⊎_, inl, inr, ⊎-elim}
 use mathlib.Core.List.{List, [], _∷_}
 use native.Mathlib.Omega.{arith}
-use borrow.Author.Tests.{lt-leb, le-leb, ne-eqb}
+use borrow.Author.Tests.{le-leb, ne-eqb}
 use lib.Dec.{T, eqb, leb, ltb, eqb→eq, leb→le, ltb→lt}
 use lib.ListN.{length, getD, take, drop}
 use Rattle.tree.specs.Bytes.{every}
 use Rattle.tree.specs.Kinds.{kind-at, Select, is-switch}
-use Rattle.tree.specs.Tree.{Tree, Forest, Op, nil, folds, forest}
+use Rattle.tree.specs.Tree.{Tree, Op, nil, folds, forest}
 use Rattle.tree.specs.Facts.{total, greatest, first-or-deeper, size, nesting}
 use Rattle.tree.specs.Rows.{at, tree-of-row, occurrences}
 use Rattle.tree.specs.Layout.{row-by, row-of}
-use Rattle.tree.proofs.Logic.{and-left, and-right, and-both}
+use Rattle.tree.proofs.Logic.{and-left, and-right}
 use Rattle.rows.specs.Counts.{kind-number}
 use Rattle.rows.specs.Check.{below, plain-test, operation-test, fields-test, row-test}
 use Rattle.rows.specs.Measure.{pick, capped-size, capped-level, level-by, row-operands, Measured}

@@ -1,22 +1,23 @@
 -- The tests that the code makes of the words of a table and its roots, taken together, are `laid-out`. Assumes nothing.
-use Prim.Native.Nat.{ℕ, zero, suc, _+_, _-_, _*_, _/_, _≤_, _<_, min, max}
+use Prim.Native.Nat.{ℕ, zero, suc, _+_, _*_, _/_, _≤_, _<_, max}
 use mathlib.Core.Path.{_≡_, refl, sym, _∙_, ap, ap₂, subst}
-use mathlib.Core.Bool.{Bool, true, false, not, _&&_, cond}
+use mathlib.Core.Bool.{Bool, true, false, not, _&&_}
 use mathlib.Core.List.{List, [], _∷_, _++_}
 use native.Mathlib.Omega.{arith}
-use borrow.Author.Tests.{lt-leb, le-leb, ne-eqb, leb-true}
-use lib.Dec.{T, eqb, leb, ltb, leb→le, le→leb, nleb→lt, eqb-refl}
-use lib.ListN.{length, getD, take, drop, replicate, length-append, length-take, length-drop, length-replicate}
-use Rattle.tree.specs.Outcome.{Outcome, ok, refused, by, _>>=_}
-use Rattle.tree.specs.Bytes.{eq-bytes, every}
+use borrow.Author.Tests.{lt-leb, le-leb}
+use lib.Dec.{T, eqb, leb, leb→le, le→leb, nleb→lt}
+use lib.ListN.{length, getD, take, drop, length-append, length-take, length-drop}
+use Rattle.tree.specs.Outcome.{ok, refused, by}
+use Rattle.tree.specs.Bytes.{eq-bytes}
 use Rattle.tree.specs.Tree.{Tree}
 use Rattle.tree.specs.Facts.{total, size, nesting, greatest}
-use Rattle.tree.specs.Rows.{Row, row-sym, row-const, row-op, Table, at, tree-of-row, trees-from, trees, occurrences, within-limits}
+use Rattle.tree.specs.Rows.{Row, row-const, at, tree-of-row, trees-from, trees, occurrences, within-limits}
 use Rattle.tree.specs.Layout.{row-fields, row-words, table-words, signed, row-by, row-of, rows-of, table-of, row-ok, rows-ok, loadable, laid-out, table-or-9}
 use Rattle.tree.proofs.Logic.{and-left, and-right, and-both}
 use Rattle.tree.proofs.TreeLaws.{eq-bytes-sound}
+use Rattle.tree.proofs.LayoutLaws.{words-long}
 use lib.IntN.{ℤ, pos, negsuc}
-use Rattle.rows.specs.Check.{check-rows, below, row-test, rows-test}
+use Rattle.rows.specs.Check.{check-rows, below, rows-test}
 use Rattle.rows.specs.Measure.{pick, capped-size, capped-level, Filled}
 use Rattle.rows.proofs.RowTrees.{nestings, picked-sizes, picked-levels}
 use Rattle.rows.proofs.RowLaws.{same-test, row-fine, row-fine-is}
@@ -46,13 +47,6 @@ fields-few (suc zero) f h = go (signed (getD f 0 0) (getD f 1 0))
     go (pos n) = omega arith
     go (negsuc n) = omega arith
 fields-few (suc (suc m)) f h = h
-
-words-long : (r : Row) → length (row-fields r) ≤ 32 → length (row-words r) ≡ 35
-unfolding row-words
-words-long r h =
-    let a = length-append (row-fields r) (replicate (32 - length (row-fields r)) 0) in
-    let b = length-replicate {A = ℕ} (32 - length (row-fields r)) 0 in
-    omega arith
 
 pub read-long : (ws : List ℕ) → length (row-words (row-of (take 35 ws))) ≡ 35
 unfolding row-of

@@ -1,8 +1,8 @@
 -- The test for refusal 9 (01, "Turned down, by operation"), and the tests that the code makes of one row after another, in its order.
--- CheckLaws shows that together they are `laid-out`. Assumes nothing.
+-- TableLaws shows that together they are `laid-out`. Assumes nothing.
 use Prim.Native.Nat.{ℕ, zero, suc, _+_}
 use mathlib.Core.Bool.{Bool, true, false, _&&_, cond}
-use mathlib.Core.List.{List, [], _∷_}
+use mathlib.Core.List.{List}
 use lib.ListN.{length, getD, take, drop}
 use lib.Dec.{eqb, leb, ltb}
 use Rattle.tree.specs.Outcome.{Outcome, ok, refused, by, _>>=_}

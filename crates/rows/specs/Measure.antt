@@ -1,6 +1,6 @@
 -- How large and how deep the trees of rows are, counted no further than the limits of 01 need: a size stands as it is or as 1,025, whichever is less, and
 -- a nesting as it is or as 9. Assumes nothing.
-use Prim.Native.Nat.{ℕ, suc, _+_, _<_, min}
+use Prim.Native.Nat.{ℕ, _<_, min}
 use mathlib.Core.Path.{_≡_}
 use mathlib.Core.Bool.{Bool, true, cond}
 use mathlib.Core.List.{List, [], _∷_}
@@ -8,7 +8,7 @@ use lib.ListN.{length, getD, take, drop}
 use lib.Dec.{leb}
 use Rattle.tree.specs.Kinds.{Neg, is-switch}
 use Rattle.tree.specs.Tree.{Tree, Op, nil}
-use Rattle.tree.specs.Facts.{total, greatest, first-or-deeper, size, nesting}
+use Rattle.tree.specs.Facts.{greatest, first-or-deeper, size, nesting}
 use Rattle.tree.specs.Rows.{trees-from}
 use Rattle.tree.specs.Layout.{rows-of}
 use Rattle.rows.specs.Check.{rows-test}

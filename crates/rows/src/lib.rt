@@ -1,7 +1,7 @@
 // Node rows lent as words: the operand counts of the kinds, and the test for refusal 9.
 ghost use mathlib.Core.Path.{_≡_};
 ghost use mathlib.Core.Bool.{true, _||_};
-ghost use Prim.Native.Nat.{ℕ, suc, _+_, _*_, _≤_, _<_, min, max};
+ghost use Prim.Native.Nat.{suc, _+_, _*_, _≤_, _<_, max};
 ghost use lib.Dec.{T};
 ghost use lib.ListN.{length, getD};
 ghost use Rattle.tree.specs.Bytes.{every};
@@ -84,12 +84,12 @@ fn is_word_byte(b: u64) -> bool
     is_digit(b)
 }
 
-fn all_digits(s: &[u64]) -> bool
-    ensures { λ r. ⌜ r ≡ every is-digit (now (s .entry)) ⌝ }
+fn all_digits(bytes: &[u64]) -> bool
+    ensures { λ r. ⌜ r ≡ every is-digit (now (bytes .entry)) ⌝ }
 {
     let mut i = 0;
-    while i < s.len() {
-        if !is_digit(s[i]) {
+    while i < bytes.len() {
+        if !is_digit(bytes[i]) {
             return false;
         }
         i += 1;
@@ -97,12 +97,12 @@ fn all_digits(s: &[u64]) -> bool
     true
 }
 
-fn all_word_bytes(s: &[u64]) -> bool
-    ensures { λ r. ⌜ r ≡ every (λ c. is-letter c || is-digit c) (now (s .entry)) ⌝ }
+fn all_word_bytes(bytes: &[u64]) -> bool
+    ensures { λ r. ⌜ r ≡ every (λ c. is-letter c || is-digit c) (now (bytes .entry)) ⌝ }
 {
     let mut i = 0;
-    while i < s.len() {
-        if !is_word_byte(s[i]) {
+    while i < bytes.len() {
+        if !is_word_byte(bytes[i]) {
             return false;
         }
         i += 1;
@@ -111,12 +111,12 @@ fn all_word_bytes(s: &[u64]) -> bool
 }
 
 // Operands and roots name earlier rows: each number is below a bound. Words that are all below 1 are 0.
-fn all_below(s: &[u64], bound: u64) -> bool
-    ensures { λ r. ⌜ r ≡ below bound (now (s .entry)) ⌝ }
+fn all_below(numbers: &[u64], bound: u64) -> bool
+    ensures { λ r. ⌜ r ≡ below bound (now (numbers .entry)) ⌝ }
 {
     let mut i = 0;
-    while i < s.len() {
-        if s[i] >= bound {
+    while i < numbers.len() {
+        if numbers[i] >= bound {
             return false;
         }
         i += 1;
@@ -125,51 +125,51 @@ fn all_below(s: &[u64], bound: u64) -> bool
 }
 
 // Whether a name is spelled like one that an answer makes.
-fn is_made(s: &[u64]) -> bool
-    ensures { λ r. ⌜ r ≡ is-made (now (s .entry)) ⌝ }
+fn is_made(name: &[u64]) -> bool
+    ensures { λ r. ⌜ r ≡ is-made (now (name .entry)) ⌝ }
 {
-    if s.len() < 4 {
+    if name.len() < 4 {
         return false;
     }
-    if s[0] != 95 {
+    if name[0] != 95 {
         return false;
     }
-    if s[1] != 95 {
+    if name[1] != 95 {
         return false;
     }
-    let c = s[2];
+    let c = name[2];
     match c {
-        109 | 120 => all_digits(&s[3..]),
+        109 | 120 => all_digits(&name[3..]),
         _ => false,
     }
 }
 
-fn is_name(s: &[u64]) -> bool
-    ensures { λ r. ⌜ r ≡ is-name (now (s .entry)) ⌝ }
+fn is_name(name: &[u64]) -> bool
+    ensures { λ r. ⌜ r ≡ is-name (now (name .entry)) ⌝ }
 {
-    if s.len() == 0 {
+    if name.len() == 0 {
         return false;
     }
-    if !is_letter(s[0]) {
+    if !is_letter(name[0]) {
         return false;
     }
-    if !all_word_bytes(&s[1..]) {
+    if !all_word_bytes(&name[1..]) {
         return false;
     }
-    if s.len() > 32 {
+    if name.len() > 32 {
         return false;
     }
-    !is_made(s)
+    !is_made(name)
 }
 
-fn constant_ok(f: &[u64]) -> bool
-    ensures { λ r. ⌜ r ≡ constant-test (now (f .entry)) ⌝ }
+fn constant_ok(fields: &[u64]) -> bool
+    ensures { λ r. ⌜ r ≡ constant-test (now (fields .entry)) ⌝ }
 {
-    if f.len() != 2 {
+    if fields.len() != 2 {
         return false;
     }
-    let sign = f[0];
-    let size = f[1];
+    let sign = fields[0];
+    let size = fields[1];
     if size >= 1000000000000000 {
         return false;
     }
@@ -196,24 +196,24 @@ fn operation_ok(kind: u64, default: bool, operands: &[u64], i: u64) -> bool
     all_below(operands, i)
 }
 
-fn plain_ok(kind: u64, f: &[u64], i: u64) -> bool
-    ensures { λ r. ⌜ r ≡ plain-test kind (now (f .entry)) i ⌝ }
+fn plain_ok(kind: u64, fields: &[u64], i: u64) -> bool
+    ensures { λ r. ⌜ r ≡ plain-test kind (now (fields .entry)) i ⌝ }
 {
     if kind == 0 {
-        return is_name(f);
+        return is_name(fields);
     }
     if kind == 1 {
-        return constant_ok(f);
+        return constant_ok(fields);
     }
-    operation_ok(kind, false, f, i)
+    operation_ok(kind, false, fields, i)
 }
 
 // Only a Select has a default.
-fn fields_ok(kind: u64, default: u64, f: &[u64], i: u64) -> bool
-    ensures { λ r. ⌜ r ≡ fields-test kind default (now (f .entry)) i ⌝ }
+fn fields_ok(kind: u64, default: u64, fields: &[u64], i: u64) -> bool
+    ensures { λ r. ⌜ r ≡ fields-test kind default (now (fields .entry)) i ⌝ }
 {
     if default == 0 {
-        return plain_ok(kind, f, i);
+        return plain_ok(kind, fields, i);
     }
     if default != 1 {
         return false;
@@ -221,7 +221,7 @@ fn fields_ok(kind: u64, default: u64, f: &[u64], i: u64) -> bool
     if kind != 27 {
         return false;
     }
-    operation_ok(27, true, f, i)
+    operation_ok(27, true, fields, i)
 }
 
 // A row after i others: its kind, default flag and fields, and 0 in every word that is left.

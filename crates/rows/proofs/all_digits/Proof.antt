@@ -9,42 +9,12 @@ use Rattle.rows.proofs.Leaves.{every-next, every-stop, every-end}
 use borrow.Author.Needs.{needs}
 use Rattle.rows.proofs.all_digits.Statement.{statement}
 use Rattle.rows.proofs.all_digits.Tie as tie
-use Rattle.rows.proofs.all_digits.Reads as reads
-use Rattle.rows.proofs.all_digits.Lts as lts
-use Rattle.rows.proofs.is_digit.Reads as is-digit-reads
 
 abbrev Inv-loop : tie.InvT-loop
-Inv-loop s i₀ i = (i ≤ length s) × (every is-digit s ≡ every is-digit (drop i s))
+Inv-loop bytes i₀ i = (i ≤ length bytes) × (every is-digit bytes ≡ every is-digit (drop i bytes))
 
 abbrev μ-loop : tie.MeasureT-loop
-μ-loop s i₀ i = length s - i
-
-loop-holds : tie.Need-loop-holds Inv-loop μ-loop
-loop-holds c = (search needs, refl)
-
-mul-is-digit : tie.Need-mul-is-digit Inv-loop μ-loop
-mul-is-digit c = search needs
-
-shared-slice-read-is-digit : tie.Need-shared-slice-read-is-digit Inv-loop μ-loop
-shared-slice-read-is-digit c = search needs
-
-is-digit-requires : tie.Need-is-digit-requires Inv-loop μ-loop
-is-digit-requires c κs = search needs
-
-returns : tie.Need-returns Inv-loop μ-loop
-returns c = every-stop is-digit (c .before .before .before .before .before .before .args .s .now) (c .before .before .before .before .loop .i) (c .before .before .before .loop-test .taken) (sym (c .before .is-digit .ensures) ∙ not-true (c .before .is-digit .result) (c .if1 .taken)) (c .before .before .before .before .loop .inv .1)
-
-add-i : tie.Need-add-i Inv-loop μ-loop
-add-i c = search needs
-
-loop-less : tie.Need-loop-less Inv-loop μ-loop
-loop-less c = search needs
-
-loop-again : tie.Need-loop-again Inv-loop μ-loop
-loop-again c = (search needs, every-next is-digit (c .before .before .before .before .before .before .args .s .now) (c .before .before .before .before .loop .i) (c .before .before .before .loop-test .taken) (sym (c .before .is-digit .ensures) ∙ not-false (c .before .is-digit .result) (c .if1 .left)) (c .before .before .before .before .loop .inv .1))
-
-returns-2 : tie.Need-returns-2 Inv-loop μ-loop
-returns-2 c = every-end is-digit (c .before .before .before .args .s .now) (c .before .loop .i) (c .loop-test .left) (c .before .loop .inv .1)
+μ-loop bytes i₀ i = length bytes - i
 
 pub all-digits-spec : {M : Type 1} → statement M
 all-digits-spec =
@@ -52,12 +22,25 @@ all-digits-spec =
     (tie.spec
     Inv-loop
     μ-loop
-    loop-holds
-    mul-is-digit
-    shared-slice-read-is-digit
-    is-digit-requires
-    returns
-    add-i
-    loop-less
-    loop-again
-    returns-2)
+    (λ c. (search needs, refl))
+    (λ c. search needs)
+    (λ c. search needs)
+    (λ c κs. search needs)
+    (λ c.
+    let at-is-digit = c .before in
+    let at-loop-test = at-is-digit .before .before in
+    let at-loop = at-loop-test .before in
+    let start = at-loop .before .before in
+    every-stop is-digit (start .args .bytes .now) (at-loop .loop .i) (at-loop-test .loop-test .taken) (sym (at-is-digit .is-digit .ensures) ∙ not-true (at-is-digit .is-digit .result) (c .if1 .taken)) (at-loop .loop .inv .1))
+    (λ c. search needs)
+    (λ c. search needs)
+    (λ c.
+    let at-is-digit = c .before in
+    let at-loop-test = at-is-digit .before .before in
+    let at-loop = at-loop-test .before in
+    let start = at-loop .before .before in
+    (search needs, every-next is-digit (start .args .bytes .now) (at-loop .loop .i) (at-loop-test .loop-test .taken) (sym (at-is-digit .is-digit .ensures) ∙ not-false (at-is-digit .is-digit .result) (c .if1 .left)) (at-loop .loop .inv .1)))
+    (λ c.
+    let at-loop = c .before in
+    let start = at-loop .before .before in
+    every-end is-digit (start .args .bytes .now) (at-loop .loop .i) (c .loop-test .left) (at-loop .loop .inv .1)))

@@ -1,69 +1,57 @@
 -- `rows::is_name` meets its contract. Assumes nothing.
 use mathlib.Core.Path.{sym, _∙_, ap}
-use mathlib.Core.Bool.{not, _||_}
-use lib.ListN.{length, getD}
+use mathlib.Core.Bool.{not}
+use lib.ListN.{length}
 use borrow.Author.Tests.{lt-leb, le-leb, eq-eqb, ne-eqb, not-true, not-false}
-use Rattle.tree.specs.Bytes.{every}
-use Rattle.tree.specs.Symbol.{is-letter, is-digit}
+use Rattle.tree.specs.Symbol.{is-letter}
 use Rattle.rows.proofs.Leaves.{name-by, rest}
 use borrow.Author.Needs.{needs}
 use Rattle.rows.proofs.is_name.Statement.{statement}
 use Rattle.rows.proofs.is_name.Tie as tie
-use Rattle.rows.proofs.is_name.Reads as reads
-use Rattle.rows.proofs.is_name.Lts as lts
-use Rattle.rows.proofs.all_word_bytes.Reads as all-word-bytes-reads
-use Rattle.rows.proofs.is_letter.Reads as is-letter-reads
-use Rattle.rows.proofs.is_made.Reads as is-made-reads
-
-returns : tie.Need-returns
-returns c = rw (name-by (c .before .before .args .s .now), eq-eqb (length (c .before .before .args .s .now)) 0 (c .if1 .taken))
-
-shared-slice-read-is-letter : tie.Need-shared-slice-read-is-letter
-shared-slice-read-is-letter c = search needs
-
-is-letter-requires : tie.Need-is-letter-requires
-is-letter-requires c κs = search needs
-
-returns-2 : tie.Need-returns-2
-returns-2 c = rw (name-by (c .before .before .before .before .before .args .s .now), ne-eqb (length (c .before .before .before .before .before .args .s .now)) 0 (c .before .before .before .if1 .left), sym (c .before .is-letter .ensures) ∙ not-true (c .before .is-letter .result) (c .if2 .taken))
-
-sub-all-word-bytes : tie.Need-sub-all-word-bytes
-sub-all-word-bytes c = search needs
-
-part-all-word-bytes-start : tie.Need-part-all-word-bytes-start
-part-all-word-bytes-start c = search needs
-
-part-all-word-bytes-end : tie.Need-part-all-word-bytes-end
-part-all-word-bytes-end c = search needs
-
-all-word-bytes-requires : tie.Need-all-word-bytes-requires
-all-word-bytes-requires c κs = search needs
-
-returns-3 : tie.Need-returns-3
-returns-3 c = rw (name-by (c .before .before .before .before .before .before .before .before .args .s .now), ne-eqb (length (c .before .before .before .before .before .before .before .before .args .s .now)) 0 (c .before .before .before .before .before .before .if1 .left), sym (c .before .before .before .before .is-letter .ensures) ∙ not-false (c .before .before .before .before .is-letter .result) (c .before .before .before .if2 .left), ← rest 1 (c .before .before .before .before .before .before .before .before .args .s .now), sym (c .before .all-word-bytes .ensures) ∙ not-true (c .before .all-word-bytes .result) (c .if3 .taken))
-
-returns-4 : tie.Need-returns-4
-returns-4 c = rw (name-by (c .before .before .before .before .before .before .before .before .before .args .s .now), ne-eqb (length (c .before .before .before .before .before .before .before .before .before .args .s .now)) 0 (c .before .before .before .before .before .before .before .if1 .left), sym (c .before .before .before .before .before .is-letter .ensures) ∙ not-false (c .before .before .before .before .before .is-letter .result) (c .before .before .before .before .if2 .left), ← rest 1 (c .before .before .before .before .before .before .before .before .before .args .s .now), sym (c .before .before .all-word-bytes .ensures) ∙ not-false (c .before .before .all-word-bytes .result) (c .before .if3 .left), lt-leb (length (c .before .before .before .before .before .before .before .before .before .args .s .now)) 32 (c .if4 .taken))
-
-is-made-requires : tie.Need-is-made-requires
-is-made-requires c κs = search needs
-
-returns-5 : tie.Need-returns-5
-returns-5 c = rw (name-by (c .before .before .before .before .before .before .before .before .before .before .args .s .now), ne-eqb (length (c .before .before .before .before .before .before .before .before .before .before .args .s .now)) 0 (c .before .before .before .before .before .before .before .before .if1 .left), sym (c .before .before .before .before .before .before .is-letter .ensures) ∙ not-false (c .before .before .before .before .before .before .is-letter .result) (c .before .before .before .before .before .if2 .left), ← rest 1 (c .before .before .before .before .before .before .before .before .before .before .args .s .now), sym (c .before .before .before .all-word-bytes .ensures) ∙ not-false (c .before .before .before .all-word-bytes .result) (c .before .before .if3 .left), le-leb (length (c .before .before .before .before .before .before .before .before .before .before .args .s .now)) 32 (c .before .if4 .left)) (ap not (c .is-made .ensures))
 
 pub is-name-spec : {M : Type 1} → statement M
 is-name-spec =
     tie.close
     (tie.spec
-    returns
-    shared-slice-read-is-letter
-    is-letter-requires
-    returns-2
-    sub-all-word-bytes
-    part-all-word-bytes-start
-    part-all-word-bytes-end
-    all-word-bytes-requires
-    returns-3
-    returns-4
-    is-made-requires
-    returns-5)
+    (λ c. let name = c .before .before .args .name .now in
+    rw (name-by name, eq-eqb (length name) 0 (c .if1 .taken)))
+    (λ c. search needs)
+    (λ c κs. search needs)
+    (λ c.
+    let at-is-letter = c .before in
+    let at-if1 = at-is-letter .before .before in
+    let start = at-if1 .before .before in
+    let name = start .args .name .now in
+    rw (name-by name, ne-eqb (length name) 0 (at-if1 .if1 .left), sym (at-is-letter .is-letter .ensures) ∙ not-true (at-is-letter .is-letter .result) (c .if2 .taken)))
+    (λ c. search needs)
+    (λ c. search needs)
+    (λ c. search needs)
+    (λ c κs. search needs)
+    (λ c.
+    let at-all-word-bytes = c .before in
+    let at-if2 = at-all-word-bytes .before .before in
+    let at-is-letter = at-if2 .before in
+    let at-if1 = at-is-letter .before .before in
+    let start = at-if1 .before .before in
+    let name = start .args .name .now in
+    rw (name-by name, ne-eqb (length name) 0 (at-if1 .if1 .left), sym (at-is-letter .is-letter .ensures) ∙ not-false (at-is-letter .is-letter .result) (at-if2 .if2 .left), ← rest 1 name, sym (at-all-word-bytes .all-word-bytes .ensures) ∙ not-true (at-all-word-bytes .all-word-bytes .result) (c .if3 .taken)))
+    (λ c.
+    let at-if3 = c .before in
+    let at-all-word-bytes = at-if3 .before in
+    let at-if2 = at-all-word-bytes .before .before in
+    let at-is-letter = at-if2 .before in
+    let at-if1 = at-is-letter .before .before in
+    let start = at-if1 .before .before in
+    let name = start .args .name .now in
+    rw (name-by name, ne-eqb (length name) 0 (at-if1 .if1 .left), sym (at-is-letter .is-letter .ensures) ∙ not-false (at-is-letter .is-letter .result) (at-if2 .if2 .left), ← rest 1 name, sym (at-all-word-bytes .all-word-bytes .ensures) ∙ not-false (at-all-word-bytes .all-word-bytes .result) (at-if3 .if3 .left), lt-leb (length name) 32 (c .if4 .taken)))
+    (λ c κs. search needs)
+    (λ c.
+    let at-if4 = c .before in
+    let at-if3 = at-if4 .before in
+    let at-all-word-bytes = at-if3 .before in
+    let at-if2 = at-all-word-bytes .before .before in
+    let at-is-letter = at-if2 .before in
+    let at-if1 = at-is-letter .before .before in
+    let start = at-if1 .before .before in
+    let name = start .args .name .now in
+    rw (name-by name, ne-eqb (length name) 0 (at-if1 .if1 .left), sym (at-is-letter .is-letter .ensures) ∙ not-false (at-is-letter .is-letter .result) (at-if2 .if2 .left), ← rest 1 name, sym (at-all-word-bytes .all-word-bytes .ensures) ∙ not-false (at-all-word-bytes .all-word-bytes .result) (at-if3 .if3 .left), le-leb (length name) 32 (at-if4 .if4 .left)) (ap not (c .is-made .ensures))))

@@ -3,11 +3,8 @@ use native.Mathlib.Omega.{arith}
 use mathlib.Core.Bool.{true, false}
 use Rattle.tree.specs.Kinds.{kind-at}
 use Rattle.rows.proofs.Spans.{is, counts-at, counts-past, counts-select}
-use borrow.Author.Needs.{needs}
 use Rattle.rows.proofs.operand_counts.Statement.{statement}
 use Rattle.rows.proofs.operand_counts.Tie as tie
-use Rattle.rows.proofs.operand_counts.Reads as reads
-use Rattle.rows.proofs.operand_counts.Lts as lts
 
 returns : tie.Need-returns
 unfolding is kind-at
@@ -19,11 +16,17 @@ returns-2 c = counts-at 2 2 14 1 tt (c .before .args .kind) (c .before .args .de
 
 returns-3 : tie.Need-returns-3
 unfolding is kind-at
-returns-3 c = counts-select 3 18 (c .before .before .args .kind) (c .before .before .args .default) true (c .before .match .keys3) (c .if1 .taken) tt
+returns-3 c =
+    let at-match = c .before in
+    let start = at-match .before in
+    counts-select 3 18 (start .args .kind) (start .args .default) true (at-match .match .keys3) (c .if1 .taken) tt
 
 returns-4 : tie.Need-returns-4
 unfolding is kind-at
-returns-4 c = counts-select 2 17 (c .before .before .args .kind) (c .before .before .args .default) false (c .before .match .keys3) (c .if1 .left) tt
+returns-4 c =
+    let at-match = c .before in
+    let start = at-match .before in
+    counts-select 2 17 (start .args .kind) (start .args .default) false (at-match .match .keys3) (c .if1 .left) tt
 
 returns-5 : tie.Need-returns-5
 unfolding is kind-at
@@ -31,19 +34,27 @@ returns-5 c = counts-at 0 0 0 2 tt (c .before .before .args .kind) (c .before .b
 
 returns-6 : tie.Need-returns-6
 unfolding is kind-at
-returns-6 c = counts-at 2 2 3 5 tt (c .before .before .before .args .kind) (c .before .before .before .args .default) (omega arith) (omega arith)
+returns-6 c =
+    let start = c .before .before .before in
+    counts-at 2 2 3 5 tt (start .args .kind) (start .args .default) (omega arith) (omega arith)
 
 returns-7 : tie.Need-returns-7
 unfolding is kind-at
-returns-7 c = counts-at 1 1 8 6 tt (c .before .before .before .before .args .kind) (c .before .before .before .before .args .default) (omega arith) (omega arith)
+returns-7 c =
+    let start = c .before .before .before .before in
+    counts-at 1 1 8 6 tt (start .args .kind) (start .args .default) (omega arith) (omega arith)
 
 returns-8 : tie.Need-returns-8
 unfolding is kind-at
-returns-8 c = counts-at 1 1 15 10 tt (c .before .before .before .before .before .args .kind) (c .before .before .before .before .before .args .default) (omega arith) (omega arith)
+returns-8 c =
+    let start = c .before .before .before .before .before in
+    counts-at 1 1 15 10 tt (start .args .kind) (start .args .default) (omega arith) (omega arith)
 
 returns-9 : tie.Need-returns-9
 unfolding is kind-at
-returns-9 c = counts-at 3 3 25 2 tt (c .before .before .before .before .before .before .args .kind) (c .before .before .before .before .before .before .args .default) (omega arith) (omega arith)
+returns-9 c =
+    let start = c .before .before .before .before .before .before in
+    counts-at 3 3 25 2 tt (start .args .kind) (start .args .default) (omega arith) (omega arith)
 
 returns-10 : tie.Need-returns-10
 unfolding is kind-at
