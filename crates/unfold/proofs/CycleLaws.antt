@@ -10,7 +10,7 @@ use Rattle.tree.specs.Bytes.{every}
 use Rattle.tree.specs.Rows.{Row, row-sym, row-const, row-op}
 use Rattle.tree.specs.Layout.{row-fields}
 use Rattle.unfold.specs.Write.{Wrote}
-use Rattle.unfold.specs.Unfold.{row-count, row-at, row-operands, run, runs, Laid}
+use Rattle.unfold.specs.Unfold.{row-count, row-at, row-operands, run, runs, Rows-laid}
 use Rattle.unfold.proofs.RowLaws.{stands}
 use Rattle.unfold.proofs.RunLaws.{run-is, runs-none, runs-more, runs-room, bound, bound-of, every-wider, operands-earlier}
 use Rattle.unfold.proofs.WordLaws.{head-is}
@@ -30,7 +30,7 @@ operands-first (row-sym s) l e = refl
 operands-first (row-const c) l e = refl
 operands-first (row-op k ns) l e = e
 
-module _ {ws : List ℕ} (laid : Laid ws) (r : ℕ) (inside : r < row-count ws) (n : ℕ) (count : n ≡ length (row-operands (row-at ws r))) where
+module _ {ws : List ℕ} (laid : Rows-laid ws) (r : ℕ) (inside : r < row-count ws) (n : ℕ) (count : n ≡ length (row-operands (row-at ws r))) where
   -- where the operands stand
   pub operands-end : r * 35 + 3 + n ≤ length ws
   operands-end = let c = stands laid r inside in omega (arith, c .inside, c .most, operands-few (row-at ws r))
@@ -62,7 +62,7 @@ module _ {ws : List ℕ} (laid : Laid ws) (r : ℕ) (inside : r < row-count ws) 
       → Wrote old at (run ws r) end new
   row-done old new at w end h e v = rw (run-lent, ← e) (wrote-then (wrote-set old at w h) v)
 
-pub row-holds-word : {ws : List ℕ} → Laid ws → (r : ℕ) → r < row-count ws → 0 < length (run ws r)
+pub row-holds-word : {ws : List ℕ} → Rows-laid ws → (r : ℕ) → r < row-count ws → 0 < length (run ws r)
 row-holds-word laid r h = omega (arith, ap length (run-is laid r h))
 
 -- ---- several rows

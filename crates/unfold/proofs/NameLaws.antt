@@ -14,7 +14,7 @@ use Rattle.tree.specs.Tokens.{first-named, number-in}
 use Rattle.tree.specs.Passes.{operands-ok}
 use Rattle.tree.proofs.Logic.{and-left}
 use Rattle.tree.proofs.TreeLaws.{eq-bytes-sound, eq-bytes-refl}
-use Rattle.unfold.specs.Unfold.{row-count, rows-in, row-at, words-at, row-number, Laid}
+use Rattle.unfold.specs.Unfold.{row-count, rows-in, row-at, words-at, row-number, Rows-laid}
 use Rattle.unfold.proofs.RowLaws.{length-rows-of, Stands, stands, few-kinds}
 
 true-is : (b : Bool) → T b → b ≡ true
@@ -57,7 +57,7 @@ symbol-is i (row-op k ns) t e = absurd (omega (arith, few-kinds k (length ns) (a
 
 -- the first row that is the same as a symbol's is the symbol's number
 pub found :
-    {ws : List ℕ} → Laid ws → (r e : ℕ) → r < row-count ws → row-number (row-at ws r) ≡ 0 → e ≤ r
+    {ws : List ℕ} → Rows-laid ws → (r e : ℕ) → r < row-count ws → row-number (row-at ws r) ≡ 0 → e ≤ r
     → row-at ws e ≡ row-at ws r → None-before ws r e → e ≡ number-in (rows-in ws) (row-fields (row-at ws r))
 unfolding rows-in row-at number-in
 found {ws} laid r e h z l p f =
@@ -68,12 +68,12 @@ found {ws} laid r e h z l p f =
 
 -- rows are the same where their words are
 pub same-row :
-    {ws : List ℕ} → Laid ws → (i r : ℕ) → i < row-count ws → r < row-count ws → eq-bytes (words-at ws i) (words-at ws r) ≡ true → row-at ws i ≡ row-at ws r
+    {ws : List ℕ} → Rows-laid ws → (i r : ℕ) → i < row-count ws → r < row-count ws → eq-bytes (words-at ws i) (words-at ws r) ≡ true → row-at ws i ≡ row-at ws r
 same-row {ws} laid i r h k e =
     stands laid i h .row ∙ ap row-of (eq-bytes-sound (words-at ws i) (words-at ws r) (subst T (sym e) tt)) ∙ sym (stands laid r k .row)
 
 pub other-row :
-    {ws : List ℕ} → Laid ws → (i r : ℕ) → i < row-count ws → r < row-count ws → eq-bytes (words-at ws i) (words-at ws r) ≡ false → row-at ws i ≡ row-at ws r → ⊥
+    {ws : List ℕ} → Rows-laid ws → (i r : ℕ) → i < row-count ws → r < row-count ws → eq-bytes (words-at ws i) (words-at ws r) ≡ false → row-at ws i ≡ row-at ws r → ⊥
 other-row {ws} laid i r h k e p =
     let w : words-at ws i ≡ words-at ws r = sym (stands laid i h .words) ∙ ap row-words p ∙ stands laid r k .words in
     subst T (ap (λ (x : List ℕ). eq-bytes (words-at ws i) x) w ∙ e) (eq-bytes-refl (words-at ws i))

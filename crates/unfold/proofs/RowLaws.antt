@@ -14,7 +14,7 @@ use Rattle.tree.specs.Passes.{operands-ok}
 use Rattle.tree.specs.Rows.{Row, row-sym, row-const, row-op}
 use Rattle.tree.specs.Layout.{row-width, row-kind, row-default, row-fields, row-words, table-words, signed, row-by, row-of, rows-of, row-ok, rows-ok}
 use Rattle.tree.proofs.Logic.{and-left, and-right}
-use Rattle.unfold.specs.Unfold.{row-count, rows-in, row-at, words-at, row-number, Laid}
+use Rattle.unfold.specs.Unfold.{row-count, rows-in, row-at, words-at, row-number, Rows-laid}
 
 -- ---- rows of words
 
@@ -154,7 +154,7 @@ fields-are ws i r h w =
     ap (take n) (sym (drop-drop 3 (i * row-width) ws)) ∙ sym c ∙ ap (λ (l : List ℕ). take n (drop 3 l)) (sym w)
     ∙ take-append-seam (row-fields r) (replicate (32 - n) 0)
 
-pub stands : {ws : List ℕ} → Laid ws → (i : ℕ) → i < row-count ws → Stands ws i
+pub stands : {ws : List ℕ} → Rows-laid ws → (i : ℕ) → i < row-count ws → Stands ws i
 unfolding rows-in row-count row-at row-words
 stands {ws} laid i h =
     let n = row-count ws in

@@ -18,7 +18,7 @@ use Rattle.tree.specs.Layout.{row-ok, rows-ok, table-of, table-words, loadable,
 use Rattle.tree.specs.Tokens.{word, constant-code, name-code, tokens, tokens-of, all-tokens, number-in}
 use Rattle.tree.proofs.Logic.{and-left, and-right, and-both}
 use Rattle.tree.proofs.TreeLaws.{eq-bytes-sound}
-use Rattle.unfold.specs.Unfold.{row-count, rows-in, row-at, trees-of-rows, row-operands, run, runs, Laid}
+use Rattle.unfold.specs.Unfold.{row-count, rows-in, row-at, trees-of-rows, row-operands, run, runs, Rows-laid}
 use Rattle.unfold.proofs.RowLaws.{length-rows-of, stands}
 
 -- ---- each of a list's numbers below a bound
@@ -115,7 +115,7 @@ module _ (number : List ℕ → ℕ) where
 
 -- ---- runs
 
-pub run-is : {ws : List ℕ} → Laid ws → (i : ℕ) → i < row-count ws → run ws i ≡ row-word (number-in (rows-in ws)) (row-at ws i) ∷ runs ws (row-operands (row-at ws i))
+pub run-is : {ws : List ℕ} → Rows-laid ws → (i : ℕ) → i < row-count ws → run ws i ≡ row-word (number-in (rows-in ws)) (row-at ws i) ∷ runs ws (row-operands (row-at ws i))
 unfolding run runs rows-in row-at trees-of-rows
 run-is {ws} laid i h =
     let number = number-in (rows-in ws) in
@@ -184,7 +184,7 @@ every-wider m n (k ∷ ns) h t =
     and-both (ltb k n) (every (λ j. ltb j n) ns) (lt→ltb k n (omega arith)) (every-wider m n ns h (and-right (ltb k m) (every (λ j. ltb j m) ns) t))
 
 -- the operands of a row are earlier
-pub operands-earlier : {ws : List ℕ} → Laid ws → (i : ℕ) → i < row-count ws → T (every (λ n. ltb n i) (row-operands (row-at ws i)))
+pub operands-earlier : {ws : List ℕ} → Rows-laid ws → (i : ℕ) → i < row-count ws → T (every (λ n. ltb n i) (row-operands (row-at ws i)))
 unfolding row-ok row-operands every
 operands-earlier {ws} laid i h = go (row-at ws i) (stands laid i h .tested)
   where
@@ -204,7 +204,7 @@ module _ (ws roots : List ℕ) (t : T (laid-out ws roots)) where
   unfolding table-of row-count
   count-is = length-rows-of (row-count ws) ws
 
-  pub laid : Laid ws
+  pub laid : Rows-laid ws
   unfolding laid-out loadable table-of rows-in row-count
   laid =
       let rows = table-of ws roots .rows in

@@ -16,7 +16,7 @@ use Rattle.tree.specs.Layout.{row-fields, row-ok, signed}
 use Rattle.tree.specs.Tokens.{constant-code, number-in}
 use Rattle.tree.proofs.Logic.{and-left}
 use Rattle.tree.proofs.TreeLaws.{eq-bytes-sound, eq-bytes-refl}
-use Rattle.unfold.specs.Unfold.{row-count, rows-in, row-at, row-number, row-operands, run, Laid}
+use Rattle.unfold.specs.Unfold.{row-count, rows-in, row-at, row-number, row-operands, run, Rows-laid}
 use Rattle.unfold.proofs.RowLaws.{Stands, few-kinds}
 use Rattle.unfold.proofs.RunLaws.{row-word, run-is}
 
@@ -26,7 +26,7 @@ field-at {ws} {i} c j h =
     let n = length (row-fields (row-at ws i)) in
     sym (getD-drop (i * 35 + 3) ws j 0) ∙ sym (getD-take n (drop (i * 35 + 3) ws) j 0 h) ∙ ap (λ (l : List ℕ). getD l j 0) (c .fields)
 
-pub head-is : {ws : List ℕ} → Laid ws → (i : ℕ) → i < row-count ws → getD (run ws i) 0 0 ≡ row-word (number-in (rows-in ws)) (row-at ws i)
+pub head-is : {ws : List ℕ} → Rows-laid ws → (i : ℕ) → i < row-count ws → getD (run ws i) 0 0 ≡ row-word (number-in (rows-in ws)) (row-at ws i)
 head-is laid i h = ap (λ (l : List ℕ). getD l 0 0) (run-is laid i h)
 
 pub number-fits : (i : ℕ) (r : Row) → T (row-ok i r) → row-number r ≤ 28
@@ -128,7 +128,7 @@ module _ {ws : List ℕ} {i : ℕ} (c : Stands ws i) where
   pub all-operands : 2 ≤ kind → getD ws (i * 35 + 2) 0 ≡ length (row-operands (row-at ws i))
   all-operands h = c .count ∙ ap length (sym (operation-operands (row-at ws i) h))
 
-  module _ (laid : Laid ws) (inside : i < row-count ws) where
+  module _ (laid : Rows-laid ws) (inside : i < row-count ws) where
     pub symbol-done : (n : ℕ) → kind ≡ 0 → n ≡ number-in (rows-in ws) (row-fields (row-at ws i)) → 192 * n ≡ getD (run ws i) 0 0
     symbol-done n z e =
         let w = symbol-word (number-in (rows-in ws)) i (row-at ws i) (c .tested) z in

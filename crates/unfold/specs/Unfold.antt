@@ -57,7 +57,7 @@ runs ws ns = all-tokens (number-in (rows-in ws)) (at (trees-of-rows ws) ns)
 
 -- ---- what the inner functions ask of the words: a table's, whatever its roots
 
-pub record Laid (ws : List ℕ) : Type 0 where
+pub record Rows-laid (ws : List ℕ) : Type 0 where
   pub whole : table-words (rows-in ws) ≡ ws
   pub good : T (rows-ok 0 (rows-in ws))
   pub few : row-count ws ≤ 1024

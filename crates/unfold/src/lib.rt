@@ -10,7 +10,7 @@ ghost use Rattle.tree.specs.Rows.{trees};
 ghost use Rattle.tree.specs.Layout.{row-fields, signed, laid-out, table-of};
 ghost use Rattle.tree.specs.Tokens.{number-in, constant-code, all-tokens};
 ghost use Rattle.unfold.specs.Write.{Wrote};
-ghost use Rattle.unfold.specs.Unfold.{row-count, rows-in, row-at, words-at, row-number, row-operands, run, runs, Laid, unfolded, Answers};
+ghost use Rattle.unfold.specs.Unfold.{row-count, rows-in, row-at, words-at, row-number, row-operands, run, runs, Rows-laid, unfolded, Answers};
 use rows::Checked;
 
 pub enum Unfolded {
@@ -40,7 +40,7 @@ fn same_words(a: &[u64], b: &[u64]) -> bool
 
 // The number of row r's kind. A Select with a default has the next number after a Select.
 fn kind_of(rows: &[u64], r: usize) -> u64
-    requires { ⌜ Laid (now rows) ⌝ }
+    requires { ⌜ Rows-laid (now rows) ⌝ }
     requires { ⌜ r < row-count (now rows) ⌝ }
     ensures { λ k. ⌜ (k ≡ row-number (row-at (now (rows .entry)) r)) × (k ≤ 28) ⌝ }
 {
@@ -52,7 +52,7 @@ fn kind_of(rows: &[u64], r: usize) -> u64
 // The first row that is the same as row r: a symbol's number. Unused words are 0, so symbols with one name have equal rows. There are at most 1,024
 // occurrences and as many rows, so a search for each occurrence costs about what a table of the symbols' numbers would.
 fn first_named(rows: &[u64], r: usize) -> usize
-    requires { ⌜ Laid (now rows) ⌝ }
+    requires { ⌜ Rows-laid (now rows) ⌝ }
     requires { ⌜ r < row-count (now rows) ⌝ }
     requires { ⌜ row-number (row-at (now rows) r) ≡ 0 ⌝ }
     ensures { λ e. ⌜ (e ≡ number-in (rows-in (now (rows .entry))) (row-fields (row-at (now (rows .entry)) r))) × (e ≤ r) ⌝ }
@@ -79,7 +79,7 @@ fn constant_code(sign: u64, size: u64) -> u64
 
 // The word of row r's node: its kind, and a symbol's or a constant's code or the number of operands.
 fn node_word(rows: &[u64], r: usize) -> u64
-    requires { ⌜ Laid (now rows) ⌝ }
+    requires { ⌜ Rows-laid (now rows) ⌝ }
     requires { ⌜ r < row-count (now rows) ⌝ }
     ensures { λ w. ⌜ w ≡ getD (run (now (rows .entry)) r) 0 0 ⌝ }
 {
@@ -96,7 +96,7 @@ fn node_word(rows: &[u64], r: usize) -> u64
 
 // A leaf's fields are no operands.
 fn operand_count(rows: &[u64], r: usize) -> usize
-    requires { ⌜ Laid (now rows) ⌝ }
+    requires { ⌜ Rows-laid (now rows) ⌝ }
     requires { ⌜ r < row-count (now rows) ⌝ }
     ensures { λ n. ⌜ n ≡ length (row-operands (row-at (now (rows .entry)) r)) ⌝ }
 {
@@ -109,7 +109,7 @@ fn operand_count(rows: &[u64], r: usize) -> usize
 
 // Row r's tree, written from `at` on; gives the end. Its operands are earlier rows, so this ends.
 fn unfold_row(rows: &[u64], r: usize, out: &mut [u64], at: usize) -> usize
-    requires { ⌜ Laid (now rows) ⌝ }
+    requires { ⌜ Rows-laid (now rows) ⌝ }
     requires { ⌜ r < row-count (now rows) ⌝ }
     requires { ⌜ at + length (run (now rows) r) ≤ length (now out) ⌝ }
     ensures { λ e. ⌜ Wrote (now (out .entry)) at (run (now (rows .entry)) r) e (now (out .exit)) ⌝ }
@@ -122,7 +122,7 @@ fn unfold_row(rows: &[u64], r: usize, out: &mut [u64], at: usize) -> usize
 
 // The trees of several rows, one after another.
 fn unfold_each(rows: &[u64], list: &[u64], out: &mut [u64], at: usize) -> usize
-    requires { ⌜ Laid (now rows) ⌝ }
+    requires { ⌜ Rows-laid (now rows) ⌝ }
     requires { ⌜ T (every (λ n. ltb n (row-count (now rows))) (now list)) ⌝ }
     requires { ⌜ at + length (runs (now rows) (now list)) ≤ length (now out) ⌝ }
     ensures { λ e. ⌜ Wrote (now (out .entry)) at (runs (now (rows .entry)) (now (list .entry))) e (now (out .exit)) ⌝ }
