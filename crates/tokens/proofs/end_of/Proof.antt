@@ -20,10 +20,10 @@ end-of-spec =
     (tie.spec
     Inv-loop
     μ-loop
-    (λ c. ending-past (c .before .before .args .tokens .now) (c .before .before .args .at) (c .if1 .taken))
-    (λ c. ending-starts (c .if1 .left))
+    (λ c. ending-past (c .before .before .args .tokens .now) (c .before .before .args .at) (omega (arith, c .if1 .taken)))
+    (λ c. ending-starts (omega (arith, c .if1 .left)))
     (λ c. omega (arith, c .before .loop .inv))
-    (λ c. ending-stops (c .before .before .loop .inv) (c .if2 .taken))
+    (λ c. ending-stops (c .before .before .loop .inv) (omega (arith, c .if2 .taken)))
     (λ c. omega arith)
     (λ c. omega (arith, c .before .before .loop .inv, c .before .before .before .before .before .good .0))
     (λ c. omega (arith, c .before .before .before .loop .inv, c .before .before .before .before .before .before .good .0))

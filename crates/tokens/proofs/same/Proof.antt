@@ -17,7 +17,7 @@ returns-4 c =
     let f = c .before .before .before .before .f .given .0 .0 in
     let p = sym (c .before .before .before .before .before .before .before .before .e .given .1) ∙ c .before .before .before .before .before .before .before .before .before .before .end-of .ensures in
     let q = sym (c .before .before .before .before .f .given .1) ∙ c .before .before .before .before .before .before .end-of2 .ensures in
-    same-runs (a .tokens .now) (a .i) (a .j) (e - a .i) (f - a .j) (run-ends (a .tokens .now) (a .i) e p) (run-ends (a .tokens .now) (a .j) f q) true (c .before .before .if1 .left) (rw (c .if2 .taken) at (c .before .equal-runs .ensures))
+    same-runs (a .tokens .now) (a .i) (a .j) (e - a .i) (f - a .j) (run-ends (a .tokens .now) (a .i) e p) (run-ends (a .tokens .now) (a .j) f q) true (omega (arith, c .before .before .if1 .left)) (rw (c .if2 .taken) at (c .before .equal-runs .ensures))
 
 returns-5 : tie.Need-returns-5
 unfolding compared
@@ -27,7 +27,7 @@ returns-5 c =
     let f = c .before .before .before .before .f .given .0 .0 in
     let p = sym (c .before .before .before .before .before .before .before .before .e .given .1) ∙ c .before .before .before .before .before .before .before .before .before .before .end-of .ensures in
     let q = sym (c .before .before .before .before .f .given .1) ∙ c .before .before .before .before .before .before .end-of2 .ensures in
-    same-runs (a .tokens .now) (a .i) (a .j) (e - a .i) (f - a .j) (run-ends (a .tokens .now) (a .i) e p) (run-ends (a .tokens .now) (a .j) f q) false (c .before .before .if1 .left) (rw (c .if2 .left) at (c .before .equal-runs .ensures))
+    same-runs (a .tokens .now) (a .i) (a .j) (e - a .i) (f - a .j) (run-ends (a .tokens .now) (a .i) e p) (run-ends (a .tokens .now) (a .j) f q) false (omega (arith, c .before .before .if1 .left)) (rw (c .if2 .left) at (c .before .equal-runs .ensures))
 
 pub same-spec : {M : Type 1} → statement M
 same-spec =
@@ -72,6 +72,6 @@ same-spec =
     let f = c .before .before .f .given .0 .0 in
     let p = sym (c .before .before .before .before .before .before .e .given .1) ∙ c .before .before .before .before .before .before .before .before .end-of .ensures in
     let q = sym (c .before .before .f .given .1) ∙ c .before .before .before .before .end-of2 .ensures in
-    runs-inside (a .tokens .now) (a .i) (a .j) (e - a .i) (f - a .j) (run-ends (a .tokens .now) (a .i) e p) (run-ends (a .tokens .now) (a .j) f q) (c .if1 .left))
+    runs-inside (a .tokens .now) (a .i) (a .j) (e - a .i) (f - a .j) (run-ends (a .tokens .now) (a .i) e p) (run-ends (a .tokens .now) (a .j) f q) (omega (arith, c .if1 .left)))
     returns-4
     returns-5)

@@ -6,7 +6,7 @@ use Rattle.tokens.proofs.symbol_of.Statement.{statement}
 use Rattle.tokens.proofs.symbol_of.Tie as tie
 
 returns : tie.Need-returns
-returns c = sym (symbol-own (c .before .args .w) (c .if1 .taken))
+returns c = sym (symbol-own (c .before .args .w) (omega (arith, c .if1 .taken)))
 
 returns-2 : tie.Need-returns-2
 returns-2 c = sym (other-own (c .before .args .w) (omega (arith, c .if1 .left)))
