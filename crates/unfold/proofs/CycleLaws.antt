@@ -12,7 +12,8 @@ use Rattle.tree.specs.Layout.{row-fields}
 use Rattle.unfold.specs.Write.{Wrote}
 use Rattle.unfold.specs.Unfold.{row-count, row-at, row-operands, run, runs, Rows-laid}
 use Rattle.unfold.proofs.RowLaws.{stands}
-use Rattle.unfold.proofs.RunLaws.{run-is, runs-none, runs-more, runs-room, bound, bound-of, every-wider, operands-earlier}
+use Rattle.unfold.proofs.RunLaws.{run-is, runs-none, runs-more, runs-room, bound, bound-of, operands-earlier}
+use Rattle.tree.proofs.Tests.{every-less}
 use Rattle.unfold.proofs.WordLaws.{head-is}
 use Rattle.unfold.proofs.WriteLaws.{wrote-long, wrote-none, wrote-set, wrote-then}
 
@@ -46,7 +47,7 @@ module _ {ws : List ℕ} (laid : Rows-laid ws) (r : ℕ) (inside : r < row-count
       rw e (operands-first (row-at ws r) (drop (r * 35 + 3) ws) (c .fields))
 
   pub lent-below : T (every (λ k. ltb k (row-count ws)) lent)
-  lent-below = rw lent-is (every-wider r (row-count ws) (row-operands (row-at ws r)) (omega arith) (operands-earlier laid r inside))
+  lent-below = rw lent-is (every-less r (row-count ws) (omega arith) (row-operands (row-at ws r)) (operands-earlier laid r inside))
 
   pub lent-bound : bound lent ≤ r
   lent-bound = rw lent-is (bound-of r (row-operands (row-at ws r)) (operands-earlier laid r inside))

@@ -12,7 +12,8 @@ use Rattle.tree.specs.Outcome.{Outcome, ok, refused, by, _>>=_}
 use Rattle.tree.specs.Rows.{Table, trees, occurrences}
 use Rattle.tree.specs.Layout.{laid-out, table-of, table-or-9}
 use Rattle.tree.specs.Tokens.{all-tokens, number-in}
-use Rattle.rows.specs.Check.{check-rows, checked}
+use Rattle.rows.specs.Check.{checked}
+use Rattle.layout.specs.Nine.{check-rows}
 use Rattle.rows.specs.declared.Checked.the-variants as checks
 use Rattle.unfold.specs.Write.{wrote, Wrote}
 use Rattle.unfold.specs.Unfold.{unfolded, Answers}

@@ -22,7 +22,8 @@ pub record Examples : Type 0 where
   a-shared-node : unfolded 1024 (table-words shared) (5 ∷ []) ≡ ok (132 ∷ 72 ∷ 131 ∷ 192 ∷ 0 ∷ 131 ∷ 192 ∷ 0 ∷ [])
   a-default : unfolded 2000 (table-words constants) (4 ∷ []) ≡ ok (284 ∷ 1 ∷ 65 ∷ 129 ∷ 193 ∷ [])
   two-roots : unfolded 1024 (table-words constants) (3 ∷ 0 ∷ []) ≡ ok (193 ∷ 1 ∷ [])
-  no-roots : unfolded 1024 [] [] ≡ ok []
+  no-roots : unfolded 1024 (table-words constants) [] ≡ ok []
+  no-rows : unfolded 1024 [] [] ≡ refused (by 9)
   no-room : unfolded 1023 (1 ∷ []) [] ≡ refused (by 8)
   no-rows-of-load : unfolded 1024 (1 ∷ []) [] ≡ refused (by 9)
   no-such-root : unfolded 1024 (table-words shared) (6 ∷ []) ≡ refused (by 9)
@@ -30,4 +31,4 @@ pub record Examples : Type 0 where
 pub examples : Examples
 unfolding unfolded table-words
 examples =
-    record { a-shared-node = refl; a-default = refl; two-roots = refl; no-roots = refl; no-room = refl; no-rows-of-load = refl; no-such-root = refl }
+    record { a-shared-node = refl; a-default = refl; two-roots = refl; no-roots = refl; no-rows = refl; no-room = refl; no-rows-of-load = refl; no-such-root = refl }

@@ -1,22 +1,23 @@
 -- A row's tree by its row and its operands' trees, and the words of trees by those of rows. Assumes nothing.
 use Prim.Native.Nat.{ℕ, zero, suc, _+_, _*_, _≤_, _<_, max}
 use mathlib.Core.Path.{_≡_, refl, sym, ap, ap₂, _∙_, subst}
-use mathlib.Core.Bool.{_&&_}
 use mathlib.Core.List.{List, [], _∷_, _++_, append-assoc, append-nil}
 use native.Mathlib.Omega.{arith}
 use native.Mathlib.Nat.{zero-add}
 use native.Mathlib.Numerals.{add-one}
 use lib.ListN.{length, getD, take, drop, length-append, List·getD-append}
 use lib.Seq.{getD-append-add, take-suc, split-at}
-use lib.Dec.{T, ltb, leb, leb→le, ltb→lt, lt→ltb}
+use lib.Dec.{T, ltb, leb, leb→le, ltb→lt}
 use Rattle.tree.specs.Bytes.{eq-bytes, every}
-use Rattle.tree.specs.Tree.{Tree, Forest, Sym, Const, Op, nil, _◂_, fold, folds, operands, forest}
-use Rattle.tree.specs.Facts.{size, total}
+use Rattle.tree.specs.Tree.{Tree, Op, nil, operands, forest}
 use Rattle.tree.specs.Rows.{Row, row-sym, row-const, row-op, at, tree-of-row, trees-from, trees, occurrences, within-limits}
 use Rattle.tree.specs.Passes.{operands-ok}
-use Rattle.tree.specs.Layout.{row-ok, rows-ok, table-of, table-words, loadable, laid-out}
+use Rattle.tree.specs.Layout.{row-ok, rows-ok, table-of, table-words, in-domain, sheet-fits, loadable, laid-out}
 use Rattle.tree.specs.Tokens.{word, constant-code, name-code, tokens, tokens-of, all-tokens, number-in}
-use Rattle.tree.proofs.Logic.{and-left, and-right, and-both}
+use Rattle.tree.proofs.Tests.{every-less}
+use Rattle.tree.proofs.DomainPasses.{Domain, domain}
+use Rattle.tree.proofs.TokenCode.{all-tokens-length}
+use Rattle.tree.proofs.Logic.{and-left, and-right}
 use Rattle.tree.proofs.TreeLaws.{eq-bytes-sound}
 use Rattle.unfold.specs.Unfold.{row-count, rows-in, row-at, trees-of-rows, row-operands, run, runs, Rows-laid}
 use Rattle.unfold.proofs.RowLaws.{length-rows-of, stands}
@@ -95,24 +96,6 @@ module _ (number : List ℕ → ℕ) where
   row-tokens ts (row-const c) = refl
   row-tokens ts (row-op k ns) = ap₂ (λ (n : ℕ) (l : List ℕ). word k n ∷ l) (operands-long ts ns) (tokens-of-forest (at ts ns))
 
-  -- one word for each occurrence
-  mutual
-    unfolding tokens size fold total
-
-    pub length-tokens : (t : Tree) → length (tokens number t) ≡ size t
-    length-tokens (Sym n) = refl
-    length-tokens (Const c) = refl
-    length-tokens (Op k f) = ap suc (length-tokens-of f)
-
-    length-tokens-of : (f : Forest) → length (tokens-of number f) ≡ total (folds (λ n. 1) (λ c. 1) (λ k sizes. suc (total sizes)) f)
-    length-tokens-of nil = refl
-    length-tokens-of (t ◂ f) = rw (length-append (tokens number t) (tokens-of number f)) (ap₂ _+_ (length-tokens t) (length-tokens-of f))
-
-  pub length-all-tokens : (l : List Tree) → length (all-tokens number l) ≡ occurrences l
-  unfolding all-tokens occurrences
-  length-all-tokens [] = refl
-  length-all-tokens (t ∷ l) = rw (length-append (tokens number t) (all-tokens number l)) (ap₂ _+_ (length-tokens t) (length-all-tokens l))
-
 -- ---- runs
 
 pub run-is : {ws : List ℕ} → Rows-laid ws → (i : ℕ) → i < row-count ws → run ws i ≡ row-word (number-in (rows-in ws)) (row-at ws i) ∷ runs ws (row-operands (row-at ws i))
@@ -176,13 +159,6 @@ bound-of m [] t = omega arith
 bound-of m (n ∷ ns) t =
     omega (arith, ltb→lt n m (and-left (ltb n m) (every (λ k. ltb k m) ns) t), bound-of m ns (and-right (ltb n m) (every (λ k. ltb k m) ns) t))
 
-pub every-wider : (m n : ℕ) (ns : List ℕ) → m ≤ n → T (every (λ k. ltb k m) ns) → T (every (λ k. ltb k n) ns)
-unfolding every
-every-wider m n [] h t = tt
-every-wider m n (k ∷ ns) h t =
-    let l = ltb→lt k m (and-left (ltb k m) (every (λ j. ltb j m) ns) t) in
-    and-both (ltb k n) (every (λ j. ltb j n) ns) (lt→ltb k n (omega arith)) (every-wider m n ns h (and-right (ltb k m) (every (λ j. ltb j m) ns) t))
-
 -- the operands of a row are earlier
 pub operands-earlier : {ws : List ℕ} → Rows-laid ws → (i : ℕ) → i < row-count ws → T (every (λ n. ltb n i) (row-operands (row-at ws i)))
 unfolding row-ok row-operands every
@@ -196,39 +172,29 @@ operands-earlier {ws} laid i h = go (row-at ws i) (stands laid i h .tested)
 -- ---- words that are laid out, with their roots
 
 module _ (ws roots : List ℕ) (t : T (laid-out ws roots)) where
-  loads : T (loadable (table-of ws roots))
-  unfolding laid-out
-  loads = and-right (eq-bytes (table-words (table-of ws roots .rows)) ws) (loadable (table-of ws roots)) t
+  limits : Domain (table-of ws roots)
+  unfolding laid-out loadable
+  limits =
+      let table = table-of ws roots in
+      domain table (and-left (in-domain table) (sheet-fits table) (and-right (eq-bytes (table-words (table .rows)) ws) (loadable table) t))
 
   count-is : length (table-of ws roots .rows) ≡ row-count ws
   unfolding table-of row-count
   count-is = length-rows-of (row-count ws) ws
 
   pub laid : Rows-laid ws
-  unfolding laid-out loadable table-of rows-in row-count
+  unfolding laid-out table-of rows-in row-count
   laid =
       let rows = table-of ws roots .rows in
-      let sizes = leb (length rows) 1024 && leb (length roots) 64 in
-      let rest = every (λ n. ltb n (length rows)) roots && within-limits (trees (table-of ws roots)) in
-      let small = leb→le (length rows) 1024 (and-left (leb (length rows) 1024) (leb (length roots) 64) (and-left sizes (rows-ok 0 rows && rest) loads)) in
       record {
         whole = eq-bytes-sound (table-words rows) ws (and-left (eq-bytes (table-words rows) ws) (loadable (table-of ws roots)) t);
-        good = and-left (rows-ok 0 rows) rest (and-right sizes (rows-ok 0 rows && rest) loads);
-        few = omega (arith, count-is);
+        good = limits .good-rows;
+        few = omega (arith, count-is, limits .few-rows);
       }
 
-  roots-and-limits : T (every (λ n. ltb n (length (table-of ws roots .rows))) roots && within-limits (trees (table-of ws roots)))
-  unfolding loadable table-of
-  roots-and-limits =
-      let rows = table-of ws roots .rows in
-      let sizes = leb (length rows) 1024 && leb (length roots) 64 in
-      let rest = every (λ n. ltb n (length rows)) roots && within-limits (trees (table-of ws roots)) in
-      and-right (rows-ok 0 rows) rest (and-right sizes (rows-ok 0 rows && rest) loads)
-
   pub roots-below : T (every (λ n. ltb n (row-count ws)) roots)
-  roots-below =
-      let rows = table-of ws roots .rows in
-      every-wider (length rows) (row-count ws) roots (omega (arith, count-is)) (and-left (every (λ n. ltb n (length rows)) roots) (within-limits (trees (table-of ws roots))) roots-and-limits)
+  unfolding table-of
+  roots-below = every-less (length (table-of ws roots .rows)) (row-count ws) (omega (arith, count-is)) roots (limits .good-roots)
 
   -- the words of the roots' trees
   pub runs-are : runs ws roots ≡ all-tokens (number-in (table-of ws roots .rows)) (trees (table-of ws roots))
@@ -241,6 +207,5 @@ module _ (ws roots : List ℕ) (t : T (laid-out ws roots)) where
   runs-few =
       let ts = trees (table-of ws roots) in
       let rows = table-of ws roots .rows in
-      let limits = and-right (every (λ n. ltb n (length rows)) roots) (within-limits ts) roots-and-limits in
-      let o = leb→le (occurrences ts) 1024 (and-left (leb (occurrences ts) 1024) _ limits) in
-      omega (arith, o, ap length runs-are, length-all-tokens (number-in rows) ts)
+      let o = leb→le (occurrences ts) 1024 (and-left (leb (occurrences ts) 1024) _ (limits .limited)) in
+      omega (arith, o, ap length runs-are, all-tokens-length (number-in rows) ts)

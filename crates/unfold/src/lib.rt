@@ -155,7 +155,7 @@ pub fn unfold(rows: &[u64], roots: &[u64], out: &mut [u64]) -> Unfolded
     if out.len() < 1024 {
         return Unfolded::Refused(8);
     }
-    let Checked::Laid(_) = rows::check_rows(rows, roots) else {
+    let Checked::Laid(_) = layout::check_rows(rows, roots) else {
         return Unfolded::Refused(9);
     };
     Unfolded::Tokens(unfold_roots(rows, roots, out))
