@@ -12,6 +12,20 @@ ghost use Rattle.rows.specs.Counts.{kind-number};
 ghost use Rattle.rows.specs.Check.{checked, check-rows, below, constant-test, operation-test, plain-test, fields-test, row-test};
 ghost use Rattle.rows.specs.Measure.{pick, capped-size, capped-level, level-by, row-operands, Filled};
 
+// The kinds that the code names, by their numbers.
+const SYM: u64 = 0;
+
+const CONST: u64 = 1;
+
+const NEG: u64 = 2;
+
+const BRANCH: u64 = 26;
+
+const SELECT: u64 = 27;
+
+// The words of a row.
+const ROW_WIDTH: usize = 35;
+
 // The fewest and the most operands of a kind.
 pub struct Counts {
     pub fewest: u64,
@@ -199,10 +213,10 @@ fn operation_ok(kind: u64, default: bool, operands: &[u64], i: u64) -> bool
 fn plain_ok(kind: u64, fields: &[u64], i: u64) -> bool
     ensures { λ r. ⌜ r ≡ plain-test kind (now (fields .entry)) i ⌝ }
 {
-    if kind == 0 {
+    if kind == SYM {
         return is_name(fields);
     }
-    if kind == 1 {
+    if kind == CONST {
         return constant_ok(fields);
     }
     operation_ok(kind, false, fields, i)
@@ -218,10 +232,10 @@ fn fields_ok(kind: u64, default: u64, fields: &[u64], i: u64) -> bool
     if default != 1 {
         return false;
     }
-    if kind != 27 {
+    if kind != SELECT {
         return false;
     }
-    operation_ok(27, true, fields, i)
+    operation_ok(SELECT, true, fields, i)
 }
 
 // A row after i others: its kind, default flag and fields, and 0 in every word that is left.
@@ -297,7 +311,7 @@ fn level_of(kind: u64, levels: &[u64], operands: &[u64]) -> u64
     requires { ⌜ T (below (length (now levels)) (now operands)) ⌝ }
     ensures { λ r. ⌜ r ≡ capped-level (level-by kind (pick (now (levels .entry)) (now (operands .entry)))) ⌝ }
 {
-    if kind < 26 {
+    if kind < BRANCH {
         return capped(deepest(levels, operands));
     }
     if operands.len() < 2 {
@@ -320,7 +334,7 @@ fn measure_row(row: &[u64], sizes: &[u64], levels: &[u64]) -> Measure
     ensures { λ r. ⌜ (r .size ≡ capped-size (suc (total (pick (now (sizes .entry)) (row-operands (now (row .entry)))))))
         × (r .level ≡ capped-level (level-by (getD (now (row .entry)) 0 0) (pick (now (levels .entry)) (row-operands (now (row .entry)))))) ⌝ }
 {
-    if row[0] < 2 {
+    if row[0] < NEG {
         return Measure { size: 1, level: 0 };
     }
     let end = 3 + row[2] as usize;
@@ -341,8 +355,8 @@ fn fill(rows: &[u64], n: usize, sizes: &mut [u64], levels: &mut [u64]) -> bool
 {
     let mut i = 0;
     while i < n {
-        let at = i * 35;
-        let end = at + 35;
+        let at = i * ROW_WIDTH;
+        let end = at + ROW_WIDTH;
         let row = &rows[at..end];
         if !row_ok(row, i as u64) {
             return false;
@@ -359,8 +373,8 @@ fn fill(rows: &[u64], n: usize, sizes: &mut [u64], levels: &mut [u64]) -> bool
 pub fn check_rows(rows: &[u64], roots: &[u64]) -> Checked
     ensures { λ r. ⌜ checked r ≡ check-rows (now (rows .entry)) (now (roots .entry)) ⌝ }
 {
-    let n = rows.len() / 35;
-    if rows.len() != n * 35 {
+    let n = rows.len() / ROW_WIDTH;
+    if rows.len() != n * ROW_WIDTH {
         return Checked::Refused;
     }
     if n > 1024 {
