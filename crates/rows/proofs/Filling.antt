@@ -14,9 +14,10 @@ use Rattle.tree.specs.Tree.{Tree, Op, nil}
 use Rattle.tree.specs.Facts.{total, size, nesting}
 use Rattle.tree.specs.Rows.{Row, at, tree-of-row, trees-from, occurrences}
 use Rattle.tree.specs.Layout.{row-of, rows-of}
-use Rattle.rows.specs.Check.{below, row-test, rows-test}
+use Rattle.fields.specs.Tests.{below}
+use Rattle.rows.specs.Check.{row-test, rows-test}
 use Rattle.rows.specs.Measure.{pick, capped-size, capped-level, level-by, row-operands, Measured, Filled}
-use Rattle.rows.proofs.Leaves.{back}
+use Rattle.fields.proofs.Leaves.{back}
 use Rattle.rows.proofs.Sums.{below-less}
 use Rattle.rows.proofs.RowTrees.{row-count, operands-below, row-size, row-nesting, picked-sizes, picked-level-by}
 

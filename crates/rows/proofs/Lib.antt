@@ -1,5 +1,3 @@
-pub mod Spans
-pub mod Leaves
 pub mod Sums
 pub mod RowTrees
 pub mod Filling

@@ -20,8 +20,9 @@ use Rattle.tree.specs.Layout.{row-kind, row-default, row-fields, row-words, sig
 use Rattle.tree.proofs.Logic.{and-left, and-right, and-both}
 use Rattle.tree.proofs.TreeLaws.{eq-bytes-sound, eq-bytes-refl}
 use Rattle.tree.proofs.LayoutLaws.{row-number}
-use Rattle.rows.specs.Counts.{kind-number}
-use Rattle.rows.specs.Check.{below, constant-test, operation-test, plain-test, fields-test, row-test}
+use Rattle.fields.specs.Counts.{kind-number}
+use Rattle.fields.specs.Tests.{below, constant-test, operation-test, plain-test, fields-test}
+use Rattle.rows.specs.Check.{row-test}
 use Rattle.rows.proofs.RowTrees.{flag-cases}
 
 pub same-test : (a b : Bool) → (T a → T b) → (T b → T a) → a ≡ b

@@ -13,9 +13,9 @@ use Rattle.tree.specs.Bytes.{every}
 use Rattle.tree.specs.Kinds.{is-switch}
 use Rattle.tree.specs.Facts.{total, greatest, first-or-deeper}
 use Rattle.tree.proofs.Logic.{and-left, and-right, and-both}
-use Rattle.rows.specs.Check.{below}
+use Rattle.fields.specs.Tests.{below}
 use Rattle.rows.specs.Measure.{pick, capped-size, capped-level, level-by, row-operands}
-use Rattle.rows.proofs.Leaves.{rest, back}
+use Rattle.fields.proofs.Leaves.{rest, back}
 
 -- ---- numbers below a bound
 

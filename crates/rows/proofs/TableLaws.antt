@@ -17,7 +17,8 @@ use Rattle.tree.proofs.Logic.{and-left, and-right, and-both}
 use Rattle.tree.proofs.TreeLaws.{eq-bytes-sound}
 use Rattle.tree.proofs.LayoutLaws.{words-long}
 use lib.IntN.{ℤ, pos, negsuc}
-use Rattle.rows.specs.Check.{laid-in-domain, check-domain, below, rows-test}
+use Rattle.fields.specs.Tests.{below}
+use Rattle.rows.specs.Check.{laid-in-domain, check-domain, rows-test}
 use Rattle.rows.specs.Measure.{pick, capped-size, capped-level, Filled}
 use Rattle.rows.proofs.RowTrees.{nestings, picked-sizes, picked-levels}
 use Rattle.rows.proofs.RowLaws.{same-test, row-fine, row-fine-is}

@@ -3,8 +3,9 @@ use Prim.Native.Nat.{ℕ, _+_}
 use mathlib.Core.Path.{sym, _∙_, ap}
 use lib.ListN.{getD, take, drop}
 use borrow.Author.Tests.{lt-leb, le-leb, not-true, not-false}
-use Rattle.rows.specs.Check.{fields-test, row-test}
-use Rattle.rows.proofs.Leaves.{rest, back}
+use Rattle.fields.specs.Tests.{fields-test}
+use Rattle.rows.specs.Check.{row-test}
+use Rattle.fields.proofs.Leaves.{rest, back}
 use borrow.Author.Needs.{needs}
 use Rattle.rows.proofs.row_ok.Statement.{statement}
 use Rattle.rows.proofs.row_ok.Tie as tie
