@@ -32,7 +32,7 @@ unfoldable pub block : List Intermediate → Intermediates
 block [] = end
 block (s ∷ l) = step s (block l)
 
--- ---- names
+-- ---- names (01, "Value, for demand 3")
 
 -- the names that a statement binds for what follows it
 unfoldable pub names : Intermediate → List Name
@@ -74,7 +74,7 @@ unfolding eq-name
 elem n [] = false
 elem n (s ∷ l) = elim (eq-name s n) [ true ↦ true | false ↦ elem n l ]
 
--- ---- rows
+-- ---- rows (01, "Turned down", refusal 12)
 
 unfoldable pub value-rows : List Tree → ℕ
 unfolding size
@@ -100,7 +100,7 @@ unfoldable pub rows : Answer → ℕ
 unfolding stmts-rows value-rows
 rows a = stmts-rows (a .inters) + value-rows (a .results)
 
--- ---- text, `Display` for `Intermediate`
+-- ---- text, `Display` for `Intermediate` (01, "Sheet and printing")
 
 unfoldable pub names-texts : List Name → List (List ℕ)
 unfolding name-text

@@ -80,40 +80,40 @@ module _ (number : List ℕ → ℕ) where
 
 -- ---- from words to an answer, whatever the words are
 
--- a row and the parts below it
+-- a row and what stands below it
 mutual
-  pub data Part : Type 0 where
-    part : ℕ → Parts → Part
+  pub data Span : Type 0 where
+    span : ℕ → Spans → Span
 
-  pub data Parts : Type 0 where
-    no-part : Parts
-    parts : Part → Parts → Parts
+  pub data Spans : Type 0 where
+    no-span : Spans
+    spans : Span → Spans → Spans
 
-unfoldable pub take-parts : ℕ → Parts → Parts
-take-parts zero l = no-part
-take-parts (suc n) no-part = no-part
-take-parts (suc n) (parts p l) = parts p (take-parts n l)
+unfoldable pub take-spans : ℕ → Spans → Spans
+take-spans zero l = no-span
+take-spans (suc n) no-span = no-span
+take-spans (suc n) (spans p l) = spans p (take-spans n l)
 
-unfoldable pub drop-parts : ℕ → Parts → Parts
-drop-parts zero l = l
-drop-parts (suc n) no-part = no-part
-drop-parts (suc n) (parts p l) = drop-parts n l
+unfoldable pub drop-spans : ℕ → Spans → Spans
+drop-spans zero l = l
+drop-spans (suc n) no-span = no-span
+drop-spans (suc n) (spans p l) = drop-spans n l
 
--- how many of the parts after a row stand below it
+-- how many of the spans after a row stand below it
 unfoldable pub stands-below : ℕ → ℕ
 stands-below w =
     cond (leb (kind-of w) 1 || eqb (kind-of w) name-row) 0
     (cond (eqb (kind-of w) let-row || leb value-row (kind-of w)) 1 (below-of w))
 
-unfoldable pub read-parts : List ℕ → Parts
-unfolding stands-below take-parts drop-parts
-read-parts [] = no-part
-read-parts (w ∷ ws) =
-    let after = read-parts ws in
-    parts (part w (take-parts (stands-below w) after)) (drop-parts (stands-below w) after)
+unfoldable pub read-spans : List ℕ → Spans
+unfolding stands-below take-spans drop-spans
+read-spans [] = no-span
+read-spans (w ∷ ws) =
+    let after = read-spans ws in
+    spans (span w (take-spans (stands-below w) after)) (drop-spans (stands-below w) after)
 
-unfoldable pub row-of-part : Part → ℕ
-row-of-part (part w l) = w
+unfoldable pub row-of-span : Span → ℕ
+row-of-span (span w l) = w
 
 -- `name-at` gives the name of a symbol of the list by its number
 module _ (name-at : ℕ → List ℕ) where
@@ -123,69 +123,69 @@ module _ (name-at : ℕ → List ℕ) where
   unfoldable mutual
     unfolding tree-of-word
 
-    pub tree-of-part : Part → Tree
-    tree-of-part (part w l) = tree-of-word name-at w (trees-of-parts l)
+    pub tree-of-span : Span → Tree
+    tree-of-span (span w l) = tree-of-word name-at w (trees-of-spans l)
 
-    pub trees-of-parts : Parts → List Tree
-    trees-of-parts no-part = []
-    trees-of-parts (parts p l) = tree-of-part p ∷ trees-of-parts l
+    pub trees-of-spans : Spans → List Tree
+    trees-of-spans no-span = []
+    trees-of-spans (spans p l) = tree-of-span p ∷ trees-of-spans l
 
-  -- the tree below the first of some parts; that of a missing one is 0, which no row lays out so
-  unfoldable pub first-tree : Parts → Tree
-  unfolding tree-of-part
-  first-tree no-part = Const (pos 0)
-  first-tree (parts p l) = tree-of-part p
+  -- the tree below the first of some spans; that of a missing one is 0, which no row lays out so
+  unfoldable pub first-tree : Spans → Tree
+  unfolding tree-of-span
+  first-tree no-span = Const (pos 0)
+  first-tree (spans p l) = tree-of-span p
 
-  unfoldable pub tree-below : Part → Tree
+  unfoldable pub tree-below : Span → Tree
   unfolding first-tree
-  tree-below (part w l) = first-tree l
+  tree-below (span w l) = first-tree l
 
-  -- the trees below those parts that have a given row
-  unfoldable pub trees-below : ℕ → Parts → List Tree
-  unfolding tree-below row-of-part
-  trees-below row no-part = []
-  trees-below row (parts p l) = elim (eqb (kind-of (row-of-part p)) row) [ true ↦ tree-below p ∷ trees-below row l | false ↦ trees-below row l ]
+  -- the trees below those spans that have a given row
+  unfoldable pub trees-below : ℕ → Spans → List Tree
+  unfolding tree-below row-of-span
+  trees-below row no-span = []
+  trees-below row (spans p l) = elim (eqb (kind-of (row-of-span p)) row) [ true ↦ tree-below p ∷ trees-below row l | false ↦ trees-below row l ]
 
-  unfoldable pub names-of-parts : Parts → List Name
-  unfolding row-of-part name-by
-  names-of-parts no-part = []
-  names-of-parts (parts p l) = elim (eqb (kind-of (row-of-part p)) name-row) [ true ↦ named (row-of-part p) ∷ names-of-parts l | false ↦ names-of-parts l ]
+  unfoldable pub names-of-spans : Spans → List Name
+  unfolding row-of-span name-by
+  names-of-spans no-span = []
+  names-of-spans (spans p l) = elim (eqb (kind-of (row-of-span p)) name-row) [ true ↦ named (row-of-span p) ∷ names-of-spans l | false ↦ names-of-spans l ]
 
   unfoldable mutual
-    unfolding first-tree trees-below names-of-parts name-by row-of-part
+    unfolding first-tree trees-below names-of-spans name-by row-of-span
 
     -- a let or a match
-    pub intermediate-of-part : Part → Intermediate
-    intermediate-of-part (part w l) =
+    pub intermediate-of-span : Span → Intermediate
+    intermediate-of-span (span w l) =
         elim (eqb (kind-of w) let-row) [
           | true ↦ Let (named w) (first-tree l)
-          | false ↦ Match (kind-of w - 4) (first-tree l) (names-of-parts l) (arms-of-parts l)
+          | false ↦ Match (kind-of w - 4) (first-tree l) (names-of-spans l) (arms-of-spans l)
         ]
 
-    -- the statements among some parts
-    pub intermediates-of-parts : Parts → Intermediates
-    intermediates-of-parts no-part = end
-    intermediates-of-parts (parts p l) =
-        elim (leb let-row (kind-of (row-of-part p)) && ltb (kind-of (row-of-part p)) name-row) [
-          | true ↦ step (intermediate-of-part p) (intermediates-of-parts l)
-          | false ↦ intermediates-of-parts l
+    -- the statements among some spans
+    pub intermediates-of-spans : Spans → Intermediates
+    intermediates-of-spans no-span = end
+    intermediates-of-spans (spans p l) =
+        elim (leb let-row (kind-of (row-of-span p)) && ltb (kind-of (row-of-span p)) name-row) [
+          | true ↦ step (intermediate-of-span p) (intermediates-of-spans l)
+          | false ↦ intermediates-of-spans l
         ]
 
-    -- the arms among some parts
-    pub arms-of-parts : Parts → Arms
-    arms-of-parts no-part = no-arm
-    arms-of-parts (parts p l) = arm-of-part p (arms-of-parts l)
+    -- the arms among some spans
+    pub arms-of-spans : Spans → Arms
+    arms-of-spans no-span = no-arm
+    arms-of-spans (spans p l) = arm-of-span p (arms-of-spans l)
 
-    pub arm-of-part : Part → Arms → Arms
-    arm-of-part (part w below) l =
-        elim (eqb (kind-of w) arm-row) [ true ↦ arm (intermediates-of-parts below) (trees-below value-row below) l | false ↦ l ]
+    pub arm-of-span : Span → Arms → Arms
+    arm-of-span (span w below) l =
+        elim (eqb (kind-of w) arm-row) [ true ↦ arm (intermediates-of-spans below) (trees-below value-row below) l | false ↦ l ]
 
   -- an answer but for its extraction count, which no row holds
   unfoldable pub answer-of : ℕ → List ℕ → Answer
-  unfolding read-parts intermediates-of-parts trees-below
+  unfolding read-spans intermediates-of-spans trees-below
   answer-of extracted ws =
-      let all = read-parts ws in
-      record { inters = intermediates-of-parts all; results = trees-below result-row all; extracted = extracted }
+      let all = read-spans ws in
+      record { inters = intermediates-of-spans all; results = trees-below result-row all; extracted = extracted }
 
 -- ---- 13: by kind, operand count, reference, name or constant
 

@@ -28,7 +28,7 @@ unfoldable pub roots : State → List Tree
 unfolding bound
 roots s = s .results ++ bound (s .lets)
 
--- ---- the best candidate
+-- ---- the best candidate (01, "Extraction")
 
 unfoldable pub is-candidate : Bool → List Tree → Tree → Bool
 unfolding cost has-symbol uses uses-outside
@@ -65,7 +65,7 @@ unfoldable pub best : Bool → List Tree → Option Candidate
 unfolding best-from all-nodes
 best scoped rs = best-from scoped rs none (all-nodes rs)
 
--- ---- rounds
+-- ---- rounds (01, "Extraction")
 
 unfoldable pub replace-bound : Tree → Name → Binding → Outcome Binding
 unfolding replace
@@ -91,7 +91,7 @@ unfoldable pub extract-all : Bool → ℕ → List Tree → Outcome State
 unfolding rounds all-operations
 extract-all scoped next es = rounds (all-operations es) scoped (record { results = es; lets = []; next = next })
 
--- ---- reciprocals
+-- ---- reciprocals (01, "Reciprocals")
 
 -- the divisors of the divisions in a list of nodes, in order
 unfoldable pub divisor-of : Tree → Option Tree

@@ -13,6 +13,8 @@ use Rattle.cse.specs.Scope.{answer}
 use Rattle.tree.specs.Rows.{Table, trees, within-limits}
 use Rattle.sheet.specs.Sheet.{load}
 use Rattle.cse.specs.Demand.{Demand3}
+use Rattle.tree.specs.Layout.{table-of, laid-out}
+use Rattle.tree.proofs.LayoutLaws.{laid-out-passes}
 use Rattle.tree.specs.Passes.{passes}
 use Rattle.cse.proofs.PassesLaws.{passes-formed, passes-unmade}
 use Rattle.sheet.proofs.SheetPasses.{accepted-passes}
@@ -35,6 +37,10 @@ demand3 es h =
 
 pub sheet-demand3 : (row-places root-places : ℕ) (s : List ℕ) (t : Table) → load row-places root-places s ≡ ok t → Demand3 (trees t)
 sheet-demand3 row-places root-places s t e = demand3 (trees t) (accepted-passes row-places root-places s t e)
+
+-- for any words that pass 9
+pub rows-demand3 : (ws roots : List ℕ) → T (laid-out ws roots) → Demand3 (trees (table-of ws roots))
+rows-demand3 ws roots h = demand3 (trees (table-of ws roots)) (laid-out-passes ws roots h)
 
 -- the flat form refuses by 10 alone, never by 11
 pub flat-refused-by-10 : (es : List Tree) → T (passes es) → (i : Refusal) → answer false es ≡ refused i → i ≡ by 10

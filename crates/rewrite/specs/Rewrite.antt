@@ -12,7 +12,7 @@ use Rattle.tree.specs.Tree.{Name, Tree, Forest, Sym, Const, Op, nil, _◂_, eq-
 use Rattle.tree.specs.Kinds.{Neg, Mul, Div, is-switch}
 use Rattle.tree.specs.Facts.{size}
 
--- ---- products
+-- ---- products (01, "Rewriting")
 
 -- an f64 coefficient and the factors, in order
 abbrev pub Factors : Type 0
@@ -85,7 +85,7 @@ unfoldable pub build-mul-from-factors : Factors → Outcome Tree
 unfolding constant-of built
 build-mul-from-factors p = constant-of (p .coefficient) >>= λ c. ok (built c (p .factors))
 
--- ---- replace
+-- ---- replace (01, "Rewriting")
 
 -- without the first factor equal to t
 unfoldable pub remove-first : Tree → List Tree → Option (List Tree)
@@ -146,7 +146,7 @@ unfoldable pub replace : Tree → Name → Tree → Outcome Tree
 unfolding replace-within size
 replace target n e = replace-within (2 * size e) target n e
 
--- ---- replace_divisor: a / d becomes a * n
+-- ---- replace_divisor: a / d becomes a * n (01, "Reciprocals")
 
 unfoldable pub divides-by : Tree → Forest → Bool
 unfolding eq-tree
@@ -171,7 +171,7 @@ module _ (d : Tree) (n : Name) where
     dividend nil = nil
     dividend (t ◂ f) = replace-divisor t ◂ Sym n ◂ nil
 
--- ---- replace_outside_arms: never below a switch's operands after the first
+-- ---- replace_outside_arms: never below a switch's operands after the first (01, "Scoped fusion")
 
 module _ (target : Tree) (n : Name) where
   unfoldable mutual

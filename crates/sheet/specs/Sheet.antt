@@ -12,7 +12,7 @@ use Rattle.tree.specs.Rows.{Row, row-sym, row-const, row-op, Table, trees, with
 use Rattle.tree.specs.Kinds.{Kind, kinds, arity-ok}
 use Rattle.tree.specs.Outcome.{Outcome, ok, refused, _at-record_}
 
--- ---- records and fields
+-- ---- records and fields (01, "Sheet and printing")
 
 -- CRLF ends a record, and may be missing at the end. `got` holds the record's bytes so far, latest first.
 unfoldable pub records-from : List ℕ → List ℕ → List (List ℕ)
@@ -31,7 +31,7 @@ fields-from got (b ∷ l) = elim (eqb b 44) [ true ↦ reverse got ∷ fields-fr
 unfoldable pub plain : ℕ → Bool
 plain b = not (eqb b 34 || (eqb b 13 || eqb b 10))
 
--- ---- numbers, constants, names
+-- ---- numbers and constants (01, "Sheet and printing")
 
 unfoldable pub number-from : ℕ → List ℕ → ℕ
 number-from n [] = n
@@ -57,7 +57,7 @@ unfolding number below-limit minus
 constant [] = none
 constant (b ∷ l) = elim (eqb b 45) [ true ↦ below-limit minus (number l) | false ↦ below-limit (λ n. some (pos n)) (number (b ∷ l)) ]
 
--- ---- rows
+-- ---- record words (01, "Sheet and printing")
 
 -- the record words, by the kind's number; Root comes last
 unfoldable pub words-of : List Kind → List (List ℕ)
@@ -80,7 +80,7 @@ find i w (v ∷ l) = elim (eq-bytes v w) [ true ↦ some i | false ↦ find (suc
 abbrev pub fields-ok : ℕ → ℕ → Bool
 fields-ok k n = cond (eqb k Root || leb k 1) (eqb n 1) (arity-ok k n)
 
--- ---- a record
+-- ---- a record (01, "Turned down": Load)
 
 unfoldable pub numbers : List (List ℕ) → Option (List ℕ)
 unfolding number
@@ -132,7 +132,7 @@ load-records i (r ∷ l) t =
       | false ↦ refused (2 at-record i)
     ]
 
--- ---- load, given how many rows and roots the lent tables hold
+-- ---- load, given how many rows and roots the lent tables hold (01, "Turned down": Load)
 
 unfoldable pub load : ℕ → ℕ → List ℕ → Outcome Table
 unfolding records-from load-records trees within-limits

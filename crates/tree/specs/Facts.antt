@@ -26,7 +26,7 @@ unfolding greatest
 first-and-greatest [] = 0
 first-and-greatest (n ∷ l) = n + greatest l
 
--- ---- the facts
+-- ---- the facts (01, "Expressions and facts")
 
 unfoldable pub cost : Tree → ℕ
 unfolding fold total first-and-greatest
@@ -67,7 +67,7 @@ unfoldable pub nesting : Tree → ℕ
 unfolding fold greatest first-or-deeper
 nesting = fold (λ n. 0) (λ c. 0) (λ k levels. cond (is-switch k) (first-or-deeper levels) (greatest levels))
 
--- ---- nodes in reading order: a node before its operands, left to right
+-- ---- nodes in reading order: a node before its operands, left to right (01, "Extraction")
 
 unfoldable mutual
   pub nodes : Tree → List Tree
@@ -105,7 +105,7 @@ unfolding outer
 all-outer [] = []
 all-outer (t ∷ l) = outer t ++ all-outer l
 
--- ---- uses
+-- ---- uses (01, "Uses")
 
 -- how many of the list are equal to e
 unfoldable pub count : Tree → List Tree → ℕ
