@@ -30,3 +30,4 @@ pub mod NestingLevel
 pub mod CleanDivisors
 pub mod ArmNodes
 pub mod RoomEnough
+pub mod RowCount

@@ -14,7 +14,7 @@ use Rattle.tree.specs.Outcome.{Refusal, Outcome, ok, refused, _>>=_, each, by}
 use Rattle.tree.specs.Tree.{Name, xname, Tree, Forest, Sym, Const, Op, nil, _◂_, eq-tree}
 use Rattle.tree.specs.Kinds.{Mul}
 use Rattle.tree.specs.Facts.{all-operations, size}
-use Rattle.rewrite.specs.Rewrite.{Factors, whole, constant-of, built, build-mul-from-factors, match-factors, each-operand, replace-within, replace}
+use Rattle.rewrite.specs.Rewrite.{Factors, whole-number, constant-of, built, build-mul-from-factors, match-factors, each-operand, replace-within, replace}
 use Rattle.tree.specs.Rows.{occurrences}
 use Rattle.cse.specs.Extract.{Binding, State, Candidate, roots, best, replace-bound, extract, rounds, extract-all, reciprocals}
 use Rattle.cse.specs.Answer.{Intermediate, Let, Match, names, symbols, free, elem}
@@ -68,8 +68,8 @@ only-at P o i e h = subst (Only P) e h
 abbrev pub Ten : Refusal → Type 0
 Ten i = i ≡ by 10
 
-whole-ten : (s : Bool) (n : ℕ) → Only Ten (whole s n)
-unfolding whole Only
+whole-ten : (s : Bool) (n : ℕ) → Only Ten (whole-number s n)
+unfolding whole-number Only
 whole-ten false n = tt
 whole-ten true zero = refl
 whole-ten true (suc n) = tt
@@ -80,7 +80,7 @@ constant-ten nan = refl
 constant-ten (inf s) = refl
 constant-ten (fin s m e) = go (eqb (m * up e % down e) 0 && ltb (m * up e / down e) (10 ^ 15))
   where
-    go : (b : Bool) → Only Ten {A = ℤ} (elim b [ true ↦ whole s (m * up e / down e) | false ↦ refused (by 10) ])
+    go : (b : Bool) → Only Ten {A = ℤ} (elim b [ true ↦ whole-number s (m * up e / down e) | false ↦ refused (by 10) ])
     go true = whole-ten s (m * up e / down e)
     go false = (unfold Only in refl)
 

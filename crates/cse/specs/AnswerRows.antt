@@ -15,6 +15,7 @@ use Rattle.tree.specs.Passes.{all-of, of-paper, operands-ok}
 use Rattle.tree.specs.Tokens.{word, name-code, tokens, number-in, kind-of, below-of, name-by, tree-of-word}
 use Rattle.cse.specs.Answer.{Intermediate, Intermediates, Arms, Answer, Let, Match, end, step, no-arm, arm, block}
 use Rattle.cse.specs.Read.{arm-count}
+use Rattle.cse.specs.Demand.{bound-stmts, all-different, in-scope}
 
 -- ---- the kinds of rows beside the kinds of expressions, which are below 29
 
@@ -130,7 +131,7 @@ module _ (name-at : ℕ → List ℕ) where
     trees-of-spans no-span = []
     trees-of-spans (spans p l) = tree-of-span p ∷ trees-of-spans l
 
-  -- the tree below the first of some spans; that of a missing one is 0, which no row lays out so
+  -- the tree of the first of some spans, and 0 where there is none: encoded again, that is another row than was read
   unfoldable pub first-tree : Spans → Tree
   unfolding tree-of-span
   first-tree no-span = Const (pos 0)
@@ -140,7 +141,7 @@ module _ (name-at : ℕ → List ℕ) where
   unfolding first-tree
   tree-below (span w l) = first-tree l
 
-  -- the trees below those spans that have a given row
+  -- the trees below those spans whose rows are of a given kind
   unfoldable pub trees-below : ℕ → Spans → List Tree
   unfolding tree-below row-of-span
   trees-below row no-span = []
@@ -187,7 +188,7 @@ module _ (name-at : ℕ → List ℕ) where
       let all = read-spans ws in
       record { inters = intermediates-of-spans all; results = trees-below result-row all; extracted = extracted }
 
--- ---- 13: by kind, operand count, reference, name or constant
+-- ---- 13: by kind, operand count, earlier reference, name or constant
 
 unfoldable pub name-of-row : Row → List ℕ
 name-of-row (row-sym s) = s
@@ -243,9 +244,23 @@ unfoldable mutual
   arms-ok n no-arm = true
   arms-ok n (arm s vs l) = (intermediates-ok s && (eqb (length vs) n && trees-ok vs)) && arms-ok n l
 
+-- the symbols of the list
+unfoldable pub list-names : List Row → List Name
+list-names [] = []
+list-names (row-sym s ∷ l) = input s ∷ list-names l
+list-names (row-const c ∷ l) = list-names l
+list-names (row-op k ns ∷ l) = list-names l
+
+-- earlier reference: each name is bound once, and used only later and in its scope
+unfoldable pub references-ok : List Row → Answer → Bool
+unfolding list-names all-different bound-stmts in-scope
+references-ok rows a =
+    let b = bound-stmts (a .inters) in
+    all-different b && in-scope (list-names rows) b (a .inters) [] (a .results)
+
 -- the words are the rows of an answer over the symbols of these node rows
 unfoldable pub answer-laid-out : List Row → List ℕ → Bool
-unfolding answer-of answer-words number-in name-in eq-bytes intermediates-ok trees-ok
+unfolding answer-of answer-words number-in name-in eq-bytes intermediates-ok trees-ok references-ok
 answer-laid-out rows ws =
     let a = answer-of (name-in rows) 0 ws in
-    eq-bytes (answer-words (number-in rows) a) ws && (intermediates-ok (a .inters) && trees-ok (a .results))
+    eq-bytes (answer-words (number-in rows) a) ws && (intermediates-ok (a .inters) && (trees-ok (a .results) && references-ok rows a))

@@ -61,6 +61,10 @@ pub record Examples : Type 0 where
   no-result-row : print-call few (0 ∷ []) 2 ≡ refused (by 13)
   no-symbol-row : print-call few (word result-row 0 ∷ word 0 3 ∷ []) 2 ≡ refused (by 13)
   no-operand : print-call few (word result-row 0 ∷ word 8 1 ∷ []) 9 ≡ refused (by 13)
+  never-bound : print-call few (word result-row 0 ∷ word 0 1 ∷ []) 9 ≡ refused (by 13)
+  read-too-early : print-call few (word let-row 4 ∷ word 0 1 ∷ word let-row 1 ∷ 0 ∷ []) 40 ≡ refused (by 13)
+  bound-twice : print-call few (word let-row 1 ∷ 0 ∷ word let-row 1 ∷ 0 ∷ []) 40 ≡ refused (by 13)
+  bound-then-read : print-call few (word let-row 1 ∷ 0 ∷ word result-row 0 ∷ word 0 1 ∷ []) 40 ≡ ok (bytes "let __x0 = a;\n__x0\n")
   a-let-of-the-list : print-call few (word let-row 0 ∷ 0 ∷ []) 20 ≡ refused (by 13)
   no-bytes : csesheet [] ≡ bytes "refused 1 0\n"
   leading-zero : csesheet (bytes "Sym,a\r\nAdd,0,01") ≡ bytes "refused 2 1\n"
@@ -88,6 +92,10 @@ examples =
       no-result-row = refl;
       no-symbol-row = refl;
       no-operand = refl;
+      never-bound = refl;
+      read-too-early = refl;
+      bound-twice = refl;
+      bound-then-read = refl;
       a-let-of-the-list = refl;
       no-bytes = refl;
       leading-zero = refl;

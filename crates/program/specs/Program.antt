@@ -1,5 +1,5 @@
--- What the programs write: `csesheet` for the flat answer, and its twin for the scoped one (01, "Sheet and printing"). Their tables and buffers are long enough
--- for every answer, so that 7, 8, 12, 13 and 14 never arise. Assumes nothing.
+-- What the programs write: `csesheet` for the flat answer, and its twin for the scoped one (01, "Sheet and printing"). No size of a table or buffer is in it, and so
+-- no 7, 8, 12, 13 or 14: what a program lends has to be long enough for every answer. Assumes nothing.
 use mathlib.Core.Bool.{Bool, true, false}
 use mathlib.Core.List.{List, _++_}
 use Prim.Native.Nat.{ℕ}

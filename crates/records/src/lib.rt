@@ -174,7 +174,8 @@ fn rows_shaped(rows: &[u64]) -> bool
     true
 }
 
-// Whether load takes a sheet that gives the table: at least one record, and at most 65,535 bytes without the last CRLF. Words that are no rows have no sheet.
+// Whether the table's sheet has at least one record, and at most 65,535 bytes without the last CRLF, which is all that load asks of its length. It counts bytes of words that have the shape of
+// rows, and is false for any others; whether the rows are good is another test's business.
 pub fn fits_a_sheet(rows: &[u64], roots: &[u64]) -> bool
     ensures { λ r. ⌜ r ≡ (shaped (now (rows .entry)) (now (roots .entry)) && sheet-fits (table-of (now (rows .entry)) (now (roots .entry)))) ⌝ }
 {

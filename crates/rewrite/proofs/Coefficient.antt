@@ -22,7 +22,7 @@ use lib.Ieee.Positive.{above, above-of-le, positive-of-value, own-value, values-
 use Rattle.tree.specs.Outcome.{Refusal, Outcome, ok, refused, by}
 use Rattle.tree.specs.Tree.{Tree, Forest, Sym, Const, Op, nil, _◂_}
 use Rattle.tree.specs.Kinds.{Neg, Mul}
-use Rattle.rewrite.specs.Rewrite.{Factors, one, flatten-mul-factors, flatten-operands, flatten-after, times, negated, constant-of, whole}
+use Rattle.rewrite.specs.Rewrite.{Factors, one, flatten-mul-factors, flatten-operands, flatten-after, times, negated, constant-of, whole-number}
 use Rattle.rewrite.proofs.ReplaceValue.{exact, exact-operands, Exact}
 
 -- ---- integers by sign and magnitude
@@ -305,8 +305,8 @@ mutual
 
 -- ---- what is accepted
 
-whole-is : (s : Bool) (n : ℕ) (z : ℤ) → whole s n ≡ ok z → z ≡ signed s n
-unfolding whole signed
+whole-is : (s : Bool) (n : ℕ) (z : ℤ) → whole-number s n ≡ ok z → z ≡ signed s n
+unfolding whole-number signed
 whole-is false n z e = cc
 whole-is true zero z e = cc
 whole-is true (suc n) z e = cc
@@ -323,7 +323,7 @@ after : (b c : Bool) → T (b && c) → T c
 after true c t = t
 after false c t = absurd t
 
-accepted-step : (b : Bool) (s : Bool) (n : ℕ) (z : ℤ) → elim b [ true ↦ whole s n | false ↦ refused (by 10) ] ≡ ok z → T b × (z ≡ signed s n)
+accepted-step : (b : Bool) (s : Bool) (n : ℕ) (z : ℤ) → elim b [ true ↦ whole-number s n | false ↦ refused (by 10) ] ≡ ok z → T b × (z ≡ signed s n)
 accepted-step true s n z e = (tt, whole-is s n z e)
 accepted-step false s n z e = absurd (never (by 10) z e)
 

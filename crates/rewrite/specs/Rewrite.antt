@@ -51,17 +51,17 @@ unfoldable mutual
   flatten-after (t ◂ f) p = flatten-after f (times p (flatten-mul-factors t))
 
 -- The integer of a rebuilt coefficient, or refusal 10: minus zero, an infinity, NaN, a fraction, or 10^15 and more in magnitude.
-unfoldable pub whole : Bool → ℕ → Outcome ℤ
-whole false n = ok (pos n)
-whole true zero = refused (by 10)
-whole true (suc n) = ok (negsuc n)
+unfoldable pub whole-number : Bool → ℕ → Outcome ℤ
+whole-number false n = ok (pos n)
+whole-number true zero = refused (by 10)
+whole-number true (suc n) = ok (negsuc n)
 
 unfoldable pub constant-of : Float → Outcome ℤ
-unfolding whole
+unfolding whole-number
 constant-of nan = refused (by 10)
 constant-of (inf s) = refused (by 10)
 constant-of (fin s m e) =
-    elim (eqb (m * up e % down e) 0 && ltb (m * up e / down e) (10 ^ 15)) [ true ↦ whole s (m * up e / down e) | false ↦ refused (by 10) ]
+    elim (eqb (m * up e % down e) 0 && ltb (m * up e / down e) (10 ^ 15)) [ true ↦ whole-number s (m * up e / down e) | false ↦ refused (by 10) ]
 
 -- left-nested
 unfoldable pub nested-product : Tree → List Tree → Tree

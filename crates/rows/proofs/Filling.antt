@@ -16,7 +16,7 @@ use Rattle.tree.specs.Rows.{Row, at, tree-of-row, trees-from, occurrences}
 use Rattle.tree.specs.Layout.{row-of, rows-of}
 use Rattle.fields.specs.Tests.{below}
 use Rattle.rows.specs.Check.{row-test, rows-test}
-use Rattle.rows.specs.Measure.{pick, capped-size, capped-level, level-by, row-operands, Measured, Filled}
+use Rattle.rows.specs.Measure.{pick, capped-size, capped-level, level-by, row-operands, Row-measures, Filled}
 use Rattle.fields.proofs.Leaves.{back}
 use Rattle.rows.proofs.Sums.{below-less}
 use Rattle.rows.proofs.RowTrees.{row-count, operands-below, row-size, row-nesting, picked-sizes, picked-level-by}
@@ -43,7 +43,7 @@ pub record Filling (ws : List ℕ) (n : ℕ) (sizes levels : List ℕ) (i : ℕ)
   pub long : length ts ≡ i
   pub tests-left : rows-test 0 n ws ≡ rows-test i (n - i) (drop (i * 35) ws)
   pub trees-left : trees-from [] (rows-of n ws) ≡ trees-from ts (rows-of (n - i) (drop (i * 35) ws))
-  pub measured : Measured ts sizes levels
+  pub measured : Row-measures ts sizes levels
 
 pub filling-begin : (ws : List ℕ) (n : ℕ) (sizes levels : List ℕ) → Filling ws n sizes levels 0
 filling-begin ws n sizes levels =
@@ -75,8 +75,8 @@ module _ (ws : List ℕ) (n i : ℕ) (h : i < n) where
 -- the measures of one tree more
 module _ (ts : List Tree) (t : Tree) (sizes levels : List ℕ) (i s l : ℕ) where
   measured-more :
-      length ts ≡ i → i < length sizes → i < length levels → Measured ts sizes levels → s ≡ capped-size (size t) → l ≡ capped-level (nesting t)
-      → Measured (ts ++ (t ∷ [])) (set sizes i s) (set levels i l)
+      length ts ≡ i → i < length sizes → i < length levels → Row-measures ts sizes levels → s ≡ capped-size (size t) → l ≡ capped-level (nesting t)
+      → Row-measures (ts ++ (t ∷ [])) (set sizes i s) (set levels i l)
   measured-more e hs hl M es el =
       record {
         size-is = λ j h. ⊎-elim (size-here j) (size-there j) (eq-or-lt-of-le (upto j h));
@@ -157,5 +157,5 @@ filling-end {ws} {n} {sizes} {levels} {i} F h =
     record {
       tested = sym (F .tests-left ∙ ap (λ (m : ℕ). rows-test i m (drop (i * 35) ws)) z);
       measured =
-          λ q. subst (λ (l : List Tree). Measured l sizes levels) (sym (F .trees-left ∙ ap (λ (m : ℕ). trees-from (F .ts) (rows-of m (drop (i * 35) ws))) z)) (F .measured);
+          λ q. subst (λ (l : List Tree). Row-measures l sizes levels) (sym (F .trees-left ∙ ap (λ (m : ℕ). trees-from (F .ts) (rows-of m (drop (i * 35) ws))) z)) (F .measured);
     }

@@ -18,7 +18,7 @@ use Rattle.tree.proofs.Logic.{and-left, and-right}
 use Rattle.fields.specs.Counts.{kind-number}
 use Rattle.fields.specs.Tests.{below, plain-test, operation-test, fields-test}
 use Rattle.rows.specs.Check.{row-test}
-use Rattle.rows.specs.Measure.{pick, capped-size, capped-level, level-by, row-operands, Measured}
+use Rattle.rows.specs.Measure.{pick, capped-size, capped-level, level-by, row-operands, Row-measures}
 use Rattle.rows.proofs.Sums.{operands-leaf}
 
 -- ---- what the tests of a row say
@@ -159,7 +159,7 @@ cap-both a b x y e g = cap-max a b ∙ ap₂ max (again a x e) g ∙ sym (cap-ma
     again : (a x : ℕ) → a ≡ capped-level x → capped-level a ≡ capped-level x
     again a x e = omega arith
 
-module _ (ts : List Tree) (sizes levels : List ℕ) (M : Measured ts sizes levels) where
+module _ (ts : List Tree) (sizes levels : List ℕ) (M : Row-measures ts sizes levels) where
   pub picked-sizes : (ns : List ℕ) → T (below (length ts) ns) → capped-size (total (pick sizes ns)) ≡ capped-size (occurrences (at ts ns))
   unfolding every pick total at occurrences
   picked-sizes [] t = refl

@@ -1,4 +1,4 @@
--- The test for refusal 9 (01, "Turned down, by operation"), and the tests that the code makes of one row after another, in its order.
+-- The limits of 01's first section on rows, which are refusal 9 but for the length of their sheet, and the tests that the code makes of one row after another, in its order.
 -- TableLaws shows that together they are `laid-in-domain`. Assumes nothing.
 use Prim.Native.Nat.{ℕ, zero, suc, _+_}
 use mathlib.Core.Bool.{Bool, true, _&&_, cond}
@@ -18,7 +18,7 @@ unfoldable pub laid-in-domain : List ℕ → List ℕ → Bool
 unfolding table-of table-words eq-bytes in-domain
 laid-in-domain ws ns = eq-bytes (table-words (table-of ws ns .rows)) ws && in-domain (table-of ws ns)
 
--- how many occurrences the roots of such rows have, or 9
+-- how many occurrences the roots of such rows have, or 9 for rows past a limit
 unfoldable pub check-domain : List ℕ → List ℕ → Outcome ℕ
 unfolding laid-in-domain table-of trees occurrences
 check-domain ws ns = cond (laid-in-domain ws ns) (ok (table-of ws ns)) (refused (by 9)) >>= λ t. ok (occurrences (trees t))

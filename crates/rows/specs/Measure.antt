@@ -34,11 +34,11 @@ unfoldable pub row-operands : List ℕ → List ℕ
 row-operands w = cond (leb Neg (getD w 0 0)) (take (getD w 2 0) (drop 3 w)) []
 
 -- what two arrays say of trees
-pub record Measured (ts : List Tree) (sizes levels : List ℕ) : Type 0 where
+pub record Row-measures (ts : List Tree) (sizes levels : List ℕ) : Type 0 where
   pub size-is : (j : ℕ) → j < length ts → getD sizes j 0 ≡ capped-size (size (getD ts j (Op 0 nil)))
   pub level-is : (j : ℕ) → j < length ts → getD levels j 0 ≡ capped-level (nesting (getD ts j (Op 0 nil)))
 
 -- what the pass over n rows leaves: the answer of their tests, and, where they pass, the measures of their trees
 pub record Filled (ws : List ℕ) (n : ℕ) (sizes levels : List ℕ) (r : Bool) : Type 0 where
   pub tested : r ≡ rows-test 0 n ws
-  pub measured : r ≡ true → Measured (trees-from [] (rows-of n ws)) sizes levels
+  pub measured : r ≡ true → Row-measures (trees-from [] (rows-of n ws)) sizes levels

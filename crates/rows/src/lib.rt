@@ -18,7 +18,7 @@ const BRANCH: u64 = 26;
 // The words of a row.
 const ROW_WIDTH: usize = 35;
 
-// What the test for refusal 9 says: how many occurrences the roots have, or that load lays no such rows out.
+// How many occurrences the roots have, or that the rows are past a limit.
 pub enum Checked {
     Laid(usize),
     Refused,
@@ -155,7 +155,7 @@ fn fill(rows: &[u64], n: usize, sizes: &mut [u64], levels: &mut [u64]) -> bool
     true
 }
 
-// Whether the words are the rows of a list within every limit of 01's first section: refusal 9 where they aren't, and otherwise the occurrences under all roots.
+// Whether the words are the rows of a list within every limit of 01's first section: the occurrences under all roots, or else Refused. The length of their sheet is tested elsewhere.
 pub fn check_domain(rows: &[u64], roots: &[u64]) -> Checked
     ensures { λ r. ⌜ checked r ≡ check-domain (now (rows .entry)) (now (roots .entry)) ⌝ }
 {

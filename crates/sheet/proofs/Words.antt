@@ -14,7 +14,7 @@ use Rattle.tree.specs.Kinds.{Kind, kinds, kind-at, arity-ok}
 use Rattle.tree.proofs.KindLaws.{kinds-long}
 use Rattle.tree.proofs.Logic.{and-left, and-right}
 use Rattle.tree.proofs.TreeLaws.{eq-bytes-sound}
-use Rattle.sheet.specs.Sheet.{plain, words-of, words, Root, find}
+use Rattle.sheet.specs.Sheet.{plain, record-words, words, Root, find}
 use Rattle.tree.proofs.Tests.{all-from, entry}
 use Rattle.sheet.proofs.Inner.{inner}
 
@@ -61,8 +61,8 @@ word k h =
 
 -- ---- the words of the kinds
 
-word-of : (ks : List Kind) (d : Kind) (k : ℕ) → k < length ks → getD (words-of ks) k [] ≡ getD ks k d .word
-unfolding words-of
+word-of : (ks : List Kind) (d : Kind) (k : ℕ) → k < length ks → getD (record-words ks) k [] ≡ getD ks k d .word
+unfolding record-words
 word-of [] d k h = absurd (omega arith)
 word-of (q ∷ ks) d zero h = refl
 word-of (q ∷ ks) d (suc k) h = word-of ks d k (omega arith)

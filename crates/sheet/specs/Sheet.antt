@@ -60,13 +60,13 @@ constant (b ∷ l) = elim (eqb b 45) [ true ↦ below-limit minus (number l) | f
 -- ---- record words (01, "Sheet and printing")
 
 -- the record words, by the kind's number; Root comes last
-unfoldable pub words-of : List Kind → List (List ℕ)
-words-of [] = bytes "Root" ∷ []
-words-of (k ∷ l) = k .word ∷ words-of l
+unfoldable pub record-words : List Kind → List (List ℕ)
+record-words [] = bytes "Root" ∷ []
+record-words (k ∷ l) = k .word ∷ record-words l
 
 unfoldable pub words : List (List ℕ)
-unfolding words-of kinds
-words = words-of kinds
+unfolding record-words kinds
+words = record-words kinds
 
 abbrev pub Root : ℕ
 Root = 29

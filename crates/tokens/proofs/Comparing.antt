@@ -14,7 +14,7 @@ use Rattle.tree.specs.Tokens.{trees-at, read, numbered, all-tokens, words-of, r
 use Rattle.tree.proofs.TreeLaws.{eq-bytes-sound, eq-bytes-refl, eq-tree-sound, eq-tree-refl}
 use Rattle.tree.proofs.TokenLaws.{tree-at, words-tail, words-complete, complete-read, complete-length}
 use Rattle.tree.proofs.TokenCode.{unnumbered, writes-back}
-use Rattle.tokens.specs.Answers.{ended, compared}
+use Rattle.tokens.specs.Answers.{end-answer, same-answer}
 use Rattle.tokens.specs.declared.Run.the-variants as run
 use Rattle.tokens.specs.declared.Equality.the-variants as equality
 
@@ -118,9 +118,9 @@ run-some [] k e = absurd (let z : _≡_ {A = ℕ} 0 1 = nothing k e in omega ari
 run-some (w ∷ us) k e = omega (arith, words-tail w us 0 k e)
 
 module _ (ws : List ℕ) (i j n m : ℕ) (ri : run-at ws i ≡ some n) (rj : run-at ws j ≡ some m) where
-  pub compared-is : compared (same-at ws i j) ≡ compared (some (eq-tree (tree ws i) (tree ws j)))
+  pub compared-is : same-answer (same-at ws i j) ≡ same-answer (some (eq-tree (tree ws i) (tree ws j)))
   unfolding same-at
-  compared-is = ap compared (both-runs (run-at ws i) (run-at ws j) (eq-tree (tree ws i) (tree ws j)) n m ri rj)
+  compared-is = ap same-answer (both-runs (run-at ws i) (run-at ws j) (eq-tree (tree ws i) (tree ws j)) n m ri rj)
 
   equal-trees : take n (drop i ws) ≡ take m (drop j ws) → eq-tree (tree ws i) (tree ws j) ≡ true
   equal-trees e =
@@ -136,16 +136,16 @@ module _ (ws : List ℕ) (i j n m : ℕ) (ri : run-at ws i ≡ some n) (rj : run
       test-false (eq-tree (tree ws i) (tree ws j))
       (λ t. h (sym (a .code) ∙ (ap (λ (u : Tree). all-tokens unnumbered (u ∷ [])) (eq-tree-sound (tree ws i) (tree ws j) t) ∙ b .code)))
 
-  pub same-length-differs : (n ≡ m → ⊥) → equality.Different ≡ compared (same-at ws i j)
-  unfolding compared
+  pub same-length-differs : (n ≡ m → ⊥) → equality.Different ≡ same-answer (same-at ws i j)
+  unfolding same-answer
   same-length-differs h =
       let a = run-tree ws i n ri in
       let b = run-tree ws j m rj in
       let d = different-trees (λ e. h (sym (length-take-le n (drop i ws) (a .within)) ∙ (ap length e ∙ length-take-le m (drop j ws) (b .within)))) in
       sym (compared-is ∙ rw d)
 
-  pub same-runs : (r : Bool) → n ≡ m → r ≡ eq-bytes (take n (drop i ws)) (take n (drop j ws)) → compared (some r) ≡ compared (same-at ws i j)
-  same-runs r e q = sym (compared-is ∙ ap (λ (b : Bool). compared (some b)) (go r q))
+  pub same-runs : (r : Bool) → n ≡ m → r ≡ eq-bytes (take n (drop i ws)) (take n (drop j ws)) → same-answer (some r) ≡ same-answer (same-at ws i j)
+  same-runs r e q = sym (compared-is ∙ ap (λ (b : Bool). same-answer (some b)) (go r q))
     where
       go : (r : Bool) → r ≡ eq-bytes (take n (drop i ws)) (take n (drop j ws)) → eq-tree (tree ws i) (tree ws j) ≡ r
       go true q =
@@ -167,31 +167,31 @@ module _ (ws : List ℕ) (i j n m : ℕ) (ri : run-at ws i ≡ some n) (rj : run
 
 -- ---- from where a run ends
 
-ends-some : (at e : ℕ) (o : Option ℕ) → run.Ends e ≡ ended at o → o ≡ some (e - at)
-unfolding ended
+ends-some : (at e : ℕ) (o : Option ℕ) → run.Ends e ≡ end-answer at o → o ≡ some (e - at)
+unfolding end-answer
 ends-some at e none p = absurd (let z : _≡_ {A = ℕ} 0 1 = cc in omega arith)
 ends-some at e (some n) p = let q : e ≡ at + n = cc in let d : n ≡ e - at = omega arith in ap some d
 
-pub run-ends : (ws : List ℕ) (at e : ℕ) → run.Ends e ≡ ended at (run-at ws at) → run-at ws at ≡ some (e - at)
+pub run-ends : (ws : List ℕ) (at e : ℕ) → run.Ends e ≡ end-answer at (run-at ws at) → run-at ws at ≡ some (e - at)
 run-ends ws at e p = ends-some at e (run-at ws at) p
 
-pub run-after : (ws : List ℕ) (at e : ℕ) → run.Ends e ≡ ended at (run-at ws at) → at ≤ e
-unfolding ended
+pub run-after : (ws : List ℕ) (at e : ℕ) → run.Ends e ≡ end-answer at (run-at ws at) → at ≤ e
+unfolding end-answer
 run-after ws at e p = go (run-at ws at) p
   where
-    go : (o : Option ℕ) → run.Ends e ≡ ended at o → at ≤ e
+    go : (o : Option ℕ) → run.Ends e ≡ end-answer at o → at ≤ e
     go none p = absurd (let z : _≡_ {A = ℕ} 0 1 = cc in omega arith)
     go (some n) p = let q : e ≡ at + n = cc in omega arith
 
-broken-none : (at : ℕ) (o : Option ℕ) → run.Broken ≡ ended at o → o ≡ none
-unfolding ended
+broken-none : (at : ℕ) (o : Option ℕ) → run.Broken ≡ end-answer at o → o ≡ none
+unfolding end-answer
 broken-none at none p = refl
 broken-none at (some n) p = absurd (let z : _≡_ {A = ℕ} 0 1 = cc in omega arith)
 
-pub first-broken : (ws : List ℕ) (i j : ℕ) → run.Broken ≡ ended i (run-at ws i) → equality.Broken ≡ compared (same-at ws i j)
-unfolding same-at compared
-first-broken ws i j p = sym (ap compared (no-first (run-at ws i) (run-at ws j) (eq-tree (tree ws i) (tree ws j)) (broken-none i (run-at ws i) p)))
+pub first-broken : (ws : List ℕ) (i j : ℕ) → run.Broken ≡ end-answer i (run-at ws i) → equality.Broken ≡ same-answer (same-at ws i j)
+unfolding same-at same-answer
+first-broken ws i j p = sym (ap same-answer (no-first (run-at ws i) (run-at ws j) (eq-tree (tree ws i) (tree ws j)) (broken-none i (run-at ws i) p)))
 
-pub second-broken : (ws : List ℕ) (i j : ℕ) → run.Broken ≡ ended j (run-at ws j) → equality.Broken ≡ compared (same-at ws i j)
-unfolding same-at compared
-second-broken ws i j p = sym (ap compared (no-second (run-at ws i) (run-at ws j) (eq-tree (tree ws i) (tree ws j)) (broken-none j (run-at ws j) p)))
+pub second-broken : (ws : List ℕ) (i j : ℕ) → run.Broken ≡ end-answer j (run-at ws j) → equality.Broken ≡ same-answer (same-at ws i j)
+unfolding same-at same-answer
+second-broken ws i j p = sym (ap same-answer (no-second (run-at ws i) (run-at ws j) (eq-tree (tree ws i) (tree ws j)) (broken-none j (run-at ws j) p)))

@@ -9,19 +9,19 @@ use Rattle.tree.specs.Tree.{eq-tree}
 use Rattle.tree.specs.Facts.{size}
 use Rattle.tree.specs.Tokens.{trees-in, trees-at, numbered, run-at, same-at, facts, all-facts}
 use Rattle.tree.proofs.TokenLaws.{run-size, trees-length}
-use Rattle.tokens.specs.Answers.{ended, compared}
+use Rattle.tokens.specs.Answers.{end-answer, same-answer}
 use Rattle.tokens.specs.declared.Run.the-variants as run
 use Rattle.tokens.proofs.Filling.{all-facts-length, all-facts-at}
 use Rattle.tokens.proofs.Comparing.{tree, compared-is}
 
 module _ (ws : List ℕ) (n : ℕ) (complete : trees-in ws ≡ some n) where
   -- a tree ends after as many words as it has nodes
-  pub end-is : (i : ℕ) → i < length ws → ended i (run-at ws i) ≡ run.Ends (i + size (tree ws i))
-  unfolding ended
+  pub end-is : (i : ℕ) → i < length ws → end-answer i (run-at ws i) ≡ run.Ends (i + size (tree ws i))
+  unfolding end-answer
   end-is i h = rw (run-size numbered ws n i complete h)
 
-  -- two places are compared as their trees are
-  pub same-is : (i j : ℕ) → i < length ws → j < length ws → compared (same-at ws i j) ≡ compared (some (eq-tree (tree ws i) (tree ws j)))
+  -- two places are same-answer as their trees are
+  pub same-is : (i j : ℕ) → i < length ws → j < length ws → same-answer (same-at ws i j) ≡ same-answer (some (eq-tree (tree ws i) (tree ws j)))
   same-is i j h k =
       compared-is ws i j (size (tree ws i)) (size (tree ws j)) (run-size numbered ws n i complete h) (run-size numbered ws n j complete k)
 

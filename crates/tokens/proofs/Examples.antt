@@ -4,7 +4,7 @@ use mathlib.Core.Path.{_≡_, refl}
 use mathlib.Core.List.{List, [], _∷_, _++_}
 use lib.ListN.{replicate}
 use Rattle.tree.specs.Tokens.{trees-in, run-at, same-at}
-use Rattle.tokens.specs.Answers.{counted, ended, compared, measured}
+use Rattle.tokens.specs.Answers.{count-answer, end-answer, same-answer, measure-answer}
 use Rattle.tokens.specs.declared.Trees.the-variants as trees
 use Rattle.tokens.specs.declared.Run.the-variants as run
 use Rattle.tokens.specs.declared.Equality.the-variants as equality
@@ -18,22 +18,22 @@ abbrev choice : List ℕ
 choice = 219 ∷ 0 ∷ 72 ∷ 192 ∷ 73 ∷ 192 ∷ []
 
 pub record Examples : Type 0 where
-  two-trees : counted (trees-in sheet) ≡ trees.Count 2
-  no-operand : counted (trees-in (131 ∷ 0 ∷ [])) ≡ trees.Broken
-  a-sum : ended 1 (run-at sheet 1) ≡ run.Ends 4
-  past-the-end : ended 9 (run-at sheet 9) ≡ run.Broken
-  the-same : compared (same-at sheet 1 6) ≡ equality.Equal
-  another : compared (same-at sheet 1 5) ≡ equality.Different
-  no-room : measured (131 ∷ 0 ∷ 192 ∷ []) (replicate 14 7) .answer ≡ measure.NoRoom
-  broken : measured (131 ∷ 0 ∷ []) (replicate 16 7) .answer ≡ measure.Broken
-  nothing-written : measured (131 ∷ 0 ∷ []) (replicate 16 7) .facts ≡ replicate 16 7
-  done : measured choice (replicate 31 7) .answer ≡ measure.Done
+  two-trees : count-answer (trees-in sheet) ≡ trees.Count 2
+  no-operand : count-answer (trees-in (131 ∷ 0 ∷ [])) ≡ trees.Broken
+  a-sum : end-answer 1 (run-at sheet 1) ≡ run.Ends 4
+  past-the-end : end-answer 9 (run-at sheet 9) ≡ run.Broken
+  the-same : same-answer (same-at sheet 1 6) ≡ equality.Equal
+  another : same-answer (same-at sheet 1 5) ≡ equality.Different
+  no-room : measure-answer (131 ∷ 0 ∷ 192 ∷ []) (replicate 14 7) .answer ≡ measure.NoRoom
+  broken : measure-answer (131 ∷ 0 ∷ []) (replicate 16 7) .answer ≡ measure.Broken
+  nothing-written : measure-answer (131 ∷ 0 ∷ []) (replicate 16 7) .facts ≡ replicate 16 7
+  done : measure-answer choice (replicate 31 7) .answer ≡ measure.Done
   dearest-arm :
-      measured choice (replicate 31 7) .facts
+      measure-answer choice (replicate 31 7) .facts
       ≡ 6 ∷ 2 ∷ 2 ∷ 3 ∷ 1 ∷ 1 ∷ 0 ∷ 0 ∷ 0 ∷ 1 ∷ 2 ∷ 1 ∷ 1 ∷ 1 ∷ 1 ∷ 1 ∷ 0 ∷ 0 ∷ 0 ∷ 1 ∷ 2 ∷ 1 ∷ 1 ∷ 1 ∷ 1 ∷ 1 ∷ 0 ∷ 0 ∷ 0 ∷ 1 ∷ 7 ∷ []
 
 pub examples : Examples
-unfolding counted ended compared measured trees-in run-at same-at
+unfolding count-answer end-answer same-answer measure-answer trees-in run-at same-at
 examples =
     record {
       two-trees = refl;

@@ -15,20 +15,20 @@ use Rattle.tokens.specs.declared.Equality.the-variants as equality
 use Rattle.tokens.specs.declared.Measured.{Measured}
 use Rattle.tokens.specs.declared.Measured.the-variants as measure
 
-unfoldable pub counted : Option ℕ → Trees
-counted none = trees.Broken
-counted (some n) = trees.Count n
+unfoldable pub count-answer : Option ℕ → Trees
+count-answer none = trees.Broken
+count-answer (some n) = trees.Count n
 
 -- the place after a tree that starts at a place, from the number of its words
-unfoldable pub ended : ℕ → Option ℕ → Run
-ended at none = run.Broken
-ended at (some n) = run.Ends (at + n)
+unfoldable pub end-answer : ℕ → Option ℕ → Run
+end-answer at none = run.Broken
+end-answer at (some n) = run.Ends (at + n)
 
 -- whether two trees are equal, where both are there
-unfoldable pub compared : Option Bool → Equality
-compared none = equality.Broken
-compared (some true) = equality.Equal
-compared (some false) = equality.Different
+unfoldable pub same-answer : Option Bool → Equality
+same-answer none = equality.Broken
+same-answer (some true) = equality.Equal
+same-answer (some false) = equality.Different
 
 -- what `measure` answers, and the facts after it
 pub record Measurement : Type 0 where
@@ -42,6 +42,6 @@ measured-by false none n old = record { answer = measure.Broken; facts = old }
 measured-by false (some new) n old = record { answer = measure.Done; facts = new ++ drop n old }
 
 -- five words are wanted for each token; then no word may lack an operand
-unfoldable pub measured : List ℕ → List ℕ → Measurement
+unfoldable pub measure-answer : List ℕ → List ℕ → Measurement
 unfolding measured-by facts-of-words
-measured ws old = measured-by (ltb (length old) (5 * length ws)) (facts-of-words ws) (5 * length ws) old
+measure-answer ws old = measured-by (ltb (length old) (5 * length ws)) (facts-of-words ws) (5 * length ws) old

@@ -7,10 +7,10 @@ ghost use lib.ListN.{length, getD, take, drop};
 ghost use Rattle.tree.specs.Bytes.{eq-bytes};
 ghost use Rattle.tree.specs.Facts.{total, greatest};
 ghost use Rattle.tree.specs.Tokens.{takes, trees-in, run-at, same-at, numbered, trees-at, all-facts};
-ghost use Rattle.tokens.specs.Answers.{counted, ended, compared, measured};
+ghost use Rattle.tokens.specs.Answers.{count-answer, end-answer, same-answer, measure-answer};
 ghost use Rattle.tokens.specs.Columns.{column, Inside, Ready, own-operation, own-symbol, operand-costs, WordFacts, Complete};
 
-// A word is kind + KINDS * below; the kinds are numbered as 01 lists them.
+// A word is kind + KINDS * below; the kinds are numbered as 01 lists them, with 28 for a Select with a default.
 const KINDS: u64 = 64;
 
 const SYM: u64 = 0;
@@ -74,7 +74,7 @@ pub fn operand_count(w: u64) -> u64
 
 // How many trees the words are. Read from the right, a word takes its operands off the trees found so far and is one itself.
 pub fn count_trees(tokens: &[u64]) -> Trees
-    ensures { λ r. ⌜ r ≡ counted (trees-in (now (tokens .entry))) ⌝ }
+    ensures { λ r. ⌜ r ≡ count-answer (trees-in (now (tokens .entry))) ⌝ }
 {
     let mut count: usize = 0;
     let mut i = tokens.len();
@@ -91,7 +91,7 @@ pub fn count_trees(tokens: &[u64]) -> Trees
 
 // The place after the tree at `at`. `left` trees are still to come; more of them than words left can't be there, which also keeps the sum small.
 pub fn end_of(tokens: &[u64], at: usize) -> Run
-    ensures { λ r. ⌜ r ≡ ended at (run-at (now (tokens .entry)) at) ⌝ }
+    ensures { λ r. ⌜ r ≡ end-answer at (run-at (now (tokens .entry)) at) ⌝ }
 {
     if at > tokens.len() {
         return Run::Broken;
@@ -228,7 +228,7 @@ fn fill(tokens: &[u64], facts: &mut [u64])
 
 // The facts of the tree at every place, five words a place: size, cost, depth, operations, and 1 where it has a symbol.
 pub fn measure(tokens: &[u64], facts: &mut [u64]) -> Measured
-    ensures { λ r. ⌜ (r ≡ measured (now (tokens .entry)) (now (facts .entry)) .answer) × (now (facts .exit) ≡ measured (now (tokens .entry)) (now (facts .entry)) .facts) ⌝ }
+    ensures { λ r. ⌜ (r ≡ measure-answer (now (tokens .entry)) (now (facts .entry)) .answer) × (now (facts .exit) ≡ measure-answer (now (tokens .entry)) (now (facts .entry)) .facts) ⌝ }
 {
     if facts.len() / PER_PLACE < tokens.len() {
         return Measured::NoRoom;
@@ -257,7 +257,7 @@ fn equal_runs(tokens: &[u64], i: usize, j: usize, n: usize) -> bool
 
 // Whether the trees at i and j are equal: their words are, as many of them and each the same.
 pub fn same(tokens: &[u64], i: usize, j: usize) -> Equality
-    ensures { λ r. ⌜ r ≡ compared (same-at (now (tokens .entry)) i j) ⌝ }
+    ensures { λ r. ⌜ r ≡ same-answer (same-at (now (tokens .entry)) i j) ⌝ }
 {
     let Run::Ends(e) = end_of(tokens, i) else {
         return Equality::Broken;

@@ -29,7 +29,7 @@ joined sep [] = []
 joined sep (s ∷ []) = s
 joined sep (s ∷ (t ∷ l)) = s ++ sep ++ joined sep (t ∷ l)
 
--- decimal digits; a number has fewer digits than its own value, so that the value is fuel enough
+-- decimal digits; from 10 on a number has fewer digits than its own value, and below 10 one, so that the value is fuel enough
 unfoldable pub digits : ℕ → ℕ → List ℕ
 digits zero n = (48 + n) ∷ []
 digits (suc fuel) n = elim (ltb n 10) [ true ↦ (48 + n) ∷ [] | false ↦ digits fuel (n / 10) ++ ((48 + n % 10) ∷ []) ]

@@ -1,4 +1,4 @@
--- Trees as words (01, "Uses", reading order): one word for each occurrence, a node before its operands, left to right, so that a tree is a run of words, a
+-- Trees as words (01, "Extraction", reading order): one word for each occurrence, a node before its operands, left to right, so that a tree is a run of words, a
 -- place in it is a node, and equal trees are equal runs. Assumes nothing.
 use Prim.Native.Nat.{ℕ, zero, suc, _+_, _-_, _*_, _/_, _%_}
 use mathlib.Core.Bool.{Bool, true, false, cond}

@@ -10,7 +10,7 @@ use Rattle.tree.specs.Bytes.{every}
 use Rattle.tree.specs.Rows.{Row, row-sym, row-const, row-op}
 use Rattle.tree.specs.Layout.{row-fields}
 use Rattle.unfold.specs.Write.{Wrote}
-use Rattle.unfold.specs.Unfold.{row-count, row-at, row-operands, run, runs, Rows-laid}
+use Rattle.unfold.specs.Unfold.{row-count, row-at, operand-rows, run, runs, Rows-laid}
 use Rattle.unfold.proofs.RowLaws.{stands}
 use Rattle.unfold.proofs.RunLaws.{run-is, runs-none, runs-more, runs-room, bound, bound-of, operands-earlier}
 use Rattle.tree.proofs.Tests.{every-less}
@@ -19,19 +19,19 @@ use Rattle.unfold.proofs.WriteLaws.{wrote-long, wrote-none, wrote-set, 
 
 -- ---- a row
 
-operands-few : (r : Row) → length (row-operands r) ≤ length (row-fields r)
-unfolding row-operands row-fields
+operands-few : (r : Row) → length (operand-rows r) ≤ length (row-fields r)
+unfolding operand-rows row-fields
 operands-few (row-sym s) = omega arith
 operands-few (row-const c) = omega arith
 operands-few (row-op k ns) = omega arith
 
-operands-first : (r : Row) (l : List ℕ) → take (length (row-fields r)) l ≡ row-fields r → take (length (row-operands r)) l ≡ row-operands r
-unfolding row-operands row-fields
+operands-first : (r : Row) (l : List ℕ) → take (length (row-fields r)) l ≡ row-fields r → take (length (operand-rows r)) l ≡ operand-rows r
+unfolding operand-rows row-fields
 operands-first (row-sym s) l e = refl
 operands-first (row-const c) l e = refl
 operands-first (row-op k ns) l e = e
 
-module _ {ws : List ℕ} (laid : Rows-laid ws) (r : ℕ) (inside : r < row-count ws) (n : ℕ) (count : n ≡ length (row-operands (row-at ws r))) where
+module _ {ws : List ℕ} (laid : Rows-laid ws) (r : ℕ) (inside : r < row-count ws) (n : ℕ) (count : n ≡ length (operand-rows (row-at ws r))) where
   -- where the operands stand
   pub operands-end : r * 35 + 3 + n ≤ length ws
   operands-end = let c = stands laid r inside in omega (arith, c .inside, c .most, operands-few (row-at ws r))
@@ -40,17 +40,17 @@ module _ {ws : List ℕ} (laid : Rows-laid ws) (r : ℕ) (inside : r < row-count
   abbrev pub lent : List ℕ
   lent = take (r * 35 + 3 + n - (r * 35 + 3)) (drop (r * 35 + 3) ws)
 
-  pub lent-is : lent ≡ row-operands (row-at ws r)
+  pub lent-is : lent ≡ operand-rows (row-at ws r)
   lent-is =
       let c = stands laid r inside in
-      let e : r * 35 + 3 + n - (r * 35 + 3) ≡ length (row-operands (row-at ws r)) = omega (arith, count) in
+      let e : r * 35 + 3 + n - (r * 35 + 3) ≡ length (operand-rows (row-at ws r)) = omega (arith, count) in
       rw e (operands-first (row-at ws r) (drop (r * 35 + 3) ws) (c .fields))
 
   pub lent-below : T (every (λ k. ltb k (row-count ws)) lent)
-  lent-below = rw lent-is (every-less r (row-count ws) (omega arith) (row-operands (row-at ws r)) (operands-earlier laid r inside))
+  lent-below = rw lent-is (every-less r (row-count ws) (omega arith) (operand-rows (row-at ws r)) (operands-earlier laid r inside))
 
   pub lent-bound : bound lent ≤ r
-  lent-bound = rw lent-is (bound-of r (row-operands (row-at ws r)) (operands-earlier laid r inside))
+  lent-bound = rw lent-is (bound-of r (operand-rows (row-at ws r)) (operands-earlier laid r inside))
 
   run-lent : run ws r ≡ getD (run ws r) 0 0 ∷ runs ws lent
   run-lent = rw (lent-is, head-is laid r inside) (run-is laid r inside)

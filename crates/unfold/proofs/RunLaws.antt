@@ -19,7 +19,7 @@ use Rattle.tree.proofs.DomainPasses.{Domain, domain}
 use Rattle.tree.proofs.TokenCode.{all-tokens-length}
 use Rattle.tree.proofs.Logic.{and-left, and-right}
 use Rattle.tree.proofs.TreeLaws.{eq-bytes-sound}
-use Rattle.unfold.specs.Unfold.{row-count, rows-in, row-at, trees-of-rows, row-operands, run, runs, Rows-laid}
+use Rattle.unfold.specs.Unfold.{row-count, rows-in, row-at, trees-of-rows, operand-rows, run, runs, Rows-laid}
 use Rattle.unfold.proofs.RowLaws.{length-rows-of, stands}
 
 -- ---- each of a list's numbers below a bound
@@ -90,15 +90,15 @@ module _ (number : List ℕ → ℕ) where
   operands-long ts [] = refl
   operands-long ts (n ∷ ns) = ap suc (operands-long ts ns)
 
-  row-tokens : (ts : List Tree) (r : Row) → tokens number (tree-of-row ts r) ≡ row-word r ∷ all-tokens number (at ts (row-operands r))
-  unfolding tree-of-row tokens name-code all-tokens row-word row-operands at
+  row-tokens : (ts : List Tree) (r : Row) → tokens number (tree-of-row ts r) ≡ row-word r ∷ all-tokens number (at ts (operand-rows r))
+  unfolding tree-of-row tokens name-code all-tokens row-word operand-rows at
   row-tokens ts (row-sym s) = refl
   row-tokens ts (row-const c) = refl
   row-tokens ts (row-op k ns) = ap₂ (λ (n : ℕ) (l : List ℕ). word k n ∷ l) (operands-long ts ns) (tokens-of-forest (at ts ns))
 
 -- ---- runs
 
-pub run-is : {ws : List ℕ} → Rows-laid ws → (i : ℕ) → i < row-count ws → run ws i ≡ row-word (number-in (rows-in ws)) (row-at ws i) ∷ runs ws (row-operands (row-at ws i))
+pub run-is : {ws : List ℕ} → Rows-laid ws → (i : ℕ) → i < row-count ws → run ws i ≡ row-word (number-in (rows-in ws)) (row-at ws i) ∷ runs ws (operand-rows (row-at ws i))
 unfolding run runs rows-in row-at trees-of-rows
 run-is {ws} laid i h =
     let number = number-in (rows-in ws) in
@@ -160,11 +160,11 @@ bound-of m (n ∷ ns) t =
     omega (arith, ltb→lt n m (and-left (ltb n m) (every (λ k. ltb k m) ns) t), bound-of m ns (and-right (ltb n m) (every (λ k. ltb k m) ns) t))
 
 -- the operands of a row are earlier
-pub operands-earlier : {ws : List ℕ} → Rows-laid ws → (i : ℕ) → i < row-count ws → T (every (λ n. ltb n i) (row-operands (row-at ws i)))
-unfolding row-ok row-operands every
+pub operands-earlier : {ws : List ℕ} → Rows-laid ws → (i : ℕ) → i < row-count ws → T (every (λ n. ltb n i) (operand-rows (row-at ws i)))
+unfolding row-ok operand-rows every
 operands-earlier {ws} laid i h = go (row-at ws i) (stands laid i h .tested)
   where
-    go : (r : Row) → T (row-ok i r) → T (every (λ n. ltb n i) (row-operands r))
+    go : (r : Row) → T (row-ok i r) → T (every (λ n. ltb n i) (operand-rows r))
     go (row-sym s) t = tt
     go (row-const c) t = tt
     go (row-op k ns) t = and-right (operands-ok k (length ns)) (every (λ n. ltb n i) ns) t

@@ -16,7 +16,7 @@ use Rattle.tree.specs.Layout.{row-fields, row-ok, signed}
 use Rattle.tree.specs.Tokens.{constant-code, number-in}
 use Rattle.tree.proofs.Logic.{and-left}
 use Rattle.tree.proofs.TreeLaws.{eq-bytes-sound, eq-bytes-refl}
-use Rattle.unfold.specs.Unfold.{row-count, rows-in, row-at, row-number, row-operands, run, Rows-laid}
+use Rattle.unfold.specs.Unfold.{row-count, rows-in, row-at, row-number, operand-rows, run, Rows-laid}
 use Rattle.unfold.proofs.RowLaws.{Stands, few-kinds}
 use Rattle.unfold.proofs.RunLaws.{row-word, run-is}
 
@@ -53,14 +53,14 @@ module _ (number : List ℕ → ℕ) (i : ℕ) where
   operation-word (row-const c) t e = absurd (omega arith)
   operation-word (row-op k ns) t e = refl
 
-pub leaf-operands : (i : ℕ) (r : Row) → T (row-ok i r) → row-number r < 2 → row-operands r ≡ []
-unfolding row-number row-operands
+pub leaf-operands : (i : ℕ) (r : Row) → T (row-ok i r) → row-number r < 2 → operand-rows r ≡ []
+unfolding row-number operand-rows
 leaf-operands i (row-sym s) t e = refl
 leaf-operands i (row-const c) t e = refl
 leaf-operands i (row-op k ns) t e = absurd (omega (arith, operation i k ns t))
 
-pub operation-operands : (r : Row) → 2 ≤ row-number r → row-operands r ≡ row-fields r
-unfolding row-number row-operands row-fields
+pub operation-operands : (r : Row) → 2 ≤ row-number r → operand-rows r ≡ row-fields r
+unfolding row-number operand-rows row-fields
 operation-operands (row-sym s) e = absurd (omega arith)
 operation-operands (row-const c) e = absurd (omega arith)
 operation-operands (row-op k ns) e = refl
@@ -122,10 +122,10 @@ module _ {ws : List ℕ} {i : ℕ} (c : Stands ws i) where
   pub count-small : getD ws (i * 35 + 2) 0 ≤ 32
   count-small = omega (arith, c .count, c .most)
 
-  pub no-operands : kind < 2 → 0 ≡ length (row-operands (row-at ws i))
+  pub no-operands : kind < 2 → 0 ≡ length (operand-rows (row-at ws i))
   no-operands h = ap length (sym (leaf-operands i (row-at ws i) (c .tested) h))
 
-  pub all-operands : 2 ≤ kind → getD ws (i * 35 + 2) 0 ≡ length (row-operands (row-at ws i))
+  pub all-operands : 2 ≤ kind → getD ws (i * 35 + 2) 0 ≡ length (operand-rows (row-at ws i))
   all-operands h = c .count ∙ ap length (sym (operation-operands (row-at ws i) h))
 
   module _ (laid : Rows-laid ws) (inside : i < row-count ws) where

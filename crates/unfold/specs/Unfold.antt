@@ -1,4 +1,4 @@
--- Node rows unfolded into the words of their roots' trees (01, "Uses", reading order; refusals 8 and 9). Assumes nothing.
+-- Node rows unfolded into the words of their roots' trees (01, "Extraction", reading order; "Turned down", refusals 8 and 9). Assumes nothing.
 use Prim.Native.Nat.{ℕ, _*_, _/_, _≤_}
 use mathlib.Core.Path.{_≡_}
 use mathlib.Core.Bool.{cond}
@@ -41,10 +41,10 @@ row-number (row-const c) = 1
 row-number (row-op k ns) = k
 
 -- the row numbers of a node's operands
-unfoldable pub row-operands : Row → List ℕ
-row-operands (row-sym s) = []
-row-operands (row-const c) = []
-row-operands (row-op k ns) = ns
+unfoldable pub operand-rows : Row → List ℕ
+operand-rows (row-sym s) = []
+operand-rows (row-const c) = []
+operand-rows (row-op k ns) = ns
 
 -- a row's tree as words, and the trees of several rows one after another
 unfoldable pub run : List ℕ → ℕ → List ℕ

@@ -10,7 +10,7 @@ ghost use Rattle.tree.specs.Rows.{trees};
 ghost use Rattle.tree.specs.Layout.{row-fields, signed, laid-out, table-of};
 ghost use Rattle.tree.specs.Tokens.{number-in, constant-code, all-tokens};
 ghost use Rattle.unfold.specs.Write.{Wrote};
-ghost use Rattle.unfold.specs.Unfold.{row-count, rows-in, row-at, words-at, row-number, row-operands, run, runs, Rows-laid, unfolded, Answers};
+ghost use Rattle.unfold.specs.Unfold.{row-count, rows-in, row-at, words-at, row-number, operand-rows, run, runs, Rows-laid, unfolded, Answers};
 use rows::Checked;
 
 pub enum Unfolded {
@@ -98,7 +98,7 @@ fn node_word(rows: &[u64], r: usize) -> u64
 fn operand_count(rows: &[u64], r: usize) -> usize
     requires { ⌜ Rows-laid (now rows) ⌝ }
     requires { ⌜ r < row-count (now rows) ⌝ }
-    ensures { λ n. ⌜ n ≡ length (row-operands (row-at (now (rows .entry)) r)) ⌝ }
+    ensures { λ n. ⌜ n ≡ length (operand-rows (row-at (now (rows .entry)) r)) ⌝ }
 {
     if kind_of(rows, r) < 2 {
         return 0;

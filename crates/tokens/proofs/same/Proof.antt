@@ -3,14 +3,14 @@ use Prim.Native.Nat.{_-_}
 use native.Mathlib.Omega.{arith}
 use mathlib.Core.Path.{sym, _∙_}
 use mathlib.Core.Bool.{true, false}
-use Rattle.tokens.specs.Answers.{compared}
+use Rattle.tokens.specs.Answers.{same-answer}
 use Rattle.tokens.proofs.Comparing.{run-ends, run-after, first-broken, second-broken, same-length-differs, same-runs, runs-inside}
 use borrow.Author.Needs.{needs}
 use Rattle.tokens.proofs.same.Statement.{statement}
 use Rattle.tokens.proofs.same.Tie as tie
 
 returns-4 : tie.Need-returns-4
-unfolding compared
+unfolding same-answer
 returns-4 c =
     let a = c .before .before .before .before .before .before .before .before .before .before .before .before .args in
     let e = c .before .before .before .before .before .before .before .before .e .given .0 .0 in
@@ -20,7 +20,7 @@ returns-4 c =
     same-runs (a .tokens .now) (a .i) (a .j) (e - a .i) (f - a .j) (run-ends (a .tokens .now) (a .i) e p) (run-ends (a .tokens .now) (a .j) f q) true (omega (arith, c .before .before .if1 .left)) (rw (c .if2 .taken) at (c .before .equal-runs .ensures))
 
 returns-5 : tie.Need-returns-5
-unfolding compared
+unfolding same-answer
 returns-5 c =
     let a = c .before .before .before .before .before .before .before .before .before .before .before .before .args in
     let e = c .before .before .before .before .before .before .before .before .e .given .0 .0 in
