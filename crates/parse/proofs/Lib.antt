@@ -1,2 +1,5 @@
 pub mod Commas
 pub mod Values
+pub mod Ends
+pub mod RecordWords
+pub mod Copies

@@ -51,9 +51,9 @@ record-end s at = cond (ltb at (length s)) (end-from at (drop at s)) (length s)
 -- ---- a copy
 
 -- a name has at most 32 bytes
-abbrev pub fits : List ℕ → List ℕ → Bool
-fits s old = leb (length s) 32 && leb (length s) (length old)
+abbrev pub has-room : List ℕ → List ℕ → Bool
+has-room s old = leb (length s) 32 && leb (length s) (length old)
 
 -- the bytes as words in front of what stood after them, or nothing written
 abbrev pub copied : List ℕ → List ℕ → List ℕ
-copied s old = cond (fits s old) (s ++ drop (length s) old) old
+copied s old = cond (has-room s old) (s ++ drop (length s) old) old

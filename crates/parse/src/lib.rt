@@ -2,12 +2,13 @@
 ghost use mathlib.Core.Path.{_≡_};
 ghost use mathlib.Core.Bool.{_&&_};
 ghost use Prim.Native.Nat.{_+_, _-_, _*_, _^_, _≤_, _<_, min};
-ghost use lib.Dec.{eqb, leb};
-ghost use lib.ListN.{length, getD, drop};
+ghost use mathlib.Core.List.{[]};
+ghost use lib.Dec.{eqb};
+ghost use lib.ListN.{length, getD};
 ghost use Rattle.tree.specs.Bytes.{every, eq-bytes};
 ghost use Rattle.tree.specs.Symbol.{is-digit};
 ghost use Rattle.sheet.specs.Sheet.{plain, number, below-limit, minus, constant, words, find};
-ghost use Rattle.parse.specs.Parts.{comma-at, digits-number, capped-at, capped, record-end, fits, copied};
+ghost use Rattle.parse.specs.Parts.{comma-at, digits-number, capped-at, capped, record-end, has-room, copied};
 ghost use Rattle.parse.specs.Answers.{split-answer, number-answer, constant-answer, word-answer};
 
 // The bytes that the code names.
@@ -183,4 +184,139 @@ pub fn constant_field(s: &[u8]) -> Constant
         return Constant::Malformed;
     }
     Constant::Value(0, n)
+}
+
+// ---- record words
+
+fn same_bytes(a: &[u8], b: &[u8]) -> bool
+    ensures { λ r. ⌜ r ≡ eq-bytes (now (a .entry)) (now (b .entry)) ⌝ }
+{
+    if a.len() != b.len() {
+        return false;
+    }
+    let mut i = 0;
+    while i < a.len() {
+        if a[i] != b[i] {
+            return false;
+        }
+        i += 1;
+    }
+    true
+}
+
+// Where each record word starts in the row of all words, and the end of the last.
+const STARTS: [usize; 31] = [
+    0,
+    3,
+    8,
+    11,
+    14,
+    17,
+    20,
+    23,
+    26,
+    29,
+    32,
+    35,
+    39,
+    43,
+    47,
+    52,
+    56,
+    60,
+    64,
+    67,
+    69,
+    73,
+    78,
+    82,
+    85,
+    94,
+    99,
+    105,
+    111,
+    119,
+    123,
+];
+
+// Whether the bytes are the record word of kind k; Root's number comes after the kinds'.
+fn is_word(k: usize, s: &[u8]) -> bool
+    requires { ⌜ k < 30 ⌝ }
+    ensures { λ r. ⌜ r ≡ eq-bytes (getD words k []) (now (s .entry)) ⌝ }
+{
+    let all =
+        *b"SymConstNegAddSubMulDivPowSinCosTanAsinAcosAtanAtan2SinhCoshTanhExpLnLog2Log10SqrtAbsHeavisideClampBranchSelectSelectOrRoot";
+    let at = STARTS[k];
+    let end = STARTS[k + 1];
+    same_bytes(&all[at..end], s)
+}
+
+pub fn record_word(s: &[u8]) -> Word
+    ensures { λ r. ⌜ r ≡ word-answer (find 0 (now (s .entry)) words) ⌝ }
+{
+    let mut k: usize = 0;
+    while k < 30 {
+        if is_word(k, s) {
+            return Word::Kind(k as u64);
+        }
+        k += 1;
+    }
+    Word::Unknown
+}
+
+// ---- records
+
+// CR and LF.
+fn ends_at(s: &[u8], i: usize) -> bool
+    requires { ⌜ i + 1 < length (now s) ⌝ }
+    ensures { λ r. ⌜ r ≡ (eqb (getD (now (s .entry)) i 0) 13 && eqb (getD (now (s .entry)) (i + 1) 0) 10) ⌝ }
+{
+    if s[i] != CR {
+        return false;
+    }
+    s[i + 1] == LF
+}
+
+// Where the record that starts at a place ends: at its CRLF or at the end of the sheet. From a place past the sheet it is the end too.
+pub fn record_end(s: &[u8], at: usize) -> usize
+    ensures { λ r. ⌜ r ≡ record-end (now (s .entry)) at ⌝ }
+{
+    if at >= s.len() {
+        return s.len();
+    }
+    let last = s.len() - 1;
+    let mut i = at;
+    while i < last {
+        if ends_at(s, i) {
+            return i;
+        }
+        i += 1;
+    }
+    s.len()
+}
+
+// ---- a name's bytes
+
+fn wide(b: u8) -> u64
+    ensures { λ r. ⌜ r ≡ b ⌝ }
+{
+    b as u64
+}
+
+// A name's bytes as words in the front of `out`. Where they are too many nothing is written.
+pub fn copy_bytes(s: &[u8], out: &mut [u64]) -> bool
+    ensures { λ r. ⌜ (r ≡ has-room (now (s .entry)) (now (out .entry))) × (now (out .exit) ≡ copied (now (s .entry)) (now (out .entry))) ⌝ }
+{
+    if s.len() > NAME {
+        return false;
+    }
+    if s.len() > out.len() {
+        return false;
+    }
+    let mut i = 0;
+    while i < s.len() {
+        out[i] = wide(s[i]);
+        i += 1;
+    }
+    true
 }
