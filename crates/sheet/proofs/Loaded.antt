@@ -187,11 +187,11 @@ module _ (i : ℕ) (r : List ℕ) (t : Table) where
 
 -- ---- a table on the way: within the limits that need no tree, and as many bytes as its records
 
-record Good (t : Table) : Type 0 where
-  few-rows : length (t .rows) ≤ 1024
-  few-roots : length (t .roots) ≤ 64
-  good-rows : T (rows-ok 0 (t .rows))
-  good-roots : T (every (λ n. ltb n (length (t .rows))) (t .roots))
+pub record Good (t : Table) : Type 0 where
+  pub few-rows : length (t .rows) ≤ 1024
+  pub few-roots : length (t .roots) ≤ 64
+  pub good-rows : T (rows-ok 0 (t .rows))
+  pub good-roots : T (every (λ n. ltb n (length (t .rows))) (t .roots))
 
 weight : Table → ℕ
 weight t = terminated (row-records (t .rows)) + terminated (root-records (t .roots))
@@ -292,6 +292,14 @@ records-grow i (r ∷ l) t G = go (every plain r) (add-record i (fields-from [] 
     go true (ok u) h f = let a = grown t G r u h in more u a (load-records (suc i) l u) (f u (a .good))
     go true (refused r) h f = tt
     go false o h f = tt
+
+-- the rows and roots of records that all went well
+pub records-good : (s : List ℕ) (t : Table) → load-records 0 (records-from [] s) (record { rows = []; roots = [] }) ≡ ok t → Good t
+records-good s t e =
+    subst (Grows (records-from [] s) (record { rows = []; roots = [] })) e
+    (records-grow 0 (records-from [] s) (record { rows = []; roots = [] })
+    (record { few-rows = omega arith; few-roots = omega arith; good-rows = (unfold rows-ok in tt); good-roots = (unfold every in tt) }))
+    .good
 
 -- ---- load
 

@@ -1,0 +1,5 @@
+pub mod Ends
+pub mod Limits
+pub mod Stepping
+pub mod Reading
+pub mod Finishing
