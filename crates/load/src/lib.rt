@@ -5,11 +5,11 @@ ghost use Prim.Native.Nat.{_+_, _*_, _/_, _≤_, _<_};
 ghost use lib.ListN.{length, drop};
 ghost use Rattle.sheet.specs.Call.{load-call};
 ghost use Rattle.record.specs.Item.{record-item};
-ghost use Rattle.record.specs.Reading.{Reads};
 ghost use Rattle.load.specs.Steps.{Stepped, All-read};
 ghost use Rattle.load.specs.Loads.{Loads, Finished};
 use parse::record_end;
 use record::Read;
+use record::read_record;
 use rows::Checked;
 use rows::check_domain;
 
@@ -30,12 +30,6 @@ enum Step {
 enum Records {
     All(usize, usize, usize),
     Refused(u64, usize),
-}
-
-fn read_record(s: &[u8], rows: u64, roots: u64, row: &mut [u64]) -> Read
-    ensures { λ r. ⌜ Reads rows roots (now (s .entry)) (now (row .entry)) r (now (row .exit)) ⌝ }
-{
-    Read::NoRoom
 }
 
 // One record more. The table has a row more than a list may have, so that there is always room to read one.

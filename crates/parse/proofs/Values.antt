@@ -7,8 +7,8 @@ use mathlib.Core.List.{List, [], _∷_}
 use native.Mathlib.Numerals.{add-one}
 use native.Mathlib.Omega.{arith}
 use borrow.Author.Tests.{lt-ltb, le-ltb, eq-eqb, ne-eqb, not-false}
-use lib.IntN.{ℤ, pos, negsuc}
-use lib.Dec.{T, eqb, ltb}
+use lib.IntN.{ℤ, pos}
+use lib.Dec.{T}
 use lib.ListN.{length, getD, drop, drop-of-length-le}
 use lib.Seq.{drop-cons}
 use Rattle.tree.specs.Bytes.{every}
@@ -96,36 +96,41 @@ module _ (s : List ℕ) (p : length s ≡ 0 → ⊥) (q : length s ≡ 1 → ⊥
       go (b ∷ []) h n = absurd (h .1 refl)
       go (b ∷ (c ∷ l)) h n = rw (ne-eqb b 48 n) (whole (every is-digit (b ∷ (c ∷ l))) (number-from 0 (b ∷ (c ∷ l))))
 
--- ---- constants: what an answer says of the number that was read
+-- ---- what an answer says of the number that was read
+
+pub answer-none : (cap : ℕ) (o : Option ℕ) → numbered.Malformed ≡ number-answer (capped-at cap o) → o ≡ none
+answer-none cap none e = refl
+answer-none cap (some n) e = cc
+
+pub record Read (cap : ℕ) (o : Option ℕ) (n : ℕ) : Type 0 where
+  pub value : ℕ
+  pub is : o ≡ some value
+  pub stopped : n ≡ min value cap
+
+pub answer-value : (cap : ℕ) (o : Option ℕ) (n : ℕ) → numbered.Value n ≡ number-answer (capped-at cap o) → Read cap o n
+answer-value cap none n e = absurd (let z : _≡_ {A = ℕ} 0 1 = cc in omega arith)
+answer-value cap (some m) n e = record { value = m; is = refl; stopped = cc }
+
+-- ---- constants: the size
 
 abbrev Limit : ℕ
 Limit = 10 ^ 15
 
 module _ (o : Option ℕ) where
   pub read-none : numbered.Malformed ≡ number-answer (capped-at Limit o) → (g : ℕ → Option ℤ) → signed.Malformed ≡ constant-answer (below-limit g o)
-  read-none e g = go o e
-    where
-      go : (o : Option ℕ) → numbered.Malformed ≡ number-answer (capped-at Limit o) → signed.Malformed ≡ constant-answer (below-limit g o)
-      go none e = unfold below-limit in refl
-      go (some n) e = absurd (let z : _≡_ {A = ℕ} 0 1 = cc in omega arith)
+  unfolding below-limit
+  read-none e g = rw (answer-none Limit o e)
 
   module _ (n : ℕ) (e : numbered.Value n ≡ number-answer (capped-at Limit o)) where
     pub read-past : Limit ≤ n → (g : ℕ → Option ℤ) → signed.Malformed ≡ constant-answer (below-limit g o)
-    read-past h g = go o e
-      where
-        go : (o : Option ℕ) → numbered.Value n ≡ number-answer (capped-at Limit o) → signed.Malformed ≡ constant-answer (below-limit g o)
-        go none e = absurd (let z : _≡_ {A = ℕ} 0 1 = cc in omega arith)
-        go (some m) e =
-            let q : n ≡ min m Limit = cc in
-            let l : Limit ≤ m = omega arith in
-            (unfold below-limit in rw (le-ltb m Limit l))
+    unfolding below-limit
+    read-past h g =
+        let r = answer-value Limit o n e in
+        let l : Limit ≤ r .value = omega arith in
+        rw (r .is, le-ltb (r .value) Limit l)
 
-    pub read-below : n < Limit → o ≡ some n
-    read-below h = go o e
-      where
-        go : (o : Option ℕ) → numbered.Value n ≡ number-answer (capped-at Limit o) → o ≡ some n
-        go none e = absurd (let z : _≡_ {A = ℕ} 0 1 = cc in omega arith)
-        go (some m) e = let q : n ≡ min m Limit = cc in ap some (omega arith)
+    read-below : n < Limit → o ≡ some n
+    read-below h = let r = answer-value Limit o n e in r .is ∙ ap some (omega arith)
 
     pub read-pos : n < Limit → signed.Value 0 n ≡ constant-answer (below-limit (λ m. some (pos m)) o)
     unfolding below-limit

@@ -1,5 +1,5 @@
 -- The parts of load that the code reads: the first comma, capped numbers, where a record ends, and a copy of a name (01, "Sheet and printing"). Assumes nothing.
-use Prim.Native.Nat.{ℕ, suc, _+_, _≤_, min}
+use Prim.Native.Nat.{ℕ, suc, min}
 use mathlib.Core.Bool.{Bool, true, false, _&&_, cond}
 use mathlib.Core.Option.{Option, none, some}
 use mathlib.Core.List.{List, [], _∷_, _++_}

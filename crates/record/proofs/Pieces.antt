@@ -32,6 +32,15 @@ count-any got more (b ∷ l) = go (eqb b 44) (count-any (b ∷ got) (b ∷ more)
     go true h = refl
     go false h = h
 
+pub fields-some : (got s : List ℕ) → 1 ≤ length (fields-from got s)
+unfolding fields-from
+fields-some got [] = omega arith
+fields-some got (b ∷ l) = go (eqb b 44) (fields-some (b ∷ got) l)
+  where
+    go : (t : Bool) → 1 ≤ length (fields-from (b ∷ got) l) → 1 ≤ length {A = List ℕ} (elim t [ true ↦ reverse got ∷ fields-from [] l | false ↦ fields-from (b ∷ got) l ])
+    go true h = omega arith
+    go false h = h
+
 count-comma : (b : ℕ) (l : List ℕ) → b ≡ 44 → count (b ∷ l) ≡ suc (count l)
 unfolding fields-from
 count-comma b l e = rw (eq-eqb b 44 e, fields-from)

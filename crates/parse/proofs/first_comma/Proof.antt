@@ -1,6 +1,6 @@
 -- `parse::first_comma` meets its contract: no comma stands before place i. Assumes nothing.
 use Prim.Native.Nat.{_≤_, _-_}
-use mathlib.Core.Path.{_≡_, refl}
+use mathlib.Core.Path.{_≡_}
 use lib.ListN.{length, drop}
 use Rattle.parse.specs.Parts.{comma-from, comma-at}
 use Rattle.parse.proofs.Commas.{comma-begin, comma-next, comma-found, comma-none}

@@ -1,4 +1,5 @@
 -- `parse::is_digit` meets its contract. Assumes nothing.
+use native.Mathlib.Omega.{arith}
 use Rattle.fields.proofs.Leaves.{digit-low, digit-in, digit-high}
 use Rattle.parse.proofs.is_digit.Statement.{statement}
 use Rattle.parse.proofs.is_digit.Tie as tie
@@ -7,6 +8,6 @@ pub is-digit-spec : {M : Type 1} → statement M
 is-digit-spec =
     tie.close
     (tie.spec
-    (λ c. digit-in (c .before .before .args .b) (c .before .if1 .left) (c .if2 .taken))
-    (λ c. digit-low (c .before .args .b) (c .if1 .taken))
-    (λ c. digit-high (c .before .before .args .b) (c .if2 .left)))
+    (λ c. digit-in (c .before .before .args .b) (omega arith) (omega arith))
+    (λ c. digit-low (c .before .args .b) (omega arith))
+    (λ c. digit-high (c .before .before .args .b) (omega arith)))

@@ -23,7 +23,7 @@ record-end-spec =
     μ-loop
     (λ c. end-past (c .before .before .args .s .now) (c .before .before .args .at) (c .if1 .taken))
     (λ c. search needs)
-    (λ c. (c .if1 .left, end-begin (c .before .before .args .s .now) (c .before .before .args .at) (c .if1 .left)))
+    (λ c. (omega arith, end-begin (c .before .before .args .s .now) (c .before .before .args .at) (c .if1 .left)))
     (λ c κs. omega arith)
     (λ c. end-found (c .before .before .before .before .before .before .args .s .now) (c .before .before .before .before .before .before .args .at) (c .before .before .before .loop .i) (c .before .before .before .loop .inv .1) (omega arith) (sym (c .before .ends-at .ensures) ∙ c .if2 .taken))
     (λ c. search needs)

