@@ -10,7 +10,6 @@ ghost use Rattle.fields.specs.Counts.{kind-number};
 ghost use Rattle.sheet.specs.Sheet.{fields-from, fields-ok, numbers};
 ghost use Rattle.record.specs.Item.{fields-item};
 ghost use Rattle.record.specs.Reading.{Follows, Reads, Writes};
-
 use parse::Constant;
 use parse::Number;
 use parse::Split;

@@ -9,8 +9,6 @@ use Rattle.load.proofs.Ends.{pasted}
 use borrow.Author.Needs.{needs}
 use Rattle.load.proofs.copy.Statement.{statement}
 use Rattle.load.proofs.copy.Tie as tie
-use Rattle.load.proofs.copy.Reads as reads
-use Rattle.load.proofs.copy.Lts as lts
 
 abbrev Inv-loop : tie.InvT-loop
 Inv-loop s out₀ i₀ out i = (i ≤ length s) × (length out ≡ length out₀) × (out ≡ paste out₀ 0 s i)

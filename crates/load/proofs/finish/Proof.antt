@@ -6,10 +6,6 @@ use Rattle.load.proofs.Finishing.{laid-true, laid-false, finish-six, fi
 use borrow.Author.Needs.{needs}
 use Rattle.load.proofs.finish.Statement.{statement}
 use Rattle.load.proofs.finish.Tie as tie
-use Rattle.load.proofs.finish.Reads as reads
-use Rattle.load.proofs.finish.Lts as lts
-use Rattle.load.proofs.copy.Reads as copy-reads
-use Rattle.rows.proofs.check_domain.Reads as check-domain-reads
 
 check-domain-requires : tie.Need-check-domain-requires
 check-domain-requires c κs = search needs

@@ -4,9 +4,6 @@ use Rattle.load.proofs.Finishing.{few-rows, few-roots, no-bytes, many-b
 use borrow.Author.Needs.{needs}
 use Rattle.load.proofs.load.Statement.{statement}
 use Rattle.load.proofs.load.Tie as tie
-use Rattle.load.proofs.load.Reads as reads
-use Rattle.load.proofs.load.Lts as lts
-use Rattle.load.proofs.load_into.Reads as load-into-reads
 
 returns : tie.Need-returns
 returns c = few-rows (c .before .before .before .before .args .sheet .now) (c .before .before .before .before .args .rows .now) (c .before .before .before .before .args .roots .now) (c .if1 .taken)

@@ -10,10 +10,6 @@ use Rattle.load.proofs.Finishing.{read-bounds, record-refused, all-read
 use borrow.Author.Needs.{needs}
 use Rattle.load.proofs.load_into.Statement.{statement}
 use Rattle.load.proofs.load_into.Tie as tie
-use Rattle.load.proofs.load_into.Reads as reads
-use Rattle.load.proofs.load_into.Lts as lts
-use Rattle.load.proofs.finish.Reads as finish-reads
-use Rattle.load.proofs.read_records.Reads as read-records-reads
 
 read-records-requires : tie.Need-read-records-requires
 read-records-requires c κs = search needs

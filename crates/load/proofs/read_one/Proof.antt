@@ -5,9 +5,6 @@ use Rattle.load.proofs.Stepping.{row-end, root-inside, root-end, refuse
 use borrow.Author.Needs.{needs}
 use Rattle.load.proofs.read_one.Statement.{statement}
 use Rattle.load.proofs.read_one.Tie as tie
-use Rattle.load.proofs.read_one.Reads as reads
-use Rattle.load.proofs.read_one.Lts as lts
-use Rattle.load.proofs.read_record.Reads as read-record-reads
 
 mul-row : tie.Need-mul-row
 mul-row c = search needs

@@ -7,10 +7,6 @@ use Rattle.load.proofs.Reading.{Reading, reading-begin, reading-next, r
 use borrow.Author.Needs.{needs}
 use Rattle.load.proofs.read_records.Statement.{statement}
 use Rattle.load.proofs.read_records.Tie as tie
-use Rattle.load.proofs.read_records.Reads as reads
-use Rattle.load.proofs.read_records.Lts as lts
-use Rattle.load.proofs.read_one.Reads as read-one-reads
-use Rattle.parse.proofs.record_end.Reads as record-end-reads
 
 abbrev Inv-loop : tie.InvT-loop
 Inv-loop sheet table₀ list₀ at₀ i₀ n₀ m₀ table list at i n m = Reading sheet at i n m table list × (at ≤ 65537)
