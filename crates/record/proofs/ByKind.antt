@@ -1,20 +1,20 @@
 -- What a record's fields give by its kind, in the order of the code's tests. Assumes nothing.
-use Prim.Native.Nat.{ℕ, zero, suc, _+_, _-_, _≤_, _<_}
+use Prim.Native.Nat.{ℕ, suc, _+_, _-_, _≤_, _<_}
 use mathlib.Core.Path.{_≡_, refl, sym, _∙_, ap, subst}
 use mathlib.Core.Bool.{Bool, true, false, not, _&&_, _||_, cond}
 use mathlib.Core.Option.{Option, none, some}
 use mathlib.Core.List.{List, [], _∷_, _++_}
 use native.Mathlib.Omega.{arith}
-use borrow.Author.Tests.{lt-ltb, le-ltb, lt-leb, le-leb, eq-eqb, ne-eqb, leb-true, leb-false}
+use borrow.Author.Tests.{lt-ltb, le-ltb, lt-leb, le-leb, eq-eqb, ne-eqb, leb-false}
 use lib.IntN.{ℤ, pos, negsuc}
-use lib.Dec.{T, eqb, leb, ltb, leb→le, eqb→eq}
+use lib.Dec.{T, eqb, leb, ltb, leb→le}
 use lib.ListN.{length, getD, take, drop, set, replicate}
 use lib.Seq.{getD-drop}
 use borrow.Rule.Slice.PartMut.{putMid}
-use Rattle.tree.specs.Outcome.{Outcome, ok, refused, _at-record_}
+use Rattle.tree.specs.Outcome.{Outcome, refused, _at-record_}
 use Rattle.tree.specs.Bytes.{every}
-use Rattle.tree.proofs.Logic.{and-left, and-right}
-use Rattle.tree.specs.Symbol.{is-letter, is-digit, is-made, is-name}
+use Rattle.tree.proofs.Logic.{and-left}
+use Rattle.tree.specs.Symbol.{is-letter, is-digit, is-name}
 use Rattle.tree.specs.Rows.{Row, row-sym, row-const, row-op}
 use Rattle.tree.specs.Layout.{row-kind, row-default, row-fields, row-words}
 use Rattle.sheet.specs.Sheet.{Root, constant, numbers}
@@ -22,13 +22,13 @@ use Rattle.parse.specs.Parts.{has-room, copied}
 use Rattle.parse.specs.Answers.{constant-answer}
 use Rattle.parse.specs.declared.Constant.the-variants as signed
 use Rattle.fields.proofs.Leaves.{name-by}
-use Rattle.record.specs.Item.{Item, a-row, a-root, row-item, root-item, numbers-item, fields-item}
+use Rattle.record.specs.Item.{Item, row-item, root-item, numbers-item, fields-item}
 use Rattle.record.specs.Reading.{Follows, Writes, capped-all}
 use Rattle.record.specs.declared.Read.the-variants as read
 use Rattle.record.specs.declared.Fields.{Fields}
 use Rattle.record.specs.declared.Fields.the-variants as fields
 use Rattle.record.proofs.Writing.{All-numbers, all-numbers}
-use Rattle.record.proofs.Fronts.{lent-long, back-long, part-is, words-are, back-is, cap-below, cap-same, capped-long}
+use Rattle.record.proofs.Fronts.{lent-long, back-long, part-is, words-are, cap-below, cap-same, capped-long}
 
 -- ---- room for one more
 
@@ -275,3 +275,15 @@ module _ (rows roots k : ℕ) (fs : List (List ℕ)) (large : 1 < k) where
             ∙ ap (λ (l : List ℕ). cond (eqb k 28) 27 k ∷ (cond (eqb k 28) 1 0 ∷ (n ∷ l))) (words-are old cl clear long x (capped-all (all .ns)) n few-numbers ns-many (all .words))
             ∙ ap (λ (l : List ℕ). cond (eqb k 28) 27 k ∷ (cond (eqb k 28) 1 0 ∷ (n ∷ ((l ++ replicate (32 - length l) 0) ++ drop 35 old)))) uncapped
             ∙ ap (λ (m : ℕ). cond (eqb k 28) 27 k ∷ (cond (eqb k 28) 1 0 ∷ (m ∷ ((all .ns ++ replicate (32 - length (all .ns)) 0) ++ drop 35 old)))) (all .many)))
+
+-- Numbers are read up to a million. As long as no more rows stand before a record, that changes nothing of what it gives.
+pub capping : (i rows roots k : ℕ) → rows ≤ 1000000 → (ns : List ℕ) → numbers-item i rows roots k (capped-all ns) ≡ numbers-item i rows roots k ns
+unfolding numbers-item
+capping i rows roots k small ns = go (every (λ m. ltb m rows) ns) refl (every (λ m. ltb m rows) (capped-all ns)) (cap-below rows small ns)
+  where
+    item : Bool → List ℕ → Outcome Item
+    item b l = elim b [ true ↦ cond (eqb k Root) (root-item i rows roots (getD l 0 0)) (row-item i rows roots (row-op k l)) | false ↦ refused (5 at-record i) ]
+
+    go : (b : Bool) → every (λ m. ltb m rows) ns ≡ b → (c : Bool) → c ≡ every (λ m. ltb m rows) ns → item c (capped-all ns) ≡ item (every (λ m. ltb m rows) ns) ns
+    go true e c f = ap (λ (b : Bool). item b (capped-all ns)) f ∙ ap (item (every (λ m. ltb m rows) ns)) (cap-same rows small ns (subst T (sym e) tt))
+    go false e c f = ap (λ (b : Bool). item b (capped-all ns)) (f ∙ e) ∙ ap (λ (b : Bool). item b ns) (sym e)

@@ -1,5 +1,5 @@
 -- The small pieces: fields counted by their commas, a row cleared, its first three words, and the counts of operands. Assumes nothing.
-use Prim.Native.Nat.{ℕ, zero, suc, _+_, _-_, _≤_, _<_}
+use Prim.Native.Nat.{ℕ, zero, suc, _+_, _≤_, _<_}
 use mathlib.Core.Path.{_≡_, refl, sym, _∙_, ap, subst}
 use mathlib.Core.Bool.{Bool, true, false, _&&_, _||_, cond}
 use mathlib.Core.List.{List, [], _∷_, _++_, reverse}
@@ -7,7 +7,7 @@ use native.Mathlib.Omega.{arith}
 use native.Mathlib.Numerals.{add-one}
 use borrow.Author.Tests.{eqb-true, leb-false, ltb-true, ltb-false, lt-leb, le-leb, eq-eqb, ne-eqb, lt-ltb, le-ltb}
 use lib.Dec.{T, eqb, leb, ltb, leb→le, eqb→eq}
-use lib.ListN.{length, getD, take, drop, set, replicate, length-append, length-replicate, drop-of-length-le}
+use lib.ListN.{length, getD, drop, set, replicate, length-replicate, drop-of-length-le}
 use lib.Seq.{drop-cons, set-at}
 use Rattle.tree.specs.Kinds.{Kind, kinds, kind-at, arity-ok, Select, SelectOr}
 use Rattle.tree.proofs.Logic.{and-left, and-right}

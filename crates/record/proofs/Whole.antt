@@ -1,17 +1,17 @@
 -- A record from its first test on: room, plain bytes, the first comma, the record word, the count of fields, and the fields by kind. Assumes nothing.
-use Prim.Native.Nat.{ℕ, suc, _+_, _-_, _≤_, _<_}
+use Prim.Native.Nat.{ℕ, _+_, _-_, _≤_, _<_}
 use mathlib.Core.Path.{_≡_, refl, sym, _∙_, ap, subst}
-use mathlib.Core.Bool.{Bool, true, false, _&&_, _||_, cond}
+use mathlib.Core.Bool.{Bool, true, false}
 use mathlib.Core.Option.{Option, none, some}
-use mathlib.Core.List.{List, [], _∷_, _++_, append-nil}
+use mathlib.Core.List.{List, [], _∷_, append-nil}
 use native.Mathlib.Omega.{arith}
 use native.Mathlib.Numerals.{add-one}
 use borrow.Author.Tests.{lt-leb, le-leb}
-use lib.Dec.{T, eqb, leb, eqb→eq}
-use lib.ListN.{length, getD, take, drop}
-use Rattle.tree.specs.Outcome.{Outcome, ok, refused, _at-record_}
+use lib.Dec.{T, eqb→eq}
+use lib.ListN.{length, take, drop}
+use Rattle.tree.specs.Outcome.{Outcome, refused, _at-record_}
 use Rattle.tree.specs.Bytes.{every}
-use Rattle.sheet.specs.Sheet.{plain, fields-from, find, words, Root, fields-ok}
+use Rattle.sheet.specs.Sheet.{plain, fields-from, find, words, fields-ok}
 use Rattle.sheet.proofs.Splitting.{glued, Split, record-split}
 use Rattle.parse.specs.Parts.{comma-at}
 use Rattle.parse.specs.Answers.{split-answer, word-answer}
@@ -19,7 +19,7 @@ use Rattle.parse.specs.declared.Split.the-variants as split
 use Rattle.parse.specs.declared.Word.the-variants as word
 use Rattle.parse.proofs.Commas.{fields-whole, fields-cut}
 use Rattle.record.specs.Item.{Item, row-item, fields-item, split-item, record-item}
-use Rattle.record.specs.Reading.{Follows, Reads-in, Reads, room}
+use Rattle.record.specs.Reading.{Follows, Reads, room}
 use Rattle.record.specs.declared.Read.{Read}
 use Rattle.record.specs.declared.Read.the-variants as read
 use Rattle.record.proofs.Writing.{rest-is}

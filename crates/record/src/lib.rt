@@ -154,8 +154,8 @@ fn write_numbers(s: &[u8], out: &mut [u64]) -> Fields
         return Fields::Malformed;
     };
     out[0] = v;
-    let from = comma + 1;
-    let Fields::All(n) = write_numbers(&s[from..], &mut out[1..]) else {
+    let next = comma + 1;
+    let Fields::All(n) = write_numbers(&s[next..], &mut out[1..]) else {
         return Fields::Malformed;
     };
     Fields::All(n + 1)

@@ -1,5 +1,5 @@
 -- `record::write_numbers` meets its contract. It falls by the bytes that are left. Assumes nothing.
-use mathlib.Core.Path.{refl, sym, _∙_}
+use mathlib.Core.Path.{sym, _∙_}
 use native.Mathlib.Omega.{arith}
 use lib.ListN.{length, length-set}
 use Rattle.record.proofs.Writing.{some-place, whole, comma-in, cut-long, first-bad, rest-less, rest-pre, back-long, later-bad, all-good, one-more}
@@ -31,135 +31,104 @@ write-numbers-below t =
     (falls 2 write-numbers-kinds.ps _<_ μ-write-numbers t)
     write-numbers.Pre
 
-write-numbers-first-comma-requires : (t : ℕ) → write-numbers-lts.Need-first-comma-requires (first-comma-reads.Asked, first-comma-reads.Learnt, write-last-reads.Asked, write-last-reads.Learnt, node-number-reads.Asked, node-number-reads.Learnt, write-numbers-below t, write-numbers.Post) (write-numbers-at t) write-numbers.Post
-write-numbers-first-comma-requires t c κs = search needs
-
-write-numbers-enum-known-comma : (t : ℕ) → write-numbers-lts.Need-enum-known-comma (first-comma-reads.Asked, first-comma-reads.Learnt, write-last-reads.Asked, write-last-reads.Learnt, node-number-reads.Asked, node-number-reads.Learnt, write-numbers-below t, write-numbers.Post) (write-numbers-at t) write-numbers.Post
-write-numbers-enum-known-comma t c = search needs
-
-write-numbers-enum-told : (t : ℕ) → write-numbers-lts.Need-enum-told (first-comma-reads.Asked, first-comma-reads.Learnt, write-last-reads.Asked, write-last-reads.Learnt, node-number-reads.Asked, node-number-reads.Learnt, write-numbers-below t, write-numbers.Post) (write-numbers-at t) write-numbers.Post
-write-numbers-enum-told t c = search needs
-
-write-numbers-write-last-requires : (t : ℕ) → write-numbers-lts.Need-write-last-requires (first-comma-reads.Asked, first-comma-reads.Learnt, write-last-reads.Asked, write-last-reads.Learnt, node-number-reads.Asked, node-number-reads.Learnt, write-numbers-below t, write-numbers.Post) (write-numbers-at t) write-numbers.Post
-write-numbers-write-last-requires t c κs = some-place (c .before .before .before .before .before .before .args .s .now) (c .before .before .before .before .before .before .args .out .now) (c .before .before .before .before .before .before .pre .1)
-
-write-numbers-same-length : (t : ℕ) → write-numbers-lts.Need-same-length (first-comma-reads.Asked, first-comma-reads.Learnt, write-last-reads.Asked, write-last-reads.Learnt, node-number-reads.Asked, node-number-reads.Learnt, write-numbers-below t, write-numbers.Post) (write-numbers-at t) write-numbers.Post
-write-numbers-same-length t c = search needs
-
-write-numbers-returns : (t : ℕ) → write-numbers-lts.Need-returns (first-comma-reads.Asked, first-comma-reads.Learnt, write-last-reads.Asked, write-last-reads.Learnt, node-number-reads.Asked, node-number-reads.Learnt, write-numbers-below t, write-numbers.Post) (write-numbers-at t) write-numbers.Post
-write-numbers-returns t c = whole (c .before .before .before .before .before .before .before .before .before .args .s .now) (c .before .before .before .before .before .before .before .before .before .args .out .now) (c .before .before .before .before .before .before .before .before .before .pre .1) (sym (c .before .before .before .before .enum-told .given .1) ∙ c .before .before .before .before .before .before .first-comma .ensures) _ _ (c .before .before .write-last .ensures)
-
-write-numbers-slice-aggregate-node-number :
-    (t : ℕ) → write-numbers-lts.Need-slice-aggregate-node-number (
-      first-comma-reads.Asked,
-      first-comma-reads.Learnt,
-      write-last-reads.Asked,
-      write-last-reads.Learnt,
-      node-number-reads.Asked,
-      node-number-reads.Learnt,
-      write-numbers-below t,
-      write-numbers.Post,
-    ) (write-numbers-at t) write-numbers.Post
-write-numbers-slice-aggregate-node-number t c = cut-long (c .before .before .before .before .before .before .before .args .s .now) (c .before .before .before .before .before .before .before .args .out .now) (c .before .before .before .before .before .before .before .pre .1) (c .before .before .comma .given .0 .0) (sym (c .before .before .comma .given .1) ∙ c .before .before .before .before .first-comma .ensures)
-
-write-numbers-node-number-requires : (t : ℕ) → write-numbers-lts.Need-node-number-requires (first-comma-reads.Asked, first-comma-reads.Learnt, write-last-reads.Asked, write-last-reads.Learnt, node-number-reads.Asked, node-number-reads.Learnt, write-numbers-below t, write-numbers.Post) (write-numbers-at t) write-numbers.Post
-write-numbers-node-number-requires t c κs = search needs
-
-write-numbers-enum-known-v : (t : ℕ) → write-numbers-lts.Need-enum-known-v (first-comma-reads.Asked, first-comma-reads.Learnt, write-last-reads.Asked, write-last-reads.Learnt, node-number-reads.Asked, node-number-reads.Learnt, write-numbers-below t, write-numbers.Post) (write-numbers-at t) write-numbers.Post
-write-numbers-enum-known-v t c = search needs
-
-write-numbers-enum-told-2 : (t : ℕ) → write-numbers-lts.Need-enum-told-2 (first-comma-reads.Asked, first-comma-reads.Learnt, write-last-reads.Asked, write-last-reads.Learnt, node-number-reads.Asked, node-number-reads.Learnt, write-numbers-below t, write-numbers.Post) (write-numbers-at t) write-numbers.Post
-write-numbers-enum-told-2 t c = search needs
-
-write-numbers-returns-2 : (t : ℕ) → write-numbers-lts.Need-returns-2 (first-comma-reads.Asked, first-comma-reads.Learnt, write-last-reads.Asked, write-last-reads.Learnt, node-number-reads.Asked, node-number-reads.Learnt, write-numbers-below t, write-numbers.Post) (write-numbers-at t) write-numbers.Post
-write-numbers-returns-2 t c = first-bad (c .before .before .before .before .before .before .before .before .before .before .args .s .now) (c .before .before .before .before .before .before .before .before .before .before .args .out .now) (c .before .before .before .before .before .before .before .before .before .before .pre .1) (c .before .before .before .before .before .comma .given .0 .0) (sym (c .before .before .before .before .before .comma .given .1) ∙ c .before .before .before .before .before .before .before .first-comma .ensures) (sym (c .enum-told2 .given .1) ∙ c .before .before .node-number .ensures)
-
-write-numbers-slice-write-out : (t : ℕ) → write-numbers-lts.Need-slice-write-out (first-comma-reads.Asked, first-comma-reads.Learnt, write-last-reads.Asked, write-last-reads.Learnt, node-number-reads.Asked, node-number-reads.Learnt, write-numbers-below t, write-numbers.Post) (write-numbers-at t) write-numbers.Post
-write-numbers-slice-write-out t c = omega (arith, some-place (c .before .before .before .before .before .before .before .before .before .before .before .args .s .now) (c .before .before .before .before .before .before .before .before .before .before .before .args .out .now) (c .before .before .before .before .before .before .before .before .before .before .before .pre .1))
-
-write-numbers-add-from : (t : ℕ) → write-numbers-lts.Need-add-from (first-comma-reads.Asked, first-comma-reads.Learnt, write-last-reads.Asked, write-last-reads.Learnt, node-number-reads.Asked, node-number-reads.Learnt, write-numbers-below t, write-numbers.Post) (write-numbers-at t) write-numbers.Post
-write-numbers-add-from t c = omega (arith, comma-in (c .before .before .before .before .before .before .before .before .before .before .before .args .s .now) (c .before .before .before .before .before .before .before .before .before .before .before .args .out .now) (c .before .before .before .before .before .before .before .before .before .before .before .pre .1) (c .before .before .before .before .before .before .comma .given .0 .0) (sym (c .before .before .before .before .before .before .comma .given .1) ∙ c .before .before .before .before .before .before .before .before .first-comma .ensures))
-
-write-numbers-sub-write-numbers : (t : ℕ) → write-numbers-lts.Need-sub-write-numbers (first-comma-reads.Asked, first-comma-reads.Learnt, write-last-reads.Asked, write-last-reads.Learnt, node-number-reads.Asked, node-number-reads.Learnt, write-numbers-below t, write-numbers.Post) (write-numbers-at t) write-numbers.Post
-write-numbers-sub-write-numbers t c = omega (arith, comma-in (c .before .before .before .before .before .before .before .before .before .before .before .args .s .now) (c .before .before .before .before .before .before .before .before .before .before .before .args .out .now) (c .before .before .before .before .before .before .before .before .before .before .before .pre .1) (c .before .before .before .before .before .before .comma .given .0 .0) (sym (c .before .before .before .before .before .before .comma .given .1) ∙ c .before .before .before .before .before .before .before .before .first-comma .ensures))
-
-write-numbers-part-write-numbers-start : (t : ℕ) → write-numbers-lts.Need-part-write-numbers-start (first-comma-reads.Asked, first-comma-reads.Learnt, write-last-reads.Asked, write-last-reads.Learnt, node-number-reads.Asked, node-number-reads.Learnt, write-numbers-below t, write-numbers.Post) (write-numbers-at t) write-numbers.Post
-write-numbers-part-write-numbers-start t c = omega (arith, comma-in (c .before .before .before .before .before .before .before .before .before .before .before .args .s .now) (c .before .before .before .before .before .before .before .before .before .before .before .args .out .now) (c .before .before .before .before .before .before .before .before .before .before .before .pre .1) (c .before .before .before .before .before .before .comma .given .0 .0) (sym (c .before .before .before .before .before .before .comma .given .1) ∙ c .before .before .before .before .before .before .before .before .first-comma .ensures))
-
-write-numbers-part-write-numbers-end : (t : ℕ) → write-numbers-lts.Need-part-write-numbers-end (first-comma-reads.Asked, first-comma-reads.Learnt, write-last-reads.Asked, write-last-reads.Learnt, node-number-reads.Asked, node-number-reads.Learnt, write-numbers-below t, write-numbers.Post) (write-numbers-at t) write-numbers.Post
-write-numbers-part-write-numbers-end t c = search needs
-
-write-numbers-sub-write-numbers-2 : (t : ℕ) → write-numbers-lts.Need-sub-write-numbers-2 (first-comma-reads.Asked, first-comma-reads.Learnt, write-last-reads.Asked, write-last-reads.Learnt, node-number-reads.Asked, node-number-reads.Learnt, write-numbers-below t, write-numbers.Post) (write-numbers-at t) write-numbers.Post
-write-numbers-sub-write-numbers-2 t c = simp length-set (some-place (c .before .before .before .before .before .before .before .before .before .before .before .before .args .s .now) (c .before .before .before .before .before .before .before .before .before .before .before .before .args .out .now) (c .before .before .before .before .before .before .before .before .before .before .before .before .pre .1))
-
-write-numbers-part-write-numbers-start-2 :
-    (t : ℕ) → write-numbers-lts.Need-part-write-numbers-start-2 (
-      first-comma-reads.Asked,
-      first-comma-reads.Learnt,
-      write-last-reads.Asked,
-      write-last-reads.Learnt,
-      node-number-reads.Asked,
-      node-number-reads.Learnt,
-      write-numbers-below t,
-      write-numbers.Post,
-    ) (write-numbers-at t) write-numbers.Post
-write-numbers-part-write-numbers-start-2 t c = simp length-set (some-place (c .before .before .before .before .before .before .before .before .before .before .before .before .args .s .now) (c .before .before .before .before .before .before .before .before .before .before .before .before .args .out .now) (c .before .before .before .before .before .before .before .before .before .before .before .before .pre .1))
-
-write-numbers-part-write-numbers-end-2 : (t : ℕ) → write-numbers-lts.Need-part-write-numbers-end-2 (first-comma-reads.Asked, first-comma-reads.Learnt, write-last-reads.Asked, write-last-reads.Learnt, node-number-reads.Asked, node-number-reads.Learnt, write-numbers-below t, write-numbers.Post) (write-numbers-at t) write-numbers.Post
-write-numbers-part-write-numbers-end-2 t c = search needs
-
-write-numbers-write-numbers-requires : (t : ℕ) → write-numbers-lts.Need-write-numbers-requires (first-comma-reads.Asked, first-comma-reads.Learnt, write-last-reads.Asked, write-last-reads.Learnt, node-number-reads.Asked, node-number-reads.Learnt, write-numbers-below t, write-numbers.Post) (write-numbers-at t) write-numbers.Post
-write-numbers-write-numbers-requires t c κs = (omega (arith, c .before .before .before .before .before .before .before .before .before .before .before .before .before .pre .0, rest-less (c .before .before .before .before .before .before .before .before .before .before .before .before .before .args .s .now) (c .before .before .before .before .before .before .before .before .before .before .before .before .before .args .out .now) (c .before .before .before .before .before .before .before .before .before .before .before .before .before .pre .1) (c .before .before .before .before .before .before .before .before .comma .given .0 .0) (sym (c .before .before .before .before .before .before .before .before .comma .given .1) ∙ c .before .before .before .before .before .before .before .before .before .before .first-comma .ensures)), rest-pre (c .before .before .before .before .before .before .before .before .before .before .before .before .before .args .s .now) (c .before .before .before .before .before .before .before .before .before .before .before .before .before .args .out .now) (c .before .before .before .before .before .before .before .before .before .before .before .before .before .pre .1) (c .before .before .before .before .before .before .before .before .comma .given .0 .0) (sym (c .before .before .before .before .before .before .before .before .comma .given .1) ∙ c .before .before .before .before .before .before .before .before .before .before .first-comma .ensures) (c .before .before .before .v .given .0 .0))
-
-write-numbers-enum-known-n : (t : ℕ) → write-numbers-lts.Need-enum-known-n (first-comma-reads.Asked, first-comma-reads.Learnt, write-last-reads.Asked, write-last-reads.Learnt, node-number-reads.Asked, node-number-reads.Learnt, write-numbers-below t, write-numbers.Post) (write-numbers-at t) write-numbers.Post
-write-numbers-enum-known-n t c = search needs
-
-write-numbers-enum-told-3 : (t : ℕ) → write-numbers-lts.Need-enum-told-3 (first-comma-reads.Asked, first-comma-reads.Learnt, write-last-reads.Asked, write-last-reads.Learnt, node-number-reads.Asked, node-number-reads.Learnt, write-numbers-below t, write-numbers.Post) (write-numbers-at t) write-numbers.Post
-write-numbers-enum-told-3 t c = search needs
-
-write-numbers-same-length-2 : (t : ℕ) → write-numbers-lts.Need-same-length-2 (first-comma-reads.Asked, first-comma-reads.Learnt, write-last-reads.Asked, write-last-reads.Learnt, node-number-reads.Asked, node-number-reads.Learnt, write-numbers-below t, write-numbers.Post) (write-numbers-at t) write-numbers.Post
-write-numbers-same-length-2 t c = back-long (c .before .before .before .before .before .before .before .before .before .before .before .before .before .before .before .before .before .before .args .s .now) (c .before .before .before .before .before .before .before .before .before .before .before .before .before .before .before .before .before .before .args .out .now) (c .before .before .before .before .before .before .before .before .before .before .before .before .before .before .before .before .before .before .pre .1) (c .before .before .before .before .before .before .before .before .before .before .before .before .before .comma .given .0 .0) (sym (c .before .before .before .before .before .before .before .before .before .before .before .before .before .comma .given .1) ∙ c .before .before .before .before .before .before .before .before .before .before .before .before .before .before .before .first-comma .ensures) (c .before .before .before .before .before .before .before .before .v .given .0 .0) (c .before .before .before .before .write-numbers .last .1 .0) (c .before .before .before .before .write-numbers .kept .1 .0)
-
-write-numbers-returns-3 : (t : ℕ) → write-numbers-lts.Need-returns-3 (first-comma-reads.Asked, first-comma-reads.Learnt, write-last-reads.Asked, write-last-reads.Learnt, node-number-reads.Asked, node-number-reads.Learnt, write-numbers-below t, write-numbers.Post) (write-numbers-at t) write-numbers.Post
-write-numbers-returns-3 t c = later-bad (c .before .before .before .before .before .before .before .before .before .before .before .before .before .before .before .before .before .before .args .s .now) (c .before .before .before .before .before .before .before .before .before .before .before .before .before .before .before .before .before .before .args .out .now) (c .before .before .before .before .before .before .before .before .before .before .before .before .before .before .before .before .before .before .pre .1) (c .before .before .before .before .before .before .before .before .before .before .before .before .before .comma .given .0 .0) (sym (c .before .before .before .before .before .before .before .before .before .before .before .before .before .comma .given .1) ∙ c .before .before .before .before .before .before .before .before .before .before .before .before .before .before .before .first-comma .ensures) (c .before .before .before .before .before .before .before .before .v .given .0 .0) (c .before .before .before .before .write-numbers .last .1 .0) (c .before .before .before .before .write-numbers .result) (c .before .before .before .before .write-numbers .ensures) (c .enum-told3 .given .1) (c .before .before .before .before .write-numbers .kept .1 .0)
-
-write-numbers-add-t16 : (t : ℕ) → write-numbers-lts.Need-add-t16 (first-comma-reads.Asked, first-comma-reads.Learnt, write-last-reads.Asked, write-last-reads.Learnt, node-number-reads.Asked, node-number-reads.Learnt, write-numbers-below t, write-numbers.Post) (write-numbers-at t) write-numbers.Post
-write-numbers-add-t16 t c = omega (arith, one-more (c .before .before .before .before .before .before .before .before .before .before .before .before .before .before .before .before .before .before .before .args .s .now) (c .before .before .before .before .before .before .before .before .before .before .before .before .before .before .before .before .before .before .before .args .out .now) (c .before .before .before .before .before .before .before .before .before .before .before .before .before .before .before .before .before .before .before .pre .1) (c .before .before .before .before .before .before .before .before .before .before .before .before .before .before .comma .given .0 .0) (sym (c .before .before .before .before .before .before .before .before .before .before .before .before .before .before .comma .given .1) ∙ c .before .before .before .before .before .before .before .before .before .before .before .before .before .before .before .before .first-comma .ensures) (c .before .before .before .before .before .before .before .before .before .v .given .0 .0) (c .before .before .before .before .before .write-numbers .last .1 .0) (c .before .before .before .before .before .write-numbers .result) (c .before .before .before .before .before .write-numbers .ensures) (c .before .n .given .0 .0) (c .before .n .given .1))
-
-write-numbers-same-length-3 : (t : ℕ) → write-numbers-lts.Need-same-length-3 (first-comma-reads.Asked, first-comma-reads.Learnt, write-last-reads.Asked, write-last-reads.Learnt, node-number-reads.Asked, node-number-reads.Learnt, write-numbers-below t, write-numbers.Post) (write-numbers-at t) write-numbers.Post
-write-numbers-same-length-3 t c = back-long (c .before .before .before .before .before .before .before .before .before .before .before .before .before .before .before .before .before .before .before .args .s .now) (c .before .before .before .before .before .before .before .before .before .before .before .before .before .before .before .before .before .before .before .args .out .now) (c .before .before .before .before .before .before .before .before .before .before .before .before .before .before .before .before .before .before .before .pre .1) (c .before .before .before .before .before .before .before .before .before .before .before .before .before .before .comma .given .0 .0) (sym (c .before .before .before .before .before .before .before .before .before .before .before .before .before .before .comma .given .1) ∙ c .before .before .before .before .before .before .before .before .before .before .before .before .before .before .before .before .first-comma .ensures) (c .before .before .before .before .before .before .before .before .before .v .given .0 .0) (c .before .before .before .before .before .write-numbers .last .1 .0) (c .before .before .before .before .before .write-numbers .kept .1 .0)
-
-write-numbers-returns-4 : (t : ℕ) → write-numbers-lts.Need-returns-4 (first-comma-reads.Asked, first-comma-reads.Learnt, write-last-reads.Asked, write-last-reads.Learnt, node-number-reads.Asked, node-number-reads.Learnt, write-numbers-below t, write-numbers.Post) (write-numbers-at t) write-numbers.Post
-write-numbers-returns-4 t c = all-good (c .before .before .before .before .before .before .before .before .before .before .before .before .before .before .before .before .before .before .before .args .s .now) (c .before .before .before .before .before .before .before .before .before .before .before .before .before .before .before .before .before .before .before .args .out .now) (c .before .before .before .before .before .before .before .before .before .before .before .before .before .before .before .before .before .before .before .pre .1) (c .before .before .before .before .before .before .before .before .before .before .before .before .before .before .comma .given .0 .0) (sym (c .before .before .before .before .before .before .before .before .before .before .before .before .before .before .comma .given .1) ∙ c .before .before .before .before .before .before .before .before .before .before .before .before .before .before .before .before .first-comma .ensures) (c .before .before .before .before .before .before .before .before .before .v .given .0 .0) (c .before .before .before .before .before .write-numbers .last .1 .0) (c .before .before .before .before .before .write-numbers .result) (c .before .before .before .before .before .write-numbers .ensures) (c .before .n .given .0 .0) (c .before .n .given .1) (sym (c .before .before .before .before .before .before .before .before .before .v .given .1) ∙ c .before .before .before .before .before .before .before .before .before .before .before .node-number .ensures)
-
 pub +write-numbers-spec : {M : Type 1} → statement M
 +write-numbers-spec = close μ-write-numbers λ t. write-numbers-lts.spec (first-comma-reads.Asked, first-comma-reads.Learnt, write-last-reads.Asked, write-last-reads.Learnt, node-number-reads.Asked, node-number-reads.Learnt, write-numbers-below t, write-numbers.Post)
     (write-numbers-at t)
     write-numbers.Post
-    (write-numbers-first-comma-requires t)
-    (write-numbers-enum-known-comma t)
-    (write-numbers-enum-told t)
-    (write-numbers-write-last-requires t)
-    (write-numbers-same-length t)
-    (write-numbers-returns t)
-    (write-numbers-slice-aggregate-node-number t)
-    (write-numbers-node-number-requires t)
-    (write-numbers-enum-known-v t)
-    (write-numbers-enum-told-2 t)
-    (write-numbers-returns-2 t)
-    (write-numbers-slice-write-out t)
-    (write-numbers-add-from t)
-    (write-numbers-sub-write-numbers t)
-    (write-numbers-part-write-numbers-start t)
-    (write-numbers-part-write-numbers-end t)
-    (write-numbers-sub-write-numbers-2 t)
-    (write-numbers-part-write-numbers-start-2 t)
-    (write-numbers-part-write-numbers-end-2 t)
-    (write-numbers-write-numbers-requires t)
-    (write-numbers-enum-known-n t)
-    (write-numbers-enum-told-3 t)
-    (write-numbers-same-length-2 t)
-    (write-numbers-returns-3 t)
-    (write-numbers-add-t16 t)
-    (write-numbers-same-length-3 t)
-    (write-numbers-returns-4 t)
+    (λ c κs. search needs)
+    (λ c. search needs)
+    (λ c. search needs)
+    (λ c κs.
+    let start = c .before .before .before .before .before .before in
+    some-place (start .args .s .now) (start .args .out .now) (start .pre .1))
+    (λ c. search needs)
+    (λ c.
+    let at-write-last = c .before .before in
+    let at-enum-told = at-write-last .before .before in
+    let at-first-comma = at-enum-told .before .before in
+    let start = at-first-comma .before .before .before in
+    whole (start .args .s .now) (start .args .out .now) (start .pre .1) (sym (at-enum-told .enum-told .given .1) ∙ at-first-comma .first-comma .ensures) _ _ (at-write-last .write-last .ensures))
+    (λ c.
+    let at-comma = c .before .before in
+    let at-first-comma = at-comma .before .before in
+    let start = at-first-comma .before .before .before in
+    cut-long (start .args .s .now) (start .args .out .now) (start .pre .1) (at-comma .comma .given .0 .0) (sym (at-comma .comma .given .1) ∙ at-first-comma .first-comma .ensures))
+    (λ c κs. search needs)
+    (λ c. search needs)
+    (λ c. search needs)
+    (λ c.
+    let at-node-number = c .before .before in
+    let at-comma = at-node-number .before .before .before in
+    let at-first-comma = at-comma .before .before in
+    let start = at-first-comma .before .before .before in
+    first-bad (start .args .s .now) (start .args .out .now) (start .pre .1) (at-comma .comma .given .0 .0) (sym (at-comma .comma .given .1) ∙ at-first-comma .first-comma .ensures) (sym (c .enum-told2 .given .1) ∙ at-node-number .node-number .ensures))
+    (λ c.
+    let start = c .before .before .before .before .before .before .before .before .before .before .before in
+    omega (arith, some-place (start .args .s .now) (start .args .out .now) (start .pre .1)))
+    (λ c.
+    let at-comma = c .before .before .before .before .before .before in
+    let at-first-comma = at-comma .before .before in
+    let start = at-first-comma .before .before .before in
+    omega (arith, comma-in (start .args .s .now) (start .args .out .now) (start .pre .1) (at-comma .comma .given .0 .0) (sym (at-comma .comma .given .1) ∙ at-first-comma .first-comma .ensures)))
+    (λ c.
+    let at-comma = c .before .before .before .before .before .before in
+    let at-first-comma = at-comma .before .before in
+    let start = at-first-comma .before .before .before in
+    omega (arith, comma-in (start .args .s .now) (start .args .out .now) (start .pre .1) (at-comma .comma .given .0 .0) (sym (at-comma .comma .given .1) ∙ at-first-comma .first-comma .ensures)))
+    (λ c.
+    let at-comma = c .before .before .before .before .before .before in
+    let at-first-comma = at-comma .before .before in
+    let start = at-first-comma .before .before .before in
+    omega (arith, comma-in (start .args .s .now) (start .args .out .now) (start .pre .1) (at-comma .comma .given .0 .0) (sym (at-comma .comma .given .1) ∙ at-first-comma .first-comma .ensures)))
+    (λ c. search needs)
+    (λ c.
+    let start = c .before .before .before .before .before .before .before .before .before .before .before .before in
+    simp length-set (some-place (start .args .s .now) (start .args .out .now) (start .pre .1)))
+    (λ c.
+    let start = c .before .before .before .before .before .before .before .before .before .before .before .before in
+    simp length-set (some-place (start .args .s .now) (start .args .out .now) (start .pre .1)))
+    (λ c. search needs)
+    (λ c κs.
+    let at-v = c .before .before .before in
+    let at-comma = at-v .before .before .before .before .before in
+    let at-first-comma = at-comma .before .before in
+    let start = at-first-comma .before .before .before in
+    (omega (arith, start .pre .0, rest-less (start .args .s .now) (start .args .out .now) (start .pre .1) (at-comma .comma .given .0 .0) (sym (at-comma .comma .given .1) ∙ at-first-comma .first-comma .ensures)), rest-pre (start .args .s .now) (start .args .out .now) (start .pre .1) (at-comma .comma .given .0 .0) (sym (at-comma .comma .given .1) ∙ at-first-comma .first-comma .ensures) (at-v .v .given .0 .0)))
+    (λ c. search needs)
+    (λ c. search needs)
+    (λ c.
+    let at-write-numbers = c .before .before .before .before in
+    let at-v = at-write-numbers .before .before .before .before in
+    let at-comma = at-v .before .before .before .before .before in
+    let at-first-comma = at-comma .before .before in
+    let start = at-first-comma .before .before .before in
+    back-long (start .args .s .now) (start .args .out .now) (start .pre .1) (at-comma .comma .given .0 .0) (sym (at-comma .comma .given .1) ∙ at-first-comma .first-comma .ensures) (at-v .v .given .0 .0) (at-write-numbers .write-numbers .last .1 .0) (at-write-numbers .write-numbers .kept .1 .0))
+    (λ c.
+    let at-write-numbers = c .before .before .before .before in
+    let at-v = at-write-numbers .before .before .before .before in
+    let at-comma = at-v .before .before .before .before .before in
+    let at-first-comma = at-comma .before .before in
+    let start = at-first-comma .before .before .before in
+    later-bad (start .args .s .now) (start .args .out .now) (start .pre .1) (at-comma .comma .given .0 .0) (sym (at-comma .comma .given .1) ∙ at-first-comma .first-comma .ensures) (at-v .v .given .0 .0) (at-write-numbers .write-numbers .last .1 .0) (at-write-numbers .write-numbers .result) (at-write-numbers .write-numbers .ensures) (c .enum-told3 .given .1) (at-write-numbers .write-numbers .kept .1 .0))
+    (λ c.
+    let at-write-numbers = c .before .before .before .before .before in
+    let at-v = at-write-numbers .before .before .before .before in
+    let at-comma = at-v .before .before .before .before .before in
+    let at-first-comma = at-comma .before .before in
+    let start = at-first-comma .before .before .before in
+    omega (arith, one-more (start .args .s .now) (start .args .out .now) (start .pre .1) (at-comma .comma .given .0 .0) (sym (at-comma .comma .given .1) ∙ at-first-comma .first-comma .ensures) (at-v .v .given .0 .0) (at-write-numbers .write-numbers .last .1 .0) (at-write-numbers .write-numbers .result) (at-write-numbers .write-numbers .ensures) (c .before .n .given .0 .0) (c .before .n .given .1)))
+    (λ c.
+    let at-write-numbers = c .before .before .before .before .before in
+    let at-v = at-write-numbers .before .before .before .before in
+    let at-comma = at-v .before .before .before .before .before in
+    let at-first-comma = at-comma .before .before in
+    let start = at-first-comma .before .before .before in
+    back-long (start .args .s .now) (start .args .out .now) (start .pre .1) (at-comma .comma .given .0 .0) (sym (at-comma .comma .given .1) ∙ at-first-comma .first-comma .ensures) (at-v .v .given .0 .0) (at-write-numbers .write-numbers .last .1 .0) (at-write-numbers .write-numbers .kept .1 .0))
+    (λ c.
+    let at-write-numbers = c .before .before .before .before .before in
+    let at-v = at-write-numbers .before .before .before .before in
+    let at-node-number = at-v .before .before in
+    let at-comma = at-node-number .before .before .before in
+    let at-first-comma = at-comma .before .before in
+    let start = at-first-comma .before .before .before in
+    all-good (start .args .s .now) (start .args .out .now) (start .pre .1) (at-comma .comma .given .0 .0) (sym (at-comma .comma .given .1) ∙ at-first-comma .first-comma .ensures) (at-v .v .given .0 .0) (at-write-numbers .write-numbers .last .1 .0) (at-write-numbers .write-numbers .result) (at-write-numbers .write-numbers .ensures) (c .before .n .given .0 .0) (c .before .n .given .1) (sym (at-v .v .given .1) ∙ at-node-number .node-number .ensures))
