@@ -46,8 +46,8 @@ pub enum Read {
     NoRoom,
 }
 
-// How many numbers were written.
-pub enum Fields {
+// The fields as numbers: how many were written.
+enum Fields {
     All(usize),
     Malformed,
 }
