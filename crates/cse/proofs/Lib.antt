@@ -31,3 +31,4 @@ pub mod CleanDivisors
 pub mod ArmNodes
 pub mod RoomEnough
 pub mod RowCount
+pub mod AnyTable
