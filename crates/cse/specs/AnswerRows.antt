@@ -8,11 +8,10 @@ use lib.ListN.{length, getD, take, drop}
 use lib.Dec.{eqb, leb, ltb}
 use Rattle.tree.specs.Bytes.{eq-bytes}
 use Rattle.tree.specs.Kinds.{Branch, Select, SelectOr, is-switch, arity-ok}
-use Rattle.tree.specs.Tree.{Name, input, xname, mname, Tree, Const, fold, forest}
-use Rattle.tree.specs.Symbol.{is-name}
+use Rattle.tree.specs.Tree.{Name, input, xname, mname, Tree, Const, forest}
 use Rattle.tree.specs.Rows.{Row, row-sym, row-const, row-op}
-use Rattle.tree.specs.Passes.{all-of, of-paper, operands-ok}
-use Rattle.tree.specs.Tokens.{word, name-code, tokens, number-in, kind-of, below-of, name-by, tree-of-word}
+use Rattle.tree.specs.Passes.{tree-ok, trees-ok}
+use Rattle.tree.specs.Tokens.{word, name-code, tokens, number-in, name-in, kind-of, below-of, name-by, tree-of-word}
 use Rattle.cse.specs.Answer.{Intermediate, Intermediates, Arms, Answer, Let, Match, end, step, no-arm, arm, block}
 use Rattle.cse.specs.Read.{arm-count}
 use Rattle.cse.specs.Demand.{bound-stmts, all-different, in-scope}
@@ -189,32 +188,6 @@ module _ (name-at : ℕ → List ℕ) where
       record { inters = intermediates-of-spans all; results = trees-below result-row all; extracted = extracted }
 
 -- ---- 13: by kind, operand count, earlier reference, name or constant
-
-unfoldable pub name-of-row : Row → List ℕ
-name-of-row (row-sym s) = s
-name-of-row (row-const c) = []
-name-of-row (row-op k ns) = []
-
--- the name of a symbol of the list by its row's number
-unfoldable pub name-in : List Row → ℕ → List ℕ
-unfolding name-of-row
-name-in rows n = name-of-row (getD rows n (row-const (pos 0)))
-
--- a symbol is one of the list, or a name of an answer
-unfoldable pub symbol-ok : Name → Bool
-unfolding is-name
-symbol-ok (input s) = is-name s
-symbol-ok (xname n) = true
-symbol-ok (mname n) = true
-
-unfoldable pub tree-ok : Tree → Bool
-unfolding fold symbol-ok of-paper operands-ok all-of
-tree-ok = fold symbol-ok of-paper (λ k tests. operands-ok k (length tests) && all-of tests)
-
-unfoldable pub trees-ok : List Tree → Bool
-unfolding tree-ok
-trees-ok [] = true
-trees-ok (t ∷ l) = tree-ok t && trees-ok l
 
 unfoldable pub let-name : Name → Bool
 let-name (input s) = false

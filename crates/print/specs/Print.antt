@@ -7,8 +7,9 @@ use lib.ListN.{length, drop}
 use lib.Dec.{ltb}
 use Rattle.tree.specs.Outcome.{Outcome, ok, refused, by}
 use Rattle.tree.specs.Layout.{row-width, rows-of}
+use Rattle.tree.specs.Tokens.{name-in}
 use Rattle.cse.specs.Answer.{answer-text}
-use Rattle.cse.specs.AnswerRows.{answer-of, name-in, answer-laid-out}
+use Rattle.cse.specs.AnswerRows.{answer-of, answer-laid-out}
 
 -- given the node rows, which hold the names, the answer rows, and how many bytes are lent
 unfoldable pub print-call : List ℕ → List ℕ → ℕ → Outcome (List ℕ)

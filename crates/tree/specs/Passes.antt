@@ -45,3 +45,21 @@ expressions (t ∷ l) = expression t && expressions l
 unfoldable pub passes : List Tree → Bool
 unfolding expressions within-limits
 passes es = leb (length es) 64 && (within-limits es && expressions es)
+
+-- ---- the same for an answer's expressions (01, "Turned down", refusal 13)
+
+-- a symbol is one of the list, or a name of an answer
+unfoldable pub symbol-ok : Name → Bool
+unfolding is-name
+symbol-ok (input s) = is-name s
+symbol-ok (xname n) = true
+symbol-ok (mname n) = true
+
+unfoldable pub tree-ok : Tree → Bool
+unfolding fold symbol-ok of-paper operands-ok all-of
+tree-ok = fold symbol-ok of-paper (λ k tests. operands-ok k (length tests) && all-of tests)
+
+unfoldable pub trees-ok : List Tree → Bool
+unfolding tree-ok
+trees-ok [] = true
+trees-ok (t ∷ l) = tree-ok t && trees-ok l

@@ -59,6 +59,16 @@ unfoldable pub number-in : List Row → List ℕ → ℕ
 unfolding first-named
 number-in rows s = first-named 0 rows s
 
+unfoldable pub name-of-row : Row → List ℕ
+name-of-row (row-sym s) = s
+name-of-row (row-const c) = []
+name-of-row (row-op k ns) = []
+
+-- the name of a symbol of the list by its row's number
+unfoldable pub name-in : List Row → ℕ → List ℕ
+unfolding name-of-row
+name-in rows n = name-of-row (getD rows n (row-const (pos 0)))
+
 -- ---- from words to trees, whatever the words are
 
 abbrev pub kind-of : ℕ → ℕ
