@@ -1,17 +1,15 @@
 -- What the functions answer on words none of which lacks an operand: for those who call them on such words. Assumes nothing.
-use Prim.Native.Nat.{ℕ, _+_, _*_, _<_}
-use native.Mathlib.Omega.{arith}
-use mathlib.Core.Path.{_≡_, _∙_}
+use Prim.Native.Nat.{ℕ, _+_, _<_}
+use mathlib.Core.Path.{_≡_}
 use mathlib.Core.Option.{some}
-use mathlib.Core.List.{List, _++_}
-use lib.ListN.{length, getD, List·getD-append}
+use mathlib.Core.List.{List}
+use lib.ListN.{length}
 use Rattle.tree.specs.Tree.{eq-tree}
 use Rattle.tree.specs.Facts.{size}
-use Rattle.tree.specs.Tokens.{trees-in, trees-at, numbered, run-at, same-at, facts, all-facts}
-use Rattle.tree.proofs.TokenLaws.{run-size, trees-length}
+use Rattle.tree.specs.Tokens.{trees-in, numbered, run-at, same-at}
+use Rattle.tree.proofs.TokenLaws.{run-size}
 use Rattle.tokens.specs.Answers.{end-answer, same-answer}
 use Rattle.tokens.specs.declared.Run.the-variants as run
-use Rattle.tokens.proofs.Filling.{all-facts-length, all-facts-at}
 use Rattle.tokens.proofs.Comparing.{tree, compared-is}
 
 module _ (ws : List ℕ) (n : ℕ) (complete : trees-in ws ≡ some n) where
@@ -24,11 +22,3 @@ module _ (ws : List ℕ) (n : ℕ) (complete : trees-in ws ≡ some n) where
   pub same-is : (i j : ℕ) → i < length ws → j < length ws → same-answer (same-at ws i j) ≡ same-answer (some (eq-tree (tree ws i) (tree ws j)))
   same-is i j h k =
       compared-is ws i j (size (tree ws i)) (size (tree ws j)) (run-size numbered ws n i complete h) (run-size numbered ws n j complete k)
-
--- each fact stands where it is looked for, whatever follows
-pub fact-is :
-    (ws rest : List ℕ) (i c : ℕ) → i < length ws → c < 5 → getD (all-facts (trees-at numbered ws) ++ rest) (5 * i + c) 0 ≡ getD (facts (tree ws i)) c 0
-fact-is ws rest i c h b =
-    let l = trees-length numbered ws in
-    let ts = trees-at numbered ws in
-    List·getD-append (all-facts ts) rest 0 (5 * i + c) (omega (arith, all-facts-length ts, l)) ∙ all-facts-at ts i c (omega (arith, l)) b

@@ -1,36 +1,16 @@
-// Trees as words, one u64 a node before its operands (Tokens): how many trees the words are, where a tree ends, whether two trees are equal, and the facts of
-// the tree at every place. Each function takes any words at all and answers Broken where a word lacks operands.
+// Trees as words, one u64 a node before its operands (Tokens): how many trees the words are, where a tree ends, and whether two trees are equal. Each function
+// takes any words at all and answers Broken where a word lacks operands.
 ghost use mathlib.Core.Path.{_≡_};
-ghost use mathlib.Core.List.{_++_};
-ghost use Prim.Native.Nat.{_+_, _*_, _^_, _≤_, _<_, max};
-ghost use lib.ListN.{length, getD, take, drop};
+ghost use Prim.Native.Nat.{_+_, _≤_};
+ghost use lib.ListN.{length, take, drop};
 ghost use Rattle.tree.specs.Bytes.{eq-bytes};
-ghost use Rattle.tree.specs.Facts.{total, greatest};
-ghost use Rattle.tree.specs.Tokens.{takes, trees-in, run-at, same-at, numbered, trees-at, all-facts};
-ghost use Rattle.tokens.specs.Answers.{count-answer, end-answer, same-answer, measure-answer};
-ghost use Rattle.tokens.specs.Columns.{column, Inside, Ready, own-operation, own-symbol, operand-costs, WordFacts, Complete};
+ghost use Rattle.tree.specs.Tokens.{takes, trees-in, run-at, same-at};
+ghost use Rattle.tokens.specs.Answers.{count-answer, end-answer, same-answer};
 
 // A word is kind + KINDS * below; the kinds are numbered as 01 lists them, with 28 for a Select with a default.
 const KINDS: u64 = 64;
 
-const SYM: u64 = 0;
-
 const CONST: u64 = 1;
-
-const SELECT: u64 = 27;
-
-// Each place has PER_PLACE words of facts, in this order.
-const PER_PLACE: usize = 5;
-
-const SIZE: usize = 0;
-
-const COST: usize = 1;
-
-const DEPTH: usize = 2;
-
-const OPERATIONS: usize = 3;
-
-const SYMBOL: usize = 4;
 
 pub enum Trees {
     Count(usize),
@@ -47,22 +27,6 @@ pub enum Equality {
     Equal,
     Different,
     Broken,
-}
-
-pub enum Measured {
-    Done,
-    Broken,
-    // Fewer than five words for each token.
-    NoRoom,
-}
-
-// The facts of one tree; `symbol` is 1 where it has a symbol, and else 0.
-struct Facts {
-    size: u64,
-    cost: u64,
-    depth: u64,
-    operations: u64,
-    symbol: u64,
 }
 
 // How many of the trees after a word are its operands: none after a symbol or a constant.
@@ -106,138 +70,6 @@ pub fn end_of(tokens: &[u64], at: usize) -> Run
         i += 1;
     }
     Run::Ends(i)
-}
-
-// The sum of one fact, by its place among the five, over the `count` trees from `place` on. The size of each says where the next one starts.
-fn total_of(facts: &[u64], fact: usize, place: usize, count: usize) -> u64
-    requires { ⌜ fact < 5 ⌝ }
-    requires { ⌜ Inside (now facts) place count ⌝ }
-    requires { ⌜ total (column (now facts) fact place count) < 2 ^ 64 ⌝ }
-    ensures { λ r. ⌜ r ≡ total (column (now (facts .entry)) fact place count) ⌝ }
-{
-    let mut sum: u64 = 0;
-    let mut p = place;
-    let mut left = count;
-    while left > 0 {
-        let row = PER_PLACE * p;
-        sum += facts[row + fact];
-        p += facts[row] as usize;
-        left -= 1;
-    }
-    sum
-}
-
-// The larger of two numbers.
-fn larger(a: u64, b: u64) -> u64
-    ensures { λ r. ⌜ r ≡ max a b ⌝ }
-{
-    if a < b { b } else { a }
-}
-
-// The greatest of one fact over the `count` trees from `place` on, 0 where there are none.
-fn greatest_of(facts: &[u64], fact: usize, place: usize, count: usize) -> u64
-    requires { ⌜ fact < 5 ⌝ }
-    requires { ⌜ Inside (now facts) place count ⌝ }
-    ensures { λ r. ⌜ r ≡ greatest (column (now (facts .entry)) fact place count) ⌝ }
-{
-    let mut most: u64 = 0;
-    let mut p = place;
-    let mut left = count;
-    while left > 0 {
-        let row = PER_PLACE * p;
-        most = larger(most, facts[row + fact]);
-        p += facts[row] as usize;
-        left -= 1;
-    }
-    most
-}
-
-// What the operands of an operation cost: of a Select the index and its dearest arm, of any other the sum.
-fn operands_cost(facts: &[u64], kind: u64, place: usize, count: usize) -> u64
-    requires { ⌜ Inside (now facts) place count ⌝ }
-    requires { ⌜ total (column (now facts) 1 place count) < 2 ^ 64 ⌝ }
-    ensures { λ r. ⌜ r ≡ operand-costs kind (column (now (facts .entry)) 1 place count) ⌝ }
-{
-    if kind < SELECT {
-        return total_of(facts, COST, place, count);
-    }
-    if count == 0 {
-        return 0;
-    }
-    let row = PER_PLACE * place;
-    let arms = place + facts[row] as usize;
-    facts[row + COST] + greatest_of(facts, COST, arms, count - 1)
-}
-
-// 1 for an operation, 0 for a leaf: what an operation adds to the cost, the depth and the operations below it.
-fn operation_of(w: u64) -> u64
-    ensures { λ r. ⌜ r ≡ own-operation w ⌝ }
-{
-    if w % KINDS <= CONST { 0 } else { 1 }
-}
-
-// 1 for a symbol.
-fn symbol_of(w: u64) -> u64
-    ensures { λ r. ⌜ r ≡ own-symbol w ⌝ }
-{
-    if w % KINDS == SYM { 1 } else { 0 }
-}
-
-// The facts of the tree at a place, from those of its operands, which come after it.
-fn facts_at(tokens: &[u64], facts: &[u64], at: usize) -> Facts
-    requires { ⌜ at < length (now tokens) ⌝ }
-    requires { ⌜ Ready (length (now tokens)) (now facts) (at + 1) (takes (getD (now tokens) at 0)) ⌝ }
-    ensures { λ r. ⌜ WordFacts (getD (now (tokens .entry)) at 0) (now (facts .entry)) (at + 1) (r .size) (r .cost) (r .depth) (r .operations) (r .symbol) ⌝ }
-{
-    let w = tokens[at];
-    let place = at + 1;
-    let count = operand_count(w) as usize;
-    let own = operation_of(w);
-    let size = 1 + total_of(facts, SIZE, place, count);
-    let cost = own + operands_cost(facts, w % KINDS, place, count);
-    let depth = own + greatest_of(facts, DEPTH, place, count);
-    let operations = own + total_of(facts, OPERATIONS, place, count);
-    let symbol = symbol_of(w) + greatest_of(facts, SYMBOL, place, count);
-    Facts {
-        size,
-        cost,
-        depth,
-        operations,
-        symbol,
-    }
-}
-
-// Writes the facts of every place, from the right, so that those of a word's operands are there before its own.
-fn fill(tokens: &[u64], facts: &mut [u64])
-    requires { ⌜ 5 * length (now tokens) ≤ length (now facts) ⌝ }
-    requires { ⌜ Complete (now tokens) ⌝ }
-    ensures { λ _. ⌜ now (facts .exit) ≡ all-facts (trees-at numbered (now (tokens .entry))) ++ drop (5 * length (now (tokens .entry))) (now (facts .entry)) ⌝ }
-{
-    let mut i = tokens.len();
-    while i > 0 {
-        i -= 1;
-        let f = facts_at(tokens, facts, i);
-        let row = PER_PLACE * i;
-        facts[row] = f.size;
-        facts[row + COST] = f.cost;
-        facts[row + DEPTH] = f.depth;
-        facts[row + OPERATIONS] = f.operations;
-        facts[row + SYMBOL] = f.symbol;
-    }
-}
-
-// The facts of the tree at every place, five words a place: size, cost, depth, operations, and 1 where it has a symbol.
-pub fn measure(tokens: &[u64], facts: &mut [u64]) -> Measured
-    ensures { λ r. ⌜ (r ≡ measure-answer (now (tokens .entry)) (now (facts .entry)) .answer) × (now (facts .exit) ≡ measure-answer (now (tokens .entry)) (now (facts .entry)) .facts) ⌝ }
-{
-    if facts.len() / PER_PLACE < tokens.len() {
-        return Measured::NoRoom;
-    }
-    let Trees::Count(_) = count_trees(tokens) else {
-        return Measured::Broken;
-    };
-    fill(tokens, facts);
-    Measured::Done
 }
 
 // Whether the n words from i on are those from j on.

@@ -7,11 +7,12 @@ use mathlib.Core.List.{List, _++_}
 use borrow.Author.Tests.{lt-ltb, le-ltb}
 use lib.ListN.{length, drop}
 use Rattle.tree.specs.Tokens.{trees-in, trees-at, numbered, all-facts, facts-of-words}
-use Rattle.tokens.specs.Answers.{count-answer, measure-answer}
-use Rattle.tokens.specs.Columns.{Complete}
+use Rattle.tokens.specs.Answers.{count-answer}
+use Rattle.measure.specs.Measurement.{measure-answer}
+use Rattle.measure.specs.Columns.{Complete}
 use Rattle.tokens.specs.declared.Trees.the-variants as trees
-use Rattle.tokens.specs.declared.Measured.{Measured}
-use Rattle.tokens.specs.declared.Measured.the-variants as measure
+use Rattle.measure.specs.declared.Measured.{Measured}
+use Rattle.measure.specs.declared.Measured.the-variants as measure
 
 -- one answer with its words
 abbrev pub Gives : List ℕ → List ℕ → Measured → List ℕ → Type 0

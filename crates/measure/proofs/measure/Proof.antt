@@ -1,10 +1,10 @@
--- `tokens::measure` meets its contract. Assumes nothing.
+-- `measure::measure` meets its contract. Assumes nothing.
 use native.Mathlib.Omega.{arith}
 use mathlib.Core.Path.{sym, _∙_}
-use Rattle.tokens.proofs.Measuring.{gives-no-room, gives-broken, gives-done, counted-complete}
+use Rattle.measure.proofs.Measuring.{gives-no-room, gives-broken, gives-done, counted-complete}
 use borrow.Author.Needs.{needs}
-use Rattle.tokens.proofs.measure.Statement.{statement}
-use Rattle.tokens.proofs.measure.Tie as tie
+use Rattle.measure.proofs.measure.Statement.{statement}
+use Rattle.measure.proofs.measure.Tie as tie
 
 pub measure-spec : {M : Type 1} → statement M
 measure-spec =

@@ -1,9 +1,9 @@
--- `tokens::operation_of` meets its contract. Assumes nothing.
+-- `measure::operation_of` meets its contract. Assumes nothing.
 use native.Mathlib.Omega.{arith}
 use mathlib.Core.Path.{sym}
-use Rattle.tokens.proofs.WordFacts.{leaf-own, operation-own}
-use Rattle.tokens.proofs.operation_of.Statement.{statement}
-use Rattle.tokens.proofs.operation_of.Tie as tie
+use Rattle.measure.proofs.WordFacts.{leaf-own, operation-own}
+use Rattle.measure.proofs.operation_of.Statement.{statement}
+use Rattle.measure.proofs.operation_of.Tie as tie
 
 returns : tie.Need-returns
 returns c = sym (leaf-own (c .before .args .w) (omega (arith, c .if1 .taken)))

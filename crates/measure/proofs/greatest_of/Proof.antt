@@ -1,9 +1,9 @@
--- `tokens::greatest_of` meets its contract. Assumes nothing.
+-- `measure::greatest_of` meets its contract. Assumes nothing.
 use native.Mathlib.Omega.{arith}
-use Rattle.tokens.proofs.Walking.{Seeking, seeking, seek-turn, seek-end}
+use Rattle.measure.proofs.Walking.{Seeking, seeking, seek-turn, seek-end}
 use borrow.Author.Needs.{needs}
-use Rattle.tokens.proofs.greatest_of.Statement.{statement}
-use Rattle.tokens.proofs.greatest_of.Tie as tie
+use Rattle.measure.proofs.greatest_of.Statement.{statement}
+use Rattle.measure.proofs.greatest_of.Tie as tie
 
 abbrev Inv-loop : tie.InvT-loop
 Inv-loop facts fact place count most₀ p₀ left₀ most p left = Seeking facts fact place count most p left

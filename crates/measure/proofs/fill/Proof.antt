@@ -1,10 +1,10 @@
--- `tokens::fill` meets its contract. Assumes nothing.
+-- `measure::fill` meets its contract. Assumes nothing.
 use native.Mathlib.Omega.{arith}
 use lib.ListN.{length-set}
-use Rattle.tokens.proofs.Filling.{Filling, filling-starts, filling-ready, filling-turns, filling-ends}
+use Rattle.measure.proofs.Filling.{Filling, filling-starts, filling-ready, filling-turns, filling-ends}
 use borrow.Author.Needs.{needs}
-use Rattle.tokens.proofs.fill.Statement.{statement}
-use Rattle.tokens.proofs.fill.Tie as tie
+use Rattle.measure.proofs.fill.Statement.{statement}
+use Rattle.measure.proofs.fill.Tie as tie
 
 abbrev Inv-loop : tie.InvT-loop
 Inv-loop tokens facts₀ i₀ facts i = Filling tokens facts₀ facts i

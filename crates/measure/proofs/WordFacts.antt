@@ -12,7 +12,7 @@ use Rattle.tree.specs.Facts.{total, greatest, some-of, first-and-greatest, cost
 use Rattle.tree.specs.Tokens.{kind-of, takes, flag}
 use Rattle.tree.proofs.TokenLaws.{Word, a-symbol, a-constant, an-operation, word-is, leaf-takes, symbol-tree, constant-tree, operation-tree, fold-operation, made}
 use Rattle.tree.proofs.FactLaws.{flag-one}
-use Rattle.tokens.specs.Columns.{own-operation, own-symbol, operand-costs}
+use Rattle.measure.specs.Columns.{own-operation, own-symbol, operand-costs}
 
 pub leaf-own : (w : ℕ) → kind-of w ≤ 1 → own-operation w ≡ 0
 unfolding own-operation

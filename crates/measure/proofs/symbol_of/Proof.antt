@@ -1,9 +1,9 @@
--- `tokens::symbol_of` meets its contract. Assumes nothing.
+-- `measure::symbol_of` meets its contract. Assumes nothing.
 use native.Mathlib.Omega.{arith}
 use mathlib.Core.Path.{sym}
-use Rattle.tokens.proofs.WordFacts.{symbol-own, other-own}
-use Rattle.tokens.proofs.symbol_of.Statement.{statement}
-use Rattle.tokens.proofs.symbol_of.Tie as tie
+use Rattle.measure.proofs.WordFacts.{symbol-own, other-own}
+use Rattle.measure.proofs.symbol_of.Statement.{statement}
+use Rattle.measure.proofs.symbol_of.Tie as tie
 
 returns : tie.Need-returns
 returns c = sym (symbol-own (c .before .args .w) (omega (arith, c .if1 .taken)))

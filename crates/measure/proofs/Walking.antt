@@ -11,7 +11,7 @@ use Rattle.tree.specs.Kinds.{is-select}
 use Rattle.tree.specs.Facts.{total, greatest, first-and-greatest}
 use Rattle.tree.specs.Tokens.{kind-of, takes}
 use Rattle.tree.proofs.FactLaws.{greatest-total, costs-total}
-use Rattle.tokens.specs.Columns.{column, Inside, Ready, WordFacts, own-operation, own-symbol, operand-costs}
+use Rattle.measure.specs.Columns.{column, Inside, Ready, WordFacts, own-operation, own-symbol, operand-costs}
 
 -- the first of some operands, and those after it
 pub record Next (fs : List ℕ) (c p left : ℕ) : Type 0 where

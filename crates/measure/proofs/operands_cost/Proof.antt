@@ -1,11 +1,11 @@
--- `tokens::operands_cost` meets its contract. Assumes nothing.
+-- `measure::operands_cost` meets its contract. Assumes nothing.
 use native.Mathlib.Omega.{arith}
 use mathlib.Core.Path.{_∙_}
 use lib.Dec.{lit<}
-use Rattle.tokens.proofs.Walking.{arms, costs-sum, costs-none}
+use Rattle.measure.proofs.Walking.{arms, costs-sum, costs-none}
 use borrow.Author.Needs.{needs}
-use Rattle.tokens.proofs.operands_cost.Statement.{statement}
-use Rattle.tokens.proofs.operands_cost.Tie as tie
+use Rattle.measure.proofs.operands_cost.Statement.{statement}
+use Rattle.measure.proofs.operands_cost.Tie as tie
 
 pub operands-cost-spec : {M : Type 1} → statement M
 operands-cost-spec =

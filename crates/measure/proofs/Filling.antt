@@ -12,8 +12,8 @@ use Rattle.tree.specs.Facts.{total, size, cost, depth, operations, has-symbol}
 use Rattle.tree.specs.Tokens.{takes, trees-in, trees-at, read, numbered, flag, facts, all-facts}
 use Rattle.tree.proofs.TokenLaws.{sizes, sizes-append, size-made, read-past, read-size, trees-length, trees-cons, made, tree-at, complete-tail, broken-end, complete-length}
 use Rattle.tree.proofs.FactLaws.{cost-size, depth-size, operations-size, flag-one, size-one}
-use Rattle.tokens.specs.Columns.{column, Inside, Ready, WordFacts, Complete}
-use Rattle.tokens.proofs.WordFacts.{cost-made, depth-made, operations-made, symbol-made}
+use Rattle.measure.specs.Columns.{column, Inside, Ready, WordFacts, Complete}
+use Rattle.measure.proofs.WordFacts.{cost-made, depth-made, operations-made, symbol-made}
 
 -- ---- five words a tree
 

@@ -1,8 +1,8 @@
--- `tokens::total_of` meets its contract. Assumes nothing.
+-- `measure::total_of` meets its contract. Assumes nothing.
 use native.Mathlib.Omega.{arith}
-use Rattle.tokens.proofs.Walking.{Summing, summing, sum-turn, sum-end}
-use Rattle.tokens.proofs.total_of.Statement.{statement}
-use Rattle.tokens.proofs.total_of.Tie as tie
+use Rattle.measure.proofs.Walking.{Summing, summing, sum-turn, sum-end}
+use Rattle.measure.proofs.total_of.Statement.{statement}
+use Rattle.measure.proofs.total_of.Tie as tie
 
 abbrev Inv-loop : tie.InvT-loop
 Inv-loop facts fact place count sum₀ p₀ left₀ sum p left = Summing facts fact place count sum p left

@@ -1,13 +1,13 @@
--- `tokens::facts_at` meets its contract. Assumes nothing.
+-- `measure::facts_at` meets its contract. Assumes nothing.
 use Prim.Native.Nat.{_+_, _%_}
 use native.Mathlib.Omega.{arith}
 use lib.ListN.{getD}
 use lib.Dec.{lit<}
-use Rattle.tokens.specs.Columns.{column}
-use Rattle.tokens.proofs.Walking.{small, operands-small, own-one, own-symbol-one, word-facts}
+use Rattle.measure.specs.Columns.{column}
+use Rattle.measure.proofs.Walking.{small, operands-small, own-one, own-symbol-one, word-facts}
 use borrow.Author.Needs.{needs}
-use Rattle.tokens.proofs.facts_at.Statement.{statement}
-use Rattle.tokens.proofs.facts_at.Tie as tie
+use Rattle.measure.proofs.facts_at.Statement.{statement}
+use Rattle.measure.proofs.facts_at.Tie as tie
 
 pub facts-at-spec : {M : Type 1} → statement M
 facts-at-spec =
