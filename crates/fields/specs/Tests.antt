@@ -7,7 +7,7 @@ use lib.Dec.{eqb, leb, ltb}
 use Rattle.tree.specs.Bytes.{every}
 use Rattle.tree.specs.Kinds.{kind-at, Select}
 use Rattle.tree.specs.Symbol.{is-name}
-use Rattle.fields.specs.Counts.{kind-number}
+use Rattle.kinds.specs.Numbers.{kind-number}
 
 -- each number below n; with n 1, each word 0
 abbrev pub below : ℕ → List ℕ → Bool

@@ -14,7 +14,7 @@ use Rattle.tree.specs.Bytes.{bytes, eq-bytes}
 use Rattle.tree.proofs.Logic.{and-left, and-right}
 use Rattle.tree.proofs.TreeLaws.{eq-bytes-sound}
 use Rattle.sheet.specs.Sheet.{words, find}
-use Rattle.fields.proofs.Spans.{all, span}
+use Rattle.kinds.proofs.Spans.{all, span}
 use Rattle.parse.specs.Answers.{word-answer}
 use Rattle.parse.specs.declared.Word.the-variants as word
 

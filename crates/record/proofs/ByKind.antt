@@ -21,7 +21,7 @@ use Rattle.sheet.specs.Sheet.{Root, constant, numbers}
 use Rattle.parse.specs.Parts.{has-room, copied}
 use Rattle.parse.specs.Answers.{constant-answer}
 use Rattle.parse.specs.declared.Constant.the-variants as signed
-use Rattle.fields.proofs.Leaves.{name-by}
+use Rattle.names.proofs.Leaves.{name-by}
 use Rattle.record.specs.Item.{Item, row-item, root-item, numbers-item, fields-item}
 use Rattle.record.specs.Reading.{Follows, Writes, capped-all}
 use Rattle.record.specs.declared.Read.the-variants as read

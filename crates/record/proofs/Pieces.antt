@@ -13,7 +13,7 @@ use Rattle.tree.specs.Kinds.{Kind, kinds, kind-at, arity-ok, Select, SelectOr}
 use Rattle.tree.proofs.Logic.{and-left, and-right}
 use Rattle.tree.proofs.KindLaws.{kinds-long, arity-kind}
 use Rattle.tree.proofs.Tests.{all-from, entry-at}
-use Rattle.fields.specs.Counts.{kind-number}
+use Rattle.kinds.specs.Numbers.{kind-number}
 use Rattle.sheet.specs.Sheet.{fields-from, Root, fields-ok}
 
 -- ---- counting

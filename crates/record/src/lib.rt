@@ -6,7 +6,7 @@ ghost use Prim.Native.Nat.{_≤_, _<_};
 ghost use lib.Dec.{eqb};
 ghost use lib.ListN.{length, drop, replicate};
 ghost use Rattle.tree.specs.Kinds.{arity-ok};
-ghost use Rattle.fields.specs.Counts.{kind-number};
+ghost use Rattle.kinds.specs.Numbers.{kind-number};
 ghost use Rattle.sheet.specs.Sheet.{fields-from, fields-ok, numbers};
 ghost use Rattle.record.specs.Item.{fields-item};
 ghost use Rattle.record.specs.Reading.{Follows, Reads, Writes};
@@ -88,7 +88,7 @@ fn count_ok(kind: u64, n: u64) -> bool
 fn operands_ok(kind: u64, default: bool, n: u64) -> bool
     ensures { λ r. ⌜ r ≡ arity-ok (kind-number kind default) n ⌝ }
 {
-    let counts = fields::operand_counts(kind, default);
+    let counts = kinds::operand_counts(kind, default);
     if n < counts.fewest {
         return false;
     }
@@ -173,7 +173,7 @@ fn read_symbol(s: &[u8], rows: u64, row: &mut [u64]) -> Read
     }
     let n = s.len();
     let end = n + 3;
-    if !fields::is_name(&row[3..end]) {
+    if !names::is_name(&row[3..end]) {
         return Read::Refused(3);
     }
     if rows >= ROWS {

@@ -17,7 +17,7 @@ use Rattle.tree.specs.Layout.{row-of, rows-of}
 use Rattle.fields.specs.Tests.{below}
 use Rattle.rows.specs.Check.{row-test, rows-test}
 use Rattle.rows.specs.Measure.{pick, capped-size, capped-level, level-by, row-operands, Row-measures, Filled}
-use Rattle.fields.proofs.Leaves.{back}
+use Rattle.names.proofs.Leaves.{back}
 use Rattle.rows.proofs.Sums.{below-less}
 use Rattle.rows.proofs.RowTrees.{row-count, operands-below, row-size, row-nesting, picked-sizes, picked-level-by}
 

@@ -20,7 +20,7 @@ use Rattle.tree.specs.Layout.{row-kind, row-default, row-fields, row-words, sig
 use Rattle.tree.proofs.Logic.{and-left, and-right, and-both}
 use Rattle.tree.proofs.TreeLaws.{eq-bytes-sound, eq-bytes-refl}
 use Rattle.tree.proofs.LayoutLaws.{row-number}
-use Rattle.fields.specs.Counts.{kind-number}
+use Rattle.kinds.specs.Numbers.{kind-number}
 use Rattle.fields.specs.Tests.{below, constant-test, operation-test, plain-test, fields-test}
 use Rattle.rows.specs.Check.{row-test}
 use Rattle.rows.proofs.RowTrees.{flag-cases}

@@ -15,7 +15,7 @@ use Rattle.tree.specs.Facts.{total, greatest, first-or-deeper, size, nesting}
 use Rattle.tree.specs.Rows.{at, tree-of-row, occurrences}
 use Rattle.tree.specs.Layout.{row-by, row-of}
 use Rattle.tree.proofs.Logic.{and-left, and-right}
-use Rattle.fields.specs.Counts.{kind-number}
+use Rattle.kinds.specs.Numbers.{kind-number}
 use Rattle.fields.specs.Tests.{below, plain-test, operation-test, fields-test}
 use Rattle.rows.specs.Check.{row-test}
 use Rattle.rows.specs.Measure.{pick, capped-size, capped-level, level-by, row-operands, Row-measures}

@@ -15,7 +15,7 @@ use Rattle.tree.specs.Facts.{total, greatest, first-or-deeper}
 use Rattle.tree.proofs.Logic.{and-left, and-right, and-both}
 use Rattle.fields.specs.Tests.{below}
 use Rattle.rows.specs.Measure.{pick, capped-size, capped-level, level-by, row-operands}
-use Rattle.fields.proofs.Leaves.{rest, back}
+use Rattle.names.proofs.Leaves.{rest, back}
 
 -- ---- numbers below a bound
 

@@ -6,7 +6,7 @@ use lib.ListN.{length, getD, drop}
 use borrow.Author.Tests.{lt-ltb, le-ltb}
 use Rattle.tree.specs.Bytes.{every}
 use Rattle.fields.specs.Tests.{below}
-use Rattle.fields.proofs.Leaves.{every-next, every-stop, every-end}
+use Rattle.names.proofs.Leaves.{every-next, every-stop, every-end}
 use borrow.Author.Needs.{needs}
 use Rattle.fields.proofs.all_below.Statement.{statement}
 use Rattle.fields.proofs.all_below.Tie as tie

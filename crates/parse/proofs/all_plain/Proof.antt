@@ -5,7 +5,7 @@ use lib.ListN.{length, drop}
 use borrow.Author.Tests.{not-true, not-false}
 use Rattle.tree.specs.Bytes.{every}
 use Rattle.sheet.specs.Sheet.{plain}
-use Rattle.fields.proofs.Leaves.{every-next, every-stop, every-end}
+use Rattle.names.proofs.Leaves.{every-next, every-stop, every-end}
 use borrow.Author.Needs.{needs}
 use Rattle.parse.proofs.all_plain.Statement.{statement}
 use Rattle.parse.proofs.all_plain.Tie as tie

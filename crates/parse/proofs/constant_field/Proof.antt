@@ -3,7 +3,7 @@ use mathlib.Core.Path.{sym, _∙_}
 use mathlib.Core.Option.{some}
 use lib.IntN.{pos}
 use Rattle.sheet.specs.Sheet.{number}
-use Rattle.fields.proofs.Leaves.{rest}
+use Rattle.names.proofs.Leaves.{rest}
 use Rattle.parse.proofs.Values.{read-none, read-past, read-pos, constant-empty, constant-minus, constant-plain}
 use borrow.Author.Needs.{needs}
 use Rattle.parse.proofs.constant_field.Statement.{statement}

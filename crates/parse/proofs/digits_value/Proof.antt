@@ -7,7 +7,7 @@ use borrow.Author.Tests.{not-true, not-false}
 use Rattle.tree.specs.Bytes.{every}
 use Rattle.tree.specs.Symbol.{is-digit}
 use Rattle.sheet.specs.Sheet.{number-from}
-use Rattle.fields.proofs.Leaves.{every-next, every-stop, every-end}
+use Rattle.names.proofs.Leaves.{every-next, every-stop, every-end}
 use Rattle.parse.proofs.Values.{in-range, value-next, value-end, digits-read, digits-bad}
 use borrow.Author.Needs.{needs}
 use Rattle.parse.proofs.digits_value.Statement.{statement}

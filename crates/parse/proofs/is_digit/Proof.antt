@@ -1,6 +1,6 @@
 -- `parse::is_digit` meets its contract. Assumes nothing.
 use native.Mathlib.Omega.{arith}
-use Rattle.fields.proofs.Leaves.{digit-low, digit-in, digit-high}
+use Rattle.names.proofs.Leaves.{digit-low, digit-in, digit-high}
 use Rattle.parse.proofs.is_digit.Statement.{statement}
 use Rattle.parse.proofs.is_digit.Tie as tie
 

@@ -1,6 +1,6 @@
 -- `record::operands_ok` meets its contract. Assumes nothing.
 use borrow.Author.Tests.{lt-leb, le-leb}
-use Rattle.fields.specs.Counts.{kind-number}
+use Rattle.kinds.specs.Numbers.{kind-number}
 use Rattle.record.proofs.Pieces.{arity-by}
 use borrow.Author.Needs.{needs}
 use Rattle.record.proofs.operands_ok.Statement.{statement}

@@ -1,10 +1,10 @@
--- `fields::operand_counts` meets its contract: where each answer stands, the tests leave a span of kinds, and antt computes the counts over it. Assumes nothing.
+-- `kinds::operand_counts` meets its contract: where each answer stands, the tests leave a span of kinds, and antt computes the counts over it. Assumes nothing.
 use native.Mathlib.Omega.{arith}
 use mathlib.Core.Bool.{true, false}
 use Rattle.tree.specs.Kinds.{kind-at}
-use Rattle.fields.proofs.Spans.{is, counts-at, counts-past, counts-select}
-use Rattle.fields.proofs.operand_counts.Statement.{statement}
-use Rattle.fields.proofs.operand_counts.Tie as tie
+use Rattle.kinds.proofs.Spans.{is, counts-at, counts-past, counts-select}
+use Rattle.kinds.proofs.operand_counts.Statement.{statement}
+use Rattle.kinds.proofs.operand_counts.Tie as tie
 
 returns : tie.Need-returns
 unfolding is kind-at

@@ -1,14 +1,14 @@
--- `fields::all_digits` meets its contract: every byte is tested, from the front. Assumes nothing.
+-- `names::all_digits` meets its contract: every byte is tested, from the front. Assumes nothing.
 use Prim.Native.Nat.{_≤_, _-_}
 use mathlib.Core.Path.{_≡_, refl, sym, _∙_}
 use lib.ListN.{length, drop}
 use borrow.Author.Tests.{not-true, not-false}
 use Rattle.tree.specs.Bytes.{every}
 use Rattle.tree.specs.Symbol.{is-digit}
-use Rattle.fields.proofs.Leaves.{every-next, every-stop, every-end}
+use Rattle.names.proofs.Leaves.{every-next, every-stop, every-end}
 use borrow.Author.Needs.{needs}
-use Rattle.fields.proofs.all_digits.Statement.{statement}
-use Rattle.fields.proofs.all_digits.Tie as tie
+use Rattle.names.proofs.all_digits.Statement.{statement}
+use Rattle.names.proofs.all_digits.Tie as tie
 
 abbrev Inv-loop : tie.InvT-loop
 Inv-loop bytes i₀ i = (i ≤ length bytes) × (every is-digit bytes ≡ every is-digit (drop i bytes))

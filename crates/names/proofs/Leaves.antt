@@ -12,7 +12,7 @@ use lib.ListN.{length, getD, take, drop, length-drop, drop-of-length-le}
 use lib.Seq.{drop-cons, take-all}
 use Rattle.tree.specs.Bytes.{every}
 use Rattle.tree.specs.Symbol.{is-digit, is-letter, is-made, is-name}
-use Rattle.fields.proofs.Spans.{all, span}
+use Rattle.kinds.proofs.Spans.{all, span}
 
 yes : (b : Bool) → T b → true ≡ b
 yes true t = refl

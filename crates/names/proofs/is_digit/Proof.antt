@@ -1,7 +1,7 @@
--- `fields::is_digit` meets its contract. Assumes nothing.
-use Rattle.fields.proofs.Leaves.{digit-low, digit-in, digit-high}
-use Rattle.fields.proofs.is_digit.Statement.{statement}
-use Rattle.fields.proofs.is_digit.Tie as tie
+-- `names::is_digit` meets its contract. Assumes nothing.
+use Rattle.names.proofs.Leaves.{digit-low, digit-in, digit-high}
+use Rattle.names.proofs.is_digit.Statement.{statement}
+use Rattle.names.proofs.is_digit.Tie as tie
 
 pub is-digit-spec : {M : Type 1} → statement M
 is-digit-spec = tie.close

@@ -7,7 +7,7 @@ use borrow.Author.Tests.{lt-ltb, ne-eqb}
 use lib.Dec.{T, eqb, ltb, eqb→eq, ltb→lt, nltb→le}
 use Rattle.tree.specs.Kinds.{kind-at, Select}
 use Rattle.tree.proofs.Logic.{and-left, and-right}
-use Rattle.fields.specs.Counts.{kind-number}
+use Rattle.kinds.specs.Numbers.{kind-number}
 
 abbrev pub all : (ℕ → Bool) → ℕ → ℕ → Bool
 all P lo zero = true

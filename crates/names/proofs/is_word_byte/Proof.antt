@@ -1,8 +1,8 @@
--- `fields::is_word_byte` meets its contract. Assumes nothing.
+-- `names::is_word_byte` meets its contract. Assumes nothing.
 use mathlib.Core.Path.{sym, _∙_}
 use borrow.Author.Needs.{needs}
-use Rattle.fields.proofs.is_word_byte.Statement.{statement}
-use Rattle.fields.proofs.is_word_byte.Tie as tie
+use Rattle.names.proofs.is_word_byte.Statement.{statement}
+use Rattle.names.proofs.is_word_byte.Tie as tie
 
 pub is-word-byte-spec : {M : Type 1} → statement M
 is-word-byte-spec = tie.close

@@ -1,13 +1,13 @@
--- `fields::is_name` meets its contract. Assumes nothing.
+-- `names::is_name` meets its contract. Assumes nothing.
 use mathlib.Core.Path.{sym, _∙_, ap}
 use mathlib.Core.Bool.{not}
 use lib.ListN.{length}
 use borrow.Author.Tests.{lt-leb, le-leb, eq-eqb, ne-eqb, not-true, not-false}
 use Rattle.tree.specs.Symbol.{is-letter}
-use Rattle.fields.proofs.Leaves.{name-by, rest}
+use Rattle.names.proofs.Leaves.{name-by, rest}
 use borrow.Author.Needs.{needs}
-use Rattle.fields.proofs.is_name.Statement.{statement}
-use Rattle.fields.proofs.is_name.Tie as tie
+use Rattle.names.proofs.is_name.Statement.{statement}
+use Rattle.names.proofs.is_name.Tie as tie
 
 pub is-name-spec : {M : Type 1} → statement M
 is-name-spec =

@@ -1,10 +1,10 @@
--- `fields::is_made` meets its contract. Assumes nothing.
+-- `names::is_made` meets its contract. Assumes nothing.
 use lib.ListN.{length, getD}
 use borrow.Author.Tests.{lt-leb, le-leb, eq-eqb, ne-eqb}
-use Rattle.fields.proofs.Leaves.{made-by, m-or-x, not-m-or-x, rest}
+use Rattle.names.proofs.Leaves.{made-by, m-or-x, not-m-or-x, rest}
 use borrow.Author.Needs.{needs}
-use Rattle.fields.proofs.is_made.Statement.{statement}
-use Rattle.fields.proofs.is_made.Tie as tie
+use Rattle.names.proofs.is_made.Statement.{statement}
+use Rattle.names.proofs.is_made.Tie as tie
 
 pub is-made-spec : {M : Type 1} → statement M
 is-made-spec =

@@ -1,4 +1,4 @@
--- `fields::all_word_bytes` meets its contract: every byte is tested, from the front. Assumes nothing.
+-- `names::all_word_bytes` meets its contract: every byte is tested, from the front. Assumes nothing.
 use Prim.Native.Nat.{_≤_, _-_}
 use mathlib.Core.Path.{_≡_, refl, sym, _∙_}
 use mathlib.Core.Bool.{_||_}
@@ -6,10 +6,10 @@ use lib.ListN.{length, drop}
 use borrow.Author.Tests.{not-true, not-false}
 use Rattle.tree.specs.Bytes.{every}
 use Rattle.tree.specs.Symbol.{is-letter, is-digit}
-use Rattle.fields.proofs.Leaves.{every-next, every-stop, every-end}
+use Rattle.names.proofs.Leaves.{every-next, every-stop, every-end}
 use borrow.Author.Needs.{needs}
-use Rattle.fields.proofs.all_word_bytes.Statement.{statement}
-use Rattle.fields.proofs.all_word_bytes.Tie as tie
+use Rattle.names.proofs.all_word_bytes.Statement.{statement}
+use Rattle.names.proofs.all_word_bytes.Tie as tie
 
 abbrev Inv-loop : tie.InvT-loop
 Inv-loop bytes i₀ i = (i ≤ length bytes) × (every (λ c. is-letter c || is-digit c) bytes ≡ every (λ c. is-letter c || is-digit c) (drop i bytes))

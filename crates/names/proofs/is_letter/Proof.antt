@@ -1,8 +1,8 @@
--- `fields::is_letter` meets its contract. Assumes nothing.
+-- `names::is_letter` meets its contract. Assumes nothing.
 use native.Mathlib.Omega.{arith}
-use Rattle.fields.proofs.Leaves.{letter-in, letter-out, letter-between, letter-high}
-use Rattle.fields.proofs.is_letter.Statement.{statement}
-use Rattle.fields.proofs.is_letter.Tie as tie
+use Rattle.names.proofs.Leaves.{letter-in, letter-out, letter-between, letter-high}
+use Rattle.names.proofs.is_letter.Statement.{statement}
+use Rattle.names.proofs.is_letter.Tie as tie
 
 pub is-letter-spec : {M : Type 1} → statement M
 is-letter-spec = tie.close
