@@ -1,5 +1,3 @@
 pub mod Commas
-pub mod Values
 pub mod Ends
-pub mod RecordWords
 pub mod Copies

@@ -1,13 +1,10 @@
--- The parts of load that the code reads: the first comma, capped numbers, where a record ends, and a copy of a name (01, "Sheet and printing"). Assumes nothing.
-use Prim.Native.Nat.{ℕ, suc, min}
+-- The parts of load that the code reads: the first comma, where a record ends, and a copy of a name (01, "Sheet and printing"). Assumes nothing.
+use Prim.Native.Nat.{ℕ, suc}
 use mathlib.Core.Bool.{Bool, true, false, _&&_, cond}
 use mathlib.Core.Option.{Option, none, some}
 use mathlib.Core.List.{List, [], _∷_, _++_}
 use lib.ListN.{length, drop}
 use lib.Dec.{eqb, leb, ltb}
-use Rattle.tree.specs.Bytes.{every}
-use Rattle.tree.specs.Symbol.{is-digit}
-use Rattle.sheet.specs.Sheet.{number-from}
 
 -- ---- fields
 
@@ -19,21 +16,6 @@ comma-from i (b ∷ l) = elim (eqb b 44) [ true ↦ some i | false ↦ comma-fro
 unfoldable pub comma-at : List ℕ → Option ℕ
 unfolding comma-from
 comma-at s = comma-from 0 s
-
--- ---- numbers
-
--- digits with leading zeros let in
-unfoldable pub digits-number : List ℕ → Option ℕ
-unfolding every number-from
-digits-number s = cond (every is-digit s) (some (number-from 0 s)) none
-
-abbrev pub capped-at : ℕ → Option ℕ → Option ℕ
-capped-at cap none = none
-capped-at cap (some n) = some (min n cap)
-
--- no table has so many rows
-abbrev pub capped : Option ℕ → Option ℕ
-capped = capped-at 1000000
 
 -- ---- records
 

@@ -19,8 +19,8 @@ use Rattle.tree.specs.Rows.{Row, row-sym, row-const, row-op}
 use Rattle.tree.specs.Layout.{row-kind, row-default, row-fields, row-words}
 use Rattle.sheet.specs.Sheet.{Root, constant, numbers}
 use Rattle.parse.specs.Parts.{has-room, copied}
-use Rattle.parse.specs.Answers.{constant-answer}
-use Rattle.parse.specs.declared.Constant.the-variants as signed
+use Rattle.numerals.specs.Values.{constant-answer}
+use Rattle.numerals.specs.declared.Constant.the-variants as signed
 use Rattle.names.proofs.Leaves.{name-by}
 use Rattle.record.specs.Item.{Item, row-item, root-item, numbers-item, fields-item}
 use Rattle.record.specs.Reading.{Follows, Writes, capped-all}

@@ -10,10 +10,10 @@ ghost use Rattle.kinds.specs.Numbers.{kind-number};
 ghost use Rattle.sheet.specs.Sheet.{fields-from, fields-ok, numbers};
 ghost use Rattle.record.specs.Item.{fields-item};
 ghost use Rattle.record.specs.Reading.{Follows, Reads, Writes};
-use parse::Constant;
-use parse::Number;
+use numerals::Constant;
+use numerals::Number;
 use parse::Split;
-use parse::Word;
+use recordwords::Word;
 
 const COMMA: u8 = 44;
 
@@ -135,7 +135,7 @@ fn write_last(s: &[u8], out: &mut [u64]) -> Fields
     requires { ⌜ 1 ≤ length (now out) ⌝ }
     ensures { λ r. ⌜ Writes (numbers (now (s .entry) ∷ [])) (now (out .entry)) r (now (out .exit)) ⌝ }
 {
-    let Number::Value(v) = parse::node_number(s) else {
+    let Number::Value(v) = numerals::node_number(s) else {
         return Fields::Malformed;
     };
     out[0] = v;
@@ -150,7 +150,7 @@ fn write_numbers(s: &[u8], out: &mut [u64]) -> Fields
     let Split::At(comma) = parse::first_comma(s) else {
         return write_last(s, out);
     };
-    let Number::Value(v) = parse::node_number(&s[..comma]) else {
+    let Number::Value(v) = numerals::node_number(&s[..comma]) else {
         return Fields::Malformed;
     };
     out[0] = v;
@@ -187,7 +187,7 @@ fn read_constant(s: &[u8], rows: u64, row: &mut [u64]) -> Read
     requires { ⌜ 35 ≤ length (now row) ⌝ }
     ensures { λ r. ⌜ Follows (fields-item 0 rows 0 1 (now (s .entry) ∷ [])) (now (row .entry)) r (now (row .exit)) ⌝ }
 {
-    let Constant::Value(sign, size) = parse::constant_field(s) else {
+    let Constant::Value(sign, size) = numerals::constant_field(s) else {
         return Read::Refused(4);
     };
     if rows >= ROWS {
@@ -258,7 +258,7 @@ pub fn read_record(record: &[u8], rows: u64, roots: u64, row: &mut [u64]) -> Rea
     let Split::At(comma) = parse::first_comma(record) else {
         return Read::Refused(2);
     };
-    let Word::Kind(kind) = parse::record_word(&record[..comma]) else {
+    let Word::Kind(kind) = recordwords::record_word(&record[..comma]) else {
         return Read::Refused(2);
     };
     let from = comma + 1;

@@ -11,7 +11,7 @@ use Rattle.record.proofs.write_numbers.Reads as write-numbers
 use Rattle.record.proofs.write_numbers.Kinds as write-numbers-kinds
 use Rattle.record.proofs.+write_numbers.Lts-write_numbers as write-numbers-lts
 use Rattle.parse.proofs.first_comma.Reads as first-comma-reads
-use Rattle.parse.proofs.node_number.Reads as node-number-reads
+use Rattle.numerals.proofs.node_number.Reads as node-number-reads
 use Rattle.record.proofs.write_last.Reads as write-last-reads
 use Rattle.record.proofs.+write_numbers.{statement}
 use Rattle.record.proofs.+write_numbers.Tie.{close}

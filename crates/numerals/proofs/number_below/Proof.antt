@@ -1,8 +1,8 @@
--- `parse::number_below` meets its contract. Assumes nothing.
-use Rattle.parse.proofs.Values.{number-empty, number-one, number-zero, number-more}
+-- `numerals::number_below` meets its contract. Assumes nothing.
+use Rattle.numerals.proofs.Reading.{number-empty, number-one, number-zero, number-more}
 use borrow.Author.Needs.{needs}
-use Rattle.parse.proofs.number_below.Statement.{statement}
-use Rattle.parse.proofs.number_below.Tie as tie
+use Rattle.numerals.proofs.number_below.Statement.{statement}
+use Rattle.numerals.proofs.number_below.Tie as tie
 
 pub number-below-spec : {M : Type 1} → statement M
 number-below-spec =

@@ -15,8 +15,8 @@ use Rattle.tree.proofs.Logic.{and-left, and-right}
 use Rattle.tree.proofs.TreeLaws.{eq-bytes-sound}
 use Rattle.sheet.specs.Sheet.{words, find}
 use Rattle.kinds.proofs.Spans.{all, span}
-use Rattle.parse.specs.Answers.{word-answer}
-use Rattle.parse.specs.declared.Word.the-variants as word
+use Rattle.recordwords.specs.Answers.{word-answer}
+use Rattle.recordwords.specs.declared.Word.the-variants as word
 
 -- ---- two runs of bytes, from the front
 

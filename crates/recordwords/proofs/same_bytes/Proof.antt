@@ -1,12 +1,12 @@
--- `parse::same_bytes` meets its contract: the bytes are compared from the front. Assumes nothing.
+-- `recordwords::same_bytes` meets its contract: the bytes are compared from the front. Assumes nothing.
 use Prim.Native.Nat.{_≤_, _-_}
 use mathlib.Core.Path.{_≡_, refl}
 use lib.ListN.{length, drop}
 use Rattle.tree.specs.Bytes.{eq-bytes}
-use Rattle.parse.proofs.RecordWords.{other-lengths, same-next, same-stop, same-end}
+use Rattle.recordwords.proofs.RecordWords.{other-lengths, same-next, same-stop, same-end}
 use borrow.Author.Needs.{needs}
-use Rattle.parse.proofs.same_bytes.Statement.{statement}
-use Rattle.parse.proofs.same_bytes.Tie as tie
+use Rattle.recordwords.proofs.same_bytes.Statement.{statement}
+use Rattle.recordwords.proofs.same_bytes.Tie as tie
 
 abbrev Inv-loop : tie.InvT-loop
 Inv-loop a b i₀ i = (i ≤ length a) × (eq-bytes a b ≡ eq-bytes (drop i a) (drop i b))

@@ -1,8 +1,8 @@
--- `parse::is_word` meets its contract. Assumes nothing.
-use Rattle.parse.proofs.RecordWords.{part}
+-- `recordwords::is_word` meets its contract. Assumes nothing.
+use Rattle.recordwords.proofs.RecordWords.{part}
 use borrow.Author.Needs.{needs}
-use Rattle.parse.proofs.is_word.Statement.{statement}
-use Rattle.parse.proofs.is_word.Tie as tie
+use Rattle.recordwords.proofs.is_word.Statement.{statement}
+use Rattle.recordwords.proofs.is_word.Tie as tie
 
 pub is-word-spec : {M : Type 1} → statement M
 is-word-spec =

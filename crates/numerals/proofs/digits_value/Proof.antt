@@ -1,4 +1,4 @@
--- `parse::digits_value` meets its contract: the digits passed and those to come have the value, up to the cap. Assumes nothing.
+-- `numerals::digits_value` meets its contract: the digits passed and those to come have the value, up to the cap. Assumes nothing.
 use Prim.Native.Nat.{_≤_, _-_, min}
 use mathlib.Core.Path.{_≡_, refl, sym, _∙_}
 use native.Mathlib.Omega.{arith}
@@ -8,10 +8,10 @@ use Rattle.tree.specs.Bytes.{every}
 use Rattle.tree.specs.Symbol.{is-digit}
 use Rattle.sheet.specs.Sheet.{number-from}
 use Rattle.names.proofs.Leaves.{every-next, every-stop, every-end}
-use Rattle.parse.proofs.Values.{in-range, value-next, value-end, digits-read, digits-bad}
+use Rattle.numerals.proofs.Reading.{in-range, value-next, value-end, digits-read, digits-bad}
 use borrow.Author.Needs.{needs}
-use Rattle.parse.proofs.digits_value.Statement.{statement}
-use Rattle.parse.proofs.digits_value.Tie as tie
+use Rattle.numerals.proofs.digits_value.Statement.{statement}
+use Rattle.numerals.proofs.digits_value.Tie as tie
 
 abbrev Inv-loop : tie.InvT-loop
 Inv-loop s cap value₀ i₀ value i =

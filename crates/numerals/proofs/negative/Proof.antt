@@ -1,10 +1,10 @@
--- `parse::negative` meets its contract. Assumes nothing.
+-- `numerals::negative` meets its contract. Assumes nothing.
 use mathlib.Core.Path.{sym, _∙_}
 use Rattle.sheet.specs.Sheet.{number, minus}
-use Rattle.parse.proofs.Values.{read-none, read-past, read-minus, read-minus-zero}
+use Rattle.numerals.proofs.Reading.{read-none, read-past, read-minus, read-minus-zero}
 use borrow.Author.Needs.{needs}
-use Rattle.parse.proofs.negative.Statement.{statement}
-use Rattle.parse.proofs.negative.Tie as tie
+use Rattle.numerals.proofs.negative.Statement.{statement}
+use Rattle.numerals.proofs.negative.Tie as tie
 
 pub negative-spec : {M : Type 1} → statement M
 negative-spec =

@@ -1,13 +1,13 @@
--- `parse::record_word` meets its contract: the bytes are none of the first k words. Assumes nothing.
+-- `recordwords::record_word` meets its contract: the bytes are none of the first k words. Assumes nothing.
 use Prim.Native.Nat.{_≤_, _-_}
 use mathlib.Core.Path.{_≡_, refl, sym, _∙_}
 use native.Mathlib.Omega.{arith}
 use lib.ListN.{drop}
 use Rattle.sheet.specs.Sheet.{words, find}
-use Rattle.parse.proofs.RecordWords.{word-next, word-found, word-none}
+use Rattle.recordwords.proofs.RecordWords.{word-next, word-found, word-none}
 use borrow.Author.Needs.{needs}
-use Rattle.parse.proofs.record_word.Statement.{statement}
-use Rattle.parse.proofs.record_word.Tie as tie
+use Rattle.recordwords.proofs.record_word.Statement.{statement}
+use Rattle.recordwords.proofs.record_word.Tie as tie
 
 abbrev Inv-loop : tie.InvT-loop
 Inv-loop s k₀ k = (k ≤ 30) × (find 0 s words ≡ find k s (drop k words))

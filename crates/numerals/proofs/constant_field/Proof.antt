@@ -1,13 +1,13 @@
--- `parse::constant_field` meets its contract. Assumes nothing.
+-- `numerals::constant_field` meets its contract. Assumes nothing.
 use mathlib.Core.Path.{sym, _∙_}
 use mathlib.Core.Option.{some}
 use lib.IntN.{pos}
 use Rattle.sheet.specs.Sheet.{number}
 use Rattle.names.proofs.Leaves.{rest}
-use Rattle.parse.proofs.Values.{read-none, read-past, read-pos, constant-empty, constant-minus, constant-plain}
+use Rattle.numerals.proofs.Reading.{read-none, read-past, read-pos, constant-empty, constant-minus, constant-plain}
 use borrow.Author.Needs.{needs}
-use Rattle.parse.proofs.constant_field.Statement.{statement}
-use Rattle.parse.proofs.constant_field.Tie as tie
+use Rattle.numerals.proofs.constant_field.Statement.{statement}
+use Rattle.numerals.proofs.constant_field.Tie as tie
 
 pub constant-field-spec : {M : Type 1} → statement M
 constant-field-spec =

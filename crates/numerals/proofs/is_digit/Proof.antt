@@ -1,8 +1,8 @@
--- `parse::is_digit` meets its contract. Assumes nothing.
+-- `numerals::is_digit` meets its contract. Assumes nothing.
 use native.Mathlib.Omega.{arith}
 use Rattle.names.proofs.Leaves.{digit-low, digit-in, digit-high}
-use Rattle.parse.proofs.is_digit.Statement.{statement}
-use Rattle.parse.proofs.is_digit.Tie as tie
+use Rattle.numerals.proofs.is_digit.Statement.{statement}
+use Rattle.numerals.proofs.is_digit.Tie as tie
 
 pub is-digit-spec : {M : Type 1} → statement M
 is-digit-spec =

@@ -15,10 +15,9 @@ use Rattle.tree.specs.Bytes.{every}
 use Rattle.tree.specs.Symbol.{is-digit}
 use Rattle.sheet.specs.Sheet.{number-from, number, below-limit, minus, constant}
 use Rattle.sheet.proofs.Numerals.{digit-range}
-use Rattle.parse.specs.Parts.{digits-number, capped-at}
-use Rattle.parse.specs.Answers.{number-answer, constant-answer}
-use Rattle.parse.specs.declared.Number.the-variants as numbered
-use Rattle.parse.specs.declared.Constant.the-variants as signed
+use Rattle.numerals.specs.Values.{digits-number, capped-at, number-answer, constant-answer}
+use Rattle.numerals.specs.declared.Number.the-variants as numbered
+use Rattle.numerals.specs.declared.Constant.the-variants as signed
 
 -- ---- digit by digit
 
