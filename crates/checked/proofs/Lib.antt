@@ -1,2 +1,3 @@
-mod WordLaws
-mod RunLaws
+pub mod WordLaws
+pub mod RunLaws
+pub mod Answers

@@ -139,7 +139,7 @@ module _ (rows : List Row) where
 
 -- ---- the answers
 
-ends-inside : (us : List ℕ) (n : ℕ) → words-of us 1 ≡ some n → (0 < n) × (n ≤ length us)
+pub ends-inside : (us : List ℕ) (n : ℕ) → words-of us 1 ≡ some n → (0 < n) × (n ≤ length us)
 ends-inside [] n e = absurd (omega (arith, words-complete [] 1 n e .0, nothing n e))
   where
     nothing : (n : ℕ) → words-of [] 1 ≡ some n → _≡_ {A = ℕ} 0 1
