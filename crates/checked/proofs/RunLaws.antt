@@ -9,7 +9,7 @@ use borrow.Author.Tests.{eq-eqb, ne-eqb}
 use lib.ListN.{length, getD, take, drop, length-drop, take-append-drop}
 use lib.Seq.{length-take-le}
 use Rattle.tree.specs.Bytes.{every}
-use Rattle.tree.specs.Tree.{Tree, Op, nil, fold, forest}
+use Rattle.tree.specs.Tree.{Tree, Op, nil, forest}
 use Rattle.tree.specs.Rows.{Row}
 use Rattle.tree.specs.Passes.{all-of, symbol-ok, of-paper, operands-ok, tree-ok, trees-ok}
 use Rattle.tree.specs.Tokens.{kind-of, below-of, takes, constant-at, name-by, name-in, read, trees-in, words-of, run-at}

@@ -3,7 +3,7 @@ use Prim.Native.Nat.{ℕ, suc, _+_, _≤_, _<_, min}
 use native.Mathlib.Omega.{arith}
 use native.Mathlib.Numerals.{add-one}
 use mathlib.Core.Path.{_≡_, refl, sym, _∙_, ap, ap₂}
-use mathlib.Core.Bool.{Bool, true, false, cond}
+use mathlib.Core.Bool.{Bool, true, false}
 use mathlib.Core.List.{List, [], _∷_}
 use borrow.Author.Tests.{eq-eqb, ne-eqb, leb-true, leb-false}
 use lib.ListN.{length, getD, take, drop, drop-of-length-le}
@@ -36,11 +36,11 @@ left : (q x y : Bool) → q ≡ false → _≡_ {A = Bool} (elim q [ true ↦ x 
 left true x y e = cc
 left false x y e = refl
 
-same-byte : (a b : ℕ) (s t : List ℕ) → a ≡ b → before (a ∷ s) (b ∷ t) ≡ before s t
+pub same-byte : (a b : ℕ) (s t : List ℕ) → a ≡ b → before (a ∷ s) (b ∷ t) ≡ before s t
 unfolding before
 same-byte a b s t e = taken (eqb a b) (before s t) (ltb a b) (eq-eqb a b e)
 
-other-byte : (a b : ℕ) (s t : List ℕ) → (a ≡ b → ⊥) → before (a ∷ s) (b ∷ t) ≡ ltb a b
+pub other-byte : (a b : ℕ) (s t : List ℕ) → (a ≡ b → ⊥) → before (a ∷ s) (b ∷ t) ≡ ltb a b
 unfolding before
 other-byte a b s t n = left (eqb a b) (before s t) (ltb a b) (ne-eqb a b n)
 
