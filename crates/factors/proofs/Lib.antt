@@ -1,3 +1,4 @@
 pub mod WordRuns
 pub mod PlaceLaws
 pub mod Flattening
+pub mod Answering

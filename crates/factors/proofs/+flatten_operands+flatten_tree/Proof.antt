@@ -1,4 +1,14 @@
-use Prim.Native.Nat.{ℕ, _<_}
+-- `factors::flatten_tree` and `factors::flatten_operands` meet their contracts. A tree calls with the place after its word, and operands call with a place no earlier. Assumes nothing.
+use native.Mathlib.Omega.{arith}
+use mathlib.Core.Path.{_≡_, refl, sym, _∙_, ap}
+use lib.ListN.{length, length-set}
+use Rattle.coefficient.proofs.Exactness.{one-literal}
+use Rattle.factors.proofs.WordRuns.{node-of}
+use Rattle.factors.proofs.Flattening.{Looping, flat-long, constant-done, other-done, operands-stand, operands-long, product-done, minus-done, none-done, first-room, loop-starts, mid-long, next-stands, next-room, loop-turns, loop-ends}
+use Rattle.factors.specs.Places.{Stands}
+use mathlib.Core.List.{List}
+use borrow.Author.Needs.{needs}
+use Prim.Native.Nat.{ℕ, _<_, suc, _+_, _-_, _*_, _≤_}
 use borrow.Fn.Kinds.{In}
 use borrow.Fn.PlainCycle.{Measures, is, falls, and}
 use Rattle.factors.proofs.flatten_operands.Reads as flatten-operands
@@ -14,10 +24,10 @@ use Rattle.factors.proofs.+flatten_operands+flatten_tree.{statement}
 use Rattle.factors.proofs.+flatten_operands+flatten_tree.Tie.{close}
 
 abbrev μ-flatten-operands : Measures 2 flatten-operands-kinds.ps ℕ
-μ-flatten-operands κs a = ?
+μ-flatten-operands κs a = 2 * (length (a .0 .now) - a .1 .0) + 1
 
 abbrev μ-flatten-tree : Measures 2 flatten-tree-kinds.ps ℕ
-μ-flatten-tree κs a = ?
+μ-flatten-tree κs a = 2 * (length (a .0 .now) - a .1 .0)
 
 abbrev flatten-operands-at : ℕ → In 2 flatten-operands-kinds.ps
 flatten-operands-at t =
@@ -48,49 +58,23 @@ flatten-tree-below t =
     flatten-tree.Pre
 
 abbrev flatten-operands-Inv-loop : flatten-operands-lts.InvT-loop
-flatten-operands-Inv-loop tokens at count places₀ used coefficient₀ found₀ next₀ left₀ places coefficient found next left =
-    ?
+flatten-operands-Inv-loop tokens at count places₀ used coefficient₀ found₀ next₀ left₀ places coefficient found next left = (old : List ℕ) → Looping tokens at count old used places₀ coefficient₀ found₀ next₀ left₀ → Looping tokens at count old used places coefficient found next left
 
 abbrev flatten-operands-μ-loop : flatten-operands-lts.MeasureT-loop
-flatten-operands-μ-loop tokens at count places₀ used coefficient₀ found₀ next₀ left₀ places coefficient found next left =
-    ?
+flatten-operands-μ-loop tokens at count places₀ used coefficient₀ found₀ next₀ left₀ places coefficient found next left = left
 
--- src/lib.rt:104:9
-flatten-operands-returns : (t : ℕ) → flatten-operands-lts.Need-returns (
-  flatten-tree-below t,
-  flatten-tree.Post,
-) (flatten-operands-at t) flatten-operands.Post flatten-operands-Inv-loop flatten-operands-μ-loop
-flatten-operands-returns t c = ?
+-- what holds at the loop's test: the first tree was taken apart before it
+at-loop :
+    (t : ℕ) (c : flatten-operands-lts.At-loop (flatten-tree-below t, flatten-tree.Post) (flatten-operands-at t) flatten-operands.Post flatten-operands-Inv-loop flatten-operands-μ-loop)
+    → let s = c .before .before .before .before .before .before .before .before in
+    Looping (s .args .tokens .now) (s .args .at) (s .args .count) (s .args .places .now) (s .args .used) (c .loop .places) (c .loop .coefficient) (c .loop .found) (c .loop .next) (c .loop .left)
+at-loop t c =
+    let s = c .before .before .before .before .before .before .before .before in
+    let f = c .before .before .before .flatten-tree .ensures in
+    let some = c .before .before .before .before .before .if1 .left in
+    c .loop .inv (s .args .places .now)
+    (loop-starts (s .args .tokens .now) (s .args .at) (s .args .count) (s .args .places .now) (s .args .used) (s .args .count - 1) (omega (arith, some)) (s .pre .1 .0) (s .pre .1 .1) (f .0) (f .1))
 
--- src/lib.rt:112:9
-flatten-operands-flatten-tree-requires : (t : ℕ) → flatten-operands-lts.Need-flatten-tree-requires (
-  flatten-tree-below t,
-  flatten-tree.Post,
-) (flatten-operands-at t) flatten-operands.Post flatten-operands-Inv-loop flatten-operands-μ-loop
-flatten-operands-flatten-tree-requires t c κs = ?
-
--- src/lib.rt:116:20
-flatten-operands-sub-left : (t : ℕ) → flatten-operands-lts.Need-sub-left (
-  flatten-tree-below t,
-  flatten-tree.Post,
-) (flatten-operands-at t) flatten-operands.Post flatten-operands-Inv-loop flatten-operands-μ-loop
-flatten-operands-sub-left t c = ?
-
--- src/lib.rt:117:5
-flatten-operands-loop-holds : (t : ℕ) → flatten-operands-lts.Need-loop-holds (
-  flatten-tree-below t,
-  flatten-tree.Post,
-) (flatten-operands-at t) flatten-operands.Post flatten-operands-Inv-loop flatten-operands-μ-loop
-flatten-operands-loop-holds t c = ?
-
--- src/lib.rt:118:52
-flatten-operands-add-flatten-tree : (t : ℕ) → flatten-operands-lts.Need-add-flatten-tree (
-  flatten-tree-below t,
-  flatten-tree.Post,
-) (flatten-operands-at t) flatten-operands.Post flatten-operands-Inv-loop flatten-operands-μ-loop
-flatten-operands-add-flatten-tree t c = ?
-
--- src/lib.rt:118:13
 flatten-operands-flatten-tree-requires-2 :
     (t : ℕ) → flatten-operands-lts.Need-flatten-tree-requires-2 (
       flatten-tree-below t,
@@ -100,207 +84,8 @@ flatten-operands-flatten-tree-requires-2 :
     flatten-operands.Post
     flatten-operands-Inv-loop
     flatten-operands-μ-loop
-flatten-operands-flatten-tree-requires-2 t c κs = ?
+flatten-operands-flatten-tree-requires-2 t c κs = let s = c .before .before .before .before .before .before .before .before .before .before in let l = c .before .before .loop .left in let h = at-loop t (c .before .before) in let e : l ≡ suc (l - 1) = omega (arith, c .before .loop-test .taken) in (omega (arith, s .pre .0, h .from), (next-stands (s .args .tokens .now) (s .args .at) (s .args .count) (s .args .places .now) (s .args .used) h (l - 1) e, next-room (s .args .tokens .now) (s .args .at) (s .args .count) (s .args .places .now) (s .args .used) h (l - 1) e))
 
--- src/lib.rt:120:9
-flatten-operands-add-found : (t : ℕ) → flatten-operands-lts.Need-add-found (
-  flatten-tree-below t,
-  flatten-tree.Post,
-) (flatten-operands-at t) flatten-operands.Post flatten-operands-Inv-loop flatten-operands-μ-loop
-flatten-operands-add-found t c = ?
-
--- src/lib.rt:122:9
-flatten-operands-sub-left-2 : (t : ℕ) → flatten-operands-lts.Need-sub-left-2 (
-  flatten-tree-below t,
-  flatten-tree.Post,
-) (flatten-operands-at t) flatten-operands.Post flatten-operands-Inv-loop flatten-operands-μ-loop
-flatten-operands-sub-left-2 t c = ?
-
--- src/lib.rt:117:5
-flatten-operands-loop-less : (t : ℕ) → flatten-operands-lts.Need-loop-less (
-  flatten-tree-below t,
-  flatten-tree.Post,
-) (flatten-operands-at t) flatten-operands.Post flatten-operands-Inv-loop flatten-operands-μ-loop
-flatten-operands-loop-less t c = ?
-
--- src/lib.rt:117:5
-flatten-operands-loop-again : (t : ℕ) → flatten-operands-lts.Need-loop-again (
-  flatten-tree-below t,
-  flatten-tree.Post,
-) (flatten-operands-at t) flatten-operands.Post flatten-operands-Inv-loop flatten-operands-μ-loop
-flatten-operands-loop-again t c = ?
-
--- src/lib.rt:96:1
-flatten-operands-same-length : (t : ℕ) → flatten-operands-lts.Need-same-length (
-  flatten-tree-below t,
-  flatten-tree.Post,
-) (flatten-operands-at t) flatten-operands.Post flatten-operands-Inv-loop flatten-operands-μ-loop
-flatten-operands-same-length t c = ?
-
--- src/lib.rt:96:1
-flatten-operands-returns-2 : (t : ℕ) → flatten-operands-lts.Need-returns-2 (
-  flatten-tree-below t,
-  flatten-tree.Post,
-) (flatten-operands-at t) flatten-operands.Post flatten-operands-Inv-loop flatten-operands-μ-loop
-flatten-operands-returns-2 t c = ?
-
--- src/lib.rt:61:13
-flatten-tree-mul-w : (t : ℕ) → flatten-tree-lts.Need-mul-w (
-  float-of-reads.Asked,
-  float-of-reads.Learnt,
-  operand-count-reads.Asked,
-  operand-count-reads.Learnt,
-  flatten-operands-below t,
-  flatten-operands.Post,
-  past-reads.Asked,
-  past-reads.Learnt,
-) (flatten-tree-at t) flatten-tree.Post
-flatten-tree-mul-w t c = ?
-
--- src/lib.rt:61:13
-flatten-tree-shared-slice-read-w : (t : ℕ) → flatten-tree-lts.Need-shared-slice-read-w (
-  float-of-reads.Asked,
-  float-of-reads.Learnt,
-  operand-count-reads.Asked,
-  operand-count-reads.Learnt,
-  flatten-operands-below t,
-  flatten-operands.Post,
-  past-reads.Asked,
-  past-reads.Learnt,
-) (flatten-tree-at t) flatten-tree.Post
-flatten-tree-shared-slice-read-w t c = ?
-
--- src/lib.rt:66:30
-flatten-tree-float-of-requires : (t : ℕ) → flatten-tree-lts.Need-float-of-requires (
-  float-of-reads.Asked,
-  float-of-reads.Learnt,
-  operand-count-reads.Asked,
-  operand-count-reads.Learnt,
-  flatten-operands-below t,
-  flatten-operands.Post,
-  past-reads.Asked,
-  past-reads.Learnt,
-) (flatten-tree-at t) flatten-tree.Post
-flatten-tree-float-of-requires t c κs = ?
-
--- src/lib.rt:69:19
-flatten-tree-add-t15 : (t : ℕ) → flatten-tree-lts.Need-add-t15 (
-  float-of-reads.Asked,
-  float-of-reads.Learnt,
-  operand-count-reads.Asked,
-  operand-count-reads.Learnt,
-  flatten-operands-below t,
-  flatten-operands.Post,
-  past-reads.Asked,
-  past-reads.Learnt,
-) (flatten-tree-at t) flatten-tree.Post
-flatten-tree-add-t15 t c = ?
-
--- src/lib.rt:64:9
-flatten-tree-returns : (t : ℕ) → flatten-tree-lts.Need-returns (
-  float-of-reads.Asked,
-  float-of-reads.Learnt,
-  operand-count-reads.Asked,
-  operand-count-reads.Learnt,
-  flatten-operands-below t,
-  flatten-operands.Post,
-  past-reads.Asked,
-  past-reads.Learnt,
-) (flatten-tree-at t) flatten-tree.Post
-flatten-tree-returns t c = ?
-
--- src/lib.rt:73:41
-flatten-tree-add-flatten-operands : (t : ℕ) → flatten-tree-lts.Need-add-flatten-operands (
-  float-of-reads.Asked,
-  float-of-reads.Learnt,
-  operand-count-reads.Asked,
-  operand-count-reads.Learnt,
-  flatten-operands-below t,
-  flatten-operands.Post,
-  past-reads.Asked,
-  past-reads.Learnt,
-) (flatten-tree-at t) flatten-tree.Post
-flatten-tree-add-flatten-operands t c = ?
-
--- src/lib.rt:73:49
-flatten-tree-operand-count-requires : (t : ℕ) → flatten-tree-lts.Need-operand-count-requires (
-  float-of-reads.Asked,
-  float-of-reads.Learnt,
-  operand-count-reads.Asked,
-  operand-count-reads.Learnt,
-  flatten-operands-below t,
-  flatten-operands.Post,
-  past-reads.Asked,
-  past-reads.Learnt,
-) (flatten-tree-at t) flatten-tree.Post
-flatten-tree-operand-count-requires t c κs = ?
-
--- src/lib.rt:73:9
-flatten-tree-flatten-operands-requires : (t : ℕ) → flatten-tree-lts.Need-flatten-operands-requires (
-  float-of-reads.Asked,
-  float-of-reads.Learnt,
-  operand-count-reads.Asked,
-  operand-count-reads.Learnt,
-  flatten-operands-below t,
-  flatten-operands.Post,
-  past-reads.Asked,
-  past-reads.Learnt,
-) (flatten-tree-at t) flatten-tree.Post
-flatten-tree-flatten-operands-requires t c κs = ?
-
--- src/lib.rt:73:9
-flatten-tree-same-length : (t : ℕ) → flatten-tree-lts.Need-same-length (
-  float-of-reads.Asked,
-  float-of-reads.Learnt,
-  operand-count-reads.Asked,
-  operand-count-reads.Learnt,
-  flatten-operands-below t,
-  flatten-operands.Post,
-  past-reads.Asked,
-  past-reads.Learnt,
-) (flatten-tree-at t) flatten-tree.Post
-flatten-tree-same-length t c = ?
-
--- src/lib.rt:73:9
-flatten-tree-returns-2 : (t : ℕ) → flatten-tree-lts.Need-returns-2 (
-  float-of-reads.Asked,
-  float-of-reads.Learnt,
-  operand-count-reads.Asked,
-  operand-count-reads.Learnt,
-  flatten-operands-below t,
-  flatten-operands.Post,
-  past-reads.Asked,
-  past-reads.Learnt,
-) (flatten-tree-at t) flatten-tree.Post
-flatten-tree-returns-2 t c = ?
-
--- src/lib.rt:76:42
-flatten-tree-add-flatten-operands-2 : (t : ℕ) → flatten-tree-lts.Need-add-flatten-operands-2 (
-  float-of-reads.Asked,
-  float-of-reads.Learnt,
-  operand-count-reads.Asked,
-  operand-count-reads.Learnt,
-  flatten-operands-below t,
-  flatten-operands.Post,
-  past-reads.Asked,
-  past-reads.Learnt,
-) (flatten-tree-at t) flatten-tree.Post
-flatten-tree-add-flatten-operands-2 t c = ?
-
--- src/lib.rt:76:50
-flatten-tree-operand-count-requires-2 : (t : ℕ) → flatten-tree-lts.Need-operand-count-requires-2 (
-  float-of-reads.Asked,
-  float-of-reads.Learnt,
-  operand-count-reads.Asked,
-  operand-count-reads.Learnt,
-  flatten-operands-below t,
-  flatten-operands.Post,
-  past-reads.Asked,
-  past-reads.Learnt,
-) (flatten-tree-at t) flatten-tree.Post
-flatten-tree-operand-count-requires-2 t c κs = ?
-
--- src/lib.rt:76:13
 flatten-tree-flatten-operands-requires-2 :
     (t : ℕ) → flatten-tree-lts.Need-flatten-operands-requires-2 (
       float-of-reads.Asked,
@@ -312,98 +97,7 @@ flatten-tree-flatten-operands-requires-2 :
       past-reads.Asked,
       past-reads.Learnt,
     ) (flatten-tree-at t) flatten-tree.Post
-flatten-tree-flatten-operands-requires-2 t c κs = ?
-
--- src/lib.rt:77:9
-flatten-tree-same-length-2 : (t : ℕ) → flatten-tree-lts.Need-same-length-2 (
-  float-of-reads.Asked,
-  float-of-reads.Learnt,
-  operand-count-reads.Asked,
-  operand-count-reads.Learnt,
-  flatten-operands-below t,
-  flatten-operands.Post,
-  past-reads.Asked,
-  past-reads.Learnt,
-) (flatten-tree-at t) flatten-tree.Post
-flatten-tree-same-length-2 t c = ?
-
--- src/lib.rt:77:9
-flatten-tree-returns-3 : (t : ℕ) → flatten-tree-lts.Need-returns-3 (
-  float-of-reads.Asked,
-  float-of-reads.Learnt,
-  operand-count-reads.Asked,
-  operand-count-reads.Learnt,
-  flatten-operands-below t,
-  flatten-operands.Post,
-  past-reads.Asked,
-  past-reads.Learnt,
-) (flatten-tree-at t) flatten-tree.Post
-flatten-tree-returns-3 t c = ?
-
--- src/lib.rt:85:5
-flatten-tree-mul-places : (t : ℕ) → flatten-tree-lts.Need-mul-places (
-  float-of-reads.Asked,
-  float-of-reads.Learnt,
-  operand-count-reads.Asked,
-  operand-count-reads.Learnt,
-  flatten-operands-below t,
-  flatten-operands.Post,
-  past-reads.Asked,
-  past-reads.Learnt,
-) (flatten-tree-at t) flatten-tree.Post
-flatten-tree-mul-places t c = ?
-
--- src/lib.rt:85:5
-flatten-tree-slice-write-places : (t : ℕ) → flatten-tree-lts.Need-slice-write-places (
-  float-of-reads.Asked,
-  float-of-reads.Learnt,
-  operand-count-reads.Asked,
-  operand-count-reads.Learnt,
-  flatten-operands-below t,
-  flatten-operands.Post,
-  past-reads.Asked,
-  past-reads.Learnt,
-) (flatten-tree-at t) flatten-tree.Post
-flatten-tree-slice-write-places t c = ?
-
--- src/lib.rt:91:15
-flatten-tree-past-requires : (t : ℕ) → flatten-tree-lts.Need-past-requires (
-  float-of-reads.Asked,
-  float-of-reads.Learnt,
-  operand-count-reads.Asked,
-  operand-count-reads.Learnt,
-  flatten-operands-below t,
-  flatten-operands.Post,
-  past-reads.Asked,
-  past-reads.Learnt,
-) (flatten-tree-at t) flatten-tree.Post
-flatten-tree-past-requires t c κs = ?
-
--- src/lib.rt:55:1
-flatten-tree-same-length-3 : (t : ℕ) → flatten-tree-lts.Need-same-length-3 (
-  float-of-reads.Asked,
-  float-of-reads.Learnt,
-  operand-count-reads.Asked,
-  operand-count-reads.Learnt,
-  flatten-operands-below t,
-  flatten-operands.Post,
-  past-reads.Asked,
-  past-reads.Learnt,
-) (flatten-tree-at t) flatten-tree.Post
-flatten-tree-same-length-3 t c = ?
-
--- src/lib.rt:55:1
-flatten-tree-returns-4 : (t : ℕ) → flatten-tree-lts.Need-returns-4 (
-  float-of-reads.Asked,
-  float-of-reads.Learnt,
-  operand-count-reads.Asked,
-  operand-count-reads.Learnt,
-  flatten-operands-below t,
-  flatten-operands.Post,
-  past-reads.Asked,
-  past-reads.Learnt,
-) (flatten-tree-at t) flatten-tree.Post
-flatten-tree-returns-4 t c = ?
+flatten-tree-flatten-operands-requires-2 t c κs = let s = c .before .before .before .before .before .before .before .before in let n = c .before .operand-count2 in (omega (arith, s .pre .0, node-of (s .pre .1 .0) .inside), (operands-stand (s .pre .1 .0) (n .result) (n .ensures), omega (arith, operands-long (s .pre .1 .0) (n .result) (n .ensures), s .pre .1 .1)))
 
 pub +flatten-operands+flatten-tree-spec : {M : Type 1} → statement M
 +flatten-operands+flatten-tree-spec =
@@ -415,18 +109,18 @@ pub +flatten-operands+flatten-tree-spec : {M : Type 1} → statement M
     flatten-operands.Post
     flatten-operands-Inv-loop
     flatten-operands-μ-loop
-    (flatten-operands-returns t)
-    (flatten-operands-flatten-tree-requires t)
-    (flatten-operands-sub-left t)
-    (flatten-operands-loop-holds t)
-    (flatten-operands-add-flatten-tree t)
+    (λ c. let s = c .before .before .before in none-done (s .args .tokens .now) (s .args .at) (s .args .count) (s .args .places .now) (s .args .used) (c .if1 .taken) _ one-literal)
+    (λ c κs. let s = c .before .before .before .before in let r = first-room (s .args .tokens .now) (s .args .at) (s .args .count) (s .args .places .now) (s .args .used) (c .before .if1 .left) (s .pre .1 .0) (s .pre .1 .1) in (omega (arith, s .pre .0), r))
+    (λ c. let h = c .before .before .before .before .if1 .left in omega (arith, h))
+    (λ c. λ old h. h)
+    (λ c. let s = c .before .before .before .before .before .before .before .before .before .before in let l = c .before .before .loop .left in let h = at-loop t (c .before .before) in omega (arith, h .room, s .good .1 .1 .1 .0))
     (flatten-operands-flatten-tree-requires-2 t)
-    (flatten-operands-add-found t)
-    (flatten-operands-sub-left-2 t)
-    (flatten-operands-loop-less t)
-    (flatten-operands-loop-again t)
-    (flatten-operands-same-length t)
-    (flatten-operands-returns-2 t))
+    (λ c. let s = c .before .before .before .before .before .before .before .before .before .before .before .before .before .before .before in let l = c .before .before .before .before .before .before .before .loop .left in let h = at-loop t (c .before .before .before .before .before .before .before) in let e : l ≡ suc (l - 1) = omega (arith, c .before .before .before .before .before .before .loop-test .taken) in let f = c .before .before .before .before .flatten-tree2 .ensures in omega (arith, loop-turns (s .args .tokens .now) (s .args .at) (s .args .count) (s .args .places .now) (s .args .used) h (l - 1) e (f .0) (f .1) .room, s .good .1 .1 .1 .0))
+    (λ c. omega (arith, c .before .before .before .before .before .before .loop-test .taken))
+    (λ c. omega (arith, c .before .before .before .before .before .before .loop-test .taken))
+    (λ c. λ old h. let s = c .before .before .before .before .before .before .before .before .before .before .before .before .before .before .before in let l = c .before .before .before .before .before .before .before .loop .left in let e : l ≡ suc (l - 1) = omega (arith, c .before .before .before .before .before .before .loop-test .taken) in let f = c .before .before .before .before .flatten-tree2 .ensures in loop-turns (s .args .tokens .now) (s .args .at) (s .args .count) old (s .args .used) (c .before .before .before .before .before .before .before .loop .inv old h) (l - 1) e (f .0) (f .1))
+    (λ c. let s = c .before .before .before .before .before .before .before .before .before in mid-long (s .args .tokens .now) (s .args .at) (s .args .count) (s .args .places .now) (s .args .used) (at-loop t (c .before)))
+    (λ c. let s = c .before .before .before .before .before .before .before .before .before in loop-ends (s .args .tokens .now) (s .args .at) (s .args .count) (s .args .places .now) (s .args .used) (at-loop t (c .before)) (omega (arith, c .loop-test .left))))
     λ t. flatten-tree-lts.spec (
       float-of-reads.Asked,
       float-of-reads.Learnt,
@@ -439,23 +133,23 @@ pub +flatten-operands+flatten-tree-spec : {M : Type 1} → statement M
     )
     (flatten-tree-at t)
     flatten-tree.Post
-    (flatten-tree-mul-w t)
-    (flatten-tree-shared-slice-read-w t)
-    (flatten-tree-float-of-requires t)
-    (flatten-tree-add-t15 t)
-    (flatten-tree-returns t)
-    (flatten-tree-add-flatten-operands t)
-    (flatten-tree-operand-count-requires t)
-    (flatten-tree-flatten-operands-requires t)
-    (flatten-tree-same-length t)
-    (flatten-tree-returns-2 t)
-    (flatten-tree-add-flatten-operands-2 t)
-    (flatten-tree-operand-count-requires-2 t)
+    (λ c. let s = c .before .before in omega (arith, node-of (s .pre .1 .0) .inside, s .good .0))
+    (λ c. node-of (c .before .before .before .pre .1 .0) .inside)
+    (λ c κs. tt)
+    (λ c. let s = c .before .before .before .before .before in omega (arith, node-of (s .pre .1 .0) .inside, s .good .0))
+    (λ c. let s = c .before .before .before .before .before in constant-done (s .pre .1 .0) (s .args .places .now) (s .args .used) _ (c .before .if1 .taken) (c .float-of .ensures))
+    (λ c. let s = c .before .before .before .before .before in omega (arith, node-of (s .pre .1 .0) .inside, s .good .0))
+    (λ c κs. tt)
+    (λ c κs. let s = c .before .before .before .before .before .before .before in let n = c .before .operand-count in (omega (arith, s .pre .0, node-of (s .pre .1 .0) .inside), (operands-stand (s .pre .1 .0) (n .result) (n .ensures), omega (arith, operands-long (s .pre .1 .0) (n .result) (n .ensures), s .pre .1 .1))))
+    (λ c. flat-long (c .before .before .flatten-operands .ensures .0))
+    (λ c. let s = c .before .before .before .before .before .before .before .before .before .before in let n = c .before .before .before .before .operand-count in product-done (s .pre .1 .0) (n .result) (n .ensures) (c .before .before .before .before .before .if2 .taken) (c .before .before .flatten-operands .ensures))
+    (λ c. let s = c .before .before .before .before .before .before in omega (arith, node-of (s .pre .1 .0) .inside, s .good .0))
+    (λ c κs. tt)
     (flatten-tree-flatten-operands-requires-2 t)
-    (flatten-tree-same-length-2 t)
-    (flatten-tree-returns-3 t)
-    (flatten-tree-mul-places t)
-    (flatten-tree-slice-write-places t)
-    (flatten-tree-past-requires t)
-    (flatten-tree-same-length-3 t)
-    (flatten-tree-returns-4 t)
+    (λ c. flat-long (c .before .before .before .flatten-operands2 .ensures .0))
+    (λ c. let s = c .before .before .before .before .before .before .before .before .before .before .before .before in let n = c .before .before .before .before .before .operand-count2 in minus-done (s .pre .1 .0) (n .result) (n .ensures) (c .before .before .before .before .before .before .if3 .taken) (c .before .before .before .flatten-operands2 .ensures))
+    (λ c. let s = c .before .before .before .before .before .before in omega (arith, node-of (s .pre .1 .0) .long, s .pre .1 .1, s .good .1 .1 .0))
+    (λ c. let s = c .before .before .before .before .before .before in omega (arith, node-of (s .pre .1 .0) .long, s .pre .1 .1))
+    (λ c κs. c .before .before .before .before .before .before .pre .1 .0)
+    (λ c. simp length-set)
+    (λ c. let s = c .before .before .before .before .before .before .before in (other-done (s .pre .1 .0) (s .args .places .now) (s .args .used) _ (c .before .before .before .if1 .left) (c .before .before .if2 .left) (c .before .if3 .left) one-literal, c .past .ensures))
