@@ -210,9 +210,11 @@ module _ (ws : List ℕ) (at count : ℕ) (old : List ℕ) (used : ℕ) where
       (first .alone, omega arith)
 
   pub loop-starts :
-      (n : ℕ) {new : List ℕ} {c : Float} {k next : ℕ} → count ≡ suc n → Stands ws at count → used + long ws at count ≤ length old
-      → Taken (tree ws at) at old used c k new → next ≡ at + size (tree ws at) → Looping new c k next n
-  loop-starts n {new} {c} {k} {next} e s r f h =
+      {new : List ℕ} {c : Float} {k next : ℕ} → (count ≡ 0 → ⊥) → Stands ws at count → used + long ws at count ≤ length old
+      → Taken (tree ws at) at old used c k new → next ≡ at + size (tree ws at) → Looping new c k next (count - 1)
+  loop-starts {new} {c} {k} {next} some s r f h =
+      let n = count - 1 in
+      let e : count ≡ suc n = omega (arith, some) in
       let first = first-of (subst (Stands ws at) e s) in
       let b = begun first in
       let z : long ws at count ≡ size (tree ws at) + long ws (at + size (tree ws at)) n = ap (long ws at) e ∙ b .sum in
@@ -232,60 +234,66 @@ module _ (ws : List ℕ) (at count : ℕ) (old : List ℕ) (used : ℕ) where
         room = omega (arith, f .count-is);
       })
 
-  module _ {mid : List ℕ} {c : Float} {found next left : ℕ} (h : Looping mid c found next left) where
-    pub mid-long : length mid ≡ length old
-    mid-long = ap length (h .places-are) ∙ length-sets old used (h .done)
+module _ {ws : List ℕ} {at count : ℕ} {old : List ℕ} {used : ℕ} {mid : List ℕ} {c : Float} {found next left : ℕ} (h : Looping ws at count old used mid c found next left) where
+  pub mid-long : length mid ≡ length old
+  mid-long = ap length (h .places-are) ∙ length-sets old used (h .done)
 
-    module _ (n : ℕ) (more : left ≡ suc n) where
-      first-left : First ws next n
-      first-left = first-of (subst (Stands ws next) more (h .stand))
+  module _ (some : 0 < left) where
+    abbrev n : ℕ
+    n = left - 1
 
-      pub next-stands : Stands ws next 1
-      next-stands = first-left .alone
+    more : left ≡ suc n
+    more = omega arith
 
-      pub next-room : used + found + size (tree ws next) ≤ length mid
-      next-room =
-          let z : long ws next left ≡ size (tree ws next) + long ws (next + size (tree ws next)) n = ap (long ws next) more ∙ begun first-left .sum in
-          omega (arith, h .room, mid-long)
+    first-left : First ws next n
+    first-left = first-of (subst (Stands ws next) more (h .stand))
 
-      pub loop-turns :
-          {new : List ℕ} {d : Float} {k then : ℕ} → Taken (tree ws next) next mid (used + found) d k new → then ≡ next + size (tree ws next)
-          → Looping new (mul binary64 c d) (found + k) then n
-      loop-turns {new} {d} {k} {then} f e =
-          let b = begun first-left in
-          let z : long ws next left ≡ size (tree ws next) + long ws (next + size (tree ws next)) n = ap (long ws next) more ∙ b .sum in
-          let few = few-places next (tree ws next) in
-          let ps = factor-places next (tree ws next) in
-          let rest = operand-places (next + size (tree ws next)) (forest (trees-from ws (next + size (tree ws next)) n)) in
-          subst (λ (j : ℕ). Looping new (mul binary64 c d) (found + k) j n) (sym e)
-          (record {
-            from = omega (arith, h .from);
-            stand = first-left .rest;
-            done = h .done ++ ps;
-            found-is = omega (arith, h .found-is, f .count-is, length-append (h .done) ps);
-            places-are =
-                f .places-are ∙ (ap₂ (λ (l : List ℕ) (j : ℕ). sets l (used + j) ps) (h .places-are) (h .found-is) ∙ sets-append old used (h .done) ps);
-            all =
-                h .all ∙ (ap (λ (j : ℕ). h .done ++ operand-places next (forest (trees-from ws next j))) more
-                ∙ (ap (λ (l : List ℕ). h .done ++ l) (b .places) ∙ sym (append-assoc (h .done) ps rest)));
-            product =
-                h .product ∙ (ap (λ (j : ℕ). after (trees-from ws next j) c) more
-                ∙ (b .more c ∙ ap (λ (x : Float). after (trees-from ws (next + size (tree ws next)) n) (mul binary64 c x)) (sym (f .coefficient-is))));
-            end = omega (arith, h .end);
-            room = omega (arith, h .room, f .count-is);
-          })
+    pub next-stands : Stands ws next 1
+    next-stands = first-left .alone
 
-    pub loop-ends : left ≡ 0 → Each-taken c found mid × (next ≡ at + long ws at count)
-    unfolding after factor-places forest total
-    loop-ends e =
-        let z : trees-from ws next left ≡ [] = ap (trees-from ws next) e ∙ none-from ws next in
-        let y : long ws next left ≡ 0 = ap (λ (l : List Tree). total (map size l)) z in
-        let ps : operand-places at (forest (trees-from ws at count)) ≡ h .done =
-        h .all ∙ (ap (λ (l : List Tree). h .done ++ operand-places next (forest l)) z ∙ append-nil (h .done)) in (
-          record {
-            coefficient-is = sym (h .product ∙ ap (λ (l : List Tree). after l c) z);
-            count-is = h .found-is ∙ ap length (sym ps);
-            places-are = h .places-are ∙ ap (sets old used) (sym ps);
-          },
-          omega (arith, h .end),
-        )
+    pub next-room : used + found + size (tree ws next) ≤ length mid
+    next-room =
+        let z : long ws next left ≡ size (tree ws next) + long ws (next + size (tree ws next)) n = ap (long ws next) more ∙ begun first-left .sum in
+        omega (arith, h .room, mid-long)
+
+    pub loop-turns :
+        {new : List ℕ} {d : Float} {k then : ℕ} → Taken (tree ws next) next mid (used + found) d k new → then ≡ next + size (tree ws next)
+        → Looping ws at count old used new (mul binary64 c d) (found + k) then (left - 1)
+    loop-turns {new} {d} {k} {then} f e =
+        let b = begun first-left in
+        let z : long ws next left ≡ size (tree ws next) + long ws (next + size (tree ws next)) n = ap (long ws next) more ∙ b .sum in
+        let few = few-places next (tree ws next) in
+        let ps = factor-places next (tree ws next) in
+        let rest = operand-places (next + size (tree ws next)) (forest (trees-from ws (next + size (tree ws next)) n)) in
+        subst (λ (j : ℕ). Looping ws at count old used new (mul binary64 c d) (found + k) j n) (sym e)
+        (record {
+          from = omega (arith, h .from);
+          stand = first-left .rest;
+          done = h .done ++ ps;
+          found-is = omega (arith, h .found-is, f .count-is, length-append (h .done) ps);
+          places-are =
+              f .places-are ∙ (ap₂ (λ (l : List ℕ) (j : ℕ). sets l (used + j) ps) (h .places-are) (h .found-is) ∙ sets-append old used (h .done) ps);
+          all =
+              h .all ∙ (ap (λ (j : ℕ). h .done ++ operand-places next (forest (trees-from ws next j))) more
+              ∙ (ap (λ (l : List ℕ). h .done ++ l) (b .places) ∙ sym (append-assoc (h .done) ps rest)));
+          product =
+              h .product ∙ (ap (λ (j : ℕ). after (trees-from ws next j) c) more
+              ∙ (b .more c ∙ ap (λ (x : Float). after (trees-from ws (next + size (tree ws next)) n) (mul binary64 c x)) (sym (f .coefficient-is))));
+          end = omega (arith, h .end);
+          room = omega (arith, h .room, f .count-is);
+        })
+
+  pub loop-ends : left ≡ 0 → Each-taken ws at count old used c found mid × (next ≡ at + long ws at count)
+  unfolding after factor-places forest total
+  loop-ends e =
+      let z : trees-from ws next left ≡ [] = ap (trees-from ws next) e ∙ none-from ws next in
+      let y : long ws next left ≡ 0 = ap (λ (l : List Tree). total (map size l)) z in
+      let ps : operand-places at (forest (trees-from ws at count)) ≡ h .done =
+      h .all ∙ (ap (λ (l : List Tree). h .done ++ operand-places next (forest l)) z ∙ append-nil (h .done)) in (
+        record {
+          coefficient-is = sym (h .product ∙ ap (λ (l : List Tree). after l c) z);
+          count-is = h .found-is ∙ ap length (sym ps);
+          places-are = h .places-are ∙ ap (sets old used) (sym ps);
+        },
+        omega (arith, h .end),
+      )

@@ -1,14 +1,11 @@
 -- `factors::flatten_tree` and `factors::flatten_operands` meet their contracts. A tree calls with the place after its word, and operands call with a place no earlier. Assumes nothing.
 use native.Mathlib.Omega.{arith}
-use mathlib.Core.Path.{_≡_, refl, sym, _∙_, ap}
 use lib.ListN.{length, length-set}
 use Rattle.coefficient.proofs.Exactness.{one-literal}
 use Rattle.factors.proofs.WordRuns.{node-of}
 use Rattle.factors.proofs.Flattening.{Looping, flat-long, constant-done, other-done, operands-stand, operands-long, product-done, minus-done, none-done, first-room, loop-starts, mid-long, next-stands, next-room, loop-turns, loop-ends}
-use Rattle.factors.specs.Places.{Stands}
 use mathlib.Core.List.{List}
-use borrow.Author.Needs.{needs}
-use Prim.Native.Nat.{ℕ, _<_, suc, _+_, _-_, _*_, _≤_}
+use Prim.Native.Nat.{ℕ, _<_, _+_, _-_, _*_}
 use borrow.Fn.Kinds.{In}
 use borrow.Fn.PlainCycle.{Measures, is, falls, and}
 use Rattle.factors.proofs.flatten_operands.Reads as flatten-operands
@@ -58,7 +55,8 @@ flatten-tree-below t =
     flatten-tree.Pre
 
 abbrev flatten-operands-Inv-loop : flatten-operands-lts.InvT-loop
-flatten-operands-Inv-loop tokens at count places₀ used coefficient₀ found₀ next₀ left₀ places coefficient found next left = (old : List ℕ) → Looping tokens at count old used places₀ coefficient₀ found₀ next₀ left₀ → Looping tokens at count old used places coefficient found next left
+flatten-operands-Inv-loop tokens at count places₀ used coefficient₀ found₀ next₀ left₀ places coefficient found next left =
+    (old : List ℕ) → Looping tokens at count old used places₀ coefficient₀ found₀ next₀ left₀ → Looping tokens at count old used places coefficient found next left
 
 abbrev flatten-operands-μ-loop : flatten-operands-lts.MeasureT-loop
 flatten-operands-μ-loop tokens at count places₀ used coefficient₀ found₀ next₀ left₀ places coefficient found next left = left
@@ -71,33 +69,8 @@ at-loop :
 at-loop t c =
     let s = c .before .before .before .before .before .before .before .before in
     let f = c .before .before .before .flatten-tree .ensures in
-    let some = c .before .before .before .before .before .if1 .left in
     c .loop .inv (s .args .places .now)
-    (loop-starts (s .args .tokens .now) (s .args .at) (s .args .count) (s .args .places .now) (s .args .used) (s .args .count - 1) (omega (arith, some)) (s .pre .1 .0) (s .pre .1 .1) (f .0) (f .1))
-
-flatten-operands-flatten-tree-requires-2 :
-    (t : ℕ) → flatten-operands-lts.Need-flatten-tree-requires-2 (
-      flatten-tree-below t,
-      flatten-tree.Post,
-    )
-    (flatten-operands-at t)
-    flatten-operands.Post
-    flatten-operands-Inv-loop
-    flatten-operands-μ-loop
-flatten-operands-flatten-tree-requires-2 t c κs = let s = c .before .before .before .before .before .before .before .before .before .before in let l = c .before .before .loop .left in let h = at-loop t (c .before .before) in let e : l ≡ suc (l - 1) = omega (arith, c .before .loop-test .taken) in (omega (arith, s .pre .0, h .from), (next-stands (s .args .tokens .now) (s .args .at) (s .args .count) (s .args .places .now) (s .args .used) h (l - 1) e, next-room (s .args .tokens .now) (s .args .at) (s .args .count) (s .args .places .now) (s .args .used) h (l - 1) e))
-
-flatten-tree-flatten-operands-requires-2 :
-    (t : ℕ) → flatten-tree-lts.Need-flatten-operands-requires-2 (
-      float-of-reads.Asked,
-      float-of-reads.Learnt,
-      operand-count-reads.Asked,
-      operand-count-reads.Learnt,
-      flatten-operands-below t,
-      flatten-operands.Post,
-      past-reads.Asked,
-      past-reads.Learnt,
-    ) (flatten-tree-at t) flatten-tree.Post
-flatten-tree-flatten-operands-requires-2 t c κs = let s = c .before .before .before .before .before .before .before .before in let n = c .before .operand-count2 in (omega (arith, s .pre .0, node-of (s .pre .1 .0) .inside), (operands-stand (s .pre .1 .0) (n .result) (n .ensures), omega (arith, operands-long (s .pre .1 .0) (n .result) (n .ensures), s .pre .1 .1)))
+    (loop-starts (s .args .tokens .now) (s .args .at) (s .args .count) (s .args .places .now) (s .args .used) (c .before .before .before .before .before .if1 .left) (s .pre .1 .0) (s .pre .1 .1) (f .0) (f .1))
 
 pub +flatten-operands+flatten-tree-spec : {M : Type 1} → statement M
 +flatten-operands+flatten-tree-spec =
@@ -110,17 +83,27 @@ pub +flatten-operands+flatten-tree-spec : {M : Type 1} → statement M
     flatten-operands-Inv-loop
     flatten-operands-μ-loop
     (λ c. let s = c .before .before .before in none-done (s .args .tokens .now) (s .args .at) (s .args .count) (s .args .places .now) (s .args .used) (c .if1 .taken) _ one-literal)
-    (λ c κs. let s = c .before .before .before .before in let r = first-room (s .args .tokens .now) (s .args .at) (s .args .count) (s .args .places .now) (s .args .used) (c .before .if1 .left) (s .pre .1 .0) (s .pre .1 .1) in (omega (arith, s .pre .0), r))
+    (λ c κs.
+    let s = c .before .before .before .before in
+    let r = first-room (s .args .tokens .now) (s .args .at) (s .args .count) (s .args .places .now) (s .args .used) (c .before .if1 .left) (s .pre .1 .0) (s .pre .1 .1) in
+    (omega (arith, s .pre .0), r))
     (λ c. let h = c .before .before .before .before .if1 .left in omega (arith, h))
     (λ c. λ old h. h)
-    (λ c. let s = c .before .before .before .before .before .before .before .before .before .before in let l = c .before .before .loop .left in let h = at-loop t (c .before .before) in omega (arith, h .room, s .good .1 .1 .1 .0))
-    (flatten-operands-flatten-tree-requires-2 t)
-    (λ c. let s = c .before .before .before .before .before .before .before .before .before .before .before .before .before .before .before in let l = c .before .before .before .before .before .before .before .loop .left in let h = at-loop t (c .before .before .before .before .before .before .before) in let e : l ≡ suc (l - 1) = omega (arith, c .before .before .before .before .before .before .loop-test .taken) in let f = c .before .before .before .before .flatten-tree2 .ensures in omega (arith, loop-turns (s .args .tokens .now) (s .args .at) (s .args .count) (s .args .places .now) (s .args .used) h (l - 1) e (f .0) (f .1) .room, s .good .1 .1 .1 .0))
+    (λ c. let s = c .before .before .before .before .before .before .before .before .before .before in omega (arith, at-loop t (c .before .before) .room, s .good .1 .1 .1 .0))
+    (λ c κs.
+    let s = c .before .before .before .before .before .before .before .before .before .before in
+    let h = at-loop t (c .before .before) in
+    let more = c .before .loop-test .taken in
+    (omega (arith, s .pre .0, h .from), (next-stands h more, next-room h more)))
+    (λ c.
+    let s = c .before .before .before .before .before .before .before .before .before .before .before .before .before .before .before in
+    let f = c .before .before .before .before .flatten-tree2 .ensures in
+    omega (arith, loop-turns (at-loop t (c .before .before .before .before .before .before .before)) (c .before .before .before .before .before .before .loop-test .taken) (f .0) (f .1) .room, s .good .1 .1 .1 .0))
     (λ c. omega (arith, c .before .before .before .before .before .before .loop-test .taken))
     (λ c. omega (arith, c .before .before .before .before .before .before .loop-test .taken))
-    (λ c. λ old h. let s = c .before .before .before .before .before .before .before .before .before .before .before .before .before .before .before in let l = c .before .before .before .before .before .before .before .loop .left in let e : l ≡ suc (l - 1) = omega (arith, c .before .before .before .before .before .before .loop-test .taken) in let f = c .before .before .before .before .flatten-tree2 .ensures in loop-turns (s .args .tokens .now) (s .args .at) (s .args .count) old (s .args .used) (c .before .before .before .before .before .before .before .loop .inv old h) (l - 1) e (f .0) (f .1))
-    (λ c. let s = c .before .before .before .before .before .before .before .before .before in mid-long (s .args .tokens .now) (s .args .at) (s .args .count) (s .args .places .now) (s .args .used) (at-loop t (c .before)))
-    (λ c. let s = c .before .before .before .before .before .before .before .before .before in loop-ends (s .args .tokens .now) (s .args .at) (s .args .count) (s .args .places .now) (s .args .used) (at-loop t (c .before)) (omega (arith, c .loop-test .left))))
+    (λ c. λ old h. let f = c .before .before .before .before .flatten-tree2 .ensures in loop-turns (c .before .before .before .before .before .before .before .loop .inv old h) (c .before .before .before .before .before .before .loop-test .taken) (f .0) (f .1))
+    (λ c. mid-long (at-loop t (c .before)))
+    (λ c. loop-ends (at-loop t (c .before)) (omega (arith, c .loop-test .left))))
     λ t. flatten-tree-lts.spec (
       float-of-reads.Asked,
       float-of-reads.Learnt,
@@ -140,14 +123,26 @@ pub +flatten-operands+flatten-tree-spec : {M : Type 1} → statement M
     (λ c. let s = c .before .before .before .before .before in constant-done (s .pre .1 .0) (s .args .places .now) (s .args .used) _ (c .before .if1 .taken) (c .float-of .ensures))
     (λ c. let s = c .before .before .before .before .before in omega (arith, node-of (s .pre .1 .0) .inside, s .good .0))
     (λ c κs. tt)
-    (λ c κs. let s = c .before .before .before .before .before .before .before in let n = c .before .operand-count in (omega (arith, s .pre .0, node-of (s .pre .1 .0) .inside), (operands-stand (s .pre .1 .0) (n .result) (n .ensures), omega (arith, operands-long (s .pre .1 .0) (n .result) (n .ensures), s .pre .1 .1))))
+    (λ c κs.
+    let s = c .before .before .before .before .before .before .before in
+    let n = c .before .operand-count in
+    (omega (arith, s .pre .0, node-of (s .pre .1 .0) .inside), (operands-stand (s .pre .1 .0) (n .result) (n .ensures), omega (arith, operands-long (s .pre .1 .0) (n .result) (n .ensures), s .pre .1 .1))))
     (λ c. flat-long (c .before .before .flatten-operands .ensures .0))
-    (λ c. let s = c .before .before .before .before .before .before .before .before .before .before in let n = c .before .before .before .before .operand-count in product-done (s .pre .1 .0) (n .result) (n .ensures) (c .before .before .before .before .before .if2 .taken) (c .before .before .flatten-operands .ensures))
+    (λ c.
+    let s = c .before .before .before .before .before .before .before .before .before .before in
+    let n = c .before .before .before .before .operand-count in
+    product-done (s .pre .1 .0) (n .result) (n .ensures) (c .before .before .before .before .before .if2 .taken) (c .before .before .flatten-operands .ensures))
     (λ c. let s = c .before .before .before .before .before .before in omega (arith, node-of (s .pre .1 .0) .inside, s .good .0))
     (λ c κs. tt)
-    (flatten-tree-flatten-operands-requires-2 t)
+    (λ c κs.
+    let s = c .before .before .before .before .before .before .before .before in
+    let n = c .before .operand-count2 in
+    (omega (arith, s .pre .0, node-of (s .pre .1 .0) .inside), (operands-stand (s .pre .1 .0) (n .result) (n .ensures), omega (arith, operands-long (s .pre .1 .0) (n .result) (n .ensures), s .pre .1 .1))))
     (λ c. flat-long (c .before .before .before .flatten-operands2 .ensures .0))
-    (λ c. let s = c .before .before .before .before .before .before .before .before .before .before .before .before in let n = c .before .before .before .before .before .operand-count2 in minus-done (s .pre .1 .0) (n .result) (n .ensures) (c .before .before .before .before .before .before .if3 .taken) (c .before .before .before .flatten-operands2 .ensures))
+    (λ c.
+    let s = c .before .before .before .before .before .before .before .before .before .before .before .before in
+    let n = c .before .before .before .before .before .operand-count2 in
+    minus-done (s .pre .1 .0) (n .result) (n .ensures) (c .before .before .before .before .before .before .if3 .taken) (c .before .before .before .flatten-operands2 .ensures))
     (λ c. let s = c .before .before .before .before .before .before in omega (arith, node-of (s .pre .1 .0) .long, s .pre .1 .1, s .good .1 .1 .0))
     (λ c. let s = c .before .before .before .before .before .before in omega (arith, node-of (s .pre .1 .0) .long, s .pre .1 .1))
     (λ c κs. c .before .before .before .before .before .before .pre .1 .0)
