@@ -7,7 +7,7 @@ use mathlib.Core.Option.{Option, none, some}
 use mathlib.Core.List.{List, _++_}
 use borrow.Author.Tests.{lt-ltb, le-ltb}
 use lib.ListN.{length, drop}
-use lib.Seq.{sets, sets-eq}
+use lib.Seq.{sets-eq}
 use lib.Dec.{ltb}
 use lib.Ieee.{Float}
 use Rattle.tree.specs.Tree.{Tree}
@@ -15,10 +15,10 @@ use Rattle.tree.specs.Facts.{size}
 use Rattle.tree.specs.Tokens.{run-at}
 use Rattle.tokens.specs.Answers.{end-answer}
 use Rattle.tokens.specs.declared.Run.the-variants as run
-use Rattle.tokens.proofs.Comparing.{run-ends, run-after}
-use Rattle.rewrite.specs.Rewrite.{flatten-mul-factors}
-use Rattle.factors.specs.Places.{tree, Stands, factor-places, Flat}
+use Rattle.tokens.proofs.Comparing.{run-ends}
+use Rattle.factors.specs.Places.{tree, Stands, factor-places}
 use Rattle.factors.specs.Answers.{Flattening, flattened-by, flatten-answer}
+use Rattle.factors.specs.declared.Flattened.{Flattened}
 use Rattle.factors.specs.declared.Flattened.the-variants as flattened
 use Rattle.factors.proofs.WordRuns.{stands-run, run-stands}
 use Rattle.factors.proofs.PlaceLaws.{few-places}
@@ -43,7 +43,7 @@ unfolding end-answer
 run-none at none p = refl
 run-none at (some n) p = absurd (let z : _≡_ {A = ℕ} 0 1 = cc in omega arith)
 
-by-run : (o : Option ℕ) (at : ℕ) (t : Tree) (old : List ℕ) → Flattening
+unfoldable pub by-run : (o : Option ℕ) (at : ℕ) (t : Tree) (old : List ℕ) → Flattening
 by-run o at t old = elim o [ none ↦ record { answer = flattened.Broken; places = old } | some n ↦ flattened-by (ltb (length old) n) at t old ]
 
 module _ (ws : List ℕ) (at : ℕ) (old : List ℕ) where
@@ -51,11 +51,11 @@ module _ (ws : List ℕ) (at : ℕ) (old : List ℕ) where
   unfolding flatten-answer by-run
   no-tree e = ap (λ (o : Option ℕ). by-run o at (tree ws at) old) e
 
-  a-tree : (n : ℕ) (b : Bool) → run-at ws at ≡ some n → ltb (length old) n ≡ b → flatten-answer ws at old ≡ flattened-by b at (tree ws at) old
+  pub a-tree : (n : ℕ) (b : Bool) → run-at ws at ≡ some n → ltb (length old) n ≡ b → flatten-answer ws at old ≡ flattened-by b at (tree ws at) old
   unfolding flatten-answer by-run
   a-tree n b e t = ap (λ (o : Option ℕ). by-run o at (tree ws at) old) e ∙ ap (λ (x : Bool). flattened-by x at (tree ws at) old) t
 
-  abbrev pub Answers : Rattle.factors.specs.declared.Flattened.Flattened → List ℕ → Type 0
+  abbrev pub Answers : Flattened → List ℕ → Type 0
   Answers r new = (r ≡ flatten-answer ws at old .answer) × (new ≡ flatten-answer ws at old .places)
 
   pub answers-broken : run.Broken ≡ end-answer at (run-at ws at) → Answers flattened.Broken old

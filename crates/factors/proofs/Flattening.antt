@@ -1,5 +1,5 @@
 -- The steps of `flatten_tree` and `flatten_operands`, with no code in them: a tree by its word's kind, and trees multiplied one after another. Assumes nothing.
-use Prim.Native.Nat.{ℕ, zero, suc, _+_, _-_, _≤_, _<_}
+use Prim.Native.Nat.{ℕ, suc, _+_, _-_, _≤_, _<_}
 use native.Mathlib.Omega.{arith}
 use mathlib.Core.Path.{_≡_, refl, sym, _∙_, ap, ap₂, subst}
 use mathlib.Core.Bool.{Bool, true, false, true≢false}
@@ -10,14 +10,14 @@ use lib.Seq.{sets, length-sets}
 use lib.Dec.{eqb}
 use lib.IntN.{ℤ}
 use lib.Ieee.{Float, binary64, mul, neg, ofInt}
-use Rattle.tree.specs.Tree.{Tree, Forest, Sym, Const, Op, nil, _◂_, forest}
+use Rattle.tree.specs.Tree.{Name, Tree, Forest, Sym, Const, Op, forest}
 use Rattle.tree.specs.Kinds.{Neg, Mul}
 use Rattle.tree.specs.Facts.{total, size}
 use Rattle.tree.specs.Tokens.{kind-of, below-of, takes, constant-at, numbered}
 use Rattle.tree.proofs.TokenLaws.{Word, a-symbol, a-constant, an-operation, word-is, symbol-tree, constant-tree, operation-tree, leaf-takes}
 use Rattle.rewrite.specs.Rewrite.{Factors, one, flatten-mul-factors, flatten-operands, flatten-after, times, negated}
 use Rattle.factors.specs.Places.{tree, trees-from, Stands, factor-places, operand-places, Flat}
-use Rattle.factors.proofs.WordRuns.{First, first-of, none-from, Node, node-of, sizes-are}
+use Rattle.factors.proofs.WordRuns.{First, first-of, none-from, node-of}
 use Rattle.factors.proofs.PlaceLaws.{few-places}
 
 -- ---- words stored one run after another
@@ -55,7 +55,7 @@ minus-taken t f at {old} {new} {used} {n} {c} e h =
     subst (λ (u : Tree). Taken u at old used (neg c) n new) (sym e)
     (record { coefficient-is = ap neg (h .coefficient-is); count-is = h .count-is; places-are = h .places-are })
 
-symbol-taken : (t : Tree) (a : Rattle.tree.specs.Tree.Name) (at : ℕ) (old : List ℕ) (used : ℕ) (c : Float) → t ≡ Sym a → c ≡ one → Taken t at old used c 1 (set old used at)
+symbol-taken : (t : Tree) (a : Name) (at : ℕ) (old : List ℕ) (used : ℕ) (c : Float) → t ≡ Sym a → c ≡ one → Taken t at old used c 1 (set old used at)
 unfolding flatten-mul-factors factor-places
 symbol-taken t a at old used c e h =
     subst (λ (u : Tree). Taken u at old used c 1 (set old used at)) (sym e) (record { coefficient-is = h; count-is = refl; places-are = refl })

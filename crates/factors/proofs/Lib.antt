@@ -2,3 +2,5 @@ pub mod WordRuns
 pub mod PlaceLaws
 pub mod Flattening
 pub mod Answering
+pub mod Products
+pub mod Examples

@@ -14,8 +14,7 @@ use Rattle.tree.specs.Facts.{size}
 use Rattle.tree.specs.Tokens.{numbered, trees-at, read, words-of}
 
 -- the tree at a place
-unfoldable pub tree : List ℕ → ℕ → Tree
-unfolding trees-at
+abbrev pub tree : List ℕ → ℕ → Tree
 tree ws at = getD (trees-at numbered ws) at (Op 0 nil)
 
 -- the n trees from a place on
@@ -48,7 +47,6 @@ unfoldable mutual
 
 -- the trees at some places
 unfoldable pub at-places : List ℕ → List ℕ → List Tree
-unfolding tree
 at-places ws ps = map (tree ws) ps
 
 -- what is answered and written for a product with a coefficient and the places of its factors
