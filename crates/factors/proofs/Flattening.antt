@@ -2,9 +2,9 @@
 use Prim.Native.Nat.{ℕ, suc, _+_, _-_, _≤_, _<_}
 use native.Mathlib.Omega.{arith}
 use mathlib.Core.Path.{_≡_, refl, sym, _∙_, ap, ap₂, subst}
-use mathlib.Core.Bool.{Bool, true, false, true≢false}
+use mathlib.Core.Bool.{Bool, true, false, true≢false, _||_}
 use mathlib.Core.List.{List, [], _∷_, _++_, append-assoc, append-nil, map}
-use borrow.Author.Tests.{ne-eqb}
+use borrow.Author.Tests.{ne-eqb, eqb-false}
 use lib.ListN.{length, getD, set, length-append}
 use lib.Seq.{sets, length-sets}
 use lib.Dec.{eqb}
@@ -16,7 +16,7 @@ use Rattle.tree.specs.Facts.{total, size}
 use Rattle.tree.specs.Tokens.{kind-of, below-of, takes, constant-at, numbered}
 use Rattle.tree.proofs.TokenLaws.{Word, a-symbol, a-constant, an-operation, word-is, symbol-tree, constant-tree, operation-tree, leaf-takes}
 use Rattle.rewrite.specs.Rewrite.{Factors, one, flatten-mul-factors, flatten-operands, flatten-after, times, negated}
-use Rattle.factors.specs.Places.{tree, trees-from, Stands, factor-places, operand-places, Flat}
+use Rattle.factors.specs.Places.{tree, trees-from, Stands, factor-places, operand-places, Flat, passes-through}
 use Rattle.factors.proofs.WordRuns.{First, first-of, none-from, node-of}
 use Rattle.factors.proofs.PlaceLaws.{few-places}
 
@@ -103,15 +103,29 @@ module _ {ws : List ℕ} {at : ℕ} (s : Stands ws at 1) where
       let is : tree ws at ≡ Const (constant-at (below-of w)) = m .is ∙ constant-tree numbered w (trees-from ws (at + 1) (takes w)) e in
       (constant-taken (tree ws at) (constant-at (below-of w)) at old used c is h, omega arith)
 
+  -- neither a Mul nor a Neg
+  plain-kind : passes-through w ≡ false → (kind-of w ≡ 5 → ⊥) × (kind-of w ≡ 2 → ⊥)
+  unfolding passes-through
+  plain-kind e = go (eqb (kind-of w) 5) (eqb (kind-of w) 2) refl refl e
+    where
+      go : (a b : Bool) → eqb (kind-of w) 5 ≡ a → eqb (kind-of w) 2 ≡ b → (a || b) ≡ false → (kind-of w ≡ 5 → ⊥) × (kind-of w ≡ 2 → ⊥)
+      go true b p q e = absurd (true≢false e)
+      go false true p q e = absurd (true≢false e)
+      go false false p q e = (eqb-false (kind-of w) 5 p, eqb-false (kind-of w) 2 q)
+
+  pub kind-plain : (kind-of w ≡ 5 → ⊥) → (kind-of w ≡ 2 → ⊥) → passes-through w ≡ false
+  unfolding passes-through
+  kind-plain p q = rw (ne-eqb (kind-of w) 5 p, ne-eqb (kind-of w) 2 q)
+
   pub other-done :
-      (old : List ℕ) (used : ℕ) (c : Float) → (kind-of w ≡ 1 → ⊥) → (kind-of w ≡ 5 → ⊥) → (kind-of w ≡ 2 → ⊥) → c ≡ one
+      (old : List ℕ) (used : ℕ) (c : Float) → (kind-of w ≡ 1 → ⊥) → passes-through w ≡ false → c ≡ one
       → Taken (tree ws at) at old used c 1 (set old used at)
-  other-done old used c p q r h = go (word-is w)
+  other-done old used c p q h = go (word-is w)
     where
       go : Word w → Taken (tree ws at) at old used c 1 (set old used at)
       go (a-symbol e) = symbol-taken (tree ws at) _ at old used c (node-of s .is ∙ symbol-tree numbered w (trees-from ws (at + 1) (takes w)) e) h
       go (a-constant e) = absurd (p e)
-      go (an-operation e) = other-taken (tree ws at) (kind-of w) (forest (trees-from ws (at + 1) (takes w))) at old used c (is-operation (kind-of w) refl e) q r h
+      go (an-operation e) = other-taken (tree ws at) (kind-of w) (forest (trees-from ws (at + 1) (takes w))) at old used c (is-operation (kind-of w) refl e) (plain-kind q .0) (plain-kind q .1) h
 
   -- the operands, as many as the word says
   module _ (n : ℕ) (count : n ≡ takes w) where
