@@ -20,7 +20,7 @@ use Rattle.coefficient.specs.Answers.{float, SizeOf, constant-answer}
 use Rattle.coefficient.specs.declared.Size.{Size}
 use Rattle.coefficient.specs.declared.Size.the-variants as size
 use Rattle.coefficient.specs.declared.Constant.the-variants as constant
-use Rattle.coefficient.proofs.Whole.{none, neg-float, neg-neg, positive-not-below, negative-below, minus-zero}
+use Rattle.coefficient.proofs.Whole.{plus-zero, neg-float, neg-neg, positive-not-below, negative-below, minus-zero}
 
 -- ---- the float of a code
 
@@ -114,7 +114,7 @@ module _ (x : Float) (x-fits : T (fits binary64 x)) where
       let h : SizeOf x (size.Of n) = subst (SizeOf x) e k in
       sym (ap (λ (y : Float). constant-answer (constant-of y)) (h .0) ∙ ap constant-answer (of-float false n (h .1)))
 
-  pub positive-none : (r : Size) → r ≡ size.No → SizeOf x r → lt x none ≡ false → constant.Not ≡ constant-answer (constant-of x)
+  pub positive-none : (r : Size) → r ≡ size.No → SizeOf x r → lt x plus-zero ≡ false → constant.Not ≡ constant-answer (constant-of x)
   positive-none r e k t = refused-is (constant-of x) (λ z q. let a = accepted x z x-fits q in go (a .sign) (a .magnitude) (a .small) (a .is) (a .no-minus-zero))
     where
       h : SizeOf x size.No
@@ -125,20 +125,20 @@ module _ (x : Float) (x-fits : T (fits binary64 x)) where
       go true n l p z =
           elim (eq-zero-or-pos n) [
             | inl o ↦ true≢false (z o)
-            | inr q ↦ true≢false (sym (negative-below n l q) ∙ ap (λ (y : Float). lt y none) (sym p) ∙ t)
+            | inr q ↦ true≢false (sym (negative-below n l q) ∙ ap (λ (y : Float). lt y plus-zero) (sym p) ∙ t)
           ]
 
   -- what is below zero is no zero
-  pub negative-more : (r : Size) (n : ℕ) → r ≡ size.Of n → SizeOf (neg x) r → lt x none ≡ true → 0 < n
+  pub negative-more : (r : Size) (n : ℕ) → r ≡ size.Of n → SizeOf (neg x) r → lt x plus-zero ≡ true → 0 < n
   negative-more r n e k t =
       let h : SizeOf (neg x) (size.Of n) = subst (SizeOf (neg x)) e k in
       let p : x ≡ float true n = sym (neg-neg x) ∙ ap neg (h .0) ∙ neg-float n in
       elim (eq-zero-or-pos n) [
-        | inl o ↦ absurd (true≢false (sym t ∙ ap (λ (y : Float). lt y none) p ∙ minus-zero n o))
+        | inl o ↦ absurd (true≢false (sym t ∙ ap (λ (y : Float). lt y plus-zero) p ∙ minus-zero n o))
         | inr q ↦ q
       ]
 
-  pub negative-is : (r : Size) (n : ℕ) → r ≡ size.Of n → SizeOf (neg x) r → lt x none ≡ true → constant.Is (2 * n - 1) ≡ constant-answer (constant-of x)
+  pub negative-is : (r : Size) (n : ℕ) → r ≡ size.Of n → SizeOf (neg x) r → lt x plus-zero ≡ true → constant.Is (2 * n - 1) ≡ constant-answer (constant-of x)
   unfolding constant-answer constant-code whole-number
   negative-is r n e k t =
       let h : SizeOf (neg x) (size.Of n) = subst (SizeOf (neg x)) e k in
@@ -149,7 +149,7 @@ module _ (x : Float) (x-fits : T (fits binary64 x)) where
       go zero q = absurd (omega arith)
       go (suc n) q = let d : 1 + 2 * n ≡ 2 * suc n - 1 = omega arith in ap constant.Is d
 
-  pub negative-none : (r : Size) → r ≡ size.No → SizeOf (neg x) r → lt x none ≡ true → constant.Not ≡ constant-answer (constant-of x)
+  pub negative-none : (r : Size) → r ≡ size.No → SizeOf (neg x) r → lt x plus-zero ≡ true → constant.Not ≡ constant-answer (constant-of x)
   negative-none r e k t = refused-is (constant-of x) (λ z q. let a = accepted x z x-fits q in go (a .sign) (a .magnitude) (a .small) (a .is))
     where
       h : SizeOf (neg x) size.No
@@ -157,7 +157,7 @@ module _ (x : Float) (x-fits : T (fits binary64 x)) where
 
       go : (s : Bool) (n : ℕ) → n < 10 ^ 15 → x ≡ float s n → ⊥
       go true n l p = h n l (ap neg (p ∙ sym (neg-float n)) ∙ neg-neg (float false n))
-      go false n l p = true≢false (sym t ∙ ap (λ (y : Float). lt y none) p ∙ positive-not-below n l)
+      go false n l p = true≢false (sym t ∙ ap (λ (y : Float). lt y plus-zero) p ∙ positive-not-below n l)
 
 pub size-small : (a : Float) (r : Size) (n : ℕ) → r ≡ size.Of n → SizeOf a r → n < 10 ^ 15
 size-small a r n e k = let h : SizeOf a (size.Of n) = subst (SizeOf a) e k in h .1

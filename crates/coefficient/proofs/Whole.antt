@@ -1,29 +1,29 @@
 -- Floats and the numbers below 10^15: what the tests of `size_of` and `constant_of` show. Assumes nothing.
 use mathlib.Core.Path.{_≡_, refl, sym, ap, _∙_, subst}
-use mathlib.Core.Bool.{Bool, true, false, not, cond}
+use mathlib.Core.Bool.{Bool, true, false, not, cond, true≢false}
 use Prim.Native.Nat.{ℕ, zero, suc, _+_, _-_, _*_, _/_, _^_, _≤_, _<_, min}
-use native.Mathlib.Nat.{lt-of-lt-of-le, mul-one, mul-pos, mul-lt-mul-of-pos-right, div-lt-iff-lt-mul}
+use native.Mathlib.Nat.{lt-of-lt-of-le, mul-one, mul-pos, mul-lt-mul-of-pos-right, div-lt-iff-lt-mul, mul-le-mul-right, zero-mul}
 use native.Mathlib.Omega.{arith}
-use lib.Dec.{T, ltb, lit<, lit≤, ltb→lt, lt→ltb, le→leb}
+use lib.Dec.{T, ltb, lit<, lit≤, ltb→lt, lt→ltb, le→leb, not-T}
 use lib.IntN.{pos}
 use lib.Ieee.{Float, nan, inf, fin, binary64, prec, emax, low, up, down, units, odd, neg, lt, fits, isNan, ofInt, toUnsigned, inFloat, toBits, ofBits}
 use lib.Ieee.Fits.{down-pos, round-is}
 use lib.Ieee.Exact.{HasValue}
 use lib.Ieee.Back.{round-whole, unsigned-back}
-use lib.Ieee.Bits.{ofBits-toBits}
+use lib.Ieee.Bits.{ofBits-toBits, is-false, is-true}
 use Rattle.coefficient.specs.Answers.{float}
 
 -- 10^15 and -1, as the literals' bits give them
-abbrev pub top : Float
-top = fin false 30517578125 (pos 15)
+abbrev pub limit : Float
+limit = fin false 30517578125 (pos 15)
 
-abbrev pub under : Float
-under = fin true 1 (pos 0)
+abbrev pub minus-one : Float
+minus-one = fin true 1 (pos 0)
 
 below-word : (a d : ℕ) → 0 < d → a < 10 ^ 15 * d → a < 2 ^ 64 * d
-below-word a d D h = lt-of-lt-of-le h (native.Mathlib.Nat.mul-le-mul-right d (lit≤ tt))
+below-word a d D h = lt-of-lt-of-le h (mul-le-mul-right d (lit≤ tt))
 
-pub to-word : (a : Float) → T (lt a top) → T (lt a (fin false 1 (pos 64)))
+pub to-word : (a : Float) → T (lt a limit) → T (lt a (fin false 1 (pos 64)))
 unfolding lt
 to-word nan h = h
 to-word (inf s) h = h
@@ -33,7 +33,7 @@ to-word (fin true m e) h = lt→ltb 0 (m * up e * 1 + 2 ^ 64 * down e) (lt-of-lt
     more : (x y : ℕ) → y ≤ x + y
     more x y = omega arith
 
-pub no-nan : (a : Float) → T (lt a top) → T (not (isNan a))
+pub no-nan : (a : Float) → T (lt a limit) → T (not (isNan a))
 unfolding lt isNan
 no-nan nan h = h
 no-nan (inf s) h = tt
@@ -56,7 +56,7 @@ pub float-no-nan : (s : Bool) (n : ℕ) → T (not (isNan (float s n)))
 float-no-nan s n = subst (λ (x : Float). T (not (isNan x))) (sym (round-is binary64 s n 1)) (units-no-nan s _ _)
 
 -- the whole part of what is below 10^15 is too
-pub cut-below : (a : Float) → T (lt a top) → T (lt under a) → toUnsigned 64 a < 10 ^ 15
+pub cut-below : (a : Float) → T (lt a limit) → T (lt minus-one a) → toUnsigned 64 a < 10 ^ 15
 unfolding lt toUnsigned
 cut-below nan h k = absurd h
 cut-below (inf true) h k = absurd k
@@ -76,11 +76,11 @@ same-bits x y p q h = sym (ofBits-toBits binary64 x p) ∙ ap (ofBits binary64) 
 below-prec : (n : ℕ) → n < 10 ^ 15 → n ≤ 2 ^ prec binary64
 below-prec n h = omega arith
 
-value-below : (x : Float) (n : ℕ) → n < 10 ^ 15 → HasValue x false n 1 → T (lt x top) × T (lt under x)
+value-below : (x : Float) (n : ℕ) → n < 10 ^ 15 → HasValue x false n 1 → T (lt x limit) × T (lt minus-one x)
 unfolding lt
 value-below nan n l h = absurd h
 value-below (inf s) n l h = absurd h
-value-below (fin true m e) n l h = absurd (mathlib.Core.Bool.true≢false (h .0))
+value-below (fin true m e) n l h = absurd (true≢false (h .0))
 value-below (fin false m e) n l h = (
   lt→ltb (m * up e * 1) (10 ^ 15 * down e) (subst (λ (z : ℕ). z < 10 ^ 15 * down e) (sym (h .1)) (mul-lt-mul-of-pos-right l (down-pos e))),
   lt→ltb 0 (1 * down e + m * up e * 1) (lt-of-lt-of-le (mul-pos (lit< {m = 0} {n = 1} tt) (down-pos e)) (more (1 * down e) (m * up e * 1))),
@@ -89,7 +89,7 @@ value-below (fin false m e) n l h = (
     more : (x y : ℕ) → x ≤ x + y
     more x y = omega arith
 
-pub float-below : (n : ℕ) → n < 10 ^ 15 → T (lt (float false n) top) × T (lt under (float false n))
+pub float-below : (n : ℕ) → n < 10 ^ 15 → T (lt (float false n) limit) × T (lt minus-one (float false n))
 float-below n l = value-below (float false n) n l (round-whole binary64 false n (below-prec n l))
 
 pub float-cut : (n : ℕ) → n < 10 ^ 15 → toUnsigned 64 (float false n) ≡ n
@@ -125,45 +125,45 @@ neg-neg (fin true m e) = refl
 neg-neg (fin false m e) = refl
 
 -- ---- the sign test, x < 0
-abbrev pub none : Float
-none = fin false 0 (pos 0)
+abbrev pub plus-zero : Float
+plus-zero = fin false 0 (pos 0)
 
 not-below-zero : (a d : ℕ) → ltb (a * 1) (0 * d) ≡ false
-not-below-zero a d = lib.Ieee.Bits.is-false (ltb (a * 1) (0 * d)) (lib.Dec.not-T (ltb (a * 1) (0 * d)) (λ t. never (a * 1) (subst (λ (z : ℕ). a * 1 < z) (native.Mathlib.Nat.zero-mul d) (ltb→lt (a * 1) (0 * d) t))))
+not-below-zero a d = is-false (ltb (a * 1) (0 * d)) (not-T (ltb (a * 1) (0 * d)) (λ t. never (a * 1) (subst (λ (z : ℕ). a * 1 < z) (zero-mul d) (ltb→lt (a * 1) (0 * d) t))))
   where
     never : (z : ℕ) → z < 0 → ⊥
     never z h = omega arith
 
-value-not-below : (x : Float) (n : ℕ) → HasValue x false n 1 → lt x none ≡ false
+value-not-below : (x : Float) (n : ℕ) → HasValue x false n 1 → lt x plus-zero ≡ false
 unfolding lt
 value-not-below nan n h = absurd h
 value-not-below (inf s) n h = absurd h
-value-not-below (fin true m e) n h = absurd (mathlib.Core.Bool.true≢false (h .0))
+value-not-below (fin true m e) n h = absurd (true≢false (h .0))
 value-not-below (fin false m e) n h = not-below-zero (m * up e) (down e)
 
-value-is-below : (x : Float) (n : ℕ) → 0 < n → HasValue x true n 1 → lt x none ≡ true
+value-is-below : (x : Float) (n : ℕ) → 0 < n → HasValue x true n 1 → lt x plus-zero ≡ true
 unfolding lt
 value-is-below nan n p h = absurd h
 value-is-below (inf s) n p h = absurd h
-value-is-below (fin false m e) n p h = absurd (mathlib.Core.Bool.true≢false (sym (h .0)))
+value-is-below (fin false m e) n p h = absurd (true≢false (sym (h .0)))
 value-is-below (fin true m e) n p h =
-    lib.Ieee.Bits.is-true (ltb 0 (m * up e * 1 + 0 * down e)) (lt→ltb 0 (m * up e * 1 + 0 * down e) (lt-of-lt-of-le (subst (λ (z : ℕ). 0 < z) (sym (h .1)) (mul-pos p (down-pos e))) (more (m * up e * 1) (0 * down e))))
+    is-true (ltb 0 (m * up e * 1 + 0 * down e)) (lt→ltb 0 (m * up e * 1 + 0 * down e) (lt-of-lt-of-le (subst (λ (z : ℕ). 0 < z) (sym (h .1)) (mul-pos p (down-pos e))) (more (m * up e * 1) (0 * down e))))
   where
     more : (x y : ℕ) → x ≤ x + y
     more x y = omega arith
 
-zero-not-below : (x : Float) → HasValue x true 0 1 → lt x none ≡ false
+zero-not-below : (x : Float) → HasValue x true 0 1 → lt x plus-zero ≡ false
 unfolding lt
 zero-not-below nan h = absurd h
 zero-not-below (inf s) h = absurd h
-zero-not-below (fin false m e) h = absurd (mathlib.Core.Bool.true≢false (sym (h .0)))
-zero-not-below (fin true m e) h = ap (λ (z : ℕ). ltb 0 z) ((λ i. h .1 i + native.Mathlib.Nat.zero-mul (down e) i) ∙ ap (λ (z : ℕ). z + 0) (native.Mathlib.Nat.zero-mul (down e)))
+zero-not-below (fin false m e) h = absurd (true≢false (sym (h .0)))
+zero-not-below (fin true m e) h = ap (λ (z : ℕ). ltb 0 z) ((λ i. h .1 i + zero-mul (down e) i) ∙ ap (λ (z : ℕ). z + 0) (zero-mul (down e)))
 
-pub positive-not-below : (n : ℕ) → n < 10 ^ 15 → lt (float false n) none ≡ false
+pub positive-not-below : (n : ℕ) → n < 10 ^ 15 → lt (float false n) plus-zero ≡ false
 positive-not-below n l = value-not-below (float false n) n (round-whole binary64 false n (below-prec n l))
 
-pub negative-below : (n : ℕ) → n < 10 ^ 15 → 0 < n → lt (float true n) none ≡ true
+pub negative-below : (n : ℕ) → n < 10 ^ 15 → 0 < n → lt (float true n) plus-zero ≡ true
 negative-below n l p = value-is-below (float true n) n p (round-whole binary64 true n (below-prec n l))
 
-pub minus-zero : (n : ℕ) → n ≡ 0 → lt (float true n) none ≡ false
-minus-zero n z = ap (λ (k : ℕ). lt (float true k) none) z ∙ zero-not-below (float true 0) (round-whole binary64 true 0 (lit≤ tt))
+pub minus-zero : (n : ℕ) → n ≡ 0 → lt (float true n) plus-zero ≡ false
+minus-zero n z = ap (λ (k : ℕ). lt (float true k) plus-zero) z ∙ zero-not-below (float true 0) (round-whole binary64 true 0 (lit≤ tt))

@@ -7,7 +7,7 @@ use mathlib.Core.Path.{_≡_, refl, sym, _∙_, ap, ap₂, subst}
 use mathlib.Core.Logic.{_⊎_, inl, inr}
 use mathlib.Core.Bool.{Bool, true, false, not, _&&_, cond}
 use mathlib.Core.List.{[], _∷_}
-use borrow.Author.Tests.{eq-eqb, ltb-false}
+use borrow.Author.Tests.{eq-eqb, ltb-false, le-ltb}
 use lib.Dec.{T, eqb, ltb, leb, leb→le, nleb→lt}
 use lib.Pow.{pow-add, pow-pos}
 use lib.IntN.{ℤ, pos, negsuc}
@@ -18,7 +18,7 @@ use lib.Ieee.Exact.{HasValue, odd-sign}
 use lib.Ieee.Back.{round-whole}
 use lib.Ieee.Fits.{down-pos, round-is}
 use lib.Ieee.Scale.{round-same}
-use Rattle.tree.specs.Outcome.{Refusal, refused, by}
+use Rattle.tree.specs.Outcome.{Refusal, Outcome, refused, by}
 use Rattle.tree.specs.Tree.{Tree, Forest, Sym, Const, Op, nil, _◂_}
 use Rattle.tree.specs.Kinds.{Neg, Mul}
 use Rattle.rewrite.specs.Rewrite.{Factors, one, flatten-mul-factors, flatten-operands, flatten-after, times, negated, constant-of, whole-number}
@@ -181,3 +181,26 @@ outside (fin s m e) r w h = go (ltb (m * up e / down e) (10 ^ 15)) refl
 
 pub refused-outside : (t : Tree) (r : Refusal) → constant-of (flatten-mul-factors t .coefficient) ≡ refused r → Outside (flatten-mul-factors t .coefficient)
 refused-outside t r e = outside (flatten-mul-factors t .coefficient) r (whole-coefficient t) e
+
+-- ---- and all of it is
+
+no-number : (a : Bool) (s : Bool) (n : ℕ) → _≡_ {A = Outcome ℤ} (elim (a && false) [ true ↦ whole-number s n | false ↦ refused (by 10) ]) (refused (by 10))
+no-number true s n = refl
+no-number false s n = refl
+
+minus-zero : (a : Bool) → _≡_ {A = Outcome ℤ} (elim (a && ltb 0 (10 ^ 15)) [ true ↦ whole-number true 0 | false ↦ refused (by 10) ]) (refused (by 10))
+unfolding whole-number
+minus-zero true = refl
+minus-zero false = refl
+
+pub outside-refused : (x : Float) → Outside x → constant-of x ≡ refused (by 10)
+unfolding constant-of
+outside-refused nan o = refl
+outside-refused (inf s) o = refl
+outside-refused (fin s m e) (inl h) =
+    let a = eqb (m * up e % down e) 0 in
+    let n = m * up e / down e in
+    ap (λ (b : Bool). elim (a && b) [ true ↦ whole-number s n | false ↦ refused (by 10) ]) (le-ltb n (10 ^ 15) (le-div-iff-mul-le (down-pos e) .1 h)) ∙ no-number a s n
+outside-refused (fin s m e) (inr (p, q)) =
+    let a = eqb (m * up e % down e) 0 in
+    ap₂ (λ (t : Bool) (n : ℕ). elim (a && ltb n (10 ^ 15)) [ true ↦ whole-number t n | false ↦ refused (by 10) ]) p q ∙ minus-zero a

@@ -9,7 +9,7 @@ use lib.Ieee.{Float, binary64, ofBits, neg, ofInt, toBits, toUnsigned, isNan, lt
 use lib.Ieee.Fits.{ofInt-fits}
 use lib.Ieee.Bits.{is-true}
 use Rattle.coefficient.specs.Answers.{float}
-use Rattle.coefficient.proofs.Whole.{top, under, to-word, no-nan, float-no-nan, cut-below, same-bits, float-below, float-cut}
+use Rattle.coefficient.proofs.Whole.{limit, minus-one, to-word, no-nan, float-no-nan, cut-below, same-bits, float-below, float-cut}
 use Rattle.coefficient.proofs.size_of.Statement.{statement}
 use Rattle.coefficient.proofs.size_of.Tie as tie
 
@@ -50,11 +50,11 @@ returns-2 c = λ n l e.
 
 returns-3 : tie.Need-returns-3
 unfolding ofBits
-returns-3 c = λ n l e. true≢false (sym (is-true (lt (float false n) top) (float-below n l .0)) ∙ ap (λ (x : Float). lt x top) (sym e) ∙ c .if2 .left)
+returns-3 c = λ n l e. true≢false (sym (is-true (lt (float false n) limit) (float-below n l .0)) ∙ ap (λ (x : Float). lt x limit) (sym e) ∙ c .if2 .left)
 
 returns-4 : tie.Need-returns-4
 unfolding ofBits neg
-returns-4 c = λ n l e. true≢false (sym (is-true (lt under (float false n)) (float-below n l .1)) ∙ ap (λ (x : Float). lt under x) (sym e) ∙ c .if1 .left)
+returns-4 c = λ n l e. true≢false (sym (is-true (lt minus-one (float false n)) (float-below n l .1)) ∙ ap (λ (x : Float). lt minus-one x) (sym e) ∙ c .if1 .left)
 
 pub size-of-spec : {M : Type 1} → statement M
 size-of-spec = tie.close (tie.spec truncating-f64-to-u64-requires nearest-u64-to-f64-requires float-to-bits-if3 float-to-bits-if3-2 returns returns-2 returns-3 returns-4)
