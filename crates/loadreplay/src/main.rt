@@ -279,14 +279,20 @@ fn judged(line: &[u8], sheets: u64, a: Answer) -> Count
     ensures { λ r. ⌜ (r .sheets ≤ 1) × (r .differ ≤ 1) ⌝ }
 {
     if is_stored(line, a) {
-        return Count { sheets: 1, differ: 0 };
+        return Count {
+            sheets: 1,
+            differ: 0,
+        };
     }
     io::write_all(STDOUT_FILENO, b"sheet ");
     io::print_decimal(STDOUT_FILENO, sheets);
     io::write_all(STDOUT_FILENO, b" differs: ");
     io::write_all(STDOUT_FILENO, line);
     io::write_all(STDOUT_FILENO, b"\n");
-    Count { sheets: 1, differ: 1 }
+    Count {
+        sheets: 1,
+        differ: 1,
+    }
 }
 
 fn replayed(
@@ -299,22 +305,37 @@ fn replayed(
     ensures { λ r. ⌜ (r .sheets ≤ 1) × (r .differ ≤ 1) ⌝ }
 {
     if is_remark(line) {
-        return Count { sheets: 0, differ: 0 };
+        return Count {
+            sheets: 0,
+            differ: 0,
+        };
     }
     if line.len() < COLUMNS {
-        return Count { sheets: 1, differ: 1 };
+        return Count {
+            sheets: 1,
+            differ: 1,
+        };
     }
     let words = number(&line[0..5]) as usize;
     let places = number(&line[6..9]) as usize;
     let n = put_sheet(&line[COLUMNS..], sheet);
     if n > sheet.len() {
-        return Count { sheets: 1, differ: 1 };
+        return Count {
+            sheets: 1,
+            differ: 1,
+        };
     }
     if words > rows.len() {
-        return Count { sheets: 1, differ: 1 };
+        return Count {
+            sheets: 1,
+            differ: 1,
+        };
     }
     if places > roots.len() {
-        return Count { sheets: 1, differ: 1 };
+        return Count {
+            sheets: 1,
+            differ: 1,
+        };
     }
     let a = called(&sheet[..n], &mut rows[..words], &mut roots[..places]);
     judged(line, sheets, a)
@@ -322,7 +343,7 @@ fn replayed(
 
 // ---- all lines
 
-fn replay(list: &[u8], sheet: &mut [u8], rows: &mut [u64], roots: &mut [u64]) {
+fn replay(list: &[u8], sheet: &mut [u8], rows: &mut [u64], roots: &mut [u64]) -> Count {
     let mut at = 0;
     let mut sheets: u64 = 0;
     let mut differ: u64 = 0;
@@ -332,14 +353,11 @@ fn replay(list: &[u8], sheet: &mut [u8], rows: &mut [u64], roots: &mut [u64]) {
         sheets += count.sheets;
         differ += count.differ;
         if end == list.len() {
-            break;
+            return Count { sheets, differ };
         }
         at = end + 1;
     }
-    io::print_decimal(STDOUT_FILENO, sheets);
-    io::write_all(STDOUT_FILENO, b" sheets, ");
-    io::print_decimal(STDOUT_FILENO, differ);
-    io::write_all(STDOUT_FILENO, b" differ\n");
+    Count { sheets, differ }
 }
 
 fn main() {
@@ -348,5 +366,9 @@ fn main() {
     let mut sheet = [0u8; 65600];
     let mut rows = [0u64; 36000];
     let mut roots = [0u64; 80];
-    replay(&list[..n], &mut sheet, &mut rows, &mut roots);
+    let count = replay(&list[..n], &mut sheet, &mut rows, &mut roots);
+    io::print_decimal(STDOUT_FILENO, count.sheets);
+    io::write_all(STDOUT_FILENO, b" sheets, ");
+    io::print_decimal(STDOUT_FILENO, count.differ);
+    io::write_all(STDOUT_FILENO, b" differ\n");
 }
