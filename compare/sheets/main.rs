@@ -142,16 +142,17 @@ fn speed() {
             break bytes;
         }
     };
-    let mut port = Port::new();
+    let mut fastest = Duration::MAX;
     for _ in 0..CALLS {
+        let mut port = Port::new();
         assert_eq!(port.call(ENOUGH, &bytes), 0);
+        fastest = fastest.min(port.time);
     }
-    let each = port.time.as_secs_f64() / CALLS as f64;
     println!(
-        "a sheet of {} bytes: {:.2} milliseconds, {:.1} MB/s",
+        "a sheet of {} bytes, the fastest of {CALLS} calls: {:.2} milliseconds, {:.1} MB/s",
         bytes.len(),
-        each * 1e3,
-        bytes.len() as f64 / each / 1e6
+        fastest.as_secs_f64() * 1e3,
+        bytes.len() as f64 / fastest.as_secs_f64() / 1e6
     );
 }
 
