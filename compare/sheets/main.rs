@@ -43,6 +43,8 @@ struct Tally {
     /// of those by 6: too many bytes, a node or root too many, and the limits on all together
     sixes: [usize; 3],
     no_answer: usize,
+    /// kinds in loaded sheets; a Select with a default comes last
+    kinds: [bool; reading::KINDS.len() + 1],
     differ: usize,
     bytes: usize,
     reading: Duration,
@@ -67,7 +69,7 @@ fn compare(copies: usize) {
     }
     tally.say(&port);
     let met = [&tally.refused[1..], &tally.sixes].concat();
-    if tally.differ > 0 || met.contains(&0) {
+    if tally.differ > 0 || met.contains(&0) || tally.kinds.contains(&false) {
         std::process::exit(1);
     }
 }
@@ -83,6 +85,9 @@ impl Tally {
             0 => self.loaded += 1,
             NO_ANSWER => self.no_answer += 1,
             number => self.refused[number as usize] += 1,
+        }
+        for row in given.rows.chunks(reading::WIDTH) {
+            self.kinds[(row[0] + row[1]) as usize] = true;
         }
         if given.number == 6 {
             let records = reading::records(sheet).len() as u64;
@@ -110,13 +115,15 @@ impl Tally {
             .map(|n| format!("{n}: {}", self.refused[n]))
             .collect();
         println!(
-            "{} good sheets, {} damaged copies: {} loaded; refused by {}; no room for an answer {}; {} differ
+            "{} good sheets, {} damaged copies: {} loaded; refused by {}; no room for an answer {}; kinds met {} of {}; {} differ
 of those by 6: too many bytes {}, a node or root too many {}, all roots together {}",
             self.good,
             self.damaged,
             self.loaded,
             numbers.join(", "),
             self.no_answer,
+            self.kinds.iter().filter(|met| **met).count(),
+            self.kinds.len(),
             self.differ,
             self.sixes[0],
             self.sixes[1],
