@@ -1,1 +1,3 @@
 pub mod Renaming
+pub mod Choosing
+pub mod Rewriting
