@@ -265,3 +265,228 @@ module _ (R : Renaming) where
       subst (λ (u : Option Factors). Agree-if Known-factors renamed-factors (match-factors target n e) u) (sym same)
       (match-step n i (q .coefficient) (is-mul target && Ieee.eq (p .coefficient) one) (remove-each (p .factors) (q .factors))
       (remove-each (map (renamed R) (p .factors)) (map (renamed R) (q .factors))) (remove-each-renamed (p .factors) (q .factors) (flatten-known target g) (flatten-known e h)))
+
+  -- ---- replace
+
+  abbrev pub Agree-tree : Outcome Tree → Outcome Tree → Type 0
+  Agree-tree = Agree (Known R) (renamed R)
+
+  pub each-operand-renamed :
+      (g k : Tree → Outcome Tree) → ((t : Tree) → Known R t → Agree-tree (g t) (k (renamed R t)))
+      → (f : Forest) → Known-each R f → Agree (Known-each R) (renamed-each R) (each-operand g f) (each-operand k (renamed-each R f))
+  unfolding each-operand renamed-by holds
+  each-operand-renamed g k a nil h = agree-ok (Known-each R) (renamed-each R) nil h
+  each-operand-renamed g k a (t ◂ f) h =
+      then-agree (Known R) (renamed R) (Known-each R) (renamed-each R) (g t) (k (renamed R t)) (a t (and-left (holds (is-known R) t) (holds-each (is-known R) f) h))
+      (λ u. each-operand g f >>= λ r. ok (u ◂ r)) (λ u. each-operand k (renamed-each R f) >>= λ r. ok (u ◂ r))
+      (λ u q.
+        then-agree (Known-each R) (renamed-each R) (Known-each R) (renamed-each R) (each-operand g f) (each-operand k (renamed-each R f))
+        (each-operand-renamed g k a f (and-right (holds (is-known R) t) (holds-each (is-known R) f) h)) (λ r. ok (u ◂ r)) (λ r. ok (renamed R u ◂ r))
+        (λ r z. agree-ok (Known-each R) (renamed-each R) (u ◂ r) (and-both (holds (is-known R) u) (holds-each (is-known R) r) q z)))
+
+  module _ (target : Tree) (n : Name) (target-known : Known R target) (name-known : T (is-known R n)) where
+    leaf-step :
+        (t : Tree) → Known R t → (b c : Bool) → b ≡ c
+        → Agree-tree (elim c [ true ↦ ok (Sym n) | false ↦ ok t ]) (elim b [ true ↦ ok (Sym (named R n)) | false ↦ ok (renamed R t) ])
+    unfolding renamed-by Good holds
+    leaf-step t h b c e =
+        subst (λ (b : Bool). Agree-tree (elim c [ true ↦ ok (Sym n) | false ↦ ok t ]) (elim b [ true ↦ ok (Sym (named R n)) | false ↦ ok (renamed R t) ])) (sym e) (go c)
+      where
+        go : (c : Bool) → Agree-tree (elim c [ true ↦ ok (Sym n) | false ↦ ok t ]) (elim c [ true ↦ ok (Sym (named R n)) | false ↦ ok (renamed R t) ])
+        go true = (name-known, refl)
+        go false = (h, refl)
+
+    operands-step :
+        (k : ℕ) (f : Forest) (g l : Tree → Outcome Tree) → ((t : Tree) → Known R t → Agree-tree (g t) (l (renamed R t))) → Known-each R f
+        → Agree-tree (each-operand g f >>= λ r. ok (Op k r)) (each-operand l (renamed-each R f) >>= λ r. ok (Op k r))
+    unfolding renamed-by holds
+    operands-step k f g l a h =
+        then-agree (Known-each R) (renamed-each R) (Known R) (renamed R) (each-operand g f) (each-operand l (renamed-each R f)) (each-operand-renamed g l a f h)
+        (λ r. ok (Op k r)) (λ r. ok (Op k r)) (λ r z. agree-ok (Known R) (renamed R) (Op k r) z)
+
+    product-step :
+        (g l : Tree → Outcome Tree) → ((t : Tree) → Known R t → Agree-tree (g t) (l (renamed R t))) → (x y : Outcome Tree) → Agree-tree x y
+        → (o u : Option Factors) → Agree-if Known-factors renamed-factors o u
+        → Agree-tree (elim o [ none ↦ x | some p ↦ (build-mul-from-factors p >>= λ t. g t) ]) (elim u [ none ↦ y | some p ↦ (build-mul-from-factors p >>= λ t. l t) ])
+    product-step g l a x y h none none m = h
+    product-step g l a x y h none (some q) m = absurd m
+    product-step g l a x y h (some p) none m = absurd m
+    product-step g l a x y h (some p) (some q) m =
+        subst (λ (q : Factors). Agree-tree (build-mul-from-factors p >>= λ t. g t) (build-mul-from-factors q >>= λ t. l t)) (m .1)
+        (then-agree (Known R) (renamed R) (Known R) (renamed R) (build-mul-from-factors p) (build-mul-from-factors (renamed-factors p)) (build-renamed p (m .0)) g l a)
+
+    node-step :
+        (b c d : Bool) → b ≡ c → (p q x y : Outcome Tree) → Agree-tree p q → Agree-tree x y
+        → Agree-tree (elim c [ true ↦ ok (Sym n) | false ↦ elim d [ true ↦ p | false ↦ x ] ])
+        (elim b [ true ↦ ok (Sym (named R n)) | false ↦ elim d [ true ↦ q | false ↦ y ] ])
+    unfolding renamed-by Good holds
+    node-step b c d e p q x y h g =
+        subst (λ (b : Bool).
+          Agree-tree (elim c [ true ↦ ok (Sym n) | false ↦ elim d [ true ↦ p | false ↦ x ] ])
+          (elim b [ true ↦ ok (Sym (named R n)) | false ↦ elim d [ true ↦ q | false ↦ y ] ])) (sym e) (go c d)
+      where
+        go : (c d : Bool)
+            → Agree-tree (elim c [ true ↦ ok (Sym n) | false ↦ elim d [ true ↦ p | false ↦ x ] ])
+            (elim c [ true ↦ ok (Sym (named R n)) | false ↦ elim d [ true ↦ q | false ↦ y ] ])
+        go true d = (name-known, refl)
+        go false true = h
+        go false false = g
+
+    pub replace-within-renamed :
+        (fuel : ℕ) (e : Tree) → Known R e → Agree-tree (replace-within fuel target n e) (replace-within fuel (renamed R target) (named R n) (renamed R e))
+    unfolding replace-within renamed-by
+    replace-within-renamed zero e h = agree-ok (Known R) (renamed R) e h
+    replace-within-renamed (suc fuel) (Sym s) h =
+        leaf-step (Sym s) h (eq-tree (renamed R (Sym s)) (renamed R target)) (eq-tree (Sym s) target) (eq-tree-renamed R (Sym s) target h target-known)
+    replace-within-renamed (suc fuel) (Const c) h =
+        leaf-step (Const c) h (eq-tree (renamed R (Const c)) (renamed R target)) (eq-tree (Const c) target) (eq-tree-renamed R (Const c) target h target-known)
+    replace-within-renamed (suc fuel) (Op k f) h =
+        let g : Tree → Outcome Tree = λ t. replace-within fuel target n t in
+        let l : Tree → Outcome Tree = λ t. replace-within fuel (renamed R target) (named R n) t in
+        let a : (t : Tree) → Known R t → Agree-tree (g t) (l (renamed R t)) = λ t w. replace-within-renamed fuel t w in
+        let x = each-operand g f >>= λ r. ok (Op k r) in
+        let y = each-operand l (renamed-each R f) >>= λ r. ok (Op k r) in
+        let o = operands-step k f g l a (unfold holds in h) in
+        node-step (eq-tree (renamed R (Op k f)) (renamed R target)) (eq-tree (Op k f) target) (eqb k Mul) (eq-tree-renamed R (Op k f) target h target-known)
+        (elim (match-factors target n (Op k f)) as (λ _. Outcome Tree) [ none ↦ x | some p ↦ (build-mul-from-factors p >>= λ t. g t) ])
+        (elim (match-factors (renamed R target) (named R n) (renamed R (Op k f))) as (λ _. Outcome Tree) [ none ↦ y | some p ↦ (build-mul-from-factors p >>= λ t. l t) ])
+        x y
+        (product-step g l a x y o (match-factors target n (Op k f)) (match-factors (renamed R target) (named R n) (renamed R (Op k f)))
+        (match-renamed target n (Op k f) target-known name-known h)) o
+
+    pub replace-renamed : (e : Tree) → Known R e → Agree-tree (replace target n e) (replace (renamed R target) (named R n) (renamed R e))
+    unfolding replace
+    replace-renamed e h =
+        subst (λ (m : ℕ). Agree-tree (replace target n e) (replace-within (2 * m) (renamed R target) (named R n) (renamed R e))) (sym (size-renamed R e))
+        (replace-within-renamed (2 * size e) e h)
+
+    -- ---- replace_outside_arms
+
+    arms-step :
+        (b c d : Bool) → b ≡ c → (k : ℕ) (p q r s : Forest) → p ≡ renamed-each R r → q ≡ renamed-each R s
+        → _≡_ {A = Tree} (elim b [ true ↦ Sym (named R n) | false ↦ Op k (elim d [ true ↦ p | false ↦ q ]) ])
+        (renamed R (elim c [ true ↦ Sym n | false ↦ Op k (elim d [ true ↦ r | false ↦ s ]) ]))
+    unfolding renamed-by
+    arms-step b c d e k p q r s x y = rw e (go c d)
+      where
+        go : (c d : Bool)
+            → _≡_ {A = Tree} (elim c [ true ↦ Sym (named R n) | false ↦ Op k (elim d [ true ↦ p | false ↦ q ]) ])
+            (renamed R (elim c [ true ↦ Sym n | false ↦ Op k (elim d [ true ↦ r | false ↦ s ]) ]))
+        go true d = refl
+        go false true = ap (Op k) x
+        go false false = ap (Op k) y
+
+    outside-leaf : (b c : Bool) → b ≡ c → (t : Tree) → _≡_ {A = Tree} (elim b [ true ↦ Sym (named R n) | false ↦ renamed R t ]) (renamed R (elim c [ true ↦ Sym n | false ↦ t ]))
+    unfolding renamed-by
+    outside-leaf b c e t = rw e (go c)
+      where
+        go : (c : Bool) → _≡_ {A = Tree} (elim c [ true ↦ Sym (named R n) | false ↦ renamed R t ]) (renamed R (elim c [ true ↦ Sym n | false ↦ t ]))
+        go true = refl
+        go false = refl
+
+    mutual
+      unfolding replace-outside-arms renamed-by holds
+
+      pub outside-arms-renamed :
+          (e : Tree) → Known R e → replace-outside-arms (renamed R target) (named R n) (renamed R e) ≡ renamed R (replace-outside-arms target n e)
+      outside-arms-renamed (Sym s) h =
+          outside-leaf (eq-tree (renamed R (Sym s)) (renamed R target)) (eq-tree (Sym s) target) (eq-tree-renamed R (Sym s) target h target-known) (Sym s)
+      outside-arms-renamed (Const c) h =
+          outside-leaf (eq-tree (renamed R (Const c)) (renamed R target)) (eq-tree (Const c) target) (eq-tree-renamed R (Const c) target h target-known) (Const c)
+      outside-arms-renamed (Op k f) h =
+          arms-step (eq-tree (renamed R (Op k f)) (renamed R target)) (eq-tree (Op k f) target) (is-switch k) (eq-tree-renamed R (Op k f) target h target-known) k
+          (replace-key (renamed R target) (named R n) (renamed-each R f)) (replace-operands (renamed R target) (named R n) (renamed-each R f))
+          (replace-key target n f) (replace-operands target n f) (key-renamed f h) (operands-renamed f h)
+
+      operands-renamed :
+          (f : Forest) → Known-each R f → replace-operands (renamed R target) (named R n) (renamed-each R f) ≡ renamed-each R (replace-operands target n f)
+      operands-renamed nil h = refl
+      operands-renamed (t ◂ f) h =
+          ap₂ _◂_ (outside-arms-renamed t (and-left (holds (is-known R) t) (holds-each (is-known R) f) h))
+          (operands-renamed f (and-right (holds (is-known R) t) (holds-each (is-known R) f) h))
+
+      key-renamed : (f : Forest) → Known-each R f → replace-key (renamed R target) (named R n) (renamed-each R f) ≡ renamed-each R (replace-key target n f)
+      key-renamed nil h = refl
+      key-renamed (t ◂ f) h =
+          ap (λ (u : Tree). u ◂ renamed-each R f) (outside-arms-renamed t (and-left (holds (is-known R) t) (holds-each (is-known R) f) h))
+
+    arms-known-step :
+        (c d : Bool) (k : ℕ) (r s : Forest) → Known-each R r → Known-each R s
+        → Known R (elim c [ true ↦ Sym n | false ↦ Op k (elim d [ true ↦ r | false ↦ s ]) ])
+    unfolding holds
+    arms-known-step true d k r s x y = name-known
+    arms-known-step false true k r s x y = x
+    arms-known-step false false k r s x y = y
+
+    outside-known-leaf : (c : Bool) (t : Tree) → Known R t → Known R (elim c [ true ↦ Sym n | false ↦ t ])
+    unfolding holds
+    outside-known-leaf true t h = name-known
+    outside-known-leaf false t h = h
+
+    mutual
+      unfolding replace-outside-arms holds
+
+      pub outside-arms-known : (e : Tree) → Known R e → Known R (replace-outside-arms target n e)
+      outside-arms-known (Sym s) h = outside-known-leaf (eq-tree (Sym s) target) (Sym s) h
+      outside-arms-known (Const c) h = outside-known-leaf (eq-tree (Const c) target) (Const c) h
+      outside-arms-known (Op k f) h =
+          arms-known-step (eq-tree (Op k f) target) (is-switch k) k (replace-key target n f) (replace-operands target n f) (key-known f h) (operands-known f h)
+
+      operands-known : (f : Forest) → Known-each R f → Known-each R (replace-operands target n f)
+      operands-known nil h = tt
+      operands-known (t ◂ f) h =
+          and-both (holds (is-known R) (replace-outside-arms target n t)) (holds-each (is-known R) (replace-operands target n f))
+          (outside-arms-known t (and-left (holds (is-known R) t) (holds-each (is-known R) f) h))
+          (operands-known f (and-right (holds (is-known R) t) (holds-each (is-known R) f) h))
+
+      key-known : (f : Forest) → Known-each R f → Known-each R (replace-key target n f)
+      key-known nil h = tt
+      key-known (t ◂ f) h =
+          and-both (holds (is-known R) (replace-outside-arms target n t)) (holds-each (is-known R) f)
+          (outside-arms-known t (and-left (holds (is-known R) t) (holds-each (is-known R) f) h)) (and-right (holds (is-known R) t) (holds-each (is-known R) f) h)
+
+  -- ---- replace_divisor
+
+  module _ (d : Tree) (n : Name) (divisor-known : Known R d) where
+    divides-renamed : (f : Forest) → Known-each R f → divides-by (renamed R d) (renamed-each R f) ≡ divides-by d f
+    unfolding divides-by renamed-by holds
+    divides-renamed nil h = refl
+    divides-renamed (a ◂ nil) h = refl
+    divides-renamed (a ◂ (b ◂ f)) h =
+        eq-tree-renamed R b d
+        (unfold holds in and-left (holds (is-known R) b) (holds-each (is-known R) f) (and-right (holds (is-known R) a) (holds-each (is-known R) (b ◂ f)) h)) divisor-known
+
+    divisor-step :
+        (b c : Bool) → b ≡ c → (k : ℕ) (p q r s : Forest) → p ≡ renamed-each R r → q ≡ renamed-each R s
+        → _≡_ {A = Tree} (elim b [ true ↦ Op Mul p | false ↦ Op k q ]) (renamed R (elim c [ true ↦ Op Mul r | false ↦ Op k s ]))
+    unfolding renamed-by
+    divisor-step b c e k p q r s x y = rw e (go c)
+      where
+        go : (c : Bool) → _≡_ {A = Tree} (elim c [ true ↦ Op Mul p | false ↦ Op k q ]) (renamed R (elim c [ true ↦ Op Mul r | false ↦ Op k s ]))
+        go true = ap (Op Mul) x
+        go false = ap (Op k) y
+
+    mutual
+      unfolding replace-divisor renamed-by holds
+
+      pub divisor-renamed : (e : Tree) → Known R e → replace-divisor (renamed R d) (named R n) (renamed R e) ≡ renamed R (replace-divisor d n e)
+      divisor-renamed (Sym s) h = refl
+      divisor-renamed (Const c) h = refl
+      divisor-renamed (Op k f) h =
+          divisor-step (eqb k Div && divides-by (renamed R d) (renamed-each R f)) (eqb k Div && divides-by d f) (ap (λ (b : Bool). eqb k Div && b) (divides-renamed f h)) k
+          (dividend (renamed R d) (named R n) (renamed-each R f)) (replace-divisors (renamed R d) (named R n) (renamed-each R f)) (dividend d n f) (replace-divisors d n f)
+          (dividend-renamed f h) (divisors-renamed f h)
+
+      divisors-renamed : (f : Forest) → Known-each R f → replace-divisors (renamed R d) (named R n) (renamed-each R f) ≡ renamed-each R (replace-divisors d n f)
+      divisors-renamed nil h = refl
+      divisors-renamed (t ◂ f) h =
+          ap₂ _◂_ (divisor-renamed t (and-left (holds (is-known R) t) (holds-each (is-known R) f) h))
+          (divisors-renamed f (and-right (holds (is-known R) t) (holds-each (is-known R) f) h))
+
+      dividend-renamed : (f : Forest) → Known-each R f → dividend (renamed R d) (named R n) (renamed-each R f) ≡ renamed-each R (dividend d n f)
+      dividend-renamed nil h = refl
+      dividend-renamed (t ◂ f) h =
+          ap (λ (u : Tree). u ◂ Sym (named R n) ◂ nil) (divisor-renamed t (and-left (holds (is-known R) t) (holds-each (is-known R) f) h))
+
+    pub divisor-keeps-known : (e : Tree) → T (is-known R n) → Known R e → Known R (replace-divisor d n e)
+    divisor-keeps-known e i h = divisor-holds (is-known R) d n (λ w. i) e h
