@@ -1,3 +1,4 @@
 pub mod Renaming
 pub mod Choosing
 pub mod Rewriting
+pub mod Extraction
