@@ -4,3 +4,4 @@ pub mod Rewriting
 pub mod Extraction
 pub mod Reading
 pub mod RowNames
+pub mod BestPlace
