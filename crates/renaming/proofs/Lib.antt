@@ -5,3 +5,5 @@ pub mod Extraction
 pub mod Reading
 pub mod RowNames
 pub mod BestPlace
+pub mod Answers
+pub mod Ordering

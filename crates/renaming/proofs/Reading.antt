@@ -72,7 +72,7 @@ module _ (name-at : ℕ → List ℕ) where
 -- ---- the words of renamed trees
 
 module _ (R : Renaming) (back : List ℕ → ℕ) (comes-back : (s : List ℕ) → T (R .known s) → back (R .name-at (R .number s)) ≡ R .number s) where
-  code-renamed : (n : Name) → T (is-known R n) → name-code back (named R n) ≡ name-code (R .number) n
+  pub code-renamed : (n : Name) → T (is-known R n) → name-code back (named R n) ≡ name-code (R .number) n
   unfolding name-code renamed-name known-name
   code-renamed (input s) h = omega (arith, comes-back s h)
   code-renamed (xname n) h = refl
