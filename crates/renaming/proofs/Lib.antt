@@ -7,3 +7,5 @@ pub mod RowNames
 pub mod BestPlace
 pub mod Answers
 pub mod Ordering
+pub mod Fusing
+pub mod Scopes
