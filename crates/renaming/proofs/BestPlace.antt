@@ -61,9 +61,9 @@ module _ (ws : List ℕ) (name-at : ℕ → List ℕ) where
   beats-at-is i j =
       ap₂
       (λ (s t : List ℕ).
-        ltb (savings-at ws i) (savings-at ws j)
-        || (eqb (savings-at ws i) (savings-at ws j)
-        && (ltb (depth (numbered-at ws i)) (depth (numbered-at ws j)) || (eqb (depth (numbered-at ws i)) (depth (numbered-at ws j)) && before s t))))
+      ltb (savings-at ws i) (savings-at ws j)
+      || (eqb (savings-at ws i) (savings-at ws j)
+      && (ltb (depth (numbered-at ws i)) (depth (numbered-at ws j)) || (eqb (depth (numbered-at ws i)) (depth (numbered-at ws j)) && before s t))))
       (text-at-is i) (text-at-is j)
 
   place-step :

@@ -43,8 +43,8 @@ each-agree Q f S g k l e [] h = agree-ok (Every S) (map g) [] tt
 each-agree Q f S g k l e (a ∷ xs) h =
     then-agree S g (Every S) (map g) (k a) (l (f a)) (e a (h .0)) (λ b. each k xs >>= λ r. ok (b ∷ r)) (λ b. each l (map f xs) >>= λ r. ok (b ∷ r))
     (λ b q.
-      then-agree (Every S) (map g) (Every S) (map g) (each k xs) (each l (map f xs)) (each-agree Q f S g k l e xs (h .1)) (λ r. ok (b ∷ r)) (λ r. ok (g b ∷ r))
-      (λ r z. agree-ok (Every S) (map g) (b ∷ r) (q, z)))
+    then-agree (Every S) (map g) (Every S) (map g) (each k xs) (each l (map f xs)) (each-agree Q f S g k l e xs (h .1)) (λ r. ok (b ∷ r)) (λ r. ok (g b ∷ r))
+    (λ r z. agree-ok (Every S) (map g) (b ∷ r) (q, z)))
 
 module _ (R : Renaming) where
   pub every-known : (l : List Tree) → Known-all R l → Every (Known R) l
@@ -120,12 +120,12 @@ module _ (R : Renaming) where
       (λ rs. each (λ b. replace-bound target n b) (s .lets) >>= λ ls. ok (done rs ls))
       (λ rs. each (λ b. replace-bound (renamed R target) n b) (map renamed-binding (s .lets)) >>= λ ls. ok (renamed-done rs ls))
       (λ rs q.
-        then-agree (Every Known-binding) (map renamed-binding) Known-state renamed-state (each (λ b. replace-bound target n b) (s .lets))
-        (each (λ b. replace-bound (renamed R target) n b) (map renamed-binding (s .lets))) bound-each (λ ls. ok (done rs ls)) (λ ls. ok (renamed-done (map (renamed R) rs) ls))
-        (λ ls z. (
-          agree-ok Known-state renamed-state (done rs ls) (known-every rs q, every-append Known-binding ls (last ∷ []) z ((made-known (s .next), g), tt)) .0,
-          ap (λ (l : List Binding). ok (record { results = map (renamed R) rs; lets = l; next = suc (s .next) })) (sym (map-append renamed-binding ls (last ∷ []))),
-        )))
+      then-agree (Every Known-binding) (map renamed-binding) Known-state renamed-state (each (λ b. replace-bound target n b) (s .lets))
+      (each (λ b. replace-bound (renamed R target) n b) (map renamed-binding (s .lets))) bound-each (λ ls. ok (done rs ls)) (λ ls. ok (renamed-done (map (renamed R) rs) ls))
+      (λ ls z. (
+        agree-ok Known-state renamed-state (done rs ls) (known-every rs q, every-append Known-binding ls (last ∷ []) z ((made-known (s .next), g), tt)) .0,
+        ap (λ (l : List Binding). ok (record { results = map (renamed R) rs; lets = l; next = suc (s .next) })) (sym (map-append renamed-binding ls (last ∷ []))),
+      )))
 
   -- ---- the best candidate
 
@@ -196,7 +196,7 @@ module _ (R : Renaming) where
   round-step fuel scoped s h k (some x) (some y) a =
       subst
       (λ (y : Candidate).
-        Agree Known-state renamed-state (extract (x .tree) s >>= λ t. rounds-by shown fuel scoped t) (extract (y .tree) (renamed-state s) >>= λ t. rounds fuel scoped t)) (a .1)
+      Agree Known-state renamed-state (extract (x .tree) s >>= λ t. rounds-by shown fuel scoped t) (extract (y .tree) (renamed-state s) >>= λ t. rounds fuel scoped t)) (a .1)
       (then-agree Known-state renamed-state Known-state renamed-state (extract (x .tree) s) (extract (renamed R (x .tree)) (renamed-state s))
       (extract-renamed (x .tree) s (a .0) h) (λ t. rounds-by shown fuel scoped t) (λ t. rounds fuel scoped t) k)
 
@@ -289,10 +289,11 @@ module _ (R : Renaming) where
   pub bind-reciprocal-known : (d : Tree) (s : State) → Known R d → Known-state s → Known-state (bind-reciprocal d s)
   unfolding bind-reciprocal holds
   bind-reciprocal-known d s g h =
-      let last : Binding = record { name = xname (s .next); expr = Op Div (Const (pos 1) ◂ d ◂ nil) } in
-      (divisor-each-known d (s .next) g (s .results) (h .0),
+      let last : Binding = record { name = xname (s .next); expr = Op Div (Const (pos 1) ◂ d ◂ nil) } in (
+        divisor-each-known d (s .next) g (s .results) (h .0),
         every-append Known-binding (replace-divisor-bound d (xname (s .next)) (s .lets)) (last ∷ []) (divisor-bound-known d (s .next) g (s .lets) (h .1))
-        ((made-known (s .next), and-both (holds (is-known R) d) true g tt), tt))
+            ((made-known (s .next), and-both (holds (is-known R) d) true g tt), tt),
+      )
 
   pub bind-reciprocals-renamed :
       (l : List Tree) (s : State) → Known-all R l → Known-state s → bind-reciprocals (map (renamed R) l) (renamed-state s) ≡ renamed-state (bind-reciprocals l s)

@@ -77,9 +77,11 @@ module _ (R : Renaming) where
   switches-known (Op k nil ∷ l) h = switches-known l (rest-known R (Op k nil) l h)
   switches-known (Op k (q ◂ f) ∷ l) h =
       let w = first-known R (Op k (q ◂ f)) l h in
-      switch-known-step (is-switch k) (record { tree = Op k (q ◂ f); kind = k; key = q; arms = operands f }) (switches l)
-      (w, unfold holds in and-left (holds (is-known R) q) (holds-each (is-known R) f) w,
-        operands-known f (unfold holds in and-right (holds (is-known R) q) (holds-each (is-known R) f) w))
+      switch-known-step (is-switch k) (record { tree = Op k (q ◂ f); kind = k; key = q; arms = operands f }) (switches l) (
+        w,
+        unfold holds in and-left (holds (is-known R) q) (holds-each (is-known R) f) w,
+        operands-known f (unfold holds in and-right (holds (is-known R) q) (holds-each (is-known R) f) w),
+      )
       (switches-known l (rest-known R (Op k (q ◂ f)) l h))
 
   pub collect-renamed : (rs : List Tree) → Known-all R rs → collect-switches (map (renamed R) rs) ≡ map renamed-switch (collect-switches rs)
@@ -318,29 +320,29 @@ module _ (R : Renaming) where
       (scope sense : ℕ → List Tree → Outcome Scoped)
       (same : (n : ℕ) (l : List Tree) → Known-all R l → Agree Known-scoped renamed-scoped (scope n l) (sense n (map (renamed R) l)))
     where
-    armed-known : (a : Scoped) (r : Armed) → Known-scoped a → Known-armed r → Known-arms R (arm (block (a .inters)) (a .results) (r .arms))
-    unfolding Known-arms
-    armed-known a r h k = (block-known R (a .inters) (h .0), h .1, k)
+      armed-known : (a : Scoped) (r : Armed) → Known-scoped a → Known-armed r → Known-arms R (arm (block (a .inters)) (a .results) (r .arms))
+      unfolding Known-arms
+      armed-known a r h k = (block-known R (a .inters) (h .0), h .1, k)
 
-    armed-renamed :
-        (a : Scoped) (r : Armed)
-        → arm (block (map (renamed-stmt R) (a .inters))) (map (renamed R) (a .results)) (renamed-arms R (r .arms)) ≡ renamed-arms R (arm (block (a .inters)) (a .results) (r .arms))
-    unfolding renamed-arms
-    armed-renamed a r = ap (λ (s : Intermediates). arm s (map (renamed R) (a .results)) (renamed-arms R (r .arms))) (block-renamed R (a .inters))
+      armed-renamed :
+          (a : Scoped) (r : Armed)
+          → arm (block (map (renamed-stmt R) (a .inters))) (map (renamed R) (a .results)) (renamed-arms R (r .arms)) ≡ renamed-arms R (arm (block (a .inters)) (a .results) (r .arms))
+      unfolding renamed-arms
+      armed-renamed a r = ap (λ (s : Intermediates). arm s (map (renamed R) (a .results)) (renamed-arms R (r .arms))) (block-renamed R (a .inters))
 
-    no-arm-agrees : (next : ℕ) → Agree Known-armed renamed-armed (ok (record { arms = no-arm; next = next; extracted = 0 })) (ok (record { arms = no-arm; next = next; extracted = 0 }))
-    unfolding Good Known-arms renamed-arms
-    no-arm-agrees next = (tt, refl)
+      no-arm-agrees : (next : ℕ) → Agree Known-armed renamed-armed (ok (record { arms = no-arm; next = next; extracted = 0 })) (ok (record { arms = no-arm; next = next; extracted = 0 }))
+      unfolding Good Known-arms renamed-arms
+      no-arm-agrees next = (tt, refl)
 
-    scope-arms-renamed :
-        (next : ℕ) (l : List (List Tree)) → Every (Known-all R) l → Agree Known-armed renamed-armed (scope-arms scope next l) (scope-arms sense next (renamed-lists l))
-    unfolding scope-arms
-    scope-arms-renamed next [] h = no-arm-agrees next
-    scope-arms-renamed next (es ∷ l) h =
-        let put : Scoped → Armed → Armed = λ a r. record { arms = arm (block (a .inters)) (a .results) (r .arms); next = r .next; extracted = a .extracted + r .extracted } in
-        then-agree Known-scoped renamed-scoped Known-armed renamed-armed (scope next es) (sense next (map (renamed R) es)) (same next es (h .0))
-        (λ a. scope-arms scope (a .next) l >>= λ r. ok (put a r)) (λ a. scope-arms sense (a .next) (renamed-lists l) >>= λ r. ok (put a r))
-        (λ a q.
+      scope-arms-renamed :
+          (next : ℕ) (l : List (List Tree)) → Every (Known-all R) l → Agree Known-armed renamed-armed (scope-arms scope next l) (scope-arms sense next (renamed-lists l))
+      unfolding scope-arms
+      scope-arms-renamed next [] h = no-arm-agrees next
+      scope-arms-renamed next (es ∷ l) h =
+          let put : Scoped → Armed → Armed = λ a r. record { arms = arm (block (a .inters)) (a .results) (r .arms); next = r .next; extracted = a .extracted + r .extracted } in
+          then-agree Known-scoped renamed-scoped Known-armed renamed-armed (scope next es) (sense next (map (renamed R) es)) (same next es (h .0))
+          (λ a. scope-arms scope (a .next) l >>= λ r. ok (put a r)) (λ a. scope-arms sense (a .next) (renamed-lists l) >>= λ r. ok (put a r))
+          (λ a q.
           then-agree Known-armed renamed-armed Known-armed renamed-armed (scope-arms scope (a .next) l) (scope-arms sense (a .next) (renamed-lists l))
           (scope-arms-renamed (a .next) l (h .1)) (λ r. ok (put a r)) (λ r. ok (put (renamed-scoped a) r))
           (λ r z. (
@@ -348,62 +350,64 @@ module _ (R : Renaming) where
             ap (λ (xs : Arms). ok (record { arms = xs; next = r .next; extracted = a .extracted + r .extracted })) (armed-renamed a r),
           )))
 
-    -- a group's match at the end of the statements
-    abbrev fused : Group → Work → ℕ → Armed → Work
-    fused g v n a =
-        record {
-          results = v .results;
-          inters = v .inters ++ (Match (g .first .kind) (g .first .key) (member-names n (members g)) (a .arms) ∷ []);
-          next = a .next;
-          extracted = v .extracted + a .extracted;
-        }
+      -- a group's match at the end of the statements
+      abbrev fused : Group → Work → ℕ → Armed → Work
+      fused g v n a =
+          record {
+            results = v .results;
+            inters = v .inters ++ (Match (g .first .kind) (g .first .key) (member-names n (members g)) (a .arms) ∷ []);
+            next = a .next;
+            extracted = v .extracted + a .extracted;
+          }
 
-    match-renamed :
-        (g : Group) (n : ℕ) (a : Armed)
-        → Match (g .first .kind) (renamed R (g .first .key)) (member-names n (map renamed-switch (members g))) (renamed-arms R (a .arms))
-        ≡ renamed-stmt R (Match (g .first .kind) (g .first .key) (member-names n (members g)) (a .arms))
-    unfolding renamed-stmt
-    match-renamed g n a =
-        ap (λ (ns : List Name). Match (g .first .kind) (renamed R (g .first .key)) ns (renamed-arms R (a .arms))) (member-names-renamed n (members g))
+      match-renamed :
+          (g : Group) (n : ℕ) (a : Armed)
+          → Match (g .first .kind) (renamed R (g .first .key)) (member-names n (map renamed-switch (members g))) (renamed-arms R (a .arms))
+          ≡ renamed-stmt R (Match (g .first .kind) (g .first .key) (member-names n (members g)) (a .arms))
+      unfolding renamed-stmt
+      match-renamed g n a =
+          ap (λ (ns : List Name). Match (g .first .kind) (renamed R (g .first .key)) ns (renamed-arms R (a .arms))) (member-names-renamed n (members g))
 
-    fused-renamed : (g : Group) (v : Work) (n : ℕ) (a : Armed) → fused (renamed-group g) (renamed-work v) n (renamed-armed a) ≡ renamed-work (fused g v n a)
-    unfolding members
-    fused-renamed g v n a =
-        ap (λ (l : List Intermediate). record { results = map (renamed R) (v .results); inters = l; next = a .next; extracted = v .extracted + a .extracted })
-        (ap (λ (s : Intermediate). map (renamed-stmt R) (v .inters) ++ (s ∷ [])) (match-renamed g n a)
-        ∙ sym (map-append (renamed-stmt R) (v .inters) (Match (g .first .kind) (g .first .key) (member-names n (members g)) (a .arms) ∷ [])))
+      fused-renamed : (g : Group) (v : Work) (n : ℕ) (a : Armed) → fused (renamed-group g) (renamed-work v) n (renamed-armed a) ≡ renamed-work (fused g v n a)
+      unfolding members
+      fused-renamed g v n a =
+          ap (λ (l : List Intermediate). record { results = map (renamed R) (v .results); inters = l; next = a .next; extracted = v .extracted + a .extracted })
+          (ap (λ (s : Intermediate). map (renamed-stmt R) (v .inters) ++ (s ∷ [])) (match-renamed g n a)
+          ∙ sym (map-append (renamed-stmt R) (v .inters) (Match (g .first .kind) (g .first .key) (member-names n (members g)) (a .arms) ∷ [])))
 
-    fused-known : (g : Group) (v : Work) (n : ℕ) (a : Armed) → Known-group g → Known-work v → Known-armed a → Known-work (fused g v n a)
-    unfolding Known-stmt
-    fused-known g v n a h k z =
-        (k .0, every-append (Known-stmt R) (v .inters) (Match (g .first .kind) (g .first .key) (member-names n (members g)) (a .arms) ∷ []) (k .1)
-          ((h .0 .1, member-names-known n (members g), z), tt))
+      fused-known : (g : Group) (v : Work) (n : ℕ) (a : Armed) → Known-group g → Known-work v → Known-armed a → Known-work (fused g v n a)
+      unfolding Known-stmt
+      fused-known g v n a h k z = (
+        k .0,
+        every-append (Known-stmt R) (v .inters) (Match (g .first .kind) (g .first .key) (member-names n (members g)) (a .arms) ∷ []) (k .1)
+            ((h .0 .1, member-names-known n (members g), z), tt),
+      )
 
-    pub fuse-group-renamed : (g : Group) (w : Work) → Known-group g → Known-work w → Agree Known-work renamed-work (fuse-group scope g w) (fuse-group sense (renamed-group g) (renamed-work w))
-    unfolding fuse-group members
-    fuse-group-renamed g w h k =
-        let ms = members g in
-        let v = name-members ms w in
-        let cols = columns (length (g .first .arms)) (arms-of-members ms) in
-        let vk = name-members-known ms w h k in
-        let from : Work → List (List Tree) → Outcome Work = λ v cs. (scope-arms sense (v .next) cs >>= λ a. ok (fused (renamed-group g) v (w .next) a)) in
-        let cols-same : columns (length (map (renamed R) (g .first .arms))) (arms-of-members (map renamed-switch ms)) ≡ renamed-lists cols =
-        ap₂ columns (length-map (g .first .arms) (renamed R)) (arms-of-renamed ms) ∙ columns-renamed (length (g .first .arms)) (arms-of-members ms) in
-        let e : fuse-group sense (renamed-group g) (renamed-work w) ≡ from (renamed-work v) (renamed-lists cols) = ap₂ from (name-members-renamed ms w h k) cols-same in
-        subst (λ (u : Outcome Work). Agree Known-work renamed-work (fuse-group scope g w) u) (sym e)
-        (then-agree Known-armed renamed-armed Known-work renamed-work (scope-arms scope (v .next) cols) (scope-arms sense (v .next) (renamed-lists cols))
-        (scope-arms-renamed (v .next) cols (columns-known (length (g .first .arms)) (arms-of-members ms) (arms-of-known ms h))) (λ a. ok (fused g v (w .next) a))
-        (λ a. ok (fused (renamed-group g) (renamed-work v) (w .next) a))
-        (λ a z. (agree-ok Known-work renamed-work (fused g v (w .next) a) (fused-known g v (w .next) a h vk z) .0, ap ok (fused-renamed g v (w .next) a))))
+      pub fuse-group-renamed : (g : Group) (w : Work) → Known-group g → Known-work w → Agree Known-work renamed-work (fuse-group scope g w) (fuse-group sense (renamed-group g) (renamed-work w))
+      unfolding fuse-group members
+      fuse-group-renamed g w h k =
+          let ms = members g in
+          let v = name-members ms w in
+          let cols = columns (length (g .first .arms)) (arms-of-members ms) in
+          let vk = name-members-known ms w h k in
+          let from : Work → List (List Tree) → Outcome Work = λ v cs. (scope-arms sense (v .next) cs >>= λ a. ok (fused (renamed-group g) v (w .next) a)) in
+          let cols-same : columns (length (map (renamed R) (g .first .arms))) (arms-of-members (map renamed-switch ms)) ≡ renamed-lists cols =
+          ap₂ columns (length-map (g .first .arms) (renamed R)) (arms-of-renamed ms) ∙ columns-renamed (length (g .first .arms)) (arms-of-members ms) in
+          let e : fuse-group sense (renamed-group g) (renamed-work w) ≡ from (renamed-work v) (renamed-lists cols) = ap₂ from (name-members-renamed ms w h k) cols-same in
+          subst (λ (u : Outcome Work). Agree Known-work renamed-work (fuse-group scope g w) u) (sym e)
+          (then-agree Known-armed renamed-armed Known-work renamed-work (scope-arms scope (v .next) cols) (scope-arms sense (v .next) (renamed-lists cols))
+          (scope-arms-renamed (v .next) cols (columns-known (length (g .first .arms)) (arms-of-members ms) (arms-of-known ms h))) (λ a. ok (fused g v (w .next) a))
+          (λ a. ok (fused (renamed-group g) (renamed-work v) (w .next) a))
+          (λ a z. (agree-ok Known-work renamed-work (fused g v (w .next) a) (fused-known g v (w .next) a h vk z) .0, ap ok (fused-renamed g v (w .next) a))))
 
-    pub fuse-groups-renamed :
-        (l : List Group) (w : Work) → Every Known-group l → Known-work w
-        → Agree Known-work renamed-work (fuse-groups scope l w) (fuse-groups sense (map renamed-group l) (renamed-work w))
-    unfolding fuse-groups
-    fuse-groups-renamed [] w h k = agree-ok Known-work renamed-work w k
-    fuse-groups-renamed (g ∷ l) w h k =
-        then-agree Known-work renamed-work Known-work renamed-work (fuse-group scope g w) (fuse-group sense (renamed-group g) (renamed-work w))
-        (fuse-group-renamed g w (h .0) k) (λ v. fuse-groups scope l v) (λ v. fuse-groups sense (map renamed-group l) v) (λ v z. fuse-groups-renamed l v (h .1) z)
+      pub fuse-groups-renamed :
+          (l : List Group) (w : Work) → Every Known-group l → Known-work w
+          → Agree Known-work renamed-work (fuse-groups scope l w) (fuse-groups sense (map renamed-group l) (renamed-work w))
+      unfolding fuse-groups
+      fuse-groups-renamed [] w h k = agree-ok Known-work renamed-work w k
+      fuse-groups-renamed (g ∷ l) w h k =
+          then-agree Known-work renamed-work Known-work renamed-work (fuse-group scope g w) (fuse-group sense (renamed-group g) (renamed-work w))
+          (fuse-group-renamed g w (h .0) k) (λ v. fuse-groups scope l v) (λ v. fuse-groups sense (map renamed-group l) v) (λ v z. fuse-groups-renamed l v (h .1) z)
 
   binds-renamed : (l : List Binding) → binds (map (renamed-binding R) l) ≡ map (renamed-stmt R) (binds l)
   unfolding binds renamed-stmt

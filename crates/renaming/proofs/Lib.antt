@@ -9,3 +9,5 @@ pub mod Answers
 pub mod Ordering
 pub mod Fusing
 pub mod Scopes
+pub mod Calls
+pub mod ByText

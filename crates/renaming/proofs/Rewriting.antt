@@ -179,8 +179,8 @@ module _ (R : Renaming) where
       (elim b [ true ↦ some (map (renamed R) l) | false ↦ elim u [ none ↦ none | some r ↦ some (renamed R f ∷ r) ] ])
   first-step f l b c e o u a h =
       subst (λ (b : Bool).
-        Agree-if (Known-all R) (map (renamed R)) (elim c [ true ↦ some l | false ↦ elim o [ none ↦ none | some r ↦ some (f ∷ r) ] ])
-        (elim b [ true ↦ some (map (renamed R) l) | false ↦ elim u [ none ↦ none | some r ↦ some (renamed R f ∷ r) ] ])) (sym e)
+      Agree-if (Known-all R) (map (renamed R)) (elim c [ true ↦ some l | false ↦ elim o [ none ↦ none | some r ↦ some (f ∷ r) ] ])
+      (elim b [ true ↦ some (map (renamed R) l) | false ↦ elim u [ none ↦ none | some r ↦ some (renamed R f ∷ r) ] ])) (sym e)
       (go c o u a)
     where
       go : (c : Bool) (o u : Option (List Tree)) → Agree-if (Known-all R) (map (renamed R)) o u
@@ -280,9 +280,9 @@ module _ (R : Renaming) where
       then-agree (Known R) (renamed R) (Known-each R) (renamed-each R) (g t) (k (renamed R t)) (a t (and-left (holds (is-known R) t) (holds-each (is-known R) f) h))
       (λ u. each-operand g f >>= λ r. ok (u ◂ r)) (λ u. each-operand k (renamed-each R f) >>= λ r. ok (u ◂ r))
       (λ u q.
-        then-agree (Known-each R) (renamed-each R) (Known-each R) (renamed-each R) (each-operand g f) (each-operand k (renamed-each R f))
-        (each-operand-renamed g k a f (and-right (holds (is-known R) t) (holds-each (is-known R) f) h)) (λ r. ok (u ◂ r)) (λ r. ok (renamed R u ◂ r))
-        (λ r z. agree-ok (Known-each R) (renamed-each R) (u ◂ r) (and-both (holds (is-known R) u) (holds-each (is-known R) r) q z)))
+      then-agree (Known-each R) (renamed-each R) (Known-each R) (renamed-each R) (each-operand g f) (each-operand k (renamed-each R f))
+      (each-operand-renamed g k a f (and-right (holds (is-known R) t) (holds-each (is-known R) f) h)) (λ r. ok (u ◂ r)) (λ r. ok (renamed R u ◂ r))
+      (λ r z. agree-ok (Known-each R) (renamed-each R) (u ◂ r) (and-both (holds (is-known R) u) (holds-each (is-known R) r) q z)))
 
   module _ (target : Tree) (n : Name) (target-known : Known R target) (name-known : T (is-known R n)) where
     leaf-step :
@@ -322,8 +322,8 @@ module _ (R : Renaming) where
     unfolding renamed-by Good holds
     node-step b c d e p q x y h g =
         subst (λ (b : Bool).
-          Agree-tree (elim c [ true ↦ ok (Sym n) | false ↦ elim d [ true ↦ p | false ↦ x ] ])
-          (elim b [ true ↦ ok (Sym (named R n)) | false ↦ elim d [ true ↦ q | false ↦ y ] ])) (sym e) (go c d)
+        Agree-tree (elim c [ true ↦ ok (Sym n) | false ↦ elim d [ true ↦ p | false ↦ x ] ])
+        (elim b [ true ↦ ok (Sym (named R n)) | false ↦ elim d [ true ↦ q | false ↦ y ] ])) (sym e) (go c d)
       where
         go : (c d : Bool)
             → Agree-tree (elim c [ true ↦ ok (Sym n) | false ↦ elim d [ true ↦ p | false ↦ x ] ])

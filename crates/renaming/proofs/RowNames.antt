@@ -34,9 +34,9 @@ names-of rows =
       name-at = name-in rows;
       known = λ s. eq-bytes (numbered (number-in rows (name-in rows (unnumbered s)))) s;
       one-to-one = λ s r h g e.
-        sym (eq-bytes-sound (numbered (number-in rows (name-in rows (unnumbered s)))) s h)
-        ∙ ap (λ (x : List ℕ). numbered (number-in rows x)) e
-        ∙ eq-bytes-sound (numbered (number-in rows (name-in rows (unnumbered r)))) r g;
+          sym (eq-bytes-sound (numbered (number-in rows (name-in rows (unnumbered s)))) s h)
+          ∙ ap (λ (x : List ℕ). numbered (number-in rows x)) e
+          ∙ eq-bytes-sound (numbered (number-in rows (name-in rows (unnumbered r)))) r g;
     }
 
 pub listed-name : (rows : List Row) (s : List ℕ) → T (is-listed rows s) → name-in rows (number-in rows s) ≡ s
@@ -51,7 +51,7 @@ numbers-of rows =
       name-at = numbered;
       known = is-listed rows;
       one-to-one = λ s r h g e.
-        sym (listed-name rows s h) ∙ ap (λ (x : List ℕ). name-in rows (unnumbered x)) e ∙ listed-name rows r g;
+          sym (listed-name rows s h) ∙ ap (λ (x : List ℕ). name-in rows (unnumbered x)) e ∙ listed-name rows r g;
     }
 
 module _ (rows : List Row) where
@@ -61,7 +61,7 @@ module _ (rows : List Row) where
       subst (λ (m : ℕ). T (eq-bytes (numbered (number-in rows (name-in rows n))) (numbered m))) (eqb→eq (number-in rows (name-in rows n)) n h)
       (eq-bytes-refl (numbered (number-in rows (name-in rows n))))
 
-  known-number : (s : List ℕ) → T (names-of rows .known s) → number-in rows (name-in rows (unnumbered s)) ≡ unnumbered s
+  pub known-number : (s : List ℕ) → T (names-of rows .known s) → number-in rows (name-in rows (unnumbered s)) ≡ unnumbered s
   known-number s h = ap unnumbered (eq-bytes-sound (numbered (number-in rows (name-in rows (unnumbered s)))) s h)
 
   known-passes : (s : List ℕ) → T (names-of rows .known s) → T (is-number rows (unnumbered s))
@@ -220,26 +220,27 @@ table-listed t =
 
 -- ---- a table's trees from their words
 
-module _ (t : Table) (h : T (expressions (trees t))) where
-  abbrev pub table-words : List ℕ
-  table-words = all-tokens (number-in (t .rows)) (trees t)
+-- the words of its trees, as `unfold` writes them
+abbrev pub tree-words : Table → List ℕ
+tree-words t = all-tokens (number-in (t .rows)) (trees t)
 
+module _ (t : Table) (h : T (expressions (trees t))) where
   table-coded : T (all-coded (is-listed (t .rows)) (trees t))
   table-coded = all-code is-name (is-listed (t .rows)) (trees t) (expressions-coded (trees t) h) (table-listed t)
 
-  pub table-complete : trees-in table-words ≡ some (length (trees t))
+  pub table-complete : trees-in (tree-words t) ≡ some (length (trees t))
   table-complete = tokens-complete (number-in (t .rows)) (is-listed (t .rows)) (trees t) table-coded
 
-  pub table-words-pass : T (symbols-pass (is-number (t .rows)) table-words)
+  pub table-words-pass : T (symbols-pass (is-number (t .rows)) (tree-words t))
   table-words-pass = listed-words-pass (t .rows) (trees t) table-coded
 
-  pub table-read : read (name-in (t .rows)) table-words ≡ trees t
+  pub table-read : read (name-in (t .rows)) (tree-words t) ≡ trees t
   table-read =
       reads-back (number-in (t .rows)) (name-in (t .rows)) (is-listed (t .rows))
       (λ s k. listed-name (t .rows) s k) (trees t) table-coded
 
-  pub table-renamed : map (renamed (names-of (t .rows))) (read numbered table-words) ≡ trees t
-  table-renamed = sym (words-renamed (t .rows) table-words) ∙ table-read
+  pub table-renamed : map (renamed (names-of (t .rows))) (read numbered (tree-words t)) ≡ trees t
+  table-renamed = sym (words-renamed (t .rows) (tree-words t)) ∙ table-read
 
-  pub table-known : Known-all (names-of (t .rows)) (read numbered table-words)
-  table-known = words-known (t .rows) table-words table-words-pass
+  pub table-known : Known-all (names-of (t .rows)) (read numbered (tree-words t))
+  table-known = words-known (t .rows) (tree-words t) table-words-pass

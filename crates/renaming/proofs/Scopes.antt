@@ -37,20 +37,20 @@ module _ (R : Renaming) where
       (scope sense : ℕ → List Tree → Outcome Scoped)
       (same : (n : ℕ) (l : List Tree) → Known-all R l → Agree (Known-scoped R) (renamed-scoped R) (scope n l) (sense n (map (renamed R) l)))
     where
-    pub fuse-all-renamed : (x : ℕ) (s : State) → Known-state R s → Agree (Known-work R) (renamed-work R) (fuse-all scope x s) (fuse-all sense x (renamed-state R s))
-    unfolding fuse-all
-    fuse-all-renamed x s h =
-        let k = roots-known R s h in
-        let ss = collect-switches (roots s) in
-        let gs = groups-from [] ss in
-        let e : groups-from [] (collect-switches (roots (renamed-state R s))) ≡ map (renamed-group R) gs =
-        ap (λ (l : List Tree). groups-from [] (collect-switches l)) (roots-renamed R s)
-        ∙ ap (groups-from []) (collect-renamed R (roots s) k)
-        ∙ groups-renamed R [] ss tt (collect-known R (roots s) k) in
-        let whole : fuse-all sense x (renamed-state R s) ≡ fuse-groups sense (map (renamed-group R) gs) (renamed-work R (unfused x s)) =
-        ap₂ (fuse-groups sense) e (unfused-renamed R x s) in
-        subst (λ (u : Outcome Work). Agree (Known-work R) (renamed-work R) (fuse-all scope x s) u) (sym whole)
-        (fuse-groups-renamed R scope sense same gs (unfused x s) (groups-known R [] ss tt (collect-known R (roots s) k)) (unfused-known R x s h))
+      pub fuse-all-renamed : (x : ℕ) (s : State) → Known-state R s → Agree (Known-work R) (renamed-work R) (fuse-all scope x s) (fuse-all sense x (renamed-state R s))
+      unfolding fuse-all
+      fuse-all-renamed x s h =
+          let k = roots-known R s h in
+          let ss = collect-switches (roots s) in
+          let gs = groups-from [] ss in
+          let e : groups-from [] (collect-switches (roots (renamed-state R s))) ≡ map (renamed-group R) gs =
+          ap (λ (l : List Tree). groups-from [] (collect-switches l)) (roots-renamed R s)
+          ∙ ap (groups-from []) (collect-renamed R (roots s) k)
+          ∙ groups-renamed R [] ss tt (collect-known R (roots s) k) in
+          let whole : fuse-all sense x (renamed-state R s) ≡ fuse-groups sense (map (renamed-group R) gs) (renamed-work R (unfused x s)) =
+          ap₂ (fuse-groups sense) e (unfused-renamed R x s) in
+          subst (λ (u : Outcome Work). Agree (Known-work R) (renamed-work R) (fuse-all scope x s) u) (sym whole)
+          (fuse-groups-renamed R scope sense same gs (unfused x s) (groups-known R [] ss tt (collect-known R (roots s) k)) (unfused-known R x s h))
 
   -- the count of bindings is the same
   flat-step :
