@@ -10,4 +10,5 @@ pub mod Ordering
 pub mod Fusing
 pub mod Scopes
 pub mod Calls
+pub mod Arms
 pub mod ByText

@@ -1,14 +1,15 @@
--- The best candidate as a place among words (01, "Extraction"): places are met in reading order, the trees compared have numbers for names, and the texts are
--- those under the names that `name-at` gives. Assumes nothing.
-use Prim.Native.Nat.{ℕ, zero, suc, _-_, _*_}
-use mathlib.Core.Bool.{Bool, true, false, _&&_, _||_}
+-- The best candidate as a place among words (01, "Extraction"), and uses counted by places: places are met in reading order, the trees compared have numbers for
+-- names, and the texts are those under the names that `name-at` gives. Assumes nothing.
+use Prim.Native.Nat.{ℕ, zero, suc, _+_, _-_, _*_}
+use mathlib.Core.Bool.{Bool, true, false, not, _&&_, _||_}
 use mathlib.Core.Option.{Option, none, some}
 use mathlib.Core.List.{List}
 use lib.ListN.{length, getD}
 use lib.Dec.{eqb, leb, ltb}
-use Rattle.tree.specs.Tree.{Tree, Op, nil}
-use Rattle.tree.specs.Facts.{cost, depth, has-symbol, uses, uses-outside}
-use Rattle.tree.specs.Tokens.{read, trees-at, numbered}
+use Rattle.tree.specs.Tree.{Tree, Op, nil, eq-tree}
+use Rattle.tree.specs.Kinds.{is-switch}
+use Rattle.tree.specs.Facts.{size, cost, depth, has-symbol, uses, uses-outside}
+use Rattle.tree.specs.Tokens.{read, trees-at, numbered, kind-of}
 use Rattle.text.specs.Text.{display, before}
 
 module _ (ws : List ℕ) where
@@ -29,6 +30,32 @@ module _ (ws : List ℕ) where
   unfolding cost has-symbol uses-at uses-outside read numbered-at
   candidate-at scoped i =
       leb 1 (cost (numbered-at i)) && (has-symbol (numbered-at i) && (leb 2 (uses-at i) && leb 1 (uses-outside scoped (read numbered ws) (numbered-at i))))
+
+  -- ---- uses counted by places (01, "Uses")
+
+  -- Whether place j is in an arm of the switch at place p: past the tree after p, which is the switch's first operand, and before its end.
+  unfoldable pub in-arm-of : ℕ → ℕ → Bool
+  unfolding size numbered-at
+  in-arm-of p j = is-switch (kind-of (getD ws p 0)) && (leb (suc p + size (numbered-at (suc p))) j && ltb j (p + size (numbered-at p)))
+
+  -- in an arm of a switch at one of the first n places
+  unfoldable pub in-arm : ℕ → ℕ → Bool
+  unfolding in-arm-of
+  in-arm zero j = false
+  in-arm (suc n) j = in-arm-of n j || in-arm n j
+
+  -- outside arms, which every place is in the flat form
+  unfoldable pub outside-at : Bool → ℕ → Bool
+  unfolding in-arm
+  outside-at false j = true
+  outside-at true j = not (in-arm (length ws) j)
+
+  -- how many of the first n places that pass have a tree equal to the one at i
+  unfoldable pub equal-places : (ℕ → Bool) → ℕ → ℕ → ℕ
+  unfolding eq-tree numbered-at
+  equal-places test i zero = 0
+  equal-places test i (suc n) =
+      elim (test n && eq-tree (numbered-at n) (numbered-at i)) [ true ↦ suc (equal-places test i n) | false ↦ equal-places test i n ]
 
   module _ (name-at : ℕ → List ℕ) where
     -- the text of the tree at a place
