@@ -11,4 +11,5 @@ pub mod Fusing
 pub mod Scopes
 pub mod Calls
 pub mod Arms
+pub mod UsesAt
 pub mod ByText
