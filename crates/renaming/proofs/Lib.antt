@@ -13,3 +13,4 @@ pub mod Calls
 pub mod Arms
 pub mod UsesAt
 pub mod ByText
+pub mod RoundsOn
