@@ -14,3 +14,4 @@ pub mod Arms
 pub mod UsesAt
 pub mod ByText
 pub mod RoundsOn
+pub mod Coded

@@ -223,26 +223,41 @@ module _ (shown : Tree → List ℕ) where
   bound-divided d n i [] = refl
   bound-divided d n i (t ∷ l) = ap (λ (r : List Binding). record { name = xname i; expr = replace-divisor d (xname n) t } ∷ r) (bound-divided d n (suc i) l)
 
-  bind-on-state :
-      (d : Tree) (k first : ℕ) (ts : List Tree) → k ≤ length ts
-      → bind-reciprocal d (state-of k first ts) ≡ state-of k first (bind-on d (next-number k first ts) ts)
-  unfolding bind-reciprocal bind-on next-number
-  bind-on-state d k first ts h =
-      let a = take k ts in
-      let b = drop k ts in
-      let n = first + length b in
+  bind-parts :
+      (d : Tree) (first n : ℕ) (a b : List Tree) → first + length b ≡ n → let f : Tree → Tree = λ e. replace-divisor d (xname n) e in
+      bind-reciprocal d (with-bound first a b) ≡ with-bound first (map f a) (map f b ++ (Op Div (Const (pos 1) ◂ d ◂ nil) ∷ []))
+  unfolding bind-reciprocal
+  bind-parts d first n a b e =
       let f : Tree → Tree = λ e. replace-divisor d (xname n) e in
       let q = Op Div (Const (pos 1) ◂ d ◂ nil) in
       let z : first + length (map f b) ≡ n = omega (arith, length-map b f) in
-      let la : length (map f a) ≡ k = omega (arith, length-map a f, length-take-le k ts h) in
-      let whole : (map f a ++ (map f b ++ (q ∷ []))) ≡ (map f ts ++ (q ∷ [])) =
-      sym (append-assoc (map f a) (map f b) (q ∷ []))
-      ∙ ap (λ (l : List Tree). l ++ (q ∷ [])) (sym (map-append f a b) ∙ ap (map f) (take-append-drop k ts)) in
+      let bound-to : ℕ → State = λ m.
+      record {
+        results = replace-divisor-each d (xname m) a;
+        lets = replace-divisor-bound d (xname m) (by-number first b) ++ (record { name = xname m; expr = q } ∷ []);
+        next = suc m;
+      } in
+      let done : List Tree → List Binding → State = λ rs ls. record { results = rs; lets = ls ++ (record { name = xname n; expr = q } ∷ []); next = suc n } in
+      ap bound-to e ∙ ap₂ done (each-divided d n a) (bound-divided d n first b) ∙ one-bound first n (map f a) (map f b) q z
+
+  parts-again : (f : Tree → Tree) (q : Tree) (k : ℕ) (ts : List Tree) → (map f (take k ts) ++ (map f (drop k ts) ++ (q ∷ []))) ≡ (map f ts ++ (q ∷ []))
+  parts-again f q k ts =
+      sym (append-assoc (map f (take k ts)) (map f (drop k ts)) (q ∷ []))
+      ∙ ap (λ (l : List Tree). l ++ (q ∷ [])) (sym (map-append f (take k ts) (drop k ts)) ∙ ap (map f) (take-append-drop k ts))
+
+  bind-on-state :
+      (d : Tree) (k first : ℕ) (ts : List Tree) → k ≤ length ts
+      → bind-reciprocal d (state-of k first ts) ≡ state-of k first (bind-on d (next-number k first ts) ts)
+  unfolding bind-on next-number
+  bind-on-state d k first ts h =
+      let n = first + length (drop k ts) in
+      let f : Tree → Tree = λ e. replace-divisor d (xname n) e in
+      let q = Op Div (Const (pos 1) ◂ d ◂ nil) in
+      let la : length (map f (take k ts)) ≡ k = omega (arith, length-map (take k ts) f, length-take-le k ts h) in
       ap (bind-reciprocal d) (state-parts k first ts)
-      ∙ ap₂ (λ (rs : List Tree) (ls : List Binding). record { results = rs; lets = ls ++ (record { name = xname n; expr = q } ∷ []); next = suc n }) (each-divided d n a) (bound-divided d n first b)
-      ∙ one-bound first n (map f a) (map f b) q z
-      ∙ sym (parts-state k first (map f a) (map f b ++ (q ∷ [])) la)
-      ∙ ap (state-of k first) whole
+      ∙ bind-parts d first n (take k ts) (drop k ts) refl
+      ∙ sym (parts-state k first (map f (take k ts)) (map f (drop k ts) ++ (q ∷ [])) la)
+      ∙ ap (state-of k first) (parts-again f q k ts)
 
   bind-on-length : (d : Tree) (n : ℕ) (ts : List Tree) → length (bind-on d n ts) ≡ suc (length ts)
   unfolding bind-on
