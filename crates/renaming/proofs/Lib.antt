@@ -15,3 +15,4 @@ pub mod UsesAt
 pub mod ByText
 pub mod RoundsOn
 pub mod Coded
+pub mod DivisorPlaces

@@ -20,7 +20,7 @@ passing-step :
 passing-step true t p q r e = ap (λ (l : List Tree). t ∷ l) e
 passing-step false t p q r e = e
 
-passing-append : (test : ℕ → Bool) (i : ℕ) (a b : List Tree) → those-passing test i (a ++ b) ≡ those-passing test i a ++ those-passing test (i + length a) b
+pub passing-append : (test : ℕ → Bool) (i : ℕ) (a b : List Tree) → those-passing test i (a ++ b) ≡ those-passing test i a ++ those-passing test (i + length a) b
 unfolding those-passing
 passing-append test i [] b = let z : i ≡ i + 0 = omega arith in ap (λ (k : ℕ). those-passing test k b) z
 passing-append test i (t ∷ a) b =
@@ -28,7 +28,7 @@ passing-append test i (t ∷ a) b =
     passing-step (test i) t (those-passing test (suc i) (a ++ b)) (those-passing test (suc i) a) (those-passing test (i + suc (length a)) b)
     (passing-append test (suc i) a b ∙ ap (λ (k : ℕ). those-passing test (suc i) a ++ those-passing test k b) z)
 
-all-passing : (i : ℕ) (l : List Tree) → those-passing (λ j. true) i l ≡ l
+pub all-passing : (i : ℕ) (l : List Tree) → those-passing (λ j. true) i l ≡ l
 unfolding those-passing
 all-passing i [] = refl
 all-passing i (t ∷ l) = ap (λ (r : List Tree). t ∷ r) (all-passing (suc i) l)

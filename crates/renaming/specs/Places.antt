@@ -1,15 +1,15 @@
--- The best candidate as a place among words (01, "Extraction"), and uses counted by places: places are met in reading order, the trees compared have numbers for
+-- The best candidate as a place among words (01, "Extraction"), and uses and divisors by places: places are met in reading order, the trees compared have numbers for
 -- names, and the texts are those under the names that `name-at` gives. Assumes nothing.
 use Prim.Native.Nat.{ℕ, zero, suc, _+_, _-_, _*_}
 use mathlib.Core.Bool.{Bool, true, false, not, _&&_, _||_}
 use mathlib.Core.Option.{Option, none, some}
-use mathlib.Core.List.{List}
+use mathlib.Core.List.{List, [], _∷_, _++_}
 use lib.ListN.{length, getD}
 use lib.Dec.{eqb, leb, ltb}
 use Rattle.tree.specs.Tree.{Tree, Op, nil, eq-tree}
-use Rattle.tree.specs.Kinds.{is-switch}
+use Rattle.tree.specs.Kinds.{Div, is-switch}
 use Rattle.tree.specs.Facts.{size, cost, depth, has-symbol, uses, uses-outside}
-use Rattle.tree.specs.Tokens.{read, trees-at, numbered, kind-of}
+use Rattle.tree.specs.Tokens.{read, trees-at, numbered, kind-of, takes}
 use Rattle.text.specs.Text.{display, before}
 
 module _ (ws : List ℕ) where
@@ -56,6 +56,23 @@ module _ (ws : List ℕ) where
   equal-places test i zero = 0
   equal-places test i (suc n) =
       elim (test n && eq-tree (numbered-at n) (numbered-at i)) [ true ↦ suc (equal-places test i n) | false ↦ equal-places test i n ]
+
+  -- ---- divisors by places (01, "Reciprocals")
+
+  unfoldable pub divides-at : ℕ → Bool
+  unfolding takes
+  divides-at p = eqb (kind-of (getD ws p 0)) Div && leb 2 (takes (getD ws p 0))
+
+  -- the second operand of the node at p stands past the first, which is the tree after p
+  unfoldable pub second-at : ℕ → ℕ
+  unfolding size numbered-at
+  second-at p = suc p + size (numbered-at (suc p))
+
+  -- where the divisors stand of those divisions among the first n places that pass, in order
+  unfoldable pub divisor-places : (ℕ → Bool) → ℕ → List ℕ
+  unfolding divides-at second-at
+  divisor-places test zero = []
+  divisor-places test (suc n) = divisor-places test n ++ elim (test n && divides-at n) as (λ _. List ℕ) [ true ↦ second-at n ∷ [] | false ↦ [] ]
 
   module _ (name-at : ℕ → List ℕ) where
     -- the text of the tree at a place
