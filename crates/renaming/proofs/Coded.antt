@@ -318,7 +318,7 @@ module _ (p : List ℕ → Bool) where
   forest-fits [] h = nil-fits
   forest-fits (t ∷ l) h = cons-fits t (forest l) (first-fits t l h) (forest-fits l (rest-fits t l h))
 
-  take-fits : (n : ℕ) (l : List Tree) → Fits-all l → Fits-all (take n l)
+  pub take-fits : (n : ℕ) (l : List Tree) → Fits-all l → Fits-all (take n l)
   take-fits zero l h = none-fit
   take-fits (suc n) [] h = none-fit
   take-fits (suc n) (t ∷ l) h = one-fits t (take n l) (first-fits t l h) (take-fits n l (rest-fits t l h))
@@ -340,7 +340,7 @@ name-alone zero n = eq-bytes-refl (numbered n)
 name-alone (suc zero) n = tt
 name-alone (suc (suc class)) n = tt
 
-made-alone : (w : ℕ) (l : List Tree) → T (all-coded is-alone (take (takes w) l)) → T (coded is-alone (made numbered w l))
+pub made-alone : (w : ℕ) (l : List Tree) → T (all-coded is-alone (take (takes w) l)) → T (coded is-alone (made numbered w l))
 made-alone w l h = go (word-is w)
   where
     go : Word w → T (coded is-alone (made numbered w l))

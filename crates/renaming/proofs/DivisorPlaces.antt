@@ -99,7 +99,7 @@ second-read ws h =
     after-first (t ∷ (u ∷ l)) h = refl
 
 module _ (ws : List ℕ) (m : ℕ) (complete : trees-in ws ≡ some m) where
-  here-is : (p : ℕ) → p < length ws → numbered-at ws p ≡ made numbered (getD ws p 0) (read numbered (drop (suc p) ws))
+  pub here-is : (p : ℕ) → p < length ws → numbered-at ws p ≡ made numbered (getD ws p 0) (read numbered (drop (suc p) ws))
   unfolding numbered-at
   here-is p h =
       tree-at numbered ws p ∙ ap (λ (l : List ℕ). getD (read numbered l) 0 (Op 0 nil)) (drop-cons ws p 0 h)

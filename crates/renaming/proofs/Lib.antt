@@ -16,3 +16,4 @@ pub mod ByText
 pub mod RoundsOn
 pub mod Coded
 pub mod DivisorPlaces
+pub mod WordRounds

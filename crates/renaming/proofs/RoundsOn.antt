@@ -1,22 +1,25 @@
 -- Rounds and reciprocals on one list of trees are those of states (specs, Rounds). Assumes nothing.
-use Prim.Native.Nat.{ℕ, zero, suc, _+_, _≤_}
+use Prim.Native.Nat.{ℕ, zero, suc, _+_, _-_, _≤_}
 use native.Mathlib.Omega.{arith}
 use mathlib.Core.Path.{_≡_, refl, sym, _∙_, ap, ap₂, subst}
-use mathlib.Core.Bool.{Bool}
+use mathlib.Core.Bool.{Bool, true, false}
 use mathlib.Core.Option.{Option, none, some}
 use mathlib.Core.List.{List, [], _∷_, _++_, append-assoc, map}
 use lib.IntN.{pos}
 use lib.ListN.{length, take, drop, length-append, length-map, length-drop, take-append-drop}
 use lib.Seq.{take-at, drop-at, take-all, drop-length, length-take-le}
-use Rattle.tree.specs.Outcome.{Outcome, ok, refused, _>>=_, each}
+use lib.Dec.{leb}
+use Rattle.tree.specs.Outcome.{Outcome, ok, refused, by, _>>=_, each}
 use Rattle.tree.specs.Tree.{xname, Tree, Const, Op, nil, _◂_}
 use Rattle.tree.specs.Kinds.{Div}
 use Rattle.tree.specs.Facts.{all-operations, all-nodes}
+use Rattle.tree.specs.Rows.{occurrences}
 use Rattle.tree.proofs.TokenLaws.{map-append}
 use Rattle.rewrite.specs.Rewrite.{replace, replace-divisor}
 use Rattle.cse.specs.Extract.{Binding, State, bound, roots, Candidate, replace-bound, extract, divisors, distinct, shared-divisors, replace-divisor-each, replace-divisor-bound, bind-reciprocal, bind-reciprocals}
+use Rattle.cse.specs.Scope.{Scoped, unfused, fuse-all, finish}
 use Rattle.cse.proofs.Outcomes.{Good, then-good, good-ok}
-use Rattle.renaming.specs.Shown.{best-by, rounds-by, extract-all-by, sort-by, reciprocals-by}
+use Rattle.renaming.specs.Shown.{best-by, rounds-by, extract-all-by, sort-by, reciprocals-by, cse-scope-by}
 use Rattle.renaming.specs.Rounds.{by-number, next-number, state-of, extract-on, bind-on, bind-each-on, rounds-on, reciprocals-on}
 
 -- ---- chains of steps
@@ -286,3 +289,67 @@ module _ (shown : Tree → List ℕ) where
   reciprocals-on-state scoped k first ts h =
       ap (λ (rs : List Tree). bind-reciprocals (sort-by shown (shared-divisors scoped rs (distinct [] (divisors (all-nodes rs))))) (state-of k first ts)) (roots-of-state k first ts)
       ∙ bind-each-on-state (sort-by shown (shared-divisors scoped ts (distinct [] (divisors (all-nodes ts))))) k first ts h
+
+  -- ---- scopes
+
+  grown-step :
+      (k first : ℕ) (ts : List Tree) → k ≤ length ts → (g : List Tree → Outcome (List Tree)) → ((us : List Tree) → k ≤ length us → Good (λ (vs : List Tree). k ≤ length vs) (g us))
+      → (u : Option Candidate)
+      → Good (λ (vs : List Tree). k ≤ length vs) (elim u as (λ _. Outcome (List Tree)) [ none ↦ ok ts | some c ↦ (extract-on (c .tree) (next-number k first ts) ts >>= λ us. g us) ])
+  grown-step k first ts h g e none = good-ok (λ (vs : List Tree). k ≤ length vs) ts h
+  grown-step k first ts h g e (some c) =
+      then-good (λ (us : List Tree). length us ≡ suc (length ts)) (λ (vs : List Tree). k ≤ length vs) (extract-on (c .tree) (next-number k first ts) ts)
+      (extract-on-length (c .tree) (next-number k first ts) ts) g (λ us l. e us (omega arith))
+
+  -- results stay
+  pub rounds-on-length : (fuel : ℕ) (scoped : Bool) (k first : ℕ) (ts : List Tree) → k ≤ length ts → Good (λ (us : List Tree). k ≤ length us) (rounds-on shown fuel scoped k first ts)
+  unfolding rounds-on
+  rounds-on-length zero scoped k first ts h = good-ok (λ (us : List Tree). k ≤ length us) ts h
+  rounds-on-length (suc fuel) scoped k first ts h =
+      grown-step k first ts h (λ us. rounds-on shown fuel scoped k first us) (λ us l. rounds-on-length fuel scoped k first us l) (best-by shown scoped ts)
+
+  numbers-length : (i : ℕ) (l : List Tree) → length (by-number i l) ≡ length l
+  unfolding by-number
+  numbers-length i [] = refl
+  numbers-length i (e ∷ l) = ap suc (numbers-length (suc i) l)
+
+  lets-length : (k first : ℕ) (us : List Tree) → length (state-of k first us .lets) ≡ length (drop k us)
+  unfolding state-of
+  lets-length k first us = numbers-length first (drop k us)
+
+  -- the flat form
+  pub flat-on :
+      (fuel room next : ℕ) (es : List Tree) → let k = length es in
+      cse-scope-by shown (suc fuel) room false next es
+      ≡ (rounds-on shown (all-operations es) false k next es >>= λ us. finish (unfused (length (drop k us)) (state-of k next (reciprocals-on shown false k next us))))
+  unfolding cse-scope-by
+  flat-on fuel room next es =
+      let k = length es in
+      let o = rounds-on shown (all-operations es) false k next es in
+      let end : State → Outcome Scoped = λ s. finish (unfused (length (s .lets)) (reciprocals-by shown false s)) in
+      ap (λ (o : Outcome State). o >>= end) (extract-all-on false next es)
+      ∙ then-then o (λ us. ok (state-of k next us)) end
+      ∙ then-same (λ (us : List Tree). k ≤ length us) o (λ us. end (state-of k next us))
+      (λ us. finish (unfused (length (drop k us)) (state-of k next (reciprocals-on shown false k next us)))) (rounds-on-length (all-operations es) false k next es (omega arith))
+      (λ us l. ap finish (ap₂ unfused (lets-length k next us) (reciprocals-on-state false k next us l)))
+
+  -- the scoped form, where the input has room
+  pub scoped-on :
+      (fuel room next : ℕ) (es : List Tree) → leb (occurrences es) room ≡ true → let k = length es in
+      cse-scope-by shown (suc fuel) room true next es
+      ≡ (rounds-on shown (all-operations es) true k next es >>= λ us.
+      fuse-all (λ n l. cse-scope-by shown fuel (room - occurrences es) true n l) (length (drop k us)) (state-of k next (reciprocals-on shown true k next us)) >>= λ w.
+      finish w)
+  unfolding cse-scope-by
+  scoped-on fuel room next es e =
+      let k = length es in
+      let o = rounds-on shown (all-operations es) true k next es in
+      let inner : ℕ → List Tree → Outcome Scoped = λ n l. cse-scope-by shown fuel (room - occurrences es) true n l in
+      let end : State → Outcome Scoped = λ s. (fuse-all inner (length (s .lets)) (reciprocals-by shown true s) >>= λ w. finish w) in
+      ap (λ (b : Bool). elim b as (λ _. Outcome Scoped) [ true ↦ (extract-all-by shown true next es >>= end) | false ↦ refused (by 23) ]) e
+      ∙ ap (λ (o : Outcome State). o >>= end) (extract-all-on true next es)
+      ∙ then-then o (λ us. ok (state-of k next us)) end
+      ∙ then-same (λ (us : List Tree). k ≤ length us) o (λ us. end (state-of k next us))
+      (λ us. fuse-all inner (length (drop k us)) (state-of k next (reciprocals-on shown true k next us)) >>= λ w. finish w)
+      (rounds-on-length (all-operations es) true k next es (omega arith))
+      (λ us l. ap₂ (λ (n : ℕ) (s : State). fuse-all inner n s >>= λ w. finish w) (lets-length k next us) (reciprocals-on-state true k next us l))

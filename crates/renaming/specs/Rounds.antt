@@ -1,18 +1,20 @@
 -- Rounds and reciprocals on one list of trees, results first and then bindings by number (01, "Extraction", "Reciprocals"): a binding's name follows from where it
--- stands. Assumes nothing.
+-- stands. And on the words of these trees, as places. Assumes nothing.
 use Prim.Native.Nat.{ℕ, zero, suc, _+_}
 use mathlib.Core.Bool.{Bool}
 use mathlib.Core.Option.{none, some}
 use mathlib.Core.List.{List, [], _∷_, _++_, map}
 use lib.IntN.{pos}
-use lib.ListN.{length, take, drop}
+use lib.ListN.{length, getD, take, drop}
 use Rattle.tree.specs.Outcome.{Outcome, ok, _>>=_, each}
 use Rattle.tree.specs.Tree.{xname, Tree, Const, Op, nil, _◂_}
 use Rattle.tree.specs.Kinds.{Div}
 use Rattle.tree.specs.Facts.{all-nodes}
+use Rattle.tree.specs.Tokens.{all-tokens, read, numbered}
 use Rattle.rewrite.specs.Rewrite.{replace, replace-divisor}
 use Rattle.cse.specs.Extract.{Binding, State, divisors, distinct, shared-divisors}
 use Rattle.renaming.specs.Shown.{best-by, sort-by}
+use Rattle.renaming.specs.Places.{numbered-at, best-place}
 
 -- bindings by number
 unfoldable pub by-number : ℕ → List Tree → List Binding
@@ -52,3 +54,23 @@ module _ (shown : Tree → List ℕ) where
   unfoldable pub reciprocals-on : Bool → ℕ → ℕ → List Tree → List Tree
   unfolding bind-each-on sort-by shared-divisors distinct divisors all-nodes next-number
   reciprocals-on scoped k first ts = bind-each-on (sort-by shown (shared-divisors scoped ts (distinct [] (divisors (all-nodes ts))))) (next-number k first ts) ts
+
+-- ---- the same on words, with numbers for the names of the list's symbols
+
+unfoldable pub extract-words : Tree → ℕ → List ℕ → Outcome (List ℕ)
+unfolding extract-on read all-tokens
+extract-words target n ws = extract-on target n (read numbered ws) >>= λ us. ok (all-tokens (λ s. getD s 0 0) us)
+
+unfoldable pub bind-words : Tree → ℕ → List ℕ → List ℕ
+unfolding bind-on read all-tokens
+bind-words d n ws = all-tokens (λ s. getD s 0 0) (bind-on d n (read numbered ws))
+
+-- the tree at the best place, until there is none
+unfoldable pub rounds-words : (ℕ → List ℕ) → ℕ → Bool → ℕ → ℕ → List ℕ → Outcome (List ℕ)
+unfolding best-place extract-words numbered-at next-number read
+rounds-words name-at zero scoped k first ws = ok ws
+rounds-words name-at (suc fuel) scoped k first ws =
+    elim (best-place ws name-at scoped) [
+      | none ↦ ok ws
+      | some p ↦ (extract-words (numbered-at ws p) (next-number k first (read numbered ws)) ws >>= λ vs. rounds-words name-at fuel scoped k first vs)
+    ]
