@@ -34,19 +34,19 @@ module _ (p : List ℕ → Bool) where
   abbrev Fits-all : List Tree → Type 0
   Fits-all l = T (all-coded p l)
 
-  none-fit : Fits-all []
+  pub none-fit : Fits-all []
   unfolding all-coded
   none-fit = tt
 
-  one-fits : (t : Tree) (l : List Tree) → Fits t → Fits-all l → Fits-all (t ∷ l)
+  pub one-fits : (t : Tree) (l : List Tree) → Fits t → Fits-all l → Fits-all (t ∷ l)
   unfolding all-coded
   one-fits t l g h = and-both (coded p t) (all-coded p l) g h
 
-  first-fits : (t : Tree) (l : List Tree) → Fits-all (t ∷ l) → Fits t
+  pub first-fits : (t : Tree) (l : List Tree) → Fits-all (t ∷ l) → Fits t
   unfolding all-coded
   first-fits t l h = and-left (coded p t) (all-coded p l) h
 
-  rest-fits : (t : Tree) (l : List Tree) → Fits-all (t ∷ l) → Fits-all l
+  pub rest-fits : (t : Tree) (l : List Tree) → Fits-all (t ∷ l) → Fits-all l
   unfolding all-coded
   rest-fits t l h = and-right (coded p t) (all-coded p l) h
 

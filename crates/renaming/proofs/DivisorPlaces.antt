@@ -105,7 +105,7 @@ module _ (ws : List ℕ) (m : ℕ) (complete : trees-in ws ≡ some m) where
       tree-at numbered ws p ∙ ap (λ (l : List ℕ). getD (read numbered l) 0 (Op 0 nil)) (drop-cons ws p 0 h)
       ∙ ap (λ (l : List Tree). getD l 0 (Op 0 nil)) (read-cons numbered (getD ws p 0) (drop (suc p) ws))
 
-  enough : (p : ℕ) → p < length ws → takes (getD ws p 0) ≤ length (read numbered (drop (suc p) ws))
+  pub enough : (p : ℕ) → p < length ws → takes (getD ws p 0) ≤ length (read numbered (drop (suc p) ws))
   enough p h =
       let w = getD ws p 0 in
       let c = complete-end p ws m complete in
@@ -113,7 +113,7 @@ module _ (ws : List ℕ) (m : ℕ) (complete : trees-in ws ≡ some m) where
       let t = complete-tail w (drop (suc p) ws) (c .0) e in
       omega (arith, t, complete-length numbered (drop (suc p) ws) (t .trees) (t .are))
 
-  second-is : (p : ℕ) → 1 ≤ length (read numbered (drop (suc p) ws)) → numbered-at ws (second-at ws p) ≡ getD (read numbered (drop (suc p) ws)) 1 (Op 0 nil)
+  pub second-is : (p : ℕ) → 1 ≤ length (read numbered (drop (suc p) ws)) → numbered-at ws (second-at ws p) ≡ getD (read numbered (drop (suc p) ws)) 1 (Op 0 nil)
   unfolding numbered-at second-at
   second-is p h =
       let first : getD (trees-at numbered ws) (suc p) (Op 0 nil) ≡ getD (read numbered (drop (suc p) ws)) 0 (Op 0 nil) = tree-at numbered ws (suc p) in

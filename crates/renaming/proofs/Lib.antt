@@ -17,3 +17,4 @@ pub mod RoundsOn
 pub mod Coded
 pub mod DivisorPlaces
 pub mod WordRounds
+pub mod WordReciprocals

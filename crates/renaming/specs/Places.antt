@@ -74,6 +74,17 @@ module _ (ws : List ℕ) where
   divisor-places test zero = []
   divisor-places test (suc n) = divisor-places test n ++ elim (test n && divides-at n) as (λ _. List ℕ) [ true ↦ second-at n ∷ [] | false ↦ [] ]
 
+  -- whether a place among some has a tree equal to the one at q, and how many have
+  unfoldable pub among-places : ℕ → List ℕ → Bool
+  unfolding eq-tree numbered-at
+  among-places q [] = false
+  among-places q (r ∷ l) = elim (eq-tree (numbered-at r) (numbered-at q)) [ true ↦ true | false ↦ among-places q l ]
+
+  unfoldable pub count-places : ℕ → List ℕ → ℕ
+  unfolding eq-tree numbered-at
+  count-places q [] = 0
+  count-places q (r ∷ l) = elim (eq-tree (numbered-at r) (numbered-at q)) [ true ↦ suc (count-places q l) | false ↦ count-places q l ]
+
   module _ (name-at : ℕ → List ℕ) where
     -- the text of the tree at a place
     unfoldable pub text-at : ℕ → List ℕ
@@ -104,3 +115,35 @@ module _ (ws : List ℕ) where
     unfoldable pub best-place : Bool → Option ℕ
     unfolding best-place-from
     best-place scoped = best-place-from scoped none 0 (length ws)
+
+    -- ---- the divisors to bind, as places (01, "Reciprocals")
+
+    -- each once, where its tree stands first; `seen` holds those met before
+    unfoldable pub distinct-places : List ℕ → List ℕ → List ℕ
+    unfolding among-places
+    distinct-places seen [] = []
+    distinct-places seen (q ∷ l) = elim (among-places q seen) [ true ↦ distinct-places seen l | false ↦ q ∷ distinct-places (q ∷ seen) l ]
+
+    -- those that are twice among all divisors, and once among those outside arms
+    unfoldable pub shared-places : List ℕ → List ℕ → List ℕ → List ℕ
+    unfolding count-places
+    shared-places all out [] = []
+    shared-places all out (q ∷ l) =
+        elim (leb 2 (count-places q all) && leb 1 (count-places q out)) [ true ↦ q ∷ shared-places all out l | false ↦ shared-places all out l ]
+
+    -- in text order, equal texts as they stood
+    unfoldable pub insert-place : ℕ → List ℕ → List ℕ
+    unfolding before text-at
+    insert-place q [] = q ∷ []
+    insert-place q (r ∷ l) = elim (before (text-at r) (text-at q)) [ true ↦ r ∷ insert-place q l | false ↦ q ∷ (r ∷ l) ]
+
+    unfoldable pub sort-places : List ℕ → List ℕ
+    unfolding insert-place
+    sort-places [] = []
+    sort-places (q ∷ l) = insert-place q (sort-places l)
+
+    unfoldable pub divisors-to-bind : Bool → List ℕ
+    unfolding sort-places shared-places distinct-places divisor-places outside-at
+    divisors-to-bind scoped =
+        let all = divisor-places (λ j. true) (length ws) in
+        sort-places (shared-places all (divisor-places (outside-at scoped) (length ws)) (distinct-places [] all))

@@ -14,7 +14,7 @@ use Rattle.tree.specs.Tokens.{all-tokens, read, numbered}
 use Rattle.rewrite.specs.Rewrite.{replace, replace-divisor}
 use Rattle.cse.specs.Extract.{Binding, State, divisors, distinct, shared-divisors}
 use Rattle.renaming.specs.Shown.{best-by, sort-by}
-use Rattle.renaming.specs.Places.{numbered-at, best-place}
+use Rattle.renaming.specs.Places.{numbered-at, best-place, divisors-to-bind}
 
 -- bindings by number
 unfoldable pub by-number : ℕ → List Tree → List Binding
@@ -74,3 +74,13 @@ rounds-words name-at (suc fuel) scoped k first ws =
       | none ↦ ok ws
       | some p ↦ (extract-words (numbered-at ws p) (next-number k first (read numbered ws)) ws >>= λ vs. rounds-words name-at fuel scoped k first vs)
     ]
+
+unfoldable pub bind-each-words : List Tree → ℕ → List ℕ → List ℕ
+unfolding bind-words
+bind-each-words [] n ws = ws
+bind-each-words (d ∷ l) n ws = bind-each-words l (suc n) (bind-words d n ws)
+
+-- the trees at the places of the divisors to bind, as they are before the first is bound
+unfoldable pub reciprocals-words : (ℕ → List ℕ) → Bool → ℕ → ℕ → List ℕ → List ℕ
+unfolding bind-each-words divisors-to-bind numbered-at next-number read
+reciprocals-words name-at scoped k first ws = bind-each-words (map (numbered-at ws) (divisors-to-bind ws name-at scoped)) (next-number k first (read numbered ws)) ws
