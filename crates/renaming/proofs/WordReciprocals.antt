@@ -50,12 +50,12 @@ module _ (ws : List ℕ) (name-at : ℕ → List ℕ) where
       go true = d
       go false = ap (λ (l : List Tree). numbered-at ws q ∷ l) f
 
-  distinct-is : (seen l : List ℕ) → distinct (trees-of seen) (trees-of l) ≡ trees-of (distinct-places ws name-at seen l)
+  distinct-is : (seen l : List ℕ) → distinct (trees-of seen) (trees-of l) ≡ trees-of (distinct-places ws seen l)
   unfolding distinct distinct-places
   distinct-is seen [] = refl
   distinct-is seen (q ∷ l) =
       distinct-step (among (numbered-at ws q) (trees-of seen)) (among-places ws q seen) (among-is q seen) q (distinct (trees-of seen) (trees-of l))
-      (distinct (numbered-at ws q ∷ trees-of seen) (trees-of l)) (distinct-places ws name-at seen l) (distinct-places ws name-at (q ∷ seen) l) (distinct-is seen l) (distinct-is (q ∷ seen) l)
+      (distinct (numbered-at ws q ∷ trees-of seen) (trees-of l)) (distinct-places ws seen l) (distinct-places ws (q ∷ seen) l) (distinct-is seen l) (distinct-is (q ∷ seen) l)
 
   shared-step :
       (b c : Bool) → b ≡ c → (q : ℕ) (x : List Tree) (r : List ℕ) → x ≡ trees-of r
@@ -68,14 +68,14 @@ module _ (ws : List ℕ) (name-at : ℕ → List ℕ) where
 
   shared-is :
       (scoped : Bool) (ts : List Tree) (all out : List ℕ) → divisors (all-nodes ts) ≡ trees-of all → divisors (outside scoped ts) ≡ trees-of out → (l : List ℕ)
-      → shared-divisors scoped ts (trees-of l) ≡ trees-of (shared-places ws name-at all out l)
+      → shared-divisors scoped ts (trees-of l) ≡ trees-of (shared-places ws all out l)
   unfolding shared-divisors shared-places
   shared-is scoped ts all out a b [] = refl
   shared-is scoped ts all out a b (q ∷ l) =
       let d = numbered-at ws q in
       shared-step (leb 2 (count d (divisors (all-nodes ts))) && leb 1 (count d (divisors (outside scoped ts)))) (leb 2 (count-places ws q all) && leb 1 (count-places ws q out))
       (ap₂ (λ (n m : ℕ). leb 2 n && leb 1 m) (ap (count d) a ∙ count-is q all) (ap (count d) b ∙ count-is q out)) q (shared-divisors scoped ts (trees-of l))
-      (shared-places ws name-at all out l) (shared-is scoped ts all out a b l)
+      (shared-places ws all out l) (shared-is scoped ts all out a b l)
 
   insert-step :
       (b c : Bool) → b ≡ c → (q r : ℕ) (l : List ℕ) (x : List Tree) (s : List ℕ) → x ≡ trees-of s
@@ -109,22 +109,22 @@ module _ (ws : List ℕ) (name-at : ℕ → List ℕ) where
     distinct-keeps-step true q r s h d e = d
     distinct-keeps-step false q r s h d e = (h, e)
 
-    distinct-keeps : (seen l : List ℕ) → Every P l → Every P (distinct-places ws name-at seen l)
+    distinct-keeps : (seen l : List ℕ) → Every P l → Every P (distinct-places ws seen l)
     unfolding distinct-places
     distinct-keeps seen [] h = tt
     distinct-keeps seen (q ∷ l) h =
-        distinct-keeps-step (among-places ws q seen) q (distinct-places ws name-at seen l) (distinct-places ws name-at (q ∷ seen) l) (h .0) (distinct-keeps seen l (h .1))
+        distinct-keeps-step (among-places ws q seen) q (distinct-places ws seen l) (distinct-places ws (q ∷ seen) l) (h .0) (distinct-keeps seen l (h .1))
         (distinct-keeps (q ∷ seen) l (h .1))
 
     shared-keeps-step : (b : Bool) (q : ℕ) (r : List ℕ) → P q → Every P r → Every P (elim b [ true ↦ q ∷ r | false ↦ r ])
     shared-keeps-step true q r h d = (h, d)
     shared-keeps-step false q r h d = d
 
-    shared-keeps : (all out l : List ℕ) → Every P l → Every P (shared-places ws name-at all out l)
+    shared-keeps : (all out l : List ℕ) → Every P l → Every P (shared-places ws all out l)
     unfolding shared-places
     shared-keeps all out [] h = tt
     shared-keeps all out (q ∷ l) h =
-        shared-keeps-step (leb 2 (count-places ws q all) && leb 1 (count-places ws q out)) q (shared-places ws name-at all out l) (h .0) (shared-keeps all out l (h .1))
+        shared-keeps-step (leb 2 (count-places ws q all) && leb 1 (count-places ws q out)) q (shared-places ws all out l) (h .0) (shared-keeps all out l (h .1))
 
     insert-keeps-step : (b : Bool) (q r : ℕ) (l s : List ℕ) → P q → P r → Every P l → Every P s → Every P (elim b [ true ↦ r ∷ s | false ↦ q ∷ (r ∷ l) ])
     insert-keeps-step true q r l s g h d e = (h, e)
@@ -156,8 +156,8 @@ module _ (ws : List ℕ) (name-at : ℕ → List ℕ) where
         let b = outside-divisors ws m complete scoped in
         ap (λ (l : List Tree). sort-by (text-of ws name-at) (shared-divisors scoped ts (distinct [] l))) a
         ∙ ap (λ (l : List Tree). sort-by (text-of ws name-at) (shared-divisors scoped ts l)) (distinct-is [] all)
-        ∙ ap (sort-by (text-of ws name-at)) (shared-is scoped ts all out a b (distinct-places ws name-at [] all))
-        ∙ sort-is (shared-places ws name-at all out (distinct-places ws name-at [] all))
+        ∙ ap (sort-by (text-of ws name-at)) (shared-is scoped ts all out a b (distinct-places ws [] all))
+        ∙ sort-is (shared-places ws all out (distinct-places ws [] all))
 
     -- each is a tree within the code
     abbrev Fits-at : ℕ → Type 0
@@ -194,8 +194,8 @@ module _ (ws : List ℕ) (name-at : ℕ → List ℕ) where
     to-bind-fit-at scoped =
         let all = divisor-places ws (λ j. true) (length ws) in
         let out = divisor-places ws (outside-at ws scoped) (length ws) in
-        sort-keeps Fits-at (shared-places ws name-at all out (distinct-places ws name-at [] all))
-        (shared-keeps Fits-at all out (distinct-places ws name-at [] all) (distinct-keeps Fits-at [] all (divisors-fit-at (λ j. true) (length ws) (omega arith))))
+        sort-keeps Fits-at (shared-places ws all out (distinct-places ws [] all))
+        (shared-keeps Fits-at all out (distinct-places ws [] all) (distinct-keeps Fits-at [] all (divisors-fit-at (λ j. true) (length ws) (omega arith))))
 
     trees-fit : (l : List ℕ) → Every Fits-at l → T (all-coded is-alone (trees-of l))
     trees-fit [] h = none-fit is-alone
@@ -223,3 +223,20 @@ reciprocals-words-are name-at scoped k first ws m c =
     ap (bind-each-words ds n) (sym (writes-back ws m c))
     ∙ bind-each-are ds n ts (trees-fit ws name-at m c (divisors-to-bind ws name-at scoped) (to-bind-fit-at ws name-at m c scoped)) (read-fits ws)
     ∙ ap (λ (l : List Tree). all-tokens unnumbered (bind-each-on l n ts)) (sym (to-bind-are ws name-at m c scoped))
+
+-- ---- what is bound is within the code
+
+bind-each-fits : (l : List Tree) (n : ℕ) (ts : List Tree) → T (all-coded is-alone l) → T (all-coded is-alone ts) → T (all-coded is-alone (bind-each-on l n ts))
+unfolding bind-each-on
+bind-each-fits [] n ts g h = h
+bind-each-fits (d ∷ l) n ts g h = bind-each-fits l (suc n) (bind-on d n ts) (rest-fits is-alone d l g) (bind-on-fits is-alone d n ts (first-fits is-alone d l g) h)
+
+pub reciprocals-fit :
+    (name-at : ℕ → List ℕ) (scoped : Bool) (k first : ℕ) (ws : List ℕ) (m : ℕ) → trees-in ws ≡ some m
+    → T (all-coded is-alone (reciprocals-on (text-of ws name-at) scoped k first (read numbered ws)))
+unfolding reciprocals-on
+reciprocals-fit name-at scoped k first ws m c =
+    let ts = read numbered ws in
+    subst (λ (l : List Tree). T (all-coded is-alone (bind-each-on l (next-number k first ts) ts))) (sym (to-bind-are ws name-at m c scoped))
+    (bind-each-fits (map (numbered-at ws) (divisors-to-bind ws name-at scoped)) (next-number k first ts) ts
+    (trees-fit ws name-at m c (divisors-to-bind ws name-at scoped) (to-bind-fit-at ws name-at m c scoped)) (read-fits ws))

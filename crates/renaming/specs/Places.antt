@@ -85,6 +85,19 @@ module _ (ws : List ℕ) where
   count-places q [] = 0
   count-places q (r ∷ l) = elim (eq-tree (numbered-at r) (numbered-at q)) [ true ↦ suc (count-places q l) | false ↦ count-places q l ]
 
+  -- each once, where its tree stands first; `seen` holds those met before
+  unfoldable pub distinct-places : List ℕ → List ℕ → List ℕ
+  unfolding among-places
+  distinct-places seen [] = []
+  distinct-places seen (q ∷ l) = elim (among-places q seen) [ true ↦ distinct-places seen l | false ↦ q ∷ distinct-places (q ∷ seen) l ]
+
+  -- those that are twice among all divisors, and once among those outside arms
+  unfoldable pub shared-places : List ℕ → List ℕ → List ℕ → List ℕ
+  unfolding count-places
+  shared-places all out [] = []
+  shared-places all out (q ∷ l) =
+      elim (leb 2 (count-places q all) && leb 1 (count-places q out)) [ true ↦ q ∷ shared-places all out l | false ↦ shared-places all out l ]
+
   module _ (name-at : ℕ → List ℕ) where
     -- the text of the tree at a place
     unfoldable pub text-at : ℕ → List ℕ
@@ -117,19 +130,6 @@ module _ (ws : List ℕ) where
     best-place scoped = best-place-from scoped none 0 (length ws)
 
     -- ---- the divisors to bind, as places (01, "Reciprocals")
-
-    -- each once, where its tree stands first; `seen` holds those met before
-    unfoldable pub distinct-places : List ℕ → List ℕ → List ℕ
-    unfolding among-places
-    distinct-places seen [] = []
-    distinct-places seen (q ∷ l) = elim (among-places q seen) [ true ↦ distinct-places seen l | false ↦ q ∷ distinct-places (q ∷ seen) l ]
-
-    -- those that are twice among all divisors, and once among those outside arms
-    unfoldable pub shared-places : List ℕ → List ℕ → List ℕ → List ℕ
-    unfolding count-places
-    shared-places all out [] = []
-    shared-places all out (q ∷ l) =
-        elim (leb 2 (count-places q all) && leb 1 (count-places q out)) [ true ↦ q ∷ shared-places all out l | false ↦ shared-places all out l ]
 
     -- in text order, equal texts as they stood
     unfoldable pub insert-place : ℕ → List ℕ → List ℕ
