@@ -1,17 +1,14 @@
 -- Statements and answers under other names of the list's symbols: the names that they bind and read, their rows and their words. Assumes nothing.
-use Prim.Native.Nat.{ℕ, zero, suc, _+_}
-use native.Mathlib.Omega.{arith}
+use Prim.Native.Nat.{ℕ, suc, _+_}
 use mathlib.Core.Path.{_≡_, refl, sym, _∙_, ap, ap₂}
-use mathlib.Core.Bool.{Bool, true, false}
 use mathlib.Core.List.{List, [], _∷_, _++_, map}
-use lib.ListN.{length, length-map}
-use lib.Dec.{T, eqb}
-use Rattle.tree.specs.Tree.{Name, input, xname, mname, Tree, Forest, Sym, Const, Op, nil, _◂_, eq-name, fold, folds}
-use Rattle.tree.specs.Facts.{size}
-use Rattle.tree.specs.Tokens.{word, name-code, tokens}
+use lib.ListN.{length-map}
+use lib.Dec.{T}
+use Rattle.tree.specs.Tree.{Name, Tree, Forest, Sym, Const, Op, nil, _◂_, folds}
+use Rattle.tree.specs.Tokens.{word}
 use Rattle.tree.proofs.Logic.{and-left, and-right}
 use Rattle.tree.proofs.TokenLaws.{map-append}
-use Rattle.tree.proofs.TokenCode.{known-name, renamed-name, renamed as renamed-by}
+use Rattle.tree.proofs.TokenCode.{renamed as renamed-by}
 use Rattle.rewrite.proofs.Names.{holds, holds-each}
 use Rattle.cse.specs.Answer.{Intermediate, Intermediates, Arms, Answer, Let, Match, end, step, no-arm, arm, block, names, concat, symbols, all-symbols, free, free-stmts, free-arms, value-rows, stmt-rows, stmts-rows, arms-rows, rows}
 use Rattle.cse.specs.Read.{arm-count}

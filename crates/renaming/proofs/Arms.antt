@@ -2,12 +2,12 @@
 -- nothing.
 use Prim.Native.Nat.{ℕ, zero, suc, _+_, _≤_, _<_}
 use native.Mathlib.Omega.{arith}
-use mathlib.Core.Path.{_≡_, refl, sym, _∙_, ap, ap₂, subst}
+use mathlib.Core.Path.{_≡_, refl, sym, _∙_, ap, ap₂}
 use mathlib.Core.Bool.{Bool, true, false, not, _&&_, _||_}
 use mathlib.Core.List.{List, [], _∷_, _++_, append-assoc, map}
 use borrow.Author.Tests.{leb-true, leb-false, ltb-true, ltb-false, lt-leb}
 use lib.ListN.{length, getD, take, drop, length-append, length-map, take-append-drop}
-use lib.Dec.{T, leb, ltb, leb·suc-suc}
+use lib.Dec.{leb, ltb, leb·suc-suc}
 use Rattle.tree.specs.Tree.{Tree, Forest, Sym, Const, Op, nil, _◂_, forest}
 use Rattle.tree.specs.Kinds.{is-switch}
 use Rattle.tree.specs.Facts.{total, size, nodes, nodes-of, outer, outer-of, outer-first, all-nodes, all-outer}

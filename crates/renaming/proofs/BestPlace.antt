@@ -1,5 +1,5 @@
 -- The best candidate is the one at the best place (specs, Places). Assumes nothing.
-use Prim.Native.Nat.{ℕ, zero, suc, _+_, _-_, _*_, _<_}
+use Prim.Native.Nat.{ℕ, zero, suc, _+_, _<_}
 use native.Mathlib.Omega.{arith}
 use mathlib.Core.Path.{_≡_, refl, sym, _∙_, ap, ap₂, subst}
 use mathlib.Core.Bool.{Bool, true, false, _&&_, _||_}
@@ -7,9 +7,9 @@ use mathlib.Core.Option.{Option, none, some}
 use mathlib.Core.List.{List, [], _∷_, map}
 use lib.ListN.{length, getD, drop, List·getD-map}
 use lib.Seq.{drop-cons, drop-length}
-use lib.Dec.{T, eqb, leb, ltb}
+use lib.Dec.{T, eqb, ltb}
 use Rattle.tree.specs.Tree.{Tree, Op, nil}
-use Rattle.tree.specs.Facts.{cost, depth, has-symbol, uses, uses-outside, all-nodes}
+use Rattle.tree.specs.Facts.{depth}
 use Rattle.tree.specs.Rows.{Row}
 use Rattle.tree.specs.Tokens.{read, trees-at, numbered, name-in}
 use Rattle.text.specs.Text.{display, before}
@@ -20,10 +20,9 @@ use Rattle.cse.specs.Extract.{is-candidate, Candidate, candidate, best}
 use Rattle.renaming.specs.Names.{is-number, symbols-pass}
 use Rattle.renaming.specs.Shown.{beats-by, best-from-by, best-by}
 use Rattle.renaming.specs.Places.{numbered-at, uses-at, savings-at, candidate-at, text-at, beats-at, best-place-from, best-place}
-use Rattle.renaming.proofs.Renaming.{Renaming, renamed, Known, Known-all}
+use Rattle.renaming.proofs.Renaming.{renamed, Known}
 use Rattle.renaming.proofs.Choosing.{renamed-candidate, candidate-renamed}
-use Rattle.renaming.proofs.Rewriting.{Agree-if}
-use Rattle.renaming.proofs.Extraction.{shown, Agree-best, best-renamed}
+use Rattle.renaming.proofs.Extraction.{Agree-best, best-renamed}
 use Rattle.renaming.proofs.Reading.{trees-at-renamed}
 use Rattle.renaming.proofs.RowNames.{names-of, words-known, words-renamed}
 

@@ -1,6 +1,6 @@
 -- With `display` for the text of a tree the definitions of Shown are those of Extract and Scope. Assumes nothing.
 use Prim.Native.Nat.{ℕ, zero, suc, _-_}
-use mathlib.Core.Path.{_≡_, refl, sym, _∙_, ap, ap₂, fun-ext}
+use mathlib.Core.Path.{_≡_, refl, _∙_, ap, ap₂, fun-ext}
 use mathlib.Core.Bool.{Bool, true, false, _&&_}
 use mathlib.Core.Option.{Option, none, some}
 use mathlib.Core.List.{List, [], _∷_}
@@ -12,8 +12,7 @@ use Rattle.tree.specs.Facts.{all-operations, all-nodes}
 use Rattle.tree.specs.Rows.{occurrences}
 use Rattle.text.specs.Text.{display, before}
 use Rattle.cse.specs.Extract.{State, roots, is-candidate, Candidate, candidate, beats, best-from, best, extract, rounds, extract-all, divisors, distinct, shared-divisors, insert-by-text, sort-by-text, bind-reciprocals, reciprocals}
-use Rattle.cse.specs.Answer.{Answer}
-use Rattle.cse.specs.Scope.{Scoped, Work, unfused, fuse-all, finish, cse-scope, area-rows, as-answer, answer}
+use Rattle.cse.specs.Scope.{Scoped, unfused, fuse-all, finish, cse-scope, area-rows, as-answer, answer}
 use Rattle.renaming.specs.Shown.{beats-by, best-from-by, best-by, rounds-by, extract-all-by, insert-by, sort-by, reciprocals-by, cse-scope-by, answer-by}
 
 beats-text : (a b : Candidate) → beats-by display a b ≡ beats a b

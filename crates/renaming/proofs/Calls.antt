@@ -1,9 +1,9 @@
 -- The call of extract from words whose symbols are numbers: the same answer, words and refusals, where texts are those under the names of the rows. Assumes
 -- nothing.
 use Prim.Native.Nat.{ℕ}
-use mathlib.Core.Path.{_≡_, refl, sym, _∙_, ap, ap₂, subst}
+use mathlib.Core.Path.{_≡_, refl, _∙_, ap, ap₂, subst}
 use mathlib.Core.Bool.{Bool, true, false, _&&_, _||_, cond}
-use mathlib.Core.List.{List, map}
+use mathlib.Core.List.{List}
 use lib.ListN.{length}
 use lib.Dec.{T, leb, ltb}
 use Rattle.tree.specs.Outcome.{Outcome, ok, refused, by, _>>=_}
@@ -21,7 +21,6 @@ use Rattle.cse.specs.Scope.{answer}
 use Rattle.cse.specs.Call.{Extracted, work-words, work-bytes, extract-call}
 use Rattle.cse.proofs.Outcomes.{Good}
 use Rattle.renaming.specs.Shown.{answer-by}
-use Rattle.renaming.proofs.Renaming.{renamed}
 use Rattle.renaming.proofs.Rewriting.{Agree}
 use Rattle.renaming.proofs.Extraction.{shown}
 use Rattle.renaming.proofs.Answers.{renamed-answer, Known-answer, rows-renamed, answer-words-renamed}

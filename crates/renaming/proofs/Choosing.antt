@@ -1,15 +1,15 @@
 -- What extraction chooses from, under other names of the list's symbols: candidates, and the divisors to bind. The choice itself turns on texts, which are
 -- those of the renamed trees. Assumes nothing.
-use Prim.Native.Nat.{ℕ, zero, suc, _-_, _*_}
-use mathlib.Core.Path.{_≡_, refl, sym, _∙_, ap, ap₂}
+use Prim.Native.Nat.{ℕ, _-_, _*_}
+use mathlib.Core.Path.{_≡_, refl, _∙_, ap, ap₂}
 use mathlib.Core.Bool.{Bool, true, false, _&&_, cond}
 use mathlib.Core.Option.{Option, none, some}
 use mathlib.Core.List.{List, [], _∷_, map}
-use lib.Dec.{T, eqb, leb}
-use Rattle.tree.specs.Tree.{Tree, Forest, Sym, Const, Op, nil, _◂_, eq-tree}
+use lib.Dec.{eqb, leb}
+use Rattle.tree.specs.Tree.{Tree, Sym, Const, Op, nil, _◂_}
 use Rattle.tree.specs.Kinds.{Div}
-use Rattle.tree.specs.Facts.{cost, depth, has-symbol, all-nodes, count, outside, uses, uses-outside}
-use Rattle.tree.proofs.Logic.{and-left, and-right, and-both}
+use Rattle.tree.specs.Facts.{all-nodes, count, outside}
+use Rattle.tree.proofs.Logic.{and-left, and-right}
 use Rattle.tree.proofs.TokenCode.{renamed as renamed-by}
 use Rattle.rewrite.proofs.Names.{holds, holds-each}
 use Rattle.cse.specs.Extract.{is-candidate, Candidate, candidate, among, distinct, divisor-of, divisors, shared-divisors}

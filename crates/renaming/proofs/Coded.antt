@@ -1,7 +1,7 @@
 -- Rewriting keeps trees within the code of words (TokenCode's `coded`), so that the words of rewritten trees are read back as these trees. Assumes nothing.
-use Prim.Native.Nat.{ℕ, zero, suc, _*_, _/_, _%_, _<_}
+use Prim.Native.Nat.{ℕ, zero, suc, _*_, _/_, _%_}
 use native.Mathlib.Omega.{arith}
-use mathlib.Core.Path.{_≡_, refl, sym, _∙_, ap, subst}
+use mathlib.Core.Path.{_≡_}
 use mathlib.Core.Bool.{Bool, true, false, _&&_}
 use mathlib.Core.Option.{Option, none, some}
 use mathlib.Core.List.{List, [], _∷_, _++_, map}
@@ -12,7 +12,7 @@ use lib.Ieee as Ieee
 use lib.Ieee.{Float}
 use Rattle.tree.specs.Bytes.{eq-bytes}
 use Rattle.tree.specs.Outcome.{Outcome, ok, refused, _>>=_, each}
-use Rattle.tree.specs.Tree.{Name, input, xname, mname, Tree, Forest, Sym, Const, Op, nil, _◂_, eq-tree, eq-int, forest}
+use Rattle.tree.specs.Tree.{Name, xname, Tree, Forest, Sym, Const, Op, nil, _◂_, eq-tree, eq-int, forest}
 use Rattle.tree.specs.Kinds.{Neg, Mul, Div, is-switch}
 use Rattle.tree.specs.Facts.{size}
 use Rattle.tree.specs.Tokens.{all-tokens, kind-of, below-of, takes, name-by, read, numbered}

@@ -1,7 +1,7 @@
 -- The divisors of divisions are the trees at the places where second operands stand. Assumes nothing.
 use Prim.Native.Nat.{ℕ, zero, suc, _+_, _≤_, _<_}
 use native.Mathlib.Omega.{arith}
-use mathlib.Core.Path.{_≡_, refl, sym, _∙_, ap, ap₂, subst}
+use mathlib.Core.Path.{_≡_, refl, sym, _∙_, ap, ap₂}
 use mathlib.Core.Bool.{Bool, true, false, not, _&&_, cond}
 use mathlib.Core.Option.{Option, none, some}
 use mathlib.Core.List.{List, [], _∷_, _++_, map}
@@ -13,7 +13,7 @@ use Rattle.tree.specs.Tree.{Tree, Op, nil, forest}
 use Rattle.tree.specs.Kinds.{Div}
 use Rattle.tree.specs.Facts.{size, total, all-nodes, outside}
 use Rattle.tree.specs.Tokens.{read, trees-at, numbered, kind-of, takes, trees-in}
-use Rattle.tree.proofs.TokenLaws.{Word, a-symbol, a-constant, an-operation, word-is, leaf-takes, symbol-tree, constant-tree, operation-tree, made, sizes, map-append, read-cons, read-past, trees-length, places-are-nodes, tree-at, complete-end, complete-tail, complete-length}
+use Rattle.tree.proofs.TokenLaws.{Word, a-symbol, a-constant, an-operation, word-is, symbol-tree, constant-tree, operation-tree, made, sizes, map-append, read-cons, read-past, trees-length, places-are-nodes, tree-at, complete-end, complete-tail, complete-length}
 use Rattle.cse.specs.Extract.{divisor-of, divisors}
 use Rattle.renaming.specs.Places.{numbered-at, in-arm, outside-at, divides-at, second-at, divisor-places}
 use Rattle.renaming.proofs.Arms.{and-true, and-false, those-passing, outer-passing}

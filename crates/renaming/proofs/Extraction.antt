@@ -6,20 +6,18 @@ use mathlib.Core.Bool.{Bool, true, false, _&&_}
 use mathlib.Core.Option.{Option, none, some}
 use mathlib.Core.List.{List, [], _∷_, _++_, map}
 use lib.IntN.{pos}
-use lib.ListN.{length}
 use lib.Dec.{T}
-use Rattle.tree.specs.Outcome.{Outcome, ok, refused, _>>=_, each}
-use Rattle.tree.specs.Tree.{Name, xname, Tree, Sym, Const, Op, nil, _◂_}
+use Rattle.tree.specs.Outcome.{Outcome, ok, _>>=_, each}
+use Rattle.tree.specs.Tree.{xname, Tree, Const, Op, nil, _◂_}
 use Rattle.tree.specs.Kinds.{Div}
 use Rattle.tree.specs.Facts.{all-operations, all-nodes}
 use Rattle.text.specs.Text.{display, before}
-use Rattle.tree.proofs.Logic.{and-left, and-right, and-both}
+use Rattle.tree.proofs.Logic.{and-both}
 use Rattle.tree.proofs.TokenLaws.{map-append}
 use Rattle.tree.proofs.TokenCode.{known-name, renamed-name, renamed as renamed-by}
 use Rattle.rewrite.specs.Rewrite.{replace, replace-divisor}
 use Rattle.rewrite.proofs.Names.{holds, holds-append}
 use Rattle.cse.specs.Extract.{Binding, State, bound, roots, is-candidate, Candidate, candidate, beats, best-from, best, replace-bound, extract, rounds, extract-all, distinct, divisors, shared-divisors, insert-by-text, sort-by-text, replace-divisor-each, replace-divisor-bound, bind-reciprocal, bind-reciprocals, reciprocals}
-use Rattle.cse.proofs.Outcomes.{Good}
 use Rattle.renaming.specs.Shown.{beats-by, best-from-by, best-by, rounds-by, extract-all-by, insert-by, sort-by, reciprocals-by}
 use Rattle.renaming.proofs.Renaming.{Renaming, named, renamed, is-known, Known, Known-all, first-known, rest-known, both-known, none-known, all-operations-renamed, all-nodes-renamed, all-nodes-known}
 use Rattle.renaming.proofs.Choosing.{is-candidate-renamed, renamed-candidate, candidate-renamed, distinct-renamed, distinct-known, divisors-renamed, divisors-known, shared-divisors-renamed, shared-divisors-known}

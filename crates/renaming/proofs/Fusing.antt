@@ -5,24 +5,24 @@ use mathlib.Core.Bool.{Bool, true, false, _&&_}
 use mathlib.Core.List.{List, [], _∷_, _++_, map}
 use lib.ListN.{length, length-map}
 use lib.Dec.{T, eqb}
-use Rattle.tree.specs.Outcome.{Outcome, ok, refused, _>>=_}
-use Rattle.tree.specs.Tree.{Name, mname, Tree, Forest, Sym, Const, Op, nil, _◂_, eq-tree, operands}
+use Rattle.tree.specs.Outcome.{Outcome, ok, _>>=_}
+use Rattle.tree.specs.Tree.{Name, mname, Tree, Forest, Sym, Const, Op, nil, _◂_, operands}
 use Rattle.tree.specs.Kinds.{is-switch}
 use Rattle.tree.specs.Facts.{all-outer}
-use Rattle.tree.proofs.Logic.{and-left, and-right, and-both}
+use Rattle.tree.proofs.Logic.{and-left, and-right}
 use Rattle.tree.proofs.TokenLaws.{map-append}
 use Rattle.tree.proofs.TokenCode.{known-name, renamed-name, renamed as renamed-by}
 use Rattle.rewrite.specs.Rewrite.{replace-outside-arms}
 use Rattle.rewrite.proofs.Names.{holds, holds-each}
-use Rattle.cse.specs.Extract.{Binding, State, distinct, roots}
+use Rattle.cse.specs.Extract.{Binding, State, distinct}
 use Rattle.cse.specs.Answer.{Intermediate, Intermediates, Arms, Let, Match, no-arm, arm, block}
-use Rattle.cse.specs.Scope.{Switch, switches, collect-switches, Group, joins, place, groups-from, members, replace-in-results, replace-in-stmts, Work, name-members, member-names, first-arms, rest-arms, columns, arms-of-members, Scoped, Armed, scope-arms, fuse-group, fuse-groups, binds, unfused, fuse-all}
+use Rattle.cse.specs.Scope.{Switch, switches, collect-switches, Group, joins, place, groups-from, members, replace-in-results, replace-in-stmts, Work, name-members, member-names, first-arms, rest-arms, columns, arms-of-members, Scoped, Armed, scope-arms, fuse-group, fuse-groups, binds, unfused}
 use Rattle.cse.proofs.Outcomes.{Good}
 use Rattle.renaming.proofs.Renaming.{Renaming, named, renamed, renamed-each, is-known, Known, Known-each, Known-all, first-known, rest-known, both-known, none-known, eq-tree-renamed, all-outer-renamed, all-outer-known}
 use Rattle.renaming.proofs.Choosing.{distinct-renamed, distinct-known}
 use Rattle.renaming.proofs.Rewriting.{Agree, agree-ok, then-agree, outside-arms-renamed, outside-arms-known}
-use Rattle.renaming.proofs.Extraction.{Every, every-append, renamed-binding, Known-binding, renamed-state, Known-state, roots-renamed, roots-known}
-use Rattle.renaming.proofs.Answers.{renamed-stmt, renamed-stmts, renamed-arms, Known-stmt, Known-stmts, Known-arms, Known-names, block-renamed, block-known}
+use Rattle.renaming.proofs.Extraction.{Every, every-append, renamed-binding, Known-binding, renamed-state, Known-state}
+use Rattle.renaming.proofs.Answers.{renamed-stmt, renamed-arms, Known-stmt, Known-arms, Known-names, block-renamed, block-known}
 
 module _ (R : Renaming) where
   pub match-name-known : (n : ℕ) → T (is-known R (mname n))

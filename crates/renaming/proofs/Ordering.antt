@@ -2,18 +2,18 @@
 use Prim.Native.Nat.{ℕ, zero, suc}
 use mathlib.Core.Path.{_≡_, refl, sym, _∙_, ap, ap₂, subst}
 use mathlib.Core.Bool.{Bool, true, false}
-use mathlib.Core.List.{List, [], _∷_, _++_, map, reverse, reverseAux}
+use mathlib.Core.List.{List, [], _∷_, map, reverse, reverseAux}
 use lib.ListN.{length, getD, length-map, List·getD-map}
 use lib.Dec.{T, eqb}
 use Rattle.tree.specs.Outcome.{Outcome, ok, refused, by}
-use Rattle.tree.specs.Tree.{Name, eq-name}
-use Rattle.tree.proofs.TokenCode.{known-name, renamed-name, renamed as renamed-by}
+use Rattle.tree.specs.Tree.{Name}
+use Rattle.tree.proofs.TokenCode.{known-name, renamed as renamed-by}
 use Rattle.rewrite.proofs.Names.{holds}
 use Rattle.cse.specs.Answer.{Intermediate, names, free, elem}
 use Rattle.cse.specs.Order.{meets, needs-from, needs, positions-taken, nothing, at-each, topo-sort-intermediates}
 use Rattle.cse.proofs.Outcomes.{Good}
 use Rattle.renaming.proofs.Renaming.{Renaming, named, is-known, eq-name-renamed}
-use Rattle.renaming.proofs.Rewriting.{Agree, agree-ok}
+use Rattle.renaming.proofs.Rewriting.{Agree}
 use Rattle.renaming.proofs.Extraction.{Every}
 use Rattle.renaming.proofs.Answers.{renamed-stmt, Known-stmt, Known-names, names-renamed, names-known, free-renamed, free-known}
 

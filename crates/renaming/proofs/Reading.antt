@@ -1,29 +1,21 @@
 -- Words read with their numbers for names, and read with names: the second are the first renamed. Trees and renamed trees have the same words. Words
 -- whose symbols have numbers that pass are read as known trees, and known trees are written as such words. Assumes nothing.
-use Prim.Native.Nat.{ℕ, zero, suc, _+_, _-_, _/_, _%_, _*_}
+use Prim.Native.Nat.{ℕ, zero, suc, _+_, _/_, _%_, _*_}
 use native.Mathlib.Omega.{arith}
 use mathlib.Core.Path.{_≡_, refl, sym, _∙_, ap, ap₂, subst}
-use mathlib.Core.Bool.{Bool, true, false, _&&_, cond}
-use mathlib.Core.Option.{some}
+use mathlib.Core.Bool.{Bool, true, false, cond}
 use mathlib.Core.List.{List, [], _∷_, _++_, map}
-use borrow.Author.Tests.{eqb-true, eqb-false, eq-eqb}
-use lib.IntN.{pos}
-use lib.ListN.{length, getD, take, drop}
+use borrow.Author.Tests.{eqb-true, eq-eqb}
+use lib.ListN.{length, take, drop}
 use lib.Dec.{T, eqb, leb, ltb, leb→le, ltb→lt}
-use Rattle.tree.specs.Bytes.{eq-bytes}
 use Rattle.tree.specs.Tree.{Name, input, xname, mname, Tree, Forest, Sym, Const, Op, nil, _◂_, operands, forest}
-use Rattle.tree.specs.Rows.{Row, row-sym, row-const, row-op, Table, at, tree-of-row, trees-from, trees}
-use Rattle.tree.specs.Passes.{expressions}
-use Rattle.tree.specs.Symbol.{is-name}
-use Rattle.tree.specs.Tokens.{word, name-code, constant-code, tokens, tokens-of, all-tokens, first-named, number-in, name-of-row, name-in, kind-of, below-of, takes, name-by, tree-of-word, read, trees-at, trees-in, numbered}
-use Rattle.tree.proofs.TreeLaws.{eq-bytes-sound, eq-bytes-refl}
+use Rattle.tree.specs.Tokens.{word, name-code, constant-code, tokens, tokens-of, all-tokens, kind-of, below-of, takes, name-by, tree-of-word, read, trees-at, numbered}
 use Rattle.tree.proofs.Logic.{and-left, and-right, and-both}
-use Rattle.tree.proofs.Tests.{eq→eqb}
 use Rattle.tree.proofs.TokenLaws.{Word, a-symbol, a-constant, an-operation, word-is, symbol-tree, constant-tree, operation-tree, map-take, map-drop}
-use Rattle.tree.proofs.TokenCode.{fits-word, known-name, coded, coded-each, all-coded, renamed-name, renamed as renamed-by, renamed-each as renamed-each-by, renamed-count, unnumbered, reads-back, tokens-complete, expressions-coded}
-use Rattle.rewrite.proofs.Names.{holds, holds-each, holds-all, holds-append, weaken-all}
-use Rattle.renaming.specs.Names.{is-number, is-listed, symbol-passes, symbols-pass}
-use Rattle.renaming.proofs.Renaming.{Renaming, named, renamed, renamed-each, is-known, Known, Known-each, Known-all, first-known, rest-known, both-known, none-known}
+use Rattle.tree.proofs.TokenCode.{fits-word, known-name, coded, coded-each, all-coded, renamed-name, renamed as renamed-by, renamed-each as renamed-each-by, renamed-count, unnumbered}
+use Rattle.rewrite.proofs.Names.{holds, holds-each, holds-all}
+use Rattle.renaming.specs.Names.{symbol-passes, symbols-pass}
+use Rattle.renaming.proofs.Renaming.{Renaming, named, renamed, renamed-each, is-known, Known, Known-each, Known-all, first-known, rest-known}
 
 -- ---- reading
 

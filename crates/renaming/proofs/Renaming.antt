@@ -1,12 +1,11 @@
 -- Symbols of the list under other names (TokenCode's `renamed`): where different symbols keep different names, facts, equality, nodes, uses and divisors are those
 -- of the tree before. `__xN` and `__mN` keep their names. Assumes nothing.
-use Prim.Native.Nat.{ℕ, zero, suc, _+_, _-_, _*_}
+use Prim.Native.Nat.{ℕ, suc, _+_}
 use mathlib.Core.Path.{_≡_, refl, sym, _∙_, ap, ap₂, subst}
-use mathlib.Core.Bool.{Bool, true, false, _&&_, cond}
-use mathlib.Core.Option.{Option, none, some}
+use mathlib.Core.Bool.{Bool, true, false, cond}
 use mathlib.Core.List.{List, [], _∷_, _++_, map}
 use lib.IntN.{ℤ}
-use lib.Dec.{T, eqb, leb}
+use lib.Dec.{T, eqb}
 use Rattle.tree.specs.Bytes.{eq-bytes}
 use Rattle.tree.specs.Tree.{Name, input, xname, mname, Tree, Forest, Sym, Const, Op, nil, _◂_, eq-name, eq-tree, eq-forest, fold, folds}
 use Rattle.tree.specs.Kinds.{is-switch, is-select}

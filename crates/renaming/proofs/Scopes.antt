@@ -3,16 +3,16 @@
 use Prim.Native.Nat.{ℕ, zero, suc, _-_}
 use mathlib.Core.Path.{_≡_, refl, sym, _∙_, ap, ap₂, subst}
 use mathlib.Core.Bool.{Bool, true, false}
-use mathlib.Core.List.{List, [], _∷_, map}
+use mathlib.Core.List.{List, [], map}
 use lib.ListN.{length, length-map}
-use lib.Dec.{T, leb}
+use lib.Dec.{leb}
 use Rattle.tree.specs.Outcome.{Outcome, ok, refused, by, _>>=_}
 use Rattle.tree.specs.Tree.{Tree}
 use Rattle.tree.specs.Rows.{occurrences}
 use Rattle.cse.specs.Extract.{State, extract-all, reciprocals, roots}
-use Rattle.cse.specs.Answer.{Intermediate, Answer, block}
+use Rattle.cse.specs.Answer.{Intermediate}
 use Rattle.cse.specs.Order.{topo-sort-intermediates}
-use Rattle.cse.specs.Scope.{Group, Work, Scoped, collect-switches, groups-from, fuse-groups, fuse-all, unfused, finish, cse-scope, area-rows, as-answer, answer}
+use Rattle.cse.specs.Scope.{Work, Scoped, collect-switches, groups-from, fuse-groups, fuse-all, unfused, finish, cse-scope, area-rows, as-answer, answer}
 use Rattle.cse.proofs.Outcomes.{Good}
 use Rattle.renaming.specs.Shown.{extract-all-by, reciprocals-by, cse-scope-by, answer-by}
 use Rattle.renaming.proofs.Renaming.{Renaming, renamed, Known-all, occurrences-renamed}
@@ -20,7 +20,7 @@ use Rattle.renaming.proofs.Rewriting.{Agree, agree-ok, then-agree}
 use Rattle.renaming.proofs.Extraction.{Every, shown, renamed-binding, renamed-state, Known-state, roots-renamed, roots-known, extract-all-renamed, reciprocals-renamed, reciprocals-known}
 use Rattle.renaming.proofs.Answers.{renamed-stmt, Known-stmt, renamed-answer, Known-answer, block-renamed, block-known}
 use Rattle.renaming.proofs.Ordering.{topo-sort-renamed}
-use Rattle.renaming.proofs.Fusing.{renamed-group, Known-group, groups-renamed, groups-known, collect-renamed, collect-known, renamed-work, Known-work, renamed-scoped, Known-scoped, fuse-groups-renamed, unfused-renamed, unfused-known}
+use Rattle.renaming.proofs.Fusing.{renamed-group, groups-renamed, groups-known, collect-renamed, collect-known, renamed-work, Known-work, renamed-scoped, Known-scoped, fuse-groups-renamed, unfused-renamed, unfused-known}
 
 module _ (R : Renaming) where
   finish-renamed : (w : Work) → Known-work R w → Agree (Known-scoped R) (renamed-scoped R) (finish w) (finish (renamed-work R w))

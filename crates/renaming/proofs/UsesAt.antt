@@ -1,14 +1,14 @@
 -- Uses are counts of places: of all with an equal tree, and of those outside arms. Assumes nothing.
-use Prim.Native.Nat.{ℕ, zero, suc, _+_, _≤_, _<_}
+use Prim.Native.Nat.{ℕ, zero, suc, _+_, _≤_}
 use native.Mathlib.Omega.{arith}
 use mathlib.Core.Path.{_≡_, refl, sym, _∙_, ap, ap₂}
 use mathlib.Core.Bool.{Bool, true, false, not, _&&_}
 use mathlib.Core.List.{List, [], _∷_, _++_}
-use lib.ListN.{length, getD, take}
+use lib.ListN.{length, take}
 use lib.Seq.{take-suc, take-all, length-take-le}
 use lib.Dec.{leb}
 use Rattle.tree.specs.Tree.{Tree, Op, nil, eq-tree}
-use Rattle.tree.specs.Facts.{cost, has-symbol, all-nodes, all-outer, count, outside, uses, uses-outside}
+use Rattle.tree.specs.Facts.{cost, has-symbol, count, outside, uses, uses-outside}
 use Rattle.tree.specs.Tokens.{read, trees-at, numbered}
 use Rattle.tree.proofs.TokenLaws.{trees-length, places-are-nodes}
 use Rattle.rewrite.proofs.Counts.{count-append}

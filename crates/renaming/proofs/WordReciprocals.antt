@@ -1,12 +1,11 @@
 -- Reciprocals on words are reciprocals on the trees that the words are (specs, Rounds), and the divisors to bind are the trees at the places to bind. Assumes
 -- nothing.
-use Prim.Native.Nat.{ℕ, zero, suc, _+_, _≤_, _<_}
+use Prim.Native.Nat.{ℕ, zero, suc, _≤_, _<_}
 use native.Mathlib.Omega.{arith}
 use mathlib.Core.Path.{_≡_, refl, sym, _∙_, ap, ap₂, subst}
 use mathlib.Core.Bool.{Bool, true, false, _&&_}
 use mathlib.Core.Option.{some}
-use mathlib.Core.List.{List, [], _∷_, _++_, map}
-use borrow.Author.Tests.{leb-true}
+use mathlib.Core.List.{List, [], _∷_, map}
 use lib.ListN.{length, getD, drop}
 use lib.Dec.{T, eqb, leb, leb→le}
 use Rattle.tree.specs.Tree.{Tree, Op, nil, eq-tree}
@@ -14,7 +13,7 @@ use Rattle.tree.specs.Kinds.{Div}
 use Rattle.tree.specs.Facts.{all-nodes, outside, count}
 use Rattle.tree.specs.Tokens.{all-tokens, read, numbered, kind-of, takes, trees-in}
 use Rattle.text.specs.Text.{before}
-use Rattle.tree.proofs.Logic.{and-left, and-right}
+use Rattle.tree.proofs.Logic.{and-right}
 use Rattle.tree.proofs.TokenCode.{coded, all-coded, unnumbered, writes-back}
 use Rattle.cse.specs.Extract.{among, distinct, divisors, shared-divisors}
 use Rattle.renaming.specs.Shown.{insert-by, sort-by}

@@ -3,10 +3,10 @@ use Prim.Native.Nat.{ℕ, zero, suc, _-_, _<_}
 use mathlib.Core.Path.{_≡_, refl, sym, _∙_, ap, ap₂, subst}
 use mathlib.Core.Bool.{Bool, true, false}
 use mathlib.Core.Option.{Option, none, some}
-use mathlib.Core.List.{List, [], _∷_, _++_}
-use lib.ListN.{length, getD, take, drop}
+use mathlib.Core.List.{List, []}
+use lib.ListN.{length, getD, drop}
 use lib.Dec.{T, leb}
-use Rattle.tree.specs.Outcome.{Outcome, ok, refused, _>>=_}
+use Rattle.tree.specs.Outcome.{Outcome, ok, _>>=_}
 use Rattle.tree.specs.Tree.{Tree}
 use Rattle.tree.specs.Facts.{all-operations}
 use Rattle.tree.specs.Rows.{occurrences}
@@ -15,7 +15,7 @@ use Rattle.tree.proofs.TokenCode.{coded, all-coded, unnumbered, tokens-complete
 use Rattle.cse.specs.Extract.{State, Candidate, candidate}
 use Rattle.cse.specs.Scope.{Scoped, unfused, fuse-all, finish}
 use Rattle.cse.proofs.Outcomes.{Good}
-use Rattle.renaming.specs.Shown.{best-by, cse-scope-by}
+use Rattle.renaming.specs.Shown.{cse-scope-by}
 use Rattle.renaming.specs.Places.{numbered-at, best-place}
 use Rattle.renaming.specs.Rounds.{next-number, state-of, extract-on, rounds-on, reciprocals-on, extract-words, rounds-words, reciprocals-words}
 use Rattle.renaming.proofs.Rewriting.{Agree, then-agree}
