@@ -51,7 +51,7 @@ module _ (ws : List ℕ) (name-at : ℕ → List ℕ) where
   abbrev pub there : ℕ → Candidate
   there i = candidate (read numbered ws) (numbered-at ws i)
 
-  candidate-at-is : (scoped : Bool) (i : ℕ) → candidate-at ws scoped i ≡ is-candidate scoped (read numbered ws) (numbered-at ws i)
+  pub candidate-at-is : (scoped : Bool) (i : ℕ) → candidate-at ws scoped i ≡ is-candidate scoped (read numbered ws) (numbered-at ws i)
   unfolding candidate-at uses-at is-candidate
   candidate-at-is scoped i = refl
 

@@ -154,14 +154,6 @@ module _ (R : Renaming) where
   groups-known gs [] h k = h
   groups-known gs (s ∷ l) h k = groups-known (place s gs) l (place-known s gs (k .0) h) (k .1)
 
-  members-renamed : (g : Group) → members (renamed-group g) ≡ map renamed-switch (members g)
-  unfolding members
-  members-renamed g = refl
-
-  members-known : (g : Group) → Known-group g → Every Known-switch (members g)
-  unfolding members
-  members-known g h = h
-
   -- ---- members by their names
 
   abbrev pub renamed-work : Work → Work

@@ -18,3 +18,4 @@ pub mod Coded
 pub mod DivisorPlaces
 pub mod WordRounds
 pub mod WordReciprocals
+pub mod WordSteps

@@ -2,19 +2,21 @@
 -- of the tree before. `__xN` and `__mN` keep their names. Assumes nothing.
 use Prim.Native.Nat.{ℕ, suc, _+_}
 use mathlib.Core.Path.{_≡_, refl, sym, _∙_, ap, ap₂, subst}
-use mathlib.Core.Bool.{Bool, true, false, cond}
+use mathlib.Core.Bool.{Bool, true, false, _&&_, cond}
 use mathlib.Core.List.{List, [], _∷_, _++_, map}
 use lib.IntN.{ℤ}
 use lib.Dec.{T, eqb}
 use Rattle.tree.specs.Bytes.{eq-bytes}
 use Rattle.tree.specs.Tree.{Name, input, xname, mname, Tree, Forest, Sym, Const, Op, nil, _◂_, eq-name, eq-tree, eq-forest, fold, folds}
-use Rattle.tree.specs.Kinds.{is-switch, is-select}
+use Rattle.tree.specs.Kinds.{arity-ok, is-switch, is-select}
 use Rattle.tree.specs.Facts.{total, greatest, first-and-greatest, some-of, first-or-deeper, cost, depth, has-symbol, operations, size, nesting, all-operations, nodes, nodes-of, outer, outer-of, outer-first, all-nodes, all-outer, count, outside, uses, uses-outside}
 use Rattle.tree.specs.Rows.{occurrences}
+use Rattle.tree.proofs.Formed.{operand-count, well-formed, well-formed-each}
 use Rattle.tree.proofs.TreeLaws.{eq-bytes-sound, eq-bytes-refl}
 use Rattle.tree.proofs.Logic.{and-left, and-right, and-both}
 use Rattle.tree.proofs.TokenLaws.{map-append}
 use Rattle.tree.proofs.TokenCode.{known-name, renamed-name, renamed as renamed-by, renamed-each as renamed-each-by}
+use Rattle.rewrite.proofs.Counts.{well-formed-all}
 use Rattle.rewrite.proofs.Names.{holds, holds-each, holds-all, holds-append, all-nodes-hold}
 
 -- The symbols that `known` passes get the name of their number, each another.
@@ -117,6 +119,47 @@ module _ (R : Renaming) where
   unfolding occurrences
   occurrences-renamed [] = refl
   occurrences-renamed (t ∷ l) = ap₂ _+_ (size-renamed t) (occurrences-renamed l)
+
+  -- ---- tests that do not look at the names of the list's symbols
+
+  mutual
+    unfolding well-formed renamed-by
+
+    pub well-formed-renamed : (t : Tree) → well-formed (renamed t) ≡ well-formed t
+    well-formed-renamed (Sym n) = refl
+    well-formed-renamed (Const c) = refl
+    well-formed-renamed (Op k f) = ap₂ (λ (n : ℕ) (b : Bool). arity-ok k n && b) (operand-count-renamed f) (well-formed-each-renamed f)
+
+    well-formed-each-renamed : (f : Forest) → well-formed-each (renamed-each f) ≡ well-formed-each f
+    well-formed-each-renamed nil = refl
+    well-formed-each-renamed (t ◂ f) = ap₂ _&&_ (well-formed-renamed t) (well-formed-each-renamed f)
+
+    operand-count-renamed : (f : Forest) → operand-count (renamed-each f) ≡ operand-count f
+    operand-count-renamed nil = refl
+    operand-count-renamed (t ◂ f) = ap suc (operand-count-renamed f)
+
+  pub well-formed-all-renamed : (l : List Tree) → well-formed-all (map renamed l) ≡ well-formed-all l
+  unfolding well-formed-all
+  well-formed-all-renamed [] = refl
+  well-formed-all-renamed (t ∷ l) = ap₂ _&&_ (well-formed-renamed t) (well-formed-all-renamed l)
+
+  module _ (q : Name → Bool) (blind : (n : Name) → q (named n) ≡ q n) where
+    mutual
+      unfolding holds renamed-by
+
+      pub holds-renamed : (t : Tree) → holds q (renamed t) ≡ holds q t
+      holds-renamed (Sym n) = blind n
+      holds-renamed (Const c) = refl
+      holds-renamed (Op k f) = holds-each-renamed f
+
+      holds-each-renamed : (f : Forest) → holds-each q (renamed-each f) ≡ holds-each q f
+      holds-each-renamed nil = refl
+      holds-each-renamed (t ◂ f) = ap₂ _&&_ (holds-renamed t) (holds-each-renamed f)
+
+    pub holds-all-renamed : (l : List Tree) → holds-all q (map renamed l) ≡ holds-all q l
+    unfolding holds-all
+    holds-all-renamed [] = refl
+    holds-all-renamed (t ∷ l) = ap₂ _&&_ (holds-renamed t) (holds-all-renamed l)
 
   -- ---- equality
 

@@ -160,7 +160,7 @@ extract-on-state target k first ts h =
     go (ok x) (refused i) e = refl
     go (refused i) p e = refl
 
-extract-on-length : (target : Tree) (n : ℕ) (ts : List Tree) → Good (λ (us : List Tree). length us ≡ suc (length ts)) (extract-on target n ts)
+pub extract-on-length : (target : Tree) (n : ℕ) (ts : List Tree) → Good (λ (us : List Tree). length us ≡ suc (length ts)) (extract-on target n ts)
 unfolding extract-on
 extract-on-length target n ts =
     then-good (λ (us : List Tree). length us ≡ length ts) (λ (us : List Tree). length us ≡ suc (length ts)) (each (λ e. replace target (xname n) e) ts)
