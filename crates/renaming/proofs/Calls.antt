@@ -69,7 +69,7 @@ expressions-of : (ts : List Tree) → T (passes ts) → T (expressions ts)
 unfolding passes
 expressions-of ts h = and-right (within-limits ts) (expressions ts) (and-right (leb (length ts) 64) (within-limits ts && expressions ts) h)
 
-laid-expressions : (ws ns : List ℕ) → T (laid-out ws ns) → T (expressions (trees (table-of ws ns)))
+pub laid-expressions : (ws ns : List ℕ) → T (laid-out ws ns) → T (expressions (trees (table-of ws ns)))
 laid-expressions ws ns h = expressions-of (trees (table-of ws ns)) (laid-out-passes ws ns h)
 
 -- what the call gives from the words of a table's trees

@@ -19,3 +19,4 @@ pub mod DivisorPlaces
 pub mod WordRounds
 pub mod WordReciprocals
 pub mod WordSteps
+pub mod FlatCall

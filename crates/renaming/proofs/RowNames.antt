@@ -101,7 +101,7 @@ module _ (p q : List ℕ → Bool) where
   mutual
     unfolding coded holds
 
-    tree-coded : (t : Tree) → T (coded p t) → T (holds (known-name q) t) → T (coded q t)
+    pub tree-coded : (t : Tree) → T (coded p t) → T (holds (known-name q) t) → T (coded q t)
     tree-coded (Sym n) h g = g
     tree-coded (Const c) h g = tt
     tree-coded (Op k f) h g =
@@ -167,7 +167,7 @@ row-listed rows s h =
     subst (λ (x : List ℕ). T (eq-bytes (name-in rows (first-named 0 rows s)) x)) e (eq-bytes-refl (name-in rows (first-named 0 rows s)))
 
 module _ (p : List ℕ → Bool) where
-  picked : (ts : List Tree) (n : ℕ) → T (holds-all (known-name p) ts) → T (holds (known-name p) (getD ts n (Op 0 nil)))
+  pub picked : (ts : List Tree) (n : ℕ) → T (holds-all (known-name p) ts) → T (holds (known-name p) (getD ts n (Op 0 nil)))
   unfolding holds holds-all
   picked [] n h = tt
   picked (t ∷ ts) zero h = and-left (holds (known-name p) t) (holds-all (known-name p) ts) h

@@ -14,23 +14,26 @@ use Rattle.tree.specs.Tree.{Name, input, xname, mname, Tree}
 use Rattle.tree.specs.Rows.{Table, trees, within-limits}
 use Rattle.tree.specs.Passes.{passes, expressions}
 use Rattle.tree.specs.Facts.{size, total, all-operations}
-use Rattle.tree.specs.Tokens.{read, numbered, trees-in}
-use Rattle.tree.proofs.Logic.{and-right}
-use Rattle.tree.proofs.TokenLaws.{sizes, read-size, complete-length}
-use Rattle.tree.proofs.TokenCode.{renamed-name}
+use Rattle.tree.specs.Tokens.{read, numbered, trees-in, trees-at}
+use Rattle.tree.proofs.Logic.{and-right, and-both}
+use Rattle.tree.proofs.TokenLaws.{sizes, read-size, complete-length, places-are-nodes}
+use Rattle.tree.proofs.TokenCode.{renamed-name, known-name, coded, all-coded, unnumbered}
 use Rattle.rewrite.proofs.Measure.{sum-of}
-use Rattle.rewrite.proofs.Names.{holds-all}
+use Rattle.rewrite.proofs.Names.{holds, holds-all, all-nodes-hold}
 use Rattle.rewrite.proofs.Counts.{well-formed-all, part-all-operations}
 use Rattle.cse.specs.Extract.{State, is-candidate, roots, extract}
-use Rattle.cse.proofs.Outcomes.{good-at}
+use Rattle.cse.proofs.Outcomes.{good-at, then-good, good-ok}
 use Rattle.cse.proofs.RoundsCount.{made-before, Sound, round, candidate-facts, costs-operation}
 use Rattle.cse.proofs.SizeCount.{round-size}
 use Rattle.cse.proofs.PassesLaws.{passes-formed, passes-unmade}
 use Rattle.cse.proofs.FlatCount.{list-made}
+use Rattle.tree.proofs.TreeLaws.{eq-bytes-refl}
+use Rattle.renaming.proofs.Reading.{read-holds, all-tokens-pass}
+use Rattle.renaming.specs.Names.{symbols-pass}
 use Rattle.renaming.specs.Places.{numbered-at, best-place}
 use Rattle.renaming.specs.Rounds.{next-number, state-of, extract-on, extract-words}
 use Rattle.renaming.proofs.Renaming.{Renaming, named, well-formed-all-renamed, holds-all-renamed}
-use Rattle.renaming.proofs.RowNames.{names-of, tree-words, table-complete, table-renamed}
+use Rattle.renaming.proofs.RowNames.{names-of, tree-words, table-complete, table-renamed, tree-coded, all-code, picked}
 use Rattle.renaming.proofs.BestPlace.{Best, best-place-is, candidate-at-is}
 use Rattle.renaming.proofs.RoundsOn.{roots-of-state, extract-on-state, extract-on-length}
 use Rattle.renaming.proofs.Coded.{is-alone, read-fits, read-again, extract-on-fits}
@@ -194,3 +197,44 @@ first-turn t h =
           (subst T (holds-all-renamed R (made-before 0) (λ a. blind-made R 0 a) ts)
           (subst (λ (l : List Tree). T (holds-all (made-before 0) l)) (sym same) (list-made (trees t) (passes-unmade (trees t) h))));
     }
+
+-- ---- the numbers of symbols
+
+-- Numbers that pass go on passing: an extraction brings in no number. `good` may say that a number is below the count of rows, or that it is the first with its name.
+module _ (good : ℕ → Bool) where
+  abbrev is-good : List ℕ → Bool
+  is-good s = is-alone s && good (unnumbered s)
+
+  good-alone : (n : ℕ) → T (good n) → T (is-good (numbered n))
+  good-alone n h = and-both (is-alone (numbered n)) (good n) (unfold is-alone in eq-bytes-refl (numbered n)) h
+
+  good-words : (ws : List ℕ) → T (symbols-pass good ws) → T (holds-all (known-name is-good) (read numbered ws))
+  good-words ws h = read-holds is-good good good-alone ws h
+
+  good-code : (l : List Tree) → T (all-coded is-alone l) → T (holds-all (known-name is-good) l) → T (all-coded is-good l)
+  good-code l h g = all-code is-alone is-good l h g
+
+  pub good-written : (l : List Tree) → T (all-coded is-good l) → T (symbols-pass good (written l))
+  good-written l h = all-tokens-pass unnumbered is-good good (λ s k. and-right (is-alone s) (good (unnumbered s)) k) l h
+
+  good-at-place : (ws : List ℕ) (p : ℕ) → T (holds-all (known-name is-good) (trees-at numbered ws)) → T (holds (known-name is-good) (numbered-at ws p))
+  unfolding numbered-at
+  good-at-place ws p h = picked is-good (trees-at numbered ws) p h
+
+  good-place : (ws : List ℕ) (m : ℕ) → trees-in ws ≡ some m → T (symbols-pass good ws) → (p : ℕ) → p < length ws → T (coded is-good (numbered-at ws p))
+  good-place ws m c h p l =
+      let nodes-good = all-nodes-hold (known-name is-good) (read numbered ws) (good-words ws h) in
+      let at-places = subst (λ (l : List Tree). T (holds-all (known-name is-good) l)) (sym (places-are-nodes numbered ws)) nodes-good in
+      tree-coded is-alone is-good (numbered-at ws p) (place-fits ws m c p l) (good-at-place ws p at-places)
+
+  pub numbers-kept :
+      (ws : List ℕ) (m : ℕ) → trees-in ws ≡ some m → T (symbols-pass good ws) → (p : ℕ) → p < length ws → (n : ℕ) (vs : List ℕ)
+      → extract-words (numbered-at ws p) n ws ≡ ok vs → T (symbols-pass good vs)
+  unfolding extract-words
+  numbers-kept ws m c h p l n vs e =
+      let ts = read numbered ws in
+      let x = extract-on (numbered-at ws p) n ts in
+      good-at (λ (vs : List ℕ). T (symbols-pass good vs)) (x >>= λ us. ok (written us)) vs e
+      (then-good (λ (us : List Tree). T (all-coded is-good us)) (λ (vs : List ℕ). T (symbols-pass good vs)) x
+      (extract-on-fits is-good (numbered-at ws p) n ts (good-place ws m c h p l) (good-code ts (read-fits ws) (good-words ws h))) (λ us. ok (written us))
+      (λ us k. good-ok (λ (vs : List ℕ). T (symbols-pass good vs)) (written us) (good-written us k)))
