@@ -20,3 +20,4 @@ pub mod WordRounds
 pub mod WordReciprocals
 pub mod WordSteps
 pub mod FlatCall
+pub mod Examples
