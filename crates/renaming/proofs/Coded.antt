@@ -1,7 +1,7 @@
 -- Rewriting keeps trees within the code of words (TokenCode's `coded`), so that the words of rewritten trees are read back as these trees. Assumes nothing.
 use Prim.Native.Nat.{ℕ, zero, suc, _*_, _/_, _%_}
 use native.Mathlib.Omega.{arith}
-use mathlib.Core.Path.{_≡_}
+use mathlib.Core.Path.{_≡_, sym, _∙_, ap}
 use mathlib.Core.Bool.{Bool, true, false, _&&_}
 use mathlib.Core.Option.{Option, none, some}
 use mathlib.Core.List.{List, [], _∷_, _++_, map}
@@ -23,6 +23,7 @@ use Rattle.tree.proofs.TokenCode.{fits-word, known-name, coded, coded-each, all
 use Rattle.rewrite.specs.Rewrite.{Factors, one, negated, times, flatten-mul-factors, flatten-operands, flatten-after, constant-of, nested-product, with-coefficient, built, build-mul-from-factors, remove-first, remove-each, is-mul, match-factors, each-operand, replace-within, replace, divides-by, replace-divisor, replace-divisors, dividend, replace-outside-arms, replace-operands, replace-key}
 use Rattle.cse.proofs.Outcomes.{Good, then-good, good-ok}
 use Rattle.renaming.specs.Rounds.{extract-on, bind-on}
+use Rattle.renaming.proofs.Renaming.{Renaming}
 
 module _ (p : List ℕ → Bool) where
   abbrev Fits : Tree → Type 0
@@ -364,6 +365,25 @@ read-fits (w ∷ ws) =
     rw (read-cons numbered w ws)
     (one-fits is-alone (made numbered w rs) (drop (takes w) rs) (made-alone w rs (take-fits is-alone (takes w) rs (read-fits ws))) (drop-fits is-alone (takes w) rs (read-fits ws)))
 
+pub alone-is : (s : List ℕ) → T (is-alone s) → numbered (unnumbered s) ≡ s
+unfolding is-alone
+alone-is s h = eq-bytes-sound (numbered (unnumbered s)) s h
+
 -- and such trees are read back from their words
 pub read-again : (ts : List Tree) → T (all-coded is-alone ts) → read numbered (all-tokens unnumbered ts) ≡ ts
-read-again ts h = reads-back unnumbered numbered is-alone (λ s k. eq-bytes-sound (numbered (unnumbered s)) s (unfold is-alone in k)) ts h
+read-again ts h = reads-back unnumbered numbered is-alone alone-is ts h
+
+-- ---- a renaming of numbers
+
+-- Numbers that `good` passes get their names, each another.
+abbrev pub by-numbers : (name-at : ℕ → List ℕ) (good : ℕ → Bool) → ((i j : ℕ) → T (good i) → T (good j) → name-at i ≡ name-at j → i ≡ j) → Renaming
+by-numbers name-at good apart =
+    record {
+      number = unnumbered;
+      name-at = name-at;
+      known = λ s. is-alone s && good (unnumbered s);
+      one-to-one = λ s r h g e.
+          sym (alone-is s (and-left (is-alone s) (good (unnumbered s)) h))
+          ∙ ap numbered (apart (unnumbered s) (unnumbered r) (and-right (is-alone s) (good (unnumbered s)) h) (and-right (is-alone r) (good (unnumbered r)) g) e)
+          ∙ alone-is r (and-left (is-alone r) (good (unnumbered r)) g);
+    }

@@ -21,3 +21,4 @@ pub mod WordReciprocals
 pub mod WordSteps
 pub mod FlatCall
 pub mod Examples
+pub mod WordRoom

@@ -46,7 +46,7 @@ unfolding sum-of sizes total
 sizes-sum [] = refl
 sizes-sum (t ∷ l) = ap (λ (n : ℕ). size t + n) (sizes-sum l)
 
-words-size : (ws : List ℕ) → sum-of size (read numbered ws) ≡ length ws
+pub words-size : (ws : List ℕ) → sum-of size (read numbered ws) ≡ length ws
 words-size ws = sizes-sum (read numbered ws) ∙ read-size numbered ws
 
 -- ---- what holds at each turn
