@@ -22,3 +22,4 @@ pub mod WordSteps
 pub mod FlatCall
 pub mod Examples
 pub mod WordRoom
+pub mod WordLoop
