@@ -23,3 +23,4 @@ pub mod FlatCall
 pub mod Examples
 pub mod WordRoom
 pub mod WordLoop
+pub mod WordForms
