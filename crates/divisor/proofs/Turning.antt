@@ -24,11 +24,11 @@ use Rattle.divisor.proofs.Searching.{by-means, other-means}
 abbrev pub by-words : List ℕ → ℕ → Tree → Tree
 by-words d name = replace-divisor (tree-of d) (name-of name)
 
-module _ (ws d : List ℕ) (name : ℕ) (old : List ℕ) (complete : Complete ws) (symbol : kind-of name ≡ 0) (fits : length ws ≤ length old) where
-  abbrev pub State : List ℕ → ℕ → ℕ → Type 0
-  State out i o = Scanned (by-words d name) ws old fits out i o
+abbrev pub State : List ℕ → List ℕ → ℕ → List ℕ → List ℕ → ℕ → ℕ → Type 0
+State ws d name old out i o = Scanned (by-words d name) ws old out i o
 
-  module _ (out : List ℕ) (i o : ℕ) (s : State out i o) (more : i < length ws) where
+module _ (ws d : List ℕ) (name : ℕ) (old : List ℕ) (complete : Complete ws) (symbol : kind-of name ≡ 0) (fits : length ws ≤ length old) where
+  module _ (out : List ℕ) (i o : ℕ) (s : State ws d name old out i o) (more : i < length ws) where
     here : take (length ws - i) (drop i ws) ≡ drop i ws
     here = rest-is ws i
 
@@ -46,14 +46,14 @@ module _ (ws d : List ℕ) (name : ℕ) (old : List ℕ) (complete : Complete ws
     out-room = omega (arith, scan-long (by-words d name) ws old fits s, s .fewer)
 
     pub turn-other :
-        division.Other ≡ division-of (take (length ws - i) (drop i ws)) d → State (set out o (getD ws i 0)) (i + 1) (o + 1)
+        division.Other ≡ division-of (take (length ws - i) (drop i ws)) d → State ws d name old (set out o (getD ws i 0)) (i + 1) (o + 1)
     turn-other q =
         let f = by-words d name in
         let n = other-means (drop i ws) d here-long here-complete (q ∙ ap (λ (l : List ℕ). division-of l d) here) in
         let z : i + 0 ≡ i = omega arith in
         let w : getD (drop i ws) 0 0 ≡ getD ws i 0 = getD-drop i ws 0 0 ∙ ap (λ (k : ℕ). getD ws k 0) z in
         let step = node-stays (tree-of d) (name-of name) (drop i ws) here-complete here-long n in
-        scan-turn f ws old fits s (getD ws i 0 ∷ []) 1 (set out o (getD ws i 0)) (i + 1) (o + 1) refl refl (omega arith) (omega arith)
+        scan-turn f ws old s (getD ws i 0 ∷ []) 1 (set out o (getD ws i 0)) (i + 1) (o + 1) refl refl (omega arith) (omega arith)
         (step ∙ ap (λ (k : ℕ). (k ∷ []) ++ rewritten-words f (drop 1 (drop i ws))) w)
         (put-one out o (getD ws i 0) out-room)
 
@@ -117,7 +117,7 @@ module _ (ws d : List ℕ) (name : ℕ) (old : List ℕ) (complete : Complete ws
             (put-lent (set out o 133) x (rewritten-words (by-words d name) part) (o + 1) (wrote .words))
             ∙ length-set out o 133
 
-        pub turn-by : length x ≡ length lent → State (set back (o + 1 + n) name) (i + y) (o + 1 + n + 1)
+        pub turn-by : length x ≡ length lent → State ws d name old (set back (o + 1 + n) name) (i + y) (o + 1 + n + 1)
         turn-by h =
             let f = by-words d name in
             let r = room in
@@ -131,7 +131,7 @@ module _ (ws d : List ℕ) (name : ℕ) (old : List ℕ) (complete : Complete ws
             let b = put-more out o (133 ∷ []) (R ++ (name ∷ [])) (set out o 133) (set back (o + 1 + n) name) (o + 1)
             (omega (arith, out-room)) refl one a in
             let size : length (133 ∷ (R ++ (name ∷ []))) ≡ n + 2 = omega (arith, length-append R (name ∷ []), wrote .count) in
-            scan-turn f ws old fits s (133 ∷ (R ++ (name ∷ []))) y (set back (o + 1 + n) name) (i + y) (o + 1 + n + 1) refl
+            scan-turn f ws old s (133 ∷ (R ++ (name ∷ []))) y (set back (o + 1 + n) name) (i + y) (o + 1 + n + 1) refl
             (omega (arith, size)) (r .within) (omega (arith, size, few, r))
             (divided .makes ∙ ap (λ (l : List ℕ). (133 ∷ (rewritten-words f l ++ (name ∷ []))) ++ rewritten-words f (drop y (drop i ws))) (sym part-is))
             b
