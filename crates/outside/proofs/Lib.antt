@@ -1,3 +1,4 @@
 pub mod Replacing
 pub mod Searching
+pub mod Copying
 pub mod Turning
