@@ -2,3 +2,4 @@ pub mod Replacing
 pub mod Searching
 pub mod Copying
 pub mod Turning
+pub mod Chaining
