@@ -44,7 +44,8 @@ fn first_division(tokens: &[u64], divisor: &[u64]) -> Division
     if w / KINDS < 2 {
         return Division::Other;
     }
-    let Run::Ends(second) = end_of(tokens, 1) else {
+    let first: usize = 1;
+    let Run::Ends(second) = end_of(tokens, first) else {
         return Division::Other;
     };
     if starts_with(&tokens[second..], divisor) {

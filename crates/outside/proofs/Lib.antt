@@ -3,3 +3,4 @@ pub mod Searching
 pub mod Copying
 pub mod Turning
 pub mod Chaining
+pub mod Examples
