@@ -3,21 +3,18 @@ use Prim.Native.Nat.{ℕ, zero, suc, _+_, _-_, _≤_, _<_}
 use native.Mathlib.Omega.{arith}
 use mathlib.Core.Path.{_≡_, refl, sym, _∙_, ap, ap₂, subst}
 use mathlib.Core.Bool.{Bool, true, false, _&&_}
-use mathlib.Core.Option.{Option, none, some}
-use mathlib.Core.List.{List, [], _∷_, _++_, append-assoc, append-nil, map}
+use mathlib.Core.Option.{some}
+use mathlib.Core.List.{List, [], _∷_, _++_, map}
 use borrow.Author.Tests.{eq-eqb, ne-eqb}
-use lib.ListN.{length, getD, take, drop, length-append, length-take, length-drop, take-append-drop}
-use lib.Seq.{take-at, drop-at, length-take-le, drop-drop}
+use lib.ListN.{length, getD, take, drop}
 use lib.Dec.{T, eqb}
 use Rattle.tree.specs.Kinds.{Mul, Div}
-use Rattle.tree.specs.Tree.{Name, Tree, Forest, Sym, Const, Op, nil, _◂_, operands, forest, eq-tree}
-use Rattle.tree.specs.Tokens.{word, tokens, tokens-of, all-tokens, kind-of, below-of, takes, tree-of-word, read, trees-in, words-of, run-at, numbered}
-use Rattle.tree.proofs.TokenLaws.{Word, a-symbol, a-constant, an-operation, word-is, operation-takes, takes-below, symbol-tree, constant-tree, operation-tree, sizes, made, Takes, complete-tail, complete-length, complete-end, words-tail, Words, words-sizes}
-use Rattle.tree.proofs.TokenCode.{all-tokens-append, all-tokens-cons}
+use Rattle.tree.specs.Tree.{Name, Tree, Forest, Sym, Op, nil, _◂_, operands, forest, eq-tree}
+use Rattle.tree.specs.Tokens.{tokens, kind-of, below-of, takes, tree-of-word, read, trees-in, words-of, numbered}
+use Rattle.tree.proofs.TokenLaws.{Word, a-symbol, a-constant, an-operation, word-is, operation-takes, takes-below, symbol-tree, constant-tree, operation-tree, made, complete-tail, complete-length}
 use Rattle.rewrite.specs.Rewrite.{divides-by, replace-divisor, replace-divisors, dividend}
-use Rattle.rewrite.proofs.DivisorCount.{divisor-size}
-use Rattle.words.specs.Words.{number, rewritten-words, tree-of, name-of, begins-with, Complete}
-use Rattle.words.proofs.Rewriting.{Segment, segment, name-written, first-tree, first-of, take-one, one-tree-words, Node, node, rewritten-read, rewritten-word, rewritten-node}
+use Rattle.words.specs.Words.{number, rewritten-words, tree-of, name-of, Complete}
+use Rattle.words.proofs.Rewriting.{segment, name-written, first-tree, first-of, take-one, one-tree-words, node, rewritten-read, rewritten-word, rewritten-node}
 use Rattle.divisor.specs.Division.{divided-by}
 
 -- ---- on trees

@@ -1,13 +1,12 @@
 -- What `first_division` answers at each of its exits. Assumes nothing.
-use Prim.Native.Nat.{ℕ, zero, suc, _+_, _-_, _≤_, _<_}
+use Prim.Native.Nat.{ℕ, _+_, _-_, _≤_, _<_}
 use native.Mathlib.Omega.{arith}
-use mathlib.Core.Path.{_≡_, refl, sym, _∙_, ap, subst}
+use mathlib.Core.Path.{_≡_, refl, sym, _∙_, ap}
 use mathlib.Core.Bool.{Bool, true, false}
 use mathlib.Core.Option.{Option, none, some}
 use mathlib.Core.List.{List, [], _∷_}
 use lib.ListN.{length, getD, take, drop, length-drop}
 use lib.Seq.{drop-drop}
-use lib.Dec.{T}
 use Rattle.tree.specs.Tree.{Tree, eq-tree}
 use Rattle.tree.specs.Tokens.{kind-of, below-of, takes, read, trees-in, words-of, run-at, numbered}
 use Rattle.tree.proofs.TokenLaws.{operation-takes, complete-tail, complete-length, complete-end}

@@ -1,8 +1,8 @@
 -- `replace_outside_arms` on words leaves words of trees: no more words, as many trees, and read back they are the rewritten trees. So what it leaves may be
 -- rewritten again. Assumes nothing.
-use Prim.Native.Nat.{ℕ, suc, _≤_}
+use Prim.Native.Nat.{ℕ, _≤_}
 use mathlib.Core.Path.{_≡_}
-use mathlib.Core.Bool.{Bool, true, false, _&&_}
+use mathlib.Core.Bool.{Bool, true, false}
 use mathlib.Core.Option.{some}
 use mathlib.Core.List.{List, map}
 use lib.ListN.{length}

@@ -1,15 +1,14 @@
 -- What `replace_outside_arms` makes of the first tree of complete words, case by case, and that it lets no tree grow. Assumes nothing.
-use Prim.Native.Nat.{ℕ, zero, suc, _+_, _-_, _≤_, _<_}
+use Prim.Native.Nat.{ℕ, _+_, _-_, _≤_, _<_}
 use native.Mathlib.Omega.{arith}
 use mathlib.Core.Path.{_≡_, refl, sym, _∙_, ap, ap₂, subst}
 use mathlib.Core.Bool.{Bool, true, false, _&&_}
-use mathlib.Core.Option.{Option, none, some}
-use mathlib.Core.List.{List, [], _∷_, _++_, append-assoc, append-nil, map}
-use borrow.Author.Tests.{le-leb, lt-leb, leb-true, leb-false}
-use lib.ListN.{length, getD, take, drop, length-take, length-drop}
+use mathlib.Core.Option.{some}
+use mathlib.Core.List.{List, [], _∷_, _++_, map}
+use borrow.Author.Tests.{le-leb, leb-false}
+use lib.ListN.{length, getD, take, drop, length-take}
 use lib.Seq.{length-take-le, drop-drop, take-add}
 use lib.Dec.{T, leb}
-use Rattle.tree.specs.Bytes.{eq-bytes}
 use Rattle.tree.specs.Kinds.{is-switch}
 use Rattle.tree.specs.Facts.{size}
 use Rattle.tree.specs.Tree.{Name, Tree, Forest, Sym, Const, Op, nil, _◂_, forest, eq-tree}
@@ -18,9 +17,9 @@ use Rattle.tree.proofs.TreeLaws.{eq-bytes-sound, eq-tree-refl}
 use Rattle.tree.proofs.TokenLaws.{Word, a-symbol, a-constant, an-operation, word-is, operation-takes, symbol-tree, constant-tree, operation-tree, made, complete-tail, complete-length}
 use Rattle.tree.proofs.TokenCode.{all-tokens-cons, writes-back}
 use Rattle.rewrite.specs.Rewrite.{replace-outside-arms, replace-operands, replace-key}
-use Rattle.rewrite.proofs.Measure.{sum-each, size-op, size-up}
+use Rattle.rewrite.proofs.Measure.{sum-each, size-op}
 use Rattle.words.specs.Words.{number, rewritten-words, tree-of, name-of, begins-with, Complete}
-use Rattle.words.proofs.Rewriting.{segment, node-written, first-tree, first-of, take-one, one-tree-words, begins-so, Node, node, rewritten-read, rewritten-word, rewritten-node, rewritten-symbol}
+use Rattle.words.proofs.Rewriting.{segment, node-written, first-tree, first-of, take-one, one-tree-words, begins-so, node, rewritten-read, rewritten-word, rewritten-node, rewritten-symbol}
 use Rattle.outside.specs.Part.{has-arms}
 
 test-true : (b : Bool) → T b → b ≡ true

@@ -1,14 +1,14 @@
 -- Rewritten words are words of trees again: as many as before, and read back they are the rewritten trees, so that one rewriting can follow another.
 -- Assumes nothing.
-use Prim.Native.Nat.{ℕ, zero, suc, _≤_, _<_, _/_, _%_}
+use Prim.Native.Nat.{ℕ, zero, suc, _<_, _/_, _%_}
 use native.Mathlib.Omega.{arith}
-use mathlib.Core.Path.{_≡_, refl, sym, _∙_, ap, subst}
-use mathlib.Core.Bool.{Bool, true, false, _&&_}
+use mathlib.Core.Path.{_≡_, refl, _∙_, ap}
+use mathlib.Core.Bool.{Bool}
 use mathlib.Core.Option.{some}
 use mathlib.Core.List.{List, [], _∷_, map}
 use lib.ListN.{length, getD, take, drop}
 use lib.Dec.{T, eqb, leb, ltb, eqb→eq, le→leb, lt→ltb}
-use Rattle.tree.specs.Tree.{Tree, Forest, Sym, Const, Op, nil, _◂_, forest}
+use Rattle.tree.specs.Tree.{Tree, Sym, Op, nil, forest}
 use Rattle.tree.specs.Tokens.{kind-of, below-of, takes, name-by, tree-of-word, read, all-tokens, trees-in, numbered}
 use Rattle.tree.proofs.Logic.{and-left, and-right, and-both}
 use Rattle.tree.proofs.TokenLaws.{Word, a-symbol, a-constant, an-operation, word-is, symbol-tree, constant-tree, operation-tree, complete-length}

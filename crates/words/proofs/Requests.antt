@@ -1,5 +1,5 @@
 -- What may be rewritten, test by test, and when words begin with others, word by word. Assumes nothing.
-use Prim.Native.Nat.{ℕ, suc, _+_, _≤_, _<_}
+use Prim.Native.Nat.{ℕ, _≤_, _<_}
 use native.Mathlib.Omega.{arith}
 use mathlib.Core.Path.{_≡_, refl, sym, _∙_, ap, subst}
 use mathlib.Core.Bool.{Bool, true, false, _&&_}
@@ -31,9 +31,6 @@ uncounted (some m) e = absurd (let z : _≡_ {A = ℕ} 0 1 = cc in omega arith)
 -- ---- the tests in their order
 
 module _ (ws part : List ℕ) (name room : ℕ) where
-  abbrev answer : Bool
-  answer = sound ws part name
-
   pub words-broken : trees-in ws ≡ none → request.Broken ≡ request-answer (sound ws part name) (ltb room (length ws))
   unfolding sound some-trees request-answer
   words-broken e = rw e

@@ -1,21 +1,21 @@
 -- Rewriting words a run at a time: what is read before and after a run, the words of a node whose operands are rewritten, when words begin with a tree's, and
 -- that no more words are written than read. Assumes nothing.
-use Prim.Native.Nat.{ℕ, zero, suc, _+_, _-_, _*_, _/_, _%_, _≤_, _<_}
+use Prim.Native.Nat.{ℕ, zero, suc, _+_, _-_, _≤_, _<_}
 use native.Mathlib.Omega.{arith}
-use mathlib.Core.Path.{_≡_, refl, sym, _∙_, ap, ap₂, subst}
-use mathlib.Core.Bool.{Bool, true, false, cond}
-use mathlib.Core.Option.{Option, none, some}
-use mathlib.Core.List.{List, [], _∷_, _++_, append-assoc, append-nil, map}
-use lib.ListN.{length, getD, take, drop, length-append, length-take, length-drop, take-append-drop}
-use lib.Seq.{take-at, drop-at, length-take-le, take-all}
-use lib.Dec.{T, eqb}
+use mathlib.Core.Path.{_≡_, refl, sym, _∙_, ap, subst}
+use mathlib.Core.Bool.{Bool, true, false}
+use mathlib.Core.Option.{some}
+use mathlib.Core.List.{List, [], _∷_, _++_, append-nil, map}
+use lib.ListN.{length, getD, take, drop, length-append, take-append-drop}
+use lib.Seq.{take-at, drop-at, length-take-le}
+use lib.Dec.{T}
 use Rattle.tree.specs.Bytes.{eq-bytes}
-use Rattle.tree.specs.Tree.{Name, input, xname, mname, Tree, Forest, Sym, Const, Op, nil, _◂_, operands, forest, eq-tree}
+use Rattle.tree.specs.Tree.{Tree, Sym, Op, nil, operands, eq-tree}
 use Rattle.tree.specs.Facts.{total, size}
-use Rattle.tree.specs.Tokens.{word, name-code, tokens, tokens-of, all-tokens, kind-of, below-of, takes, name-by, tree-of-word, read, trees-in, words-of, numbered}
+use Rattle.tree.specs.Tokens.{word, tokens, all-tokens, kind-of, takes, tree-of-word, read, trees-in, words-of, numbered}
 use Rattle.tree.proofs.FactLaws.{size-one}
 use Rattle.tree.proofs.TreeLaws.{eq-bytes-sound, eq-bytes-refl, eq-tree-sound, eq-tree-refl}
-use Rattle.tree.proofs.TokenLaws.{Word, a-symbol, a-constant, an-operation, word-is, leaf-takes, operation-takes, symbol-tree, constant-tree, operation-tree, operands-forest, map-append, map-take, map-drop, sizes, made, read-cons, read-size, Takes, complete-tail, complete-length, complete-read, words-tail, words-complete, words-sizes}
+use Rattle.tree.proofs.TokenLaws.{Word, a-symbol, a-constant, an-operation, word-is, leaf-takes, operation-takes, symbol-tree, operation-tree, operands-forest, map-append, sizes, made, read-cons, read-size, complete-tail, complete-length, complete-read, words-tail, words-complete, words-sizes}
 use Rattle.tree.proofs.TokenCode.{tokens-length, all-tokens-append, all-tokens-cons, tokens-forest, writes-back}
 use Rattle.words.specs.Words.{number, rewritten-words, tree-of, name-of, begins-with}
 

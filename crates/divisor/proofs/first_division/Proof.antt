@@ -1,7 +1,7 @@
 -- `divisor::first_division` meets its contract. Assumes nothing.
 use native.Mathlib.Omega.{arith}
 use mathlib.Core.Path.{sym, _∙_}
-use mathlib.Core.Bool.{true, false}
+use mathlib.Core.Bool.{false}
 use Rattle.words.specs.Words.{tree-of}
 use Rattle.divisor.proofs.Dividing.{other-kind, other-few}
 use Rattle.divisor.proofs.Searching.{is-other, first-there-is, second-inside, compared, whole-there-is, found}

@@ -1,5 +1,4 @@
 -- `divisor::replace_divisor` meets its contract. Assumes nothing.
-use native.Mathlib.Omega.{arith}
 use mathlib.Core.Path.{sym, _∙_}
 use lib.ListN.{length}
 use Rattle.rewrite.specs.Rewrite.{replace-divisor}
