@@ -3,7 +3,7 @@ use native.Mathlib.Omega.{arith}
 use mathlib.Core.Path.{sym, _∙_}
 use lib.ListN.{length, length-set}
 use Rattle.words.proofs.Scanning.{here-asked, scan-starts, scan-long, scan-ends}
-use Rattle.divisor.proofs.Turning.{by-words, State, out-room, turn-other, room, part-complete, lent-room, few, back-long, turn-by}
+use Rattle.divisor.proofs.Turning.{by-words, State, place-at, out-room, turn-other, room, part-complete, lent-room, few, back-long, turn-by}
 use borrow.Author.Needs.{needs}
 use Prim.Native.Nat.{ℕ, _<_, _-_}
 use borrow.Fn.Kinds.{In}
@@ -41,142 +41,97 @@ pub +rewrite-spec : {M : Type 1} → statement M
     (λ c. search needs)
     (λ c. search needs)
     (λ c. search needs)
-    (λ c κs. let a = c .before .before .before .before .before .before .args in
-    let p = c .before .before .before .before .before .before .pre .1 in
-    let l = c .before .before .loop in
-    (here-asked (a .tokens .now) (p .0) (l .i) (c .before .loop-test .taken), p .1 .0 .0))
+    (λ c κs. (here-asked (c .before .before .before .before .before .before .args .tokens .now) (c .before .before .before .before .before .before .pre .1 .0) (c .before .before .loop .i) (c .before .loop-test .taken), c .before .before .before .before .before .before .pre .1 .1 .0 .0))
     (λ c. search needs)
     (λ c. search needs)
-    (λ c. let a = c .before .before .before .before .before .before .before .before .before .before .args in
-    let p = c .before .before .before .before .before .before .before .before .before .before .pre .1 in
-    let l = c .before .before .before .before .before .before .loop in
-    omega (arith, out-room (a .tokens .now) (a .divisor .now) (a .name) (a .out .now) (p .0) (p .1 .0 .1) (p .1 .1) (l .out) (l .i) (l .o) (l .inv) (c .before .before .before .before .before .loop-test .taken)))
-    (λ c. let a = c .before .before .before .before .before .before .before .before .before .before .args in
-    let p = c .before .before .before .before .before .before .before .before .before .before .pre .1 in
-    let l = c .before .before .before .before .before .before .loop in
+    (λ c. let h = place-at (c .before .before .before .before .before .before .before .before .before .before .args .tokens .now) (c .before .before .before .before .before .before .before .before .before .before .args .divisor .now) (c .before .before .before .before .before .before .before .before .before .before .args .name) (c .before .before .before .before .before .before .before .before .before .before .args .out .now) (c .before .before .before .before .before .before .before .before .before .before .pre .1) (c .before .before .before .before .before .before .loop .inv) (c .before .before .before .before .before .loop-test .taken) in
+    omega (arith, out-room h))
+    (λ c. let h = place-at (c .before .before .before .before .before .before .before .before .before .before .args .tokens .now) (c .before .before .before .before .before .before .before .before .before .before .args .divisor .now) (c .before .before .before .before .before .before .before .before .before .before .args .name) (c .before .before .before .before .before .before .before .before .before .before .args .out .now) (c .before .before .before .before .before .before .before .before .before .before .pre .1) (c .before .before .before .before .before .before .loop .inv) (c .before .before .before .before .before .loop-test .taken) in
     let q = sym (c .before .found .given .1) ∙ c .before .before .before .first-division .ensures in
-    let r = room (a .tokens .now) (a .divisor .now) (a .name) (a .out .now) (p .0) (p .1 .0 .1) (p .1 .1) (l .out) (l .i) (l .o) (l .inv) (c .before .before .before .before .before .loop-test .taken) _ _ q in
-    omega (arith, r, p .1 .1, c .before .before .before .before .before .before .before .before .before .before .good))
-    (λ c. let a = c .before .before .before .before .before .before .before .before .before .before .args in
-    let p = c .before .before .before .before .before .before .before .before .before .before .pre .1 in
-    let l = c .before .before .before .before .before .before .loop in
+    let r = room h _ _ q in
+    omega (arith, r, h .fits, c .before .before .before .before .before .before .before .before .before .before .good))
+    (λ c. let h = place-at (c .before .before .before .before .before .before .before .before .before .before .args .tokens .now) (c .before .before .before .before .before .before .before .before .before .before .args .divisor .now) (c .before .before .before .before .before .before .before .before .before .before .args .name) (c .before .before .before .before .before .before .before .before .before .before .args .out .now) (c .before .before .before .before .before .before .before .before .before .before .pre .1) (c .before .before .before .before .before .before .loop .inv) (c .before .before .before .before .before .loop-test .taken) in
     let q = sym (c .before .found .given .1) ∙ c .before .before .before .first-division .ensures in
-    let r = room (a .tokens .now) (a .divisor .now) (a .name) (a .out .now) (p .0) (p .1 .0 .1) (p .1 .1) (l .out) (l .i) (l .o) (l .inv) (c .before .before .before .before .before .loop-test .taken) _ _ q in
-    omega (arith, r, p .1 .1, c .before .before .before .before .before .before .before .before .before .before .good))
-    (λ c. let a = c .before .before .before .before .before .before .before .before .before .before .args in
-    let p = c .before .before .before .before .before .before .before .before .before .before .pre .1 in
-    let l = c .before .before .before .before .before .before .loop in
+    let r = room h _ _ q in
+    omega (arith, r, h .fits, c .before .before .before .before .before .before .before .before .before .before .good))
+    (λ c. let h = place-at (c .before .before .before .before .before .before .before .before .before .before .args .tokens .now) (c .before .before .before .before .before .before .before .before .before .before .args .divisor .now) (c .before .before .before .before .before .before .before .before .before .before .args .name) (c .before .before .before .before .before .before .before .before .before .before .args .out .now) (c .before .before .before .before .before .before .before .before .before .before .pre .1) (c .before .before .before .before .before .before .loop .inv) (c .before .before .before .before .before .loop-test .taken) in
     let q = sym (c .before .found .given .1) ∙ c .before .before .before .first-division .ensures in
-    let r = room (a .tokens .now) (a .divisor .now) (a .name) (a .out .now) (p .0) (p .1 .0 .1) (p .1 .1) (l .out) (l .i) (l .o) (l .inv) (c .before .before .before .before .before .loop-test .taken) _ _ q in
-    omega (arith, r, p .1 .1, c .before .before .before .before .before .before .before .before .before .before .good))
-    (λ c. let a = c .before .before .before .before .before .before .before .before .before .before .args in
-    let p = c .before .before .before .before .before .before .before .before .before .before .pre .1 in
-    let l = c .before .before .before .before .before .before .loop in
+    let r = room h _ _ q in
+    omega (arith, r, h .fits, c .before .before .before .before .before .before .before .before .before .before .good))
+    (λ c. let h = place-at (c .before .before .before .before .before .before .before .before .before .before .args .tokens .now) (c .before .before .before .before .before .before .before .before .before .before .args .divisor .now) (c .before .before .before .before .before .before .before .before .before .before .args .name) (c .before .before .before .before .before .before .before .before .before .before .args .out .now) (c .before .before .before .before .before .before .before .before .before .before .pre .1) (c .before .before .before .before .before .before .loop .inv) (c .before .before .before .before .before .loop-test .taken) in
     let q = sym (c .before .found .given .1) ∙ c .before .before .before .first-division .ensures in
-    let r = room (a .tokens .now) (a .divisor .now) (a .name) (a .out .now) (p .0) (p .1 .0 .1) (p .1 .1) (l .out) (l .i) (l .o) (l .inv) (c .before .before .before .before .before .loop-test .taken) _ _ q in
-    omega (arith, r, p .1 .1, c .before .before .before .before .before .before .before .before .before .before .good))
-    (λ c. let a = c .before .before .before .before .before .before .before .before .before .before .args in
-    let p = c .before .before .before .before .before .before .before .before .before .before .pre .1 in
-    let l = c .before .before .before .before .before .before .loop in
+    let r = room h _ _ q in
+    omega (arith, r, h .fits, c .before .before .before .before .before .before .before .before .before .before .good))
+    (λ c. let h = place-at (c .before .before .before .before .before .before .before .before .before .before .args .tokens .now) (c .before .before .before .before .before .before .before .before .before .before .args .divisor .now) (c .before .before .before .before .before .before .before .before .before .before .args .name) (c .before .before .before .before .before .before .before .before .before .before .args .out .now) (c .before .before .before .before .before .before .before .before .before .before .pre .1) (c .before .before .before .before .before .before .loop .inv) (c .before .before .before .before .before .loop-test .taken) in
     let q = sym (c .before .found .given .1) ∙ c .before .before .before .first-division .ensures in
-    let r = room (a .tokens .now) (a .divisor .now) (a .name) (a .out .now) (p .0) (p .1 .0 .1) (p .1 .1) (l .out) (l .i) (l .o) (l .inv) (c .before .before .before .before .before .loop-test .taken) _ _ q in
-    omega (arith, r, p .1 .1, c .before .before .before .before .before .before .before .before .before .before .good))
-    (λ c. let a = c .before .before .before .before .before .before .before .before .before .before .args in
-    let p = c .before .before .before .before .before .before .before .before .before .before .pre .1 in
-    let l = c .before .before .before .before .before .before .loop in
+    let r = room h _ _ q in
+    omega (arith, r, h .fits, c .before .before .before .before .before .before .before .before .before .before .good))
+    (λ c. let h = place-at (c .before .before .before .before .before .before .before .before .before .before .args .tokens .now) (c .before .before .before .before .before .before .before .before .before .before .args .divisor .now) (c .before .before .before .before .before .before .before .before .before .before .args .name) (c .before .before .before .before .before .before .before .before .before .before .args .out .now) (c .before .before .before .before .before .before .before .before .before .before .pre .1) (c .before .before .before .before .before .before .loop .inv) (c .before .before .before .before .before .loop-test .taken) in
     let q = sym (c .before .found .given .1) ∙ c .before .before .before .first-division .ensures in
-    let r = room (a .tokens .now) (a .divisor .now) (a .name) (a .out .now) (p .0) (p .1 .0 .1) (p .1 .1) (l .out) (l .i) (l .o) (l .inv) (c .before .before .before .before .before .loop-test .taken) _ _ q in
-    omega (arith, r, p .1 .1, c .before .before .before .before .before .before .before .before .before .before .good))
-    (λ c. let a = c .before .before .before .before .before .before .before .before .before .before .args in
-    let p = c .before .before .before .before .before .before .before .before .before .before .pre .1 in
-    let l = c .before .before .before .before .before .before .loop in
+    let r = room h _ _ q in
+    omega (arith, r, h .fits, c .before .before .before .before .before .before .before .before .before .before .good))
+    (λ c. let h = place-at (c .before .before .before .before .before .before .before .before .before .before .args .tokens .now) (c .before .before .before .before .before .before .before .before .before .before .args .divisor .now) (c .before .before .before .before .before .before .before .before .before .before .args .name) (c .before .before .before .before .before .before .before .before .before .before .args .out .now) (c .before .before .before .before .before .before .before .before .before .before .pre .1) (c .before .before .before .before .before .before .loop .inv) (c .before .before .before .before .before .loop-test .taken) in
     let q = sym (c .before .found .given .1) ∙ c .before .before .before .first-division .ensures in
-    let r = room (a .tokens .now) (a .divisor .now) (a .name) (a .out .now) (p .0) (p .1 .0 .1) (p .1 .1) (l .out) (l .i) (l .o) (l .inv) (c .before .before .before .before .before .loop-test .taken) _ _ q in
-    omega (arith, r, p .1 .1, c .before .before .before .before .before .before .before .before .before .before .good))
-    (λ c. let a = c .before .before .before .before .before .before .before .before .before .before .before .args in
-    let p = c .before .before .before .before .before .before .before .before .before .before .before .pre .1 in
-    let l = c .before .before .before .before .before .before .before .loop in
+    let r = room h _ _ q in
+    omega (arith, r, h .fits, c .before .before .before .before .before .before .before .before .before .before .good))
+    (λ c. let h = place-at (c .before .before .before .before .before .before .before .before .before .before .before .args .tokens .now) (c .before .before .before .before .before .before .before .before .before .before .before .args .divisor .now) (c .before .before .before .before .before .before .before .before .before .before .before .args .name) (c .before .before .before .before .before .before .before .before .before .before .before .args .out .now) (c .before .before .before .before .before .before .before .before .before .before .before .pre .1) (c .before .before .before .before .before .before .before .loop .inv) (c .before .before .before .before .before .before .loop-test .taken) in
     let q = sym (c .before .before .found .given .1) ∙ c .before .before .before .before .first-division .ensures in
-    let r = room (a .tokens .now) (a .divisor .now) (a .name) (a .out .now) (p .0) (p .1 .0 .1) (p .1 .1) (l .out) (l .i) (l .o) (l .inv) (c .before .before .before .before .before .before .loop-test .taken) _ _ q in
-    omega (arith, r, p .1 .1, c .before .before .before .before .before .before .before .before .before .before .before .good))
-    (λ c. let a = c .before .before .before .before .before .before .before .before .before .before .before .args in
-    let p = c .before .before .before .before .before .before .before .before .before .before .before .pre .1 in
-    let l = c .before .before .before .before .before .before .before .loop in
+    let r = room h _ _ q in
+    omega (arith, r, h .fits, c .before .before .before .before .before .before .before .before .before .before .before .good))
+    (λ c. let h = place-at (c .before .before .before .before .before .before .before .before .before .before .before .args .tokens .now) (c .before .before .before .before .before .before .before .before .before .before .before .args .divisor .now) (c .before .before .before .before .before .before .before .before .before .before .before .args .name) (c .before .before .before .before .before .before .before .before .before .before .before .args .out .now) (c .before .before .before .before .before .before .before .before .before .before .before .pre .1) (c .before .before .before .before .before .before .before .loop .inv) (c .before .before .before .before .before .before .loop-test .taken) in
     let q = sym (c .before .before .found .given .1) ∙ c .before .before .before .before .first-division .ensures in
-    let r = room (a .tokens .now) (a .divisor .now) (a .name) (a .out .now) (p .0) (p .1 .0 .1) (p .1 .1) (l .out) (l .i) (l .o) (l .inv) (c .before .before .before .before .before .before .loop-test .taken) _ _ q in
-    omega (arith, r, p .1 .1, length-set (l .out) (l .o) 133))
-    (λ c. let a = c .before .before .before .before .before .before .before .before .before .before .before .args in
-    let p = c .before .before .before .before .before .before .before .before .before .before .before .pre .1 in
-    let l = c .before .before .before .before .before .before .before .loop in
+    let r = room h _ _ q in
+    omega (arith, r, h .fits, length-set (c .before .before .before .before .before .before .before .loop .out) (c .before .before .before .before .before .before .before .loop .o) 133))
+    (λ c. let h = place-at (c .before .before .before .before .before .before .before .before .before .before .before .args .tokens .now) (c .before .before .before .before .before .before .before .before .before .before .before .args .divisor .now) (c .before .before .before .before .before .before .before .before .before .before .before .args .name) (c .before .before .before .before .before .before .before .before .before .before .before .args .out .now) (c .before .before .before .before .before .before .before .before .before .before .before .pre .1) (c .before .before .before .before .before .before .before .loop .inv) (c .before .before .before .before .before .before .loop-test .taken) in
     let q = sym (c .before .before .found .given .1) ∙ c .before .before .before .before .first-division .ensures in
-    let r = room (a .tokens .now) (a .divisor .now) (a .name) (a .out .now) (p .0) (p .1 .0 .1) (p .1 .1) (l .out) (l .i) (l .o) (l .inv) (c .before .before .before .before .before .before .loop-test .taken) _ _ q in
-    omega (arith, r, p .1 .1, length-set (l .out) (l .o) 133))
+    let r = room h _ _ q in
+    omega (arith, r, h .fits, length-set (c .before .before .before .before .before .before .before .loop .out) (c .before .before .before .before .before .before .before .loop .o) 133))
     (λ c. search needs)
-    (λ c κs. let a = c .before .before .before .before .before .before .before .before .before .before .before .before .args in
-    let p = c .before .before .before .before .before .before .before .before .before .before .before .before .pre .1 in
-    let l = c .before .before .before .before .before .before .before .before .loop in
+    (λ c κs. let h = place-at (c .before .before .before .before .before .before .before .before .before .before .before .before .args .tokens .now) (c .before .before .before .before .before .before .before .before .before .before .before .before .args .divisor .now) (c .before .before .before .before .before .before .before .before .before .before .before .before .args .name) (c .before .before .before .before .before .before .before .before .before .before .before .before .args .out .now) (c .before .before .before .before .before .before .before .before .before .before .before .before .pre .1) (c .before .before .before .before .before .before .before .before .loop .inv) (c .before .before .before .before .before .before .before .loop-test .taken) in
     let q = sym (c .before .before .before .found .given .1) ∙ c .before .before .before .before .before .first-division .ensures in
-    let r = room (a .tokens .now) (a .divisor .now) (a .name) (a .out .now) (p .0) (p .1 .0 .1) (p .1 .1) (l .out) (l .i) (l .o) (l .inv) (c .before .before .before .before .before .before .before .loop-test .taken) _ _ q in
-    (omega (arith, r, c .before .before .before .before .before .before .before .before .before .before .before .before .pre .0), (part-complete (a .tokens .now) (a .divisor .now) (a .name) (a .out .now) (p .0) (p .1 .0 .1) (p .1 .1) (l .out) (l .i) (l .o) (l .inv) (c .before .before .before .before .before .before .before .loop-test .taken) _ _ q, (p .1 .0, lent-room (a .tokens .now) (a .divisor .now) (a .name) (a .out .now) (p .0) (p .1 .0 .1) (p .1 .1) (l .out) (l .i) (l .o) (l .inv) (c .before .before .before .before .before .before .before .loop-test .taken) _ _ q))))
-    (λ c. let a = c .before .before .before .before .before .before .before .before .before .before .before .before .before .before .before .args in
-    let p = c .before .before .before .before .before .before .before .before .before .before .before .before .before .before .before .pre .1 in
-    let l = c .before .before .before .before .before .before .before .before .before .before .before .loop in
+    let r = room h _ _ q in
+    (omega (arith, r, c .before .before .before .before .before .before .before .before .before .before .before .before .pre .0), (part-complete h _ _ q, (c .before .before .before .before .before .before .before .before .before .before .before .before .pre .1 .1 .0, lent-room h _ _ q))))
+    (λ c. let h = place-at (c .before .before .before .before .before .before .before .before .before .before .before .before .before .before .before .args .tokens .now) (c .before .before .before .before .before .before .before .before .before .before .before .before .before .before .before .args .divisor .now) (c .before .before .before .before .before .before .before .before .before .before .before .before .before .before .before .args .name) (c .before .before .before .before .before .before .before .before .before .before .before .before .before .before .before .args .out .now) (c .before .before .before .before .before .before .before .before .before .before .before .before .before .before .before .pre .1) (c .before .before .before .before .before .before .before .before .before .before .before .loop .inv) (c .before .before .before .before .before .before .before .before .before .before .loop-test .taken) in
     let q = sym (c .before .before .before .before .before .before .found .given .1) ∙ c .before .before .before .before .before .before .before .before .first-division .ensures in
-    let r = room (a .tokens .now) (a .divisor .now) (a .name) (a .out .now) (p .0) (p .1 .0 .1) (p .1 .1) (l .out) (l .i) (l .o) (l .inv) (c .before .before .before .before .before .before .before .before .before .before .loop-test .taken) _ _ q in
-    let k = few (a .tokens .now) (a .divisor .now) (a .name) (a .out .now) (p .0) (p .1 .0 .1) (p .1 .1) (l .out) (l .i) (l .o) (l .inv) (c .before .before .before .before .before .before .before .before .before .before .loop-test .taken) _ _ q (c .before .before .rewrite .result) (c .before .before .rewrite .last .1 .1 .1 .0) (c .before .before .rewrite .ensures) in
-    omega (arith, r, k, p .1 .1, c .before .before .before .before .before .before .before .before .before .before .before .before .before .before .before .good))
-    (λ c. let a = c .before .before .before .before .before .before .before .before .before .before .before .before .before .before .before .args in
-    let p = c .before .before .before .before .before .before .before .before .before .before .before .before .before .before .before .pre .1 in
-    let l = c .before .before .before .before .before .before .before .before .before .before .before .loop in
+    let r = room h _ _ q in
+    let k = few h _ _ q (c .before .before .rewrite .result) (c .before .before .rewrite .last .1 .1 .1 .0) (c .before .before .rewrite .ensures) in
+    omega (arith, r, k, h .fits, c .before .before .before .before .before .before .before .before .before .before .before .before .before .before .before .good))
+    (λ c. let h = place-at (c .before .before .before .before .before .before .before .before .before .before .before .before .before .before .before .args .tokens .now) (c .before .before .before .before .before .before .before .before .before .before .before .before .before .before .before .args .divisor .now) (c .before .before .before .before .before .before .before .before .before .before .before .before .before .before .before .args .name) (c .before .before .before .before .before .before .before .before .before .before .before .before .before .before .before .args .out .now) (c .before .before .before .before .before .before .before .before .before .before .before .before .before .before .before .pre .1) (c .before .before .before .before .before .before .before .before .before .before .before .loop .inv) (c .before .before .before .before .before .before .before .before .before .before .loop-test .taken) in
     let q = sym (c .before .before .before .before .before .before .found .given .1) ∙ c .before .before .before .before .before .before .before .before .first-division .ensures in
-    let r = room (a .tokens .now) (a .divisor .now) (a .name) (a .out .now) (p .0) (p .1 .0 .1) (p .1 .1) (l .out) (l .i) (l .o) (l .inv) (c .before .before .before .before .before .before .before .before .before .before .loop-test .taken) _ _ q in
-    let k = few (a .tokens .now) (a .divisor .now) (a .name) (a .out .now) (p .0) (p .1 .0 .1) (p .1 .1) (l .out) (l .i) (l .o) (l .inv) (c .before .before .before .before .before .before .before .before .before .before .loop-test .taken) _ _ q (c .before .before .rewrite .result) (c .before .before .rewrite .last .1 .1 .1 .0) (c .before .before .rewrite .ensures) in
-    omega (arith, r, k, p .1 .1, c .before .before .before .before .before .before .before .before .before .before .before .before .before .before .before .good))
-    (λ c. let a = c .before .before .before .before .before .before .before .before .before .before .before .before .before .before .before .args in
-    let p = c .before .before .before .before .before .before .before .before .before .before .before .before .before .before .before .pre .1 in
-    let l = c .before .before .before .before .before .before .before .before .before .before .before .loop in
+    let r = room h _ _ q in
+    let k = few h _ _ q (c .before .before .rewrite .result) (c .before .before .rewrite .last .1 .1 .1 .0) (c .before .before .rewrite .ensures) in
+    omega (arith, r, k, h .fits, c .before .before .before .before .before .before .before .before .before .before .before .before .before .before .before .good))
+    (λ c. let h = place-at (c .before .before .before .before .before .before .before .before .before .before .before .before .before .before .before .args .tokens .now) (c .before .before .before .before .before .before .before .before .before .before .before .before .before .before .before .args .divisor .now) (c .before .before .before .before .before .before .before .before .before .before .before .before .before .before .before .args .name) (c .before .before .before .before .before .before .before .before .before .before .before .before .before .before .before .args .out .now) (c .before .before .before .before .before .before .before .before .before .before .before .before .before .before .before .pre .1) (c .before .before .before .before .before .before .before .before .before .before .before .loop .inv) (c .before .before .before .before .before .before .before .before .before .before .loop-test .taken) in
     let q = sym (c .before .before .before .before .before .before .found .given .1) ∙ c .before .before .before .before .before .before .before .before .first-division .ensures in
-    let r = room (a .tokens .now) (a .divisor .now) (a .name) (a .out .now) (p .0) (p .1 .0 .1) (p .1 .1) (l .out) (l .i) (l .o) (l .inv) (c .before .before .before .before .before .before .before .before .before .before .loop-test .taken) _ _ q in
-    let k = few (a .tokens .now) (a .divisor .now) (a .name) (a .out .now) (p .0) (p .1 .0 .1) (p .1 .1) (l .out) (l .i) (l .o) (l .inv) (c .before .before .before .before .before .before .before .before .before .before .loop-test .taken) _ _ q (c .before .before .rewrite .result) (c .before .before .rewrite .last .1 .1 .1 .0) (c .before .before .rewrite .ensures) in
-    omega (arith, r, k, p .1 .1, back-long (a .tokens .now) (a .divisor .now) (a .name) (a .out .now) (p .0) (p .1 .0 .1) (p .1 .1) (l .out) (l .i) (l .o) (l .inv) (c .before .before .before .before .before .before .before .before .before .before .loop-test .taken) _ _ q (c .before .before .rewrite .result) (c .before .before .rewrite .last .1 .1 .1 .0) (c .before .before .rewrite .ensures) (c .before .before .rewrite .kept .1 .1 .1 .0)))
-    (λ c. let a = c .before .before .before .before .before .before .before .before .before .before .before .before .before .before .before .args in
-    let p = c .before .before .before .before .before .before .before .before .before .before .before .before .before .before .before .pre .1 in
-    let l = c .before .before .before .before .before .before .before .before .before .before .before .loop in
+    let r = room h _ _ q in
+    let k = few h _ _ q (c .before .before .rewrite .result) (c .before .before .rewrite .last .1 .1 .1 .0) (c .before .before .rewrite .ensures) in
+    omega (arith, r, k, h .fits, back-long h _ _ q (c .before .before .rewrite .result) (c .before .before .rewrite .last .1 .1 .1 .0) (c .before .before .rewrite .ensures)))
+    (λ c. let h = place-at (c .before .before .before .before .before .before .before .before .before .before .before .before .before .before .before .args .tokens .now) (c .before .before .before .before .before .before .before .before .before .before .before .before .before .before .before .args .divisor .now) (c .before .before .before .before .before .before .before .before .before .before .before .before .before .before .before .args .name) (c .before .before .before .before .before .before .before .before .before .before .before .before .before .before .before .args .out .now) (c .before .before .before .before .before .before .before .before .before .before .before .before .before .before .before .pre .1) (c .before .before .before .before .before .before .before .before .before .before .before .loop .inv) (c .before .before .before .before .before .before .before .before .before .before .loop-test .taken) in
     let q = sym (c .before .before .before .before .before .before .found .given .1) ∙ c .before .before .before .before .before .before .before .before .first-division .ensures in
-    let r = room (a .tokens .now) (a .divisor .now) (a .name) (a .out .now) (p .0) (p .1 .0 .1) (p .1 .1) (l .out) (l .i) (l .o) (l .inv) (c .before .before .before .before .before .before .before .before .before .before .loop-test .taken) _ _ q in
-    omega (arith, r, p .1 .1, c .before .before .before .before .before .before .before .before .before .before .before .before .before .before .before .good))
-    (λ c. let a = c .before .before .before .before .before .before .before .before .before .before .before .before .before .before .before .args in
-    let p = c .before .before .before .before .before .before .before .before .before .before .before .before .before .before .before .pre .1 in
-    let l = c .before .before .before .before .before .before .before .before .before .before .before .loop in
+    let r = room h _ _ q in
+    omega (arith, r, h .fits, c .before .before .before .before .before .before .before .before .before .before .before .before .before .before .before .good))
+    (λ c. let h = place-at (c .before .before .before .before .before .before .before .before .before .before .before .before .before .before .before .args .tokens .now) (c .before .before .before .before .before .before .before .before .before .before .before .before .before .before .before .args .divisor .now) (c .before .before .before .before .before .before .before .before .before .before .before .before .before .before .before .args .name) (c .before .before .before .before .before .before .before .before .before .before .before .before .before .before .before .args .out .now) (c .before .before .before .before .before .before .before .before .before .before .before .before .before .before .before .pre .1) (c .before .before .before .before .before .before .before .before .before .before .before .loop .inv) (c .before .before .before .before .before .before .before .before .before .before .loop-test .taken) in
     let q = sym (c .before .before .before .before .before .before .found .given .1) ∙ c .before .before .before .before .before .before .before .before .first-division .ensures in
-    let r = room (a .tokens .now) (a .divisor .now) (a .name) (a .out .now) (p .0) (p .1 .0 .1) (p .1 .1) (l .out) (l .i) (l .o) (l .inv) (c .before .before .before .before .before .before .before .before .before .before .loop-test .taken) _ _ q in
-    let k = few (a .tokens .now) (a .divisor .now) (a .name) (a .out .now) (p .0) (p .1 .0 .1) (p .1 .1) (l .out) (l .i) (l .o) (l .inv) (c .before .before .before .before .before .before .before .before .before .before .loop-test .taken) _ _ q (c .before .before .rewrite .result) (c .before .before .rewrite .last .1 .1 .1 .0) (c .before .before .rewrite .ensures) in
-    omega (arith, r, k, p .1 .1, c .before .before .before .before .before .before .before .before .before .before .before .before .before .before .before .good))
-    (λ c. let a = c .before .before .before .before .before .before .before .before .before .before .before .before .before .before .before .args in
-    let p = c .before .before .before .before .before .before .before .before .before .before .before .before .before .before .before .pre .1 in
-    let l = c .before .before .before .before .before .before .before .before .before .before .before .loop in
+    let r = room h _ _ q in
+    let k = few h _ _ q (c .before .before .rewrite .result) (c .before .before .rewrite .last .1 .1 .1 .0) (c .before .before .rewrite .ensures) in
+    omega (arith, r, k, h .fits, c .before .before .before .before .before .before .before .before .before .before .before .before .before .before .before .good))
+    (λ c. let h = place-at (c .before .before .before .before .before .before .before .before .before .before .before .before .before .before .before .args .tokens .now) (c .before .before .before .before .before .before .before .before .before .before .before .before .before .before .before .args .divisor .now) (c .before .before .before .before .before .before .before .before .before .before .before .before .before .before .before .args .name) (c .before .before .before .before .before .before .before .before .before .before .before .before .before .before .before .args .out .now) (c .before .before .before .before .before .before .before .before .before .before .before .before .before .before .before .pre .1) (c .before .before .before .before .before .before .before .before .before .before .before .loop .inv) (c .before .before .before .before .before .before .before .before .before .before .loop-test .taken) in
     let q = sym (c .before .before .before .before .before .before .found .given .1) ∙ c .before .before .before .before .before .before .before .before .first-division .ensures in
-    let r = room (a .tokens .now) (a .divisor .now) (a .name) (a .out .now) (p .0) (p .1 .0 .1) (p .1 .1) (l .out) (l .i) (l .o) (l .inv) (c .before .before .before .before .before .before .before .before .before .before .loop-test .taken) _ _ q in
-    omega (arith, r, p .1 .1, c .before .before .before .before .before .before .before .before .before .before .before .before .before .before .before .good))
-    (λ c. let a = c .before .before .before .before .before .before .before .before .before .before .before .before .before .before .before .args in
-    let p = c .before .before .before .before .before .before .before .before .before .before .before .before .before .before .before .pre .1 in
-    let l = c .before .before .before .before .before .before .before .before .before .before .before .loop in
+    let r = room h _ _ q in
+    omega (arith, r, h .fits, c .before .before .before .before .before .before .before .before .before .before .before .before .before .before .before .good))
+    (λ c. let h = place-at (c .before .before .before .before .before .before .before .before .before .before .before .before .before .before .before .args .tokens .now) (c .before .before .before .before .before .before .before .before .before .before .before .before .before .before .before .args .divisor .now) (c .before .before .before .before .before .before .before .before .before .before .before .before .before .before .before .args .name) (c .before .before .before .before .before .before .before .before .before .before .before .before .before .before .before .args .out .now) (c .before .before .before .before .before .before .before .before .before .before .before .before .before .before .before .pre .1) (c .before .before .before .before .before .before .before .before .before .before .before .loop .inv) (c .before .before .before .before .before .before .before .before .before .before .loop-test .taken) in
     let q = sym (c .before .before .before .before .before .before .found .given .1) ∙ c .before .before .before .before .before .before .before .before .first-division .ensures in
-    turn-by (a .tokens .now) (a .divisor .now) (a .name) (a .out .now) (p .0) (p .1 .0 .1) (p .1 .1) (l .out) (l .i) (l .o) (l .inv) (c .before .before .before .before .before .before .before .before .before .before .loop-test .taken) _ _ q (c .before .before .rewrite .result) (c .before .before .rewrite .last .1 .1 .1 .0) (c .before .before .rewrite .ensures) (c .before .before .rewrite .kept .1 .1 .1 .0))
+    turn-by h _ _ q (c .before .before .rewrite .result) (c .before .before .rewrite .last .1 .1 .1 .0) (c .before .before .rewrite .ensures))
     (λ c. search needs)
     (λ c. search needs)
     (λ c. search needs)
     (λ c. search needs)
-    (λ c. let a = c .before .before .before .before .before .before .before .before .before .before .args in
-    let p = c .before .before .before .before .before .before .before .before .before .before .pre .1 in
-    let l = c .before .before .before .before .before .before .loop in
-    omega (arith, out-room (a .tokens .now) (a .divisor .now) (a .name) (a .out .now) (p .0) (p .1 .0 .1) (p .1 .1) (l .out) (l .i) (l .o) (l .inv) (c .before .before .before .before .before .loop-test .taken)))
+    (λ c. let h = place-at (c .before .before .before .before .before .before .before .before .before .before .args .tokens .now) (c .before .before .before .before .before .before .before .before .before .before .args .divisor .now) (c .before .before .before .before .before .before .before .before .before .before .args .name) (c .before .before .before .before .before .before .before .before .before .before .args .out .now) (c .before .before .before .before .before .before .before .before .before .before .pre .1) (c .before .before .before .before .before .before .loop .inv) (c .before .before .before .before .before .loop-test .taken) in
+    omega (arith, out-room h))
     (λ c. search needs)
     (λ c. search needs)
     (λ c. search needs)
-    (λ c. let a = c .before .before .before .before .before .before .before .before .before .before .args in
-    let p = c .before .before .before .before .before .before .before .before .before .before .pre .1 in
-    let l = c .before .before .before .before .before .before .loop in
-    turn-other (a .tokens .now) (a .divisor .now) (a .name) (a .out .now) (p .0) (p .1 .0 .1) (p .1 .1) (l .out) (l .i) (l .o) (l .inv) (c .before .before .before .before .before .loop-test .taken) (sym (c .before .enum-told .given .1) ∙ c .before .before .before .first-division .ensures))
+    (λ c. let h = place-at (c .before .before .before .before .before .before .before .before .before .before .args .tokens .now) (c .before .before .before .before .before .before .before .before .before .before .args .divisor .now) (c .before .before .before .before .before .before .before .before .before .before .args .name) (c .before .before .before .before .before .before .before .before .before .before .args .out .now) (c .before .before .before .before .before .before .before .before .before .before .pre .1) (c .before .before .before .before .before .before .loop .inv) (c .before .before .before .before .before .loop-test .taken) in
+    turn-other h (sym (c .before .enum-told .given .1) ∙ c .before .before .before .first-division .ensures))
     (λ c. scan-long (by-words (c .before .before .before .before .before .args .divisor .now) (c .before .before .before .before .before .args .name)) (c .before .before .before .before .before .args .tokens .now) (c .before .before .before .before .before .args .out .now) (c .before .before .before .before .before .pre .1 .1 .1) (c .before .loop .inv))
     (λ c. scan-ends (by-words (c .before .before .before .before .before .args .divisor .now) (c .before .before .before .before .before .args .name)) (c .before .before .before .before .before .args .tokens .now) (c .before .before .before .before .before .args .out .now) (c .before .loop .inv) (c .loop-test .left))

@@ -3,7 +3,7 @@ use native.Mathlib.Omega.{arith}
 use mathlib.Core.Path.{sym, _∙_}
 use lib.ListN.{length, getD, length-set}
 use Rattle.words.proofs.Scanning.{here-asked, scan-starts, scan-long, scan-ends}
-use Rattle.outside.proofs.Turning.{by-words, State, out-room, target-within, target-some, turn-target, turn-node, room, key-complete, lent-room, few, back-long, arms-room, turn-switch}
+use Rattle.outside.proofs.Turning.{by-words, State, place-at, out-room, target-within, target-some, turn-target, turn-node, room, key-complete, lent-room, few, back-long, arms-room, turn-switch}
 use borrow.Author.Needs.{needs}
 use Prim.Native.Nat.{ℕ, _<_, _-_}
 use borrow.Fn.Kinds.{In}
@@ -42,227 +42,150 @@ pub +rewrite-spec : {M : Type 1} → statement M
     (λ c. search needs)
     (λ c. search needs)
     (λ c. search needs)
-    (λ c κs. let a = c .before .before .before .before .before .before .args in
-    let p = c .before .before .before .before .before .before .pre .1 in
-    let l = c .before .before .loop in
-    (here-asked (a .tokens .now) (p .0) (l .i) (c .before .loop-test .taken), p .1 .0 .0))
+    (λ c κs. (here-asked (c .before .before .before .before .before .before .args .tokens .now) (c .before .before .before .before .before .before .pre .1 .0) (c .before .before .loop .i) (c .before .loop-test .taken), c .before .before .before .before .before .before .pre .1 .1 .0 .0))
     (λ c. search needs)
-    (λ c. let a = c .before .before .before .before .before .before .before .before .before .args in
-    let p = c .before .before .before .before .before .before .before .before .before .pre .1 in
-    let l = c .before .before .before .before .before .loop in
-    omega (arith, out-room (a .tokens .now) (a .target .now) (a .name) (a .out .now) (p .0) (p .1 .0 .0) (p .1 .0 .1) (p .1 .1) (l .out) (l .i) (l .o) (l .inv) (c .before .before .before .before .loop-test .taken), c .before .before .before .before .before .before .before .before .before .good, l .inv .within, l .inv .fewer, p .1 .1))
-    (λ c. let a = c .before .before .before .before .before .before .before .before .before .args in
-    let p = c .before .before .before .before .before .before .before .before .before .pre .1 in
-    let l = c .before .before .before .before .before .loop in
-    omega (arith, out-room (a .tokens .now) (a .target .now) (a .name) (a .out .now) (p .0) (p .1 .0 .0) (p .1 .0 .1) (p .1 .1) (l .out) (l .i) (l .o) (l .inv) (c .before .before .before .before .loop-test .taken)))
-    (λ c. let a = c .before .before .before .before .before .before .before .before .before .args in
-    let p = c .before .before .before .before .before .before .before .before .before .pre .1 in
-    let l = c .before .before .before .before .before .loop in
+    (λ c. let h = place-at (c .before .before .before .before .before .before .before .before .before .args .tokens .now) (c .before .before .before .before .before .before .before .before .before .args .target .now) (c .before .before .before .before .before .before .before .before .before .args .name) (c .before .before .before .before .before .before .before .before .before .args .out .now) (c .before .before .before .before .before .before .before .before .before .pre .1) (c .before .before .before .before .before .loop .inv) (c .before .before .before .before .loop-test .taken) in
+    omega (arith, h, out-room h, c .before .before .before .before .before .before .before .before .before .good))
+    (λ c. let h = place-at (c .before .before .before .before .before .before .before .before .before .args .tokens .now) (c .before .before .before .before .before .before .before .before .before .args .target .now) (c .before .before .before .before .before .before .before .before .before .args .name) (c .before .before .before .before .before .before .before .before .before .args .out .now) (c .before .before .before .before .before .before .before .before .before .pre .1) (c .before .before .before .before .before .loop .inv) (c .before .before .before .before .loop-test .taken) in
+    omega (arith, out-room h))
+    (λ c. let h = place-at (c .before .before .before .before .before .before .before .before .before .args .tokens .now) (c .before .before .before .before .before .before .before .before .before .args .target .now) (c .before .before .before .before .before .before .before .before .before .args .name) (c .before .before .before .before .before .before .before .before .before .args .out .now) (c .before .before .before .before .before .before .before .before .before .pre .1) (c .before .before .before .before .before .loop .inv) (c .before .before .before .before .loop-test .taken) in
     let q = sym (c .enum-told .given .1) ∙ c .before .before .first-part .ensures in
-    omega (arith, target-within (a .tokens .now) (a .target .now) (a .name) (a .out .now) (p .0) (p .1 .0 .0) (p .1 .0 .1) (p .1 .1) (l .out) (l .i) (l .o) (l .inv) (c .before .before .before .before .loop-test .taken) q, target-some (a .tokens .now) (a .target .now) (a .name) (a .out .now) (p .0) (p .1 .0 .0) (p .1 .0 .1) (p .1 .1) (l .out) (l .i) (l .o) (l .inv) (c .before .before .before .before .loop-test .taken) q, c .before .before .before .before .before .before .before .before .before .good))
-    (λ c. let a = c .before .before .before .before .before .before .before .before .before .args in
-    let p = c .before .before .before .before .before .before .before .before .before .pre .1 in
-    let l = c .before .before .before .before .before .loop in
-    omega (arith, out-room (a .tokens .now) (a .target .now) (a .name) (a .out .now) (p .0) (p .1 .0 .0) (p .1 .0 .1) (p .1 .1) (l .out) (l .i) (l .o) (l .inv) (c .before .before .before .before .loop-test .taken), c .before .before .before .before .before .before .before .before .before .good, l .inv .within, l .inv .fewer, p .1 .1))
-    (λ c. let a = c .before .before .before .before .before .before .before .before .before .args in
-    let p = c .before .before .before .before .before .before .before .before .before .pre .1 in
-    let l = c .before .before .before .before .before .loop in
+    omega (arith, target-within h q, target-some h q, c .before .before .before .before .before .before .before .before .before .good))
+    (λ c. let h = place-at (c .before .before .before .before .before .before .before .before .before .args .tokens .now) (c .before .before .before .before .before .before .before .before .before .args .target .now) (c .before .before .before .before .before .before .before .before .before .args .name) (c .before .before .before .before .before .before .before .before .before .args .out .now) (c .before .before .before .before .before .before .before .before .before .pre .1) (c .before .before .before .before .before .loop .inv) (c .before .before .before .before .loop-test .taken) in
+    omega (arith, h, out-room h, c .before .before .before .before .before .before .before .before .before .good))
+    (λ c. let h = place-at (c .before .before .before .before .before .before .before .before .before .args .tokens .now) (c .before .before .before .before .before .before .before .before .before .args .target .now) (c .before .before .before .before .before .before .before .before .before .args .name) (c .before .before .before .before .before .before .before .before .before .args .out .now) (c .before .before .before .before .before .before .before .before .before .pre .1) (c .before .before .before .before .before .loop .inv) (c .before .before .before .before .loop-test .taken) in
     let q = sym (c .enum-told .given .1) ∙ c .before .before .first-part .ensures in
-    omega (arith, target-within (a .tokens .now) (a .target .now) (a .name) (a .out .now) (p .0) (p .1 .0 .0) (p .1 .0 .1) (p .1 .1) (l .out) (l .i) (l .o) (l .inv) (c .before .before .before .before .loop-test .taken) q, target-some (a .tokens .now) (a .target .now) (a .name) (a .out .now) (p .0) (p .1 .0 .0) (p .1 .0 .1) (p .1 .1) (l .out) (l .i) (l .o) (l .inv) (c .before .before .before .before .loop-test .taken) q, c .before .before .before .before .before .before .before .before .before .good))
-    (λ c. let a = c .before .before .before .before .before .before .before .before .before .args in
-    let p = c .before .before .before .before .before .before .before .before .before .pre .1 in
-    let l = c .before .before .before .before .before .loop in
+    omega (arith, target-within h q, target-some h q, c .before .before .before .before .before .before .before .before .before .good))
+    (λ c. let h = place-at (c .before .before .before .before .before .before .before .before .before .args .tokens .now) (c .before .before .before .before .before .before .before .before .before .args .target .now) (c .before .before .before .before .before .before .before .before .before .args .name) (c .before .before .before .before .before .before .before .before .before .args .out .now) (c .before .before .before .before .before .before .before .before .before .pre .1) (c .before .before .before .before .before .loop .inv) (c .before .before .before .before .loop-test .taken) in
     let q = sym (c .enum-told .given .1) ∙ c .before .before .first-part .ensures in
-    turn-target (a .tokens .now) (a .target .now) (a .name) (a .out .now) (p .0) (p .1 .0 .0) (p .1 .0 .1) (p .1 .1) (l .out) (l .i) (l .o) (l .inv) (c .before .before .before .before .loop-test .taken) q)
+    turn-target h q)
     (λ c. search needs)
     (λ c. search needs)
     (λ c. search needs)
-    (λ c. let a = c .before .before .before .before .before .before .before .before .before .before .before .args in
-    let p = c .before .before .before .before .before .before .before .before .before .before .before .pre .1 in
-    let l = c .before .before .before .before .before .before .before .loop in
-    omega (arith, out-room (a .tokens .now) (a .target .now) (a .name) (a .out .now) (p .0) (p .1 .0 .0) (p .1 .0 .1) (p .1 .1) (l .out) (l .i) (l .o) (l .inv) (c .before .before .before .before .before .before .loop-test .taken), c .before .before .before .before .before .before .before .before .before .before .before .good, l .inv .within, l .inv .fewer, p .1 .1))
-    (λ c. let a = c .before .before .before .before .before .before .before .before .before .before .before .args in
-    let p = c .before .before .before .before .before .before .before .before .before .before .before .pre .1 in
-    let l = c .before .before .before .before .before .before .before .loop in
-    omega (arith, out-room (a .tokens .now) (a .target .now) (a .name) (a .out .now) (p .0) (p .1 .0 .0) (p .1 .0 .1) (p .1 .1) (l .out) (l .i) (l .o) (l .inv) (c .before .before .before .before .before .before .loop-test .taken)))
-    (λ c. let a = c .before .before .before .before .before .before .before .before .before .before .before .args in
-    let p = c .before .before .before .before .before .before .before .before .before .before .before .pre .1 in
-    let l = c .before .before .before .before .before .before .before .loop in
+    (λ c. let h = place-at (c .before .before .before .before .before .before .before .before .before .before .before .args .tokens .now) (c .before .before .before .before .before .before .before .before .before .before .before .args .target .now) (c .before .before .before .before .before .before .before .before .before .before .before .args .name) (c .before .before .before .before .before .before .before .before .before .before .before .args .out .now) (c .before .before .before .before .before .before .before .before .before .before .before .pre .1) (c .before .before .before .before .before .before .before .loop .inv) (c .before .before .before .before .before .before .loop-test .taken) in
+    omega (arith, h, out-room h, c .before .before .before .before .before .before .before .before .before .before .before .good))
+    (λ c. let h = place-at (c .before .before .before .before .before .before .before .before .before .before .before .args .tokens .now) (c .before .before .before .before .before .before .before .before .before .before .before .args .target .now) (c .before .before .before .before .before .before .before .before .before .before .before .args .name) (c .before .before .before .before .before .before .before .before .before .before .before .args .out .now) (c .before .before .before .before .before .before .before .before .before .before .before .pre .1) (c .before .before .before .before .before .before .before .loop .inv) (c .before .before .before .before .before .before .loop-test .taken) in
+    omega (arith, out-room h))
+    (λ c. let h = place-at (c .before .before .before .before .before .before .before .before .before .before .before .args .tokens .now) (c .before .before .before .before .before .before .before .before .before .before .before .args .target .now) (c .before .before .before .before .before .before .before .before .before .before .before .args .name) (c .before .before .before .before .before .before .before .before .before .before .before .args .out .now) (c .before .before .before .before .before .before .before .before .before .before .before .pre .1) (c .before .before .before .before .before .before .before .loop .inv) (c .before .before .before .before .before .before .loop-test .taken) in
     let q = sym (c .before .before .part .given .1) ∙ c .before .before .before .before .first-part .ensures in
-    let r = room (a .tokens .now) (a .target .now) (a .name) (a .out .now) (p .0) (p .1 .0 .0) (p .1 .0 .1) (p .1 .1) (l .out) (l .i) (l .o) (l .inv) (c .before .before .before .before .before .before .loop-test .taken) _ _ q in
-    omega (arith, r, p .1 .1, c .before .before .before .before .before .before .before .before .before .before .before .good))
-    (λ c. let a = c .before .before .before .before .before .before .before .before .before .before .before .args in
-    let p = c .before .before .before .before .before .before .before .before .before .before .before .pre .1 in
-    let l = c .before .before .before .before .before .before .before .loop in
+    let r = room h _ _ q in
+    omega (arith, r, h .fits, c .before .before .before .before .before .before .before .before .before .before .before .good))
+    (λ c. let h = place-at (c .before .before .before .before .before .before .before .before .before .before .before .args .tokens .now) (c .before .before .before .before .before .before .before .before .before .before .before .args .target .now) (c .before .before .before .before .before .before .before .before .before .before .before .args .name) (c .before .before .before .before .before .before .before .before .before .before .before .args .out .now) (c .before .before .before .before .before .before .before .before .before .before .before .pre .1) (c .before .before .before .before .before .before .before .loop .inv) (c .before .before .before .before .before .before .loop-test .taken) in
     let q = sym (c .before .before .part .given .1) ∙ c .before .before .before .before .first-part .ensures in
-    let r = room (a .tokens .now) (a .target .now) (a .name) (a .out .now) (p .0) (p .1 .0 .0) (p .1 .0 .1) (p .1 .1) (l .out) (l .i) (l .o) (l .inv) (c .before .before .before .before .before .before .loop-test .taken) _ _ q in
-    omega (arith, r, p .1 .1, c .before .before .before .before .before .before .before .before .before .before .before .good))
-    (λ c. let a = c .before .before .before .before .before .before .before .before .before .before .before .args in
-    let p = c .before .before .before .before .before .before .before .before .before .before .before .pre .1 in
-    let l = c .before .before .before .before .before .before .before .loop in
+    let r = room h _ _ q in
+    omega (arith, r, h .fits, c .before .before .before .before .before .before .before .before .before .before .before .good))
+    (λ c. let h = place-at (c .before .before .before .before .before .before .before .before .before .before .before .args .tokens .now) (c .before .before .before .before .before .before .before .before .before .before .before .args .target .now) (c .before .before .before .before .before .before .before .before .before .before .before .args .name) (c .before .before .before .before .before .before .before .before .before .before .before .args .out .now) (c .before .before .before .before .before .before .before .before .before .before .before .pre .1) (c .before .before .before .before .before .before .before .loop .inv) (c .before .before .before .before .before .before .loop-test .taken) in
     let q = sym (c .before .before .part .given .1) ∙ c .before .before .before .before .first-part .ensures in
-    let r = room (a .tokens .now) (a .target .now) (a .name) (a .out .now) (p .0) (p .1 .0 .0) (p .1 .0 .1) (p .1 .1) (l .out) (l .i) (l .o) (l .inv) (c .before .before .before .before .before .before .loop-test .taken) _ _ q in
-    omega (arith, r, p .1 .1, c .before .before .before .before .before .before .before .before .before .before .before .good))
-    (λ c. let a = c .before .before .before .before .before .before .before .before .before .before .before .args in
-    let p = c .before .before .before .before .before .before .before .before .before .before .before .pre .1 in
-    let l = c .before .before .before .before .before .before .before .loop in
+    let r = room h _ _ q in
+    omega (arith, r, h .fits, c .before .before .before .before .before .before .before .before .before .before .before .good))
+    (λ c. let h = place-at (c .before .before .before .before .before .before .before .before .before .before .before .args .tokens .now) (c .before .before .before .before .before .before .before .before .before .before .before .args .target .now) (c .before .before .before .before .before .before .before .before .before .before .before .args .name) (c .before .before .before .before .before .before .before .before .before .before .before .args .out .now) (c .before .before .before .before .before .before .before .before .before .before .before .pre .1) (c .before .before .before .before .before .before .before .loop .inv) (c .before .before .before .before .before .before .loop-test .taken) in
     let q = sym (c .before .before .part .given .1) ∙ c .before .before .before .before .first-part .ensures in
-    let r = room (a .tokens .now) (a .target .now) (a .name) (a .out .now) (p .0) (p .1 .0 .0) (p .1 .0 .1) (p .1 .1) (l .out) (l .i) (l .o) (l .inv) (c .before .before .before .before .before .before .loop-test .taken) _ _ q in
-    omega (arith, r, p .1 .1, c .before .before .before .before .before .before .before .before .before .before .before .good))
-    (λ c. let a = c .before .before .before .before .before .before .before .before .before .before .before .args in
-    let p = c .before .before .before .before .before .before .before .before .before .before .before .pre .1 in
-    let l = c .before .before .before .before .before .before .before .loop in
+    let r = room h _ _ q in
+    omega (arith, r, h .fits, c .before .before .before .before .before .before .before .before .before .before .before .good))
+    (λ c. let h = place-at (c .before .before .before .before .before .before .before .before .before .before .before .args .tokens .now) (c .before .before .before .before .before .before .before .before .before .before .before .args .target .now) (c .before .before .before .before .before .before .before .before .before .before .before .args .name) (c .before .before .before .before .before .before .before .before .before .before .before .args .out .now) (c .before .before .before .before .before .before .before .before .before .before .before .pre .1) (c .before .before .before .before .before .before .before .loop .inv) (c .before .before .before .before .before .before .loop-test .taken) in
     let q = sym (c .before .before .part .given .1) ∙ c .before .before .before .before .first-part .ensures in
-    let r = room (a .tokens .now) (a .target .now) (a .name) (a .out .now) (p .0) (p .1 .0 .0) (p .1 .0 .1) (p .1 .1) (l .out) (l .i) (l .o) (l .inv) (c .before .before .before .before .before .before .loop-test .taken) _ _ q in
-    omega (arith, r, p .1 .1, c .before .before .before .before .before .before .before .before .before .before .before .good))
-    (λ c. let a = c .before .before .before .before .before .before .before .before .before .before .before .args in
-    let p = c .before .before .before .before .before .before .before .before .before .before .before .pre .1 in
-    let l = c .before .before .before .before .before .before .before .loop in
+    let r = room h _ _ q in
+    omega (arith, r, h .fits, c .before .before .before .before .before .before .before .before .before .before .before .good))
+    (λ c. let h = place-at (c .before .before .before .before .before .before .before .before .before .before .before .args .tokens .now) (c .before .before .before .before .before .before .before .before .before .before .before .args .target .now) (c .before .before .before .before .before .before .before .before .before .before .before .args .name) (c .before .before .before .before .before .before .before .before .before .before .before .args .out .now) (c .before .before .before .before .before .before .before .before .before .before .before .pre .1) (c .before .before .before .before .before .before .before .loop .inv) (c .before .before .before .before .before .before .loop-test .taken) in
     let q = sym (c .before .before .part .given .1) ∙ c .before .before .before .before .first-part .ensures in
-    let r = room (a .tokens .now) (a .target .now) (a .name) (a .out .now) (p .0) (p .1 .0 .0) (p .1 .0 .1) (p .1 .1) (l .out) (l .i) (l .o) (l .inv) (c .before .before .before .before .before .before .loop-test .taken) _ _ q in
-    omega (arith, r, p .1 .1, c .before .before .before .before .before .before .before .before .before .before .before .good))
-    (λ c. let a = c .before .before .before .before .before .before .before .before .before .before .before .args in
-    let p = c .before .before .before .before .before .before .before .before .before .before .before .pre .1 in
-    let l = c .before .before .before .before .before .before .before .loop in
+    let r = room h _ _ q in
+    omega (arith, r, h .fits, c .before .before .before .before .before .before .before .before .before .before .before .good))
+    (λ c. let h = place-at (c .before .before .before .before .before .before .before .before .before .before .before .args .tokens .now) (c .before .before .before .before .before .before .before .before .before .before .before .args .target .now) (c .before .before .before .before .before .before .before .before .before .before .before .args .name) (c .before .before .before .before .before .before .before .before .before .before .before .args .out .now) (c .before .before .before .before .before .before .before .before .before .before .before .pre .1) (c .before .before .before .before .before .before .before .loop .inv) (c .before .before .before .before .before .before .loop-test .taken) in
     let q = sym (c .before .before .part .given .1) ∙ c .before .before .before .before .first-part .ensures in
-    let r = room (a .tokens .now) (a .target .now) (a .name) (a .out .now) (p .0) (p .1 .0 .0) (p .1 .0 .1) (p .1 .1) (l .out) (l .i) (l .o) (l .inv) (c .before .before .before .before .before .before .loop-test .taken) _ _ q in
-    omega (arith, r, p .1 .1, c .before .before .before .before .before .before .before .before .before .before .before .good))
-    (λ c. let a = c .before .before .before .before .before .before .before .before .before .before .before .before .args in
-    let p = c .before .before .before .before .before .before .before .before .before .before .before .before .pre .1 in
-    let l = c .before .before .before .before .before .before .before .before .loop in
+    let r = room h _ _ q in
+    omega (arith, r, h .fits, c .before .before .before .before .before .before .before .before .before .before .before .good))
+    (λ c. let h = place-at (c .before .before .before .before .before .before .before .before .before .before .before .before .args .tokens .now) (c .before .before .before .before .before .before .before .before .before .before .before .before .args .target .now) (c .before .before .before .before .before .before .before .before .before .before .before .before .args .name) (c .before .before .before .before .before .before .before .before .before .before .before .before .args .out .now) (c .before .before .before .before .before .before .before .before .before .before .before .before .pre .1) (c .before .before .before .before .before .before .before .before .loop .inv) (c .before .before .before .before .before .before .before .loop-test .taken) in
     let q = sym (c .before .before .before .part .given .1) ∙ c .before .before .before .before .before .first-part .ensures in
-    let r = room (a .tokens .now) (a .target .now) (a .name) (a .out .now) (p .0) (p .1 .0 .0) (p .1 .0 .1) (p .1 .1) (l .out) (l .i) (l .o) (l .inv) (c .before .before .before .before .before .before .before .loop-test .taken) _ _ q in
-    omega (arith, r, p .1 .1, c .before .before .before .before .before .before .before .before .before .before .before .before .good))
-    (λ c. let a = c .before .before .before .before .before .before .before .before .before .before .before .before .args in
-    let p = c .before .before .before .before .before .before .before .before .before .before .before .before .pre .1 in
-    let l = c .before .before .before .before .before .before .before .before .loop in
+    let r = room h _ _ q in
+    omega (arith, r, h .fits, c .before .before .before .before .before .before .before .before .before .before .before .before .good))
+    (λ c. let h = place-at (c .before .before .before .before .before .before .before .before .before .before .before .before .args .tokens .now) (c .before .before .before .before .before .before .before .before .before .before .before .before .args .target .now) (c .before .before .before .before .before .before .before .before .before .before .before .before .args .name) (c .before .before .before .before .before .before .before .before .before .before .before .before .args .out .now) (c .before .before .before .before .before .before .before .before .before .before .before .before .pre .1) (c .before .before .before .before .before .before .before .before .loop .inv) (c .before .before .before .before .before .before .before .loop-test .taken) in
     let q = sym (c .before .before .before .part .given .1) ∙ c .before .before .before .before .before .first-part .ensures in
-    let r = room (a .tokens .now) (a .target .now) (a .name) (a .out .now) (p .0) (p .1 .0 .0) (p .1 .0 .1) (p .1 .1) (l .out) (l .i) (l .o) (l .inv) (c .before .before .before .before .before .before .before .loop-test .taken) _ _ q in
-    omega (arith, r, p .1 .1, length-set (l .out) (l .o) (getD (a .tokens .now) (l .i) 0)))
-    (λ c. let a = c .before .before .before .before .before .before .before .before .before .before .before .before .args in
-    let p = c .before .before .before .before .before .before .before .before .before .before .before .before .pre .1 in
-    let l = c .before .before .before .before .before .before .before .before .loop in
+    let r = room h _ _ q in
+    omega (arith, r, h .fits, length-set (c .before .before .before .before .before .before .before .before .loop .out) (c .before .before .before .before .before .before .before .before .loop .o) (getD (c .before .before .before .before .before .before .before .before .before .before .before .before .args .tokens .now) (c .before .before .before .before .before .before .before .before .loop .i) 0)))
+    (λ c. let h = place-at (c .before .before .before .before .before .before .before .before .before .before .before .before .args .tokens .now) (c .before .before .before .before .before .before .before .before .before .before .before .before .args .target .now) (c .before .before .before .before .before .before .before .before .before .before .before .before .args .name) (c .before .before .before .before .before .before .before .before .before .before .before .before .args .out .now) (c .before .before .before .before .before .before .before .before .before .before .before .before .pre .1) (c .before .before .before .before .before .before .before .before .loop .inv) (c .before .before .before .before .before .before .before .loop-test .taken) in
     let q = sym (c .before .before .before .part .given .1) ∙ c .before .before .before .before .before .first-part .ensures in
-    let r = room (a .tokens .now) (a .target .now) (a .name) (a .out .now) (p .0) (p .1 .0 .0) (p .1 .0 .1) (p .1 .1) (l .out) (l .i) (l .o) (l .inv) (c .before .before .before .before .before .before .before .loop-test .taken) _ _ q in
-    omega (arith, r, p .1 .1, length-set (l .out) (l .o) (getD (a .tokens .now) (l .i) 0)))
+    let r = room h _ _ q in
+    omega (arith, r, h .fits, length-set (c .before .before .before .before .before .before .before .before .loop .out) (c .before .before .before .before .before .before .before .before .loop .o) (getD (c .before .before .before .before .before .before .before .before .before .before .before .before .args .tokens .now) (c .before .before .before .before .before .before .before .before .loop .i) 0)))
     (λ c. search needs)
-    (λ c κs. let a = c .before .before .before .before .before .before .before .before .before .before .before .before .before .args in
-    let p = c .before .before .before .before .before .before .before .before .before .before .before .before .before .pre .1 in
-    let l = c .before .before .before .before .before .before .before .before .before .loop in
+    (λ c κs. let h = place-at (c .before .before .before .before .before .before .before .before .before .before .before .before .before .args .tokens .now) (c .before .before .before .before .before .before .before .before .before .before .before .before .before .args .target .now) (c .before .before .before .before .before .before .before .before .before .before .before .before .before .args .name) (c .before .before .before .before .before .before .before .before .before .before .before .before .before .args .out .now) (c .before .before .before .before .before .before .before .before .before .before .before .before .before .pre .1) (c .before .before .before .before .before .before .before .before .before .loop .inv) (c .before .before .before .before .before .before .before .before .loop-test .taken) in
     let q = sym (c .before .before .before .before .part .given .1) ∙ c .before .before .before .before .before .before .first-part .ensures in
-    let r = room (a .tokens .now) (a .target .now) (a .name) (a .out .now) (p .0) (p .1 .0 .0) (p .1 .0 .1) (p .1 .1) (l .out) (l .i) (l .o) (l .inv) (c .before .before .before .before .before .before .before .before .loop-test .taken) _ _ q in
-    (omega (arith, r, c .before .before .before .before .before .before .before .before .before .before .before .before .before .pre .0), (key-complete (a .tokens .now) (a .target .now) (a .name) (a .out .now) (p .0) (p .1 .0 .0) (p .1 .0 .1) (p .1 .1) (l .out) (l .i) (l .o) (l .inv) (c .before .before .before .before .before .before .before .before .loop-test .taken) _ _ q, (p .1 .0, lent-room (a .tokens .now) (a .target .now) (a .name) (a .out .now) (p .0) (p .1 .0 .0) (p .1 .0 .1) (p .1 .1) (l .out) (l .i) (l .o) (l .inv) (c .before .before .before .before .before .before .before .before .loop-test .taken) _ _ q))))
-    (λ c. let a = c .before .before .before .before .before .before .before .before .before .before .before .before .before .before .before .before .args in
-    let p = c .before .before .before .before .before .before .before .before .before .before .before .before .before .before .before .before .pre .1 in
-    let l = c .before .before .before .before .before .before .before .before .before .before .before .before .loop in
+    let r = room h _ _ q in
+    (omega (arith, r, c .before .before .before .before .before .before .before .before .before .before .before .before .before .pre .0), (key-complete h _ _ q, (c .before .before .before .before .before .before .before .before .before .before .before .before .before .pre .1 .1 .0, lent-room h _ _ q))))
+    (λ c. let h = place-at (c .before .before .before .before .before .before .before .before .before .before .before .before .before .before .before .before .args .tokens .now) (c .before .before .before .before .before .before .before .before .before .before .before .before .before .before .before .before .args .target .now) (c .before .before .before .before .before .before .before .before .before .before .before .before .before .before .before .before .args .name) (c .before .before .before .before .before .before .before .before .before .before .before .before .before .before .before .before .args .out .now) (c .before .before .before .before .before .before .before .before .before .before .before .before .before .before .before .before .pre .1) (c .before .before .before .before .before .before .before .before .before .before .before .before .loop .inv) (c .before .before .before .before .before .before .before .before .before .before .before .loop-test .taken) in
     let q = sym (c .before .before .before .before .before .before .before .part .given .1) ∙ c .before .before .before .before .before .before .before .before .before .first-part .ensures in
-    let r = room (a .tokens .now) (a .target .now) (a .name) (a .out .now) (p .0) (p .1 .0 .0) (p .1 .0 .1) (p .1 .1) (l .out) (l .i) (l .o) (l .inv) (c .before .before .before .before .before .before .before .before .before .before .before .loop-test .taken) _ _ q in
-    omega (arith, r, p .1 .1, c .before .before .before .before .before .before .before .before .before .before .before .before .before .before .before .before .good))
-    (λ c. let a = c .before .before .before .before .before .before .before .before .before .before .before .before .before .before .before .before .args in
-    let p = c .before .before .before .before .before .before .before .before .before .before .before .before .before .before .before .before .pre .1 in
-    let l = c .before .before .before .before .before .before .before .before .before .before .before .before .loop in
+    let r = room h _ _ q in
+    omega (arith, r, h .fits, c .before .before .before .before .before .before .before .before .before .before .before .before .before .before .before .before .good))
+    (λ c. let h = place-at (c .before .before .before .before .before .before .before .before .before .before .before .before .before .before .before .before .args .tokens .now) (c .before .before .before .before .before .before .before .before .before .before .before .before .before .before .before .before .args .target .now) (c .before .before .before .before .before .before .before .before .before .before .before .before .before .before .before .before .args .name) (c .before .before .before .before .before .before .before .before .before .before .before .before .before .before .before .before .args .out .now) (c .before .before .before .before .before .before .before .before .before .before .before .before .before .before .before .before .pre .1) (c .before .before .before .before .before .before .before .before .before .before .before .before .loop .inv) (c .before .before .before .before .before .before .before .before .before .before .before .loop-test .taken) in
     let q = sym (c .before .before .before .before .before .before .before .part .given .1) ∙ c .before .before .before .before .before .before .before .before .before .first-part .ensures in
-    let r = room (a .tokens .now) (a .target .now) (a .name) (a .out .now) (p .0) (p .1 .0 .0) (p .1 .0 .1) (p .1 .1) (l .out) (l .i) (l .o) (l .inv) (c .before .before .before .before .before .before .before .before .before .before .before .loop-test .taken) _ _ q in
-    let k = few (a .tokens .now) (a .target .now) (a .name) (a .out .now) (p .0) (p .1 .0 .0) (p .1 .0 .1) (p .1 .1) (l .out) (l .i) (l .o) (l .inv) (c .before .before .before .before .before .before .before .before .before .before .before .loop-test .taken) _ _ q (c .before .before .rewrite .result) (c .before .before .rewrite .last .1 .1 .1 .0) (c .before .before .rewrite .ensures) in
-    omega (arith, r, k, p .1 .1, c .before .before .before .before .before .before .before .before .before .before .before .before .before .before .before .before .good))
-    (λ c. let a = c .before .before .before .before .before .before .before .before .before .before .before .before .before .before .before .before .args in
-    let p = c .before .before .before .before .before .before .before .before .before .before .before .before .before .before .before .before .pre .1 in
-    let l = c .before .before .before .before .before .before .before .before .before .before .before .before .loop in
+    let r = room h _ _ q in
+    let k = few h _ _ q (c .before .before .rewrite .result) (c .before .before .rewrite .last .1 .1 .1 .0) (c .before .before .rewrite .ensures) in
+    omega (arith, r, k, h .fits, c .before .before .before .before .before .before .before .before .before .before .before .before .before .before .before .before .good))
+    (λ c. let h = place-at (c .before .before .before .before .before .before .before .before .before .before .before .before .before .before .before .before .args .tokens .now) (c .before .before .before .before .before .before .before .before .before .before .before .before .before .before .before .before .args .target .now) (c .before .before .before .before .before .before .before .before .before .before .before .before .before .before .before .before .args .name) (c .before .before .before .before .before .before .before .before .before .before .before .before .before .before .before .before .args .out .now) (c .before .before .before .before .before .before .before .before .before .before .before .before .before .before .before .before .pre .1) (c .before .before .before .before .before .before .before .before .before .before .before .before .loop .inv) (c .before .before .before .before .before .before .before .before .before .before .before .loop-test .taken) in
     let q = sym (c .before .before .before .before .before .before .before .part .given .1) ∙ c .before .before .before .before .before .before .before .before .before .first-part .ensures in
-    let r = room (a .tokens .now) (a .target .now) (a .name) (a .out .now) (p .0) (p .1 .0 .0) (p .1 .0 .1) (p .1 .1) (l .out) (l .i) (l .o) (l .inv) (c .before .before .before .before .before .before .before .before .before .before .before .loop-test .taken) _ _ q in
-    omega (arith, r, p .1 .1, c .before .before .before .before .before .before .before .before .before .before .before .before .before .before .before .before .good))
-    (λ c. let a = c .before .before .before .before .before .before .before .before .before .before .before .before .before .before .before .before .args in
-    let p = c .before .before .before .before .before .before .before .before .before .before .before .before .before .before .before .before .pre .1 in
-    let l = c .before .before .before .before .before .before .before .before .before .before .before .before .loop in
+    let r = room h _ _ q in
+    omega (arith, r, h .fits, c .before .before .before .before .before .before .before .before .before .before .before .before .before .before .before .before .good))
+    (λ c. let h = place-at (c .before .before .before .before .before .before .before .before .before .before .before .before .before .before .before .before .args .tokens .now) (c .before .before .before .before .before .before .before .before .before .before .before .before .before .before .before .before .args .target .now) (c .before .before .before .before .before .before .before .before .before .before .before .before .before .before .before .before .args .name) (c .before .before .before .before .before .before .before .before .before .before .before .before .before .before .before .before .args .out .now) (c .before .before .before .before .before .before .before .before .before .before .before .before .before .before .before .before .pre .1) (c .before .before .before .before .before .before .before .before .before .before .before .before .loop .inv) (c .before .before .before .before .before .before .before .before .before .before .before .loop-test .taken) in
     let q = sym (c .before .before .before .before .before .before .before .part .given .1) ∙ c .before .before .before .before .before .before .before .before .before .first-part .ensures in
-    let r = room (a .tokens .now) (a .target .now) (a .name) (a .out .now) (p .0) (p .1 .0 .0) (p .1 .0 .1) (p .1 .1) (l .out) (l .i) (l .o) (l .inv) (c .before .before .before .before .before .before .before .before .before .before .before .loop-test .taken) _ _ q in
-    omega (arith, r, p .1 .1, c .before .before .before .before .before .before .before .before .before .before .before .before .before .before .before .before .good))
-    (λ c. let a = c .before .before .before .before .before .before .before .before .before .before .before .before .before .before .before .before .args in
-    let p = c .before .before .before .before .before .before .before .before .before .before .before .before .before .before .before .before .pre .1 in
-    let l = c .before .before .before .before .before .before .before .before .before .before .before .before .loop in
+    let r = room h _ _ q in
+    omega (arith, r, h .fits, c .before .before .before .before .before .before .before .before .before .before .before .before .before .before .before .before .good))
+    (λ c. let h = place-at (c .before .before .before .before .before .before .before .before .before .before .before .before .before .before .before .before .args .tokens .now) (c .before .before .before .before .before .before .before .before .before .before .before .before .before .before .before .before .args .target .now) (c .before .before .before .before .before .before .before .before .before .before .before .before .before .before .before .before .args .name) (c .before .before .before .before .before .before .before .before .before .before .before .before .before .before .before .before .args .out .now) (c .before .before .before .before .before .before .before .before .before .before .before .before .before .before .before .before .pre .1) (c .before .before .before .before .before .before .before .before .before .before .before .before .loop .inv) (c .before .before .before .before .before .before .before .before .before .before .before .loop-test .taken) in
     let q = sym (c .before .before .before .before .before .before .before .part .given .1) ∙ c .before .before .before .before .before .before .before .before .before .first-part .ensures in
-    let r = room (a .tokens .now) (a .target .now) (a .name) (a .out .now) (p .0) (p .1 .0 .0) (p .1 .0 .1) (p .1 .1) (l .out) (l .i) (l .o) (l .inv) (c .before .before .before .before .before .before .before .before .before .before .before .loop-test .taken) _ _ q in
-    omega (arith, r, p .1 .1, c .before .before .before .before .before .before .before .before .before .before .before .before .before .before .before .before .good))
-    (λ c. let a = c .before .before .before .before .before .before .before .before .before .before .before .before .before .before .before .before .args in
-    let p = c .before .before .before .before .before .before .before .before .before .before .before .before .before .before .before .before .pre .1 in
-    let l = c .before .before .before .before .before .before .before .before .before .before .before .before .loop in
+    let r = room h _ _ q in
+    omega (arith, r, h .fits, c .before .before .before .before .before .before .before .before .before .before .before .before .before .before .before .before .good))
+    (λ c. let h = place-at (c .before .before .before .before .before .before .before .before .before .before .before .before .before .before .before .before .args .tokens .now) (c .before .before .before .before .before .before .before .before .before .before .before .before .before .before .before .before .args .target .now) (c .before .before .before .before .before .before .before .before .before .before .before .before .before .before .before .before .args .name) (c .before .before .before .before .before .before .before .before .before .before .before .before .before .before .before .before .args .out .now) (c .before .before .before .before .before .before .before .before .before .before .before .before .before .before .before .before .pre .1) (c .before .before .before .before .before .before .before .before .before .before .before .before .loop .inv) (c .before .before .before .before .before .before .before .before .before .before .before .loop-test .taken) in
     let q = sym (c .before .before .before .before .before .before .before .part .given .1) ∙ c .before .before .before .before .before .before .before .before .before .first-part .ensures in
-    let r = room (a .tokens .now) (a .target .now) (a .name) (a .out .now) (p .0) (p .1 .0 .0) (p .1 .0 .1) (p .1 .1) (l .out) (l .i) (l .o) (l .inv) (c .before .before .before .before .before .before .before .before .before .before .before .loop-test .taken) _ _ q in
-    omega (arith, r, p .1 .1, c .before .before .before .before .before .before .before .before .before .before .before .before .before .before .before .before .good))
-    (λ c. let a = c .before .before .before .before .before .before .before .before .before .before .before .before .before .before .before .before .before .args in
-    let p = c .before .before .before .before .before .before .before .before .before .before .before .before .before .before .before .before .before .pre .1 in
-    let l = c .before .before .before .before .before .before .before .before .before .before .before .before .before .loop in
+    let r = room h _ _ q in
+    omega (arith, r, h .fits, c .before .before .before .before .before .before .before .before .before .before .before .before .before .before .before .before .good))
+    (λ c. let h = place-at (c .before .before .before .before .before .before .before .before .before .before .before .before .before .before .before .before .before .args .tokens .now) (c .before .before .before .before .before .before .before .before .before .before .before .before .before .before .before .before .before .args .target .now) (c .before .before .before .before .before .before .before .before .before .before .before .before .before .before .before .before .before .args .name) (c .before .before .before .before .before .before .before .before .before .before .before .before .before .before .before .before .before .args .out .now) (c .before .before .before .before .before .before .before .before .before .before .before .before .before .before .before .before .before .pre .1) (c .before .before .before .before .before .before .before .before .before .before .before .before .before .loop .inv) (c .before .before .before .before .before .before .before .before .before .before .before .before .loop-test .taken) in
     let q = sym (c .before .before .before .before .before .before .before .before .part .given .1) ∙ c .before .before .before .before .before .before .before .before .before .before .first-part .ensures in
-    let r = room (a .tokens .now) (a .target .now) (a .name) (a .out .now) (p .0) (p .1 .0 .0) (p .1 .0 .1) (p .1 .1) (l .out) (l .i) (l .o) (l .inv) (c .before .before .before .before .before .before .before .before .before .before .before .before .loop-test .taken) _ _ q in
-    let k = few (a .tokens .now) (a .target .now) (a .name) (a .out .now) (p .0) (p .1 .0 .0) (p .1 .0 .1) (p .1 .1) (l .out) (l .i) (l .o) (l .inv) (c .before .before .before .before .before .before .before .before .before .before .before .before .loop-test .taken) _ _ q (c .before .before .before .rewrite .result) (c .before .before .before .rewrite .last .1 .1 .1 .0) (c .before .before .before .rewrite .ensures) in
-    omega (arith, r, k, p .1 .1, c .before .before .before .before .before .before .before .before .before .before .before .before .before .before .before .before .before .good))
-    (λ c. let a = c .before .before .before .before .before .before .before .before .before .before .before .before .before .before .before .before .before .args in
-    let p = c .before .before .before .before .before .before .before .before .before .before .before .before .before .before .before .before .before .pre .1 in
-    let l = c .before .before .before .before .before .before .before .before .before .before .before .before .before .loop in
+    let r = room h _ _ q in
+    let k = few h _ _ q (c .before .before .before .rewrite .result) (c .before .before .before .rewrite .last .1 .1 .1 .0) (c .before .before .before .rewrite .ensures) in
+    omega (arith, r, k, h .fits, c .before .before .before .before .before .before .before .before .before .before .before .before .before .before .before .before .before .good))
+    (λ c. let h = place-at (c .before .before .before .before .before .before .before .before .before .before .before .before .before .before .before .before .before .args .tokens .now) (c .before .before .before .before .before .before .before .before .before .before .before .before .before .before .before .before .before .args .target .now) (c .before .before .before .before .before .before .before .before .before .before .before .before .before .before .before .before .before .args .name) (c .before .before .before .before .before .before .before .before .before .before .before .before .before .before .before .before .before .args .out .now) (c .before .before .before .before .before .before .before .before .before .before .before .before .before .before .before .before .before .pre .1) (c .before .before .before .before .before .before .before .before .before .before .before .before .before .loop .inv) (c .before .before .before .before .before .before .before .before .before .before .before .before .loop-test .taken) in
     let q = sym (c .before .before .before .before .before .before .before .before .part .given .1) ∙ c .before .before .before .before .before .before .before .before .before .before .first-part .ensures in
-    let r = room (a .tokens .now) (a .target .now) (a .name) (a .out .now) (p .0) (p .1 .0 .0) (p .1 .0 .1) (p .1 .1) (l .out) (l .i) (l .o) (l .inv) (c .before .before .before .before .before .before .before .before .before .before .before .before .loop-test .taken) _ _ q in
-    let k = few (a .tokens .now) (a .target .now) (a .name) (a .out .now) (p .0) (p .1 .0 .0) (p .1 .0 .1) (p .1 .1) (l .out) (l .i) (l .o) (l .inv) (c .before .before .before .before .before .before .before .before .before .before .before .before .loop-test .taken) _ _ q (c .before .before .before .rewrite .result) (c .before .before .before .rewrite .last .1 .1 .1 .0) (c .before .before .before .rewrite .ensures) in
-    let b = back-long (a .tokens .now) (a .target .now) (a .name) (a .out .now) (p .0) (p .1 .0 .0) (p .1 .0 .1) (p .1 .1) (l .out) (l .i) (l .o) (l .inv) (c .before .before .before .before .before .before .before .before .before .before .before .before .loop-test .taken) _ _ q (c .before .before .before .rewrite .result) (c .before .before .before .rewrite .last .1 .1 .1 .0) (c .before .before .before .rewrite .ensures) in
-    omega (arith, r, k, b, p .1 .1, c .before .before .before .before .before .before .before .before .before .before .before .before .before .before .before .before .before .good))
-    (λ c. let a = c .before .before .before .before .before .before .before .before .before .before .before .before .before .before .before .before .before .args in
-    let p = c .before .before .before .before .before .before .before .before .before .before .before .before .before .before .before .before .before .pre .1 in
-    let l = c .before .before .before .before .before .before .before .before .before .before .before .before .before .loop in
+    let r = room h _ _ q in
+    let k = few h _ _ q (c .before .before .before .rewrite .result) (c .before .before .before .rewrite .last .1 .1 .1 .0) (c .before .before .before .rewrite .ensures) in
+    let b = back-long h _ _ q (c .before .before .before .rewrite .result) (c .before .before .before .rewrite .last .1 .1 .1 .0) (c .before .before .before .rewrite .ensures) in
+    omega (arith, r, k, b, h .fits, c .before .before .before .before .before .before .before .before .before .before .before .before .before .before .before .before .before .good))
+    (λ c. let h = place-at (c .before .before .before .before .before .before .before .before .before .before .before .before .before .before .before .before .before .args .tokens .now) (c .before .before .before .before .before .before .before .before .before .before .before .before .before .before .before .before .before .args .target .now) (c .before .before .before .before .before .before .before .before .before .before .before .before .before .before .before .before .before .args .name) (c .before .before .before .before .before .before .before .before .before .before .before .before .before .before .before .before .before .args .out .now) (c .before .before .before .before .before .before .before .before .before .before .before .before .before .before .before .before .before .pre .1) (c .before .before .before .before .before .before .before .before .before .before .before .before .before .loop .inv) (c .before .before .before .before .before .before .before .before .before .before .before .before .loop-test .taken) in
     let q = sym (c .before .before .before .before .before .before .before .before .part .given .1) ∙ c .before .before .before .before .before .before .before .before .before .before .first-part .ensures in
-    let r = room (a .tokens .now) (a .target .now) (a .name) (a .out .now) (p .0) (p .1 .0 .0) (p .1 .0 .1) (p .1 .1) (l .out) (l .i) (l .o) (l .inv) (c .before .before .before .before .before .before .before .before .before .before .before .before .loop-test .taken) _ _ q in
-    let k = few (a .tokens .now) (a .target .now) (a .name) (a .out .now) (p .0) (p .1 .0 .0) (p .1 .0 .1) (p .1 .1) (l .out) (l .i) (l .o) (l .inv) (c .before .before .before .before .before .before .before .before .before .before .before .before .loop-test .taken) _ _ q (c .before .before .before .rewrite .result) (c .before .before .before .rewrite .last .1 .1 .1 .0) (c .before .before .before .rewrite .ensures) in
-    let b = back-long (a .tokens .now) (a .target .now) (a .name) (a .out .now) (p .0) (p .1 .0 .0) (p .1 .0 .1) (p .1 .1) (l .out) (l .i) (l .o) (l .inv) (c .before .before .before .before .before .before .before .before .before .before .before .before .loop-test .taken) _ _ q (c .before .before .before .rewrite .result) (c .before .before .before .rewrite .last .1 .1 .1 .0) (c .before .before .before .rewrite .ensures) in
-    omega (arith, r, k, b, p .1 .1, c .before .before .before .before .before .before .before .before .before .before .before .before .before .before .before .before .before .good))
+    let r = room h _ _ q in
+    let k = few h _ _ q (c .before .before .before .rewrite .result) (c .before .before .before .rewrite .last .1 .1 .1 .0) (c .before .before .before .rewrite .ensures) in
+    let b = back-long h _ _ q (c .before .before .before .rewrite .result) (c .before .before .before .rewrite .last .1 .1 .1 .0) (c .before .before .before .rewrite .ensures) in
+    omega (arith, r, k, b, h .fits, c .before .before .before .before .before .before .before .before .before .before .before .before .before .before .before .before .before .good))
     (λ c. search needs)
-    (λ c κs. let a = c .before .before .before .before .before .before .before .before .before .before .before .before .before .before .before .before .before .before .args in
-    let p = c .before .before .before .before .before .before .before .before .before .before .before .before .before .before .before .before .before .before .pre .1 in
-    let l = c .before .before .before .before .before .before .before .before .before .before .before .before .before .before .loop in
+    (λ c κs. let h = place-at (c .before .before .before .before .before .before .before .before .before .before .before .before .before .before .before .before .before .before .args .tokens .now) (c .before .before .before .before .before .before .before .before .before .before .before .before .before .before .before .before .before .before .args .target .now) (c .before .before .before .before .before .before .before .before .before .before .before .before .before .before .before .before .before .before .args .name) (c .before .before .before .before .before .before .before .before .before .before .before .before .before .before .before .before .before .before .args .out .now) (c .before .before .before .before .before .before .before .before .before .before .before .before .before .before .before .before .before .before .pre .1) (c .before .before .before .before .before .before .before .before .before .before .before .before .before .before .loop .inv) (c .before .before .before .before .before .before .before .before .before .before .before .before .before .loop-test .taken) in
     let q = sym (c .before .before .before .before .before .before .before .before .before .part .given .1) ∙ c .before .before .before .before .before .before .before .before .before .before .before .first-part .ensures in
-    arms-room (a .tokens .now) (a .target .now) (a .name) (a .out .now) (p .0) (p .1 .0 .0) (p .1 .0 .1) (p .1 .1) (l .out) (l .i) (l .o) (l .inv) (c .before .before .before .before .before .before .before .before .before .before .before .before .before .loop-test .taken) _ _ q (c .before .before .before .before .rewrite .result) (c .before .before .before .before .rewrite .last .1 .1 .1 .0) (c .before .before .before .before .rewrite .ensures))
-    (λ c. let a = c .before .before .before .before .before .before .before .before .before .before .before .before .before .before .before .before .before .before .before .before .before .args in
-    let p = c .before .before .before .before .before .before .before .before .before .before .before .before .before .before .before .before .before .before .before .before .before .pre .1 in
-    let l = c .before .before .before .before .before .before .before .before .before .before .before .before .before .before .before .before .before .loop in
+    arms-room h _ _ q (c .before .before .before .before .rewrite .result) (c .before .before .before .before .rewrite .last .1 .1 .1 .0) (c .before .before .before .before .rewrite .ensures))
+    (λ c. let h = place-at (c .before .before .before .before .before .before .before .before .before .before .before .before .before .before .before .before .before .before .before .before .before .args .tokens .now) (c .before .before .before .before .before .before .before .before .before .before .before .before .before .before .before .before .before .before .before .before .before .args .target .now) (c .before .before .before .before .before .before .before .before .before .before .before .before .before .before .before .before .before .before .before .before .before .args .name) (c .before .before .before .before .before .before .before .before .before .before .before .before .before .before .before .before .before .before .before .before .before .args .out .now) (c .before .before .before .before .before .before .before .before .before .before .before .before .before .before .before .before .before .before .before .before .before .pre .1) (c .before .before .before .before .before .before .before .before .before .before .before .before .before .before .before .before .before .loop .inv) (c .before .before .before .before .before .before .before .before .before .before .before .before .before .before .before .before .loop-test .taken) in
     let q = sym (c .before .before .before .before .before .before .before .before .before .before .before .before .part .given .1) ∙ c .before .before .before .before .before .before .before .before .before .before .before .before .before .before .first-part .ensures in
-    let r = room (a .tokens .now) (a .target .now) (a .name) (a .out .now) (p .0) (p .1 .0 .0) (p .1 .0 .1) (p .1 .1) (l .out) (l .i) (l .o) (l .inv) (c .before .before .before .before .before .before .before .before .before .before .before .before .before .before .before .before .loop-test .taken) _ _ q in
-    omega (arith, r, p .1 .1, c .before .before .before .before .before .before .before .before .before .before .before .before .before .before .before .before .before .before .before .before .before .good))
-    (λ c. let a = c .before .before .before .before .before .before .before .before .before .before .before .before .before .before .before .before .before .before .before .before .before .args in
-    let p = c .before .before .before .before .before .before .before .before .before .before .before .before .before .before .before .before .before .before .before .before .before .pre .1 in
-    let l = c .before .before .before .before .before .before .before .before .before .before .before .before .before .before .before .before .before .loop in
+    let r = room h _ _ q in
+    omega (arith, r, h .fits, c .before .before .before .before .before .before .before .before .before .before .before .before .before .before .before .before .before .before .before .before .before .good))
+    (λ c. let h = place-at (c .before .before .before .before .before .before .before .before .before .before .before .before .before .before .before .before .before .before .before .before .before .args .tokens .now) (c .before .before .before .before .before .before .before .before .before .before .before .before .before .before .before .before .before .before .before .before .before .args .target .now) (c .before .before .before .before .before .before .before .before .before .before .before .before .before .before .before .before .before .before .before .before .before .args .name) (c .before .before .before .before .before .before .before .before .before .before .before .before .before .before .before .before .before .before .before .before .before .args .out .now) (c .before .before .before .before .before .before .before .before .before .before .before .before .before .before .before .before .before .before .before .before .before .pre .1) (c .before .before .before .before .before .before .before .before .before .before .before .before .before .before .before .before .before .loop .inv) (c .before .before .before .before .before .before .before .before .before .before .before .before .before .before .before .before .loop-test .taken) in
     let q = sym (c .before .before .before .before .before .before .before .before .before .before .before .before .part .given .1) ∙ c .before .before .before .before .before .before .before .before .before .before .before .before .before .before .first-part .ensures in
-    let r = room (a .tokens .now) (a .target .now) (a .name) (a .out .now) (p .0) (p .1 .0 .0) (p .1 .0 .1) (p .1 .1) (l .out) (l .i) (l .o) (l .inv) (c .before .before .before .before .before .before .before .before .before .before .before .before .before .before .before .before .loop-test .taken) _ _ q in
-    let k = few (a .tokens .now) (a .target .now) (a .name) (a .out .now) (p .0) (p .1 .0 .0) (p .1 .0 .1) (p .1 .1) (l .out) (l .i) (l .o) (l .inv) (c .before .before .before .before .before .before .before .before .before .before .before .before .before .before .before .before .loop-test .taken) _ _ q (c .before .before .before .before .before .before .before .rewrite .result) (c .before .before .before .before .before .before .before .rewrite .last .1 .1 .1 .0) (c .before .before .before .before .before .before .before .rewrite .ensures) in
-    omega (arith, r, k, p .1 .1, c .before .before .before .before .before .before .before .before .before .before .before .before .before .before .before .before .before .before .before .before .before .good))
-    (λ c. let a = c .before .before .before .before .before .before .before .before .before .before .before .before .before .before .before .before .before .before .before .before .before .args in
-    let p = c .before .before .before .before .before .before .before .before .before .before .before .before .before .before .before .before .before .before .before .before .before .pre .1 in
-    let l = c .before .before .before .before .before .before .before .before .before .before .before .before .before .before .before .before .before .loop in
+    let r = room h _ _ q in
+    let k = few h _ _ q (c .before .before .before .before .before .before .before .rewrite .result) (c .before .before .before .before .before .before .before .rewrite .last .1 .1 .1 .0) (c .before .before .before .before .before .before .before .rewrite .ensures) in
+    omega (arith, r, k, h .fits, c .before .before .before .before .before .before .before .before .before .before .before .before .before .before .before .before .before .before .before .before .before .good))
+    (λ c. let h = place-at (c .before .before .before .before .before .before .before .before .before .before .before .before .before .before .before .before .before .before .before .before .before .args .tokens .now) (c .before .before .before .before .before .before .before .before .before .before .before .before .before .before .before .before .before .before .before .before .before .args .target .now) (c .before .before .before .before .before .before .before .before .before .before .before .before .before .before .before .before .before .before .before .before .before .args .name) (c .before .before .before .before .before .before .before .before .before .before .before .before .before .before .before .before .before .before .before .before .before .args .out .now) (c .before .before .before .before .before .before .before .before .before .before .before .before .before .before .before .before .before .before .before .before .before .pre .1) (c .before .before .before .before .before .before .before .before .before .before .before .before .before .before .before .before .before .loop .inv) (c .before .before .before .before .before .before .before .before .before .before .before .before .before .before .before .before .loop-test .taken) in
     let q = sym (c .before .before .before .before .before .before .before .before .before .before .before .before .part .given .1) ∙ c .before .before .before .before .before .before .before .before .before .before .before .before .before .before .first-part .ensures in
-    let r = room (a .tokens .now) (a .target .now) (a .name) (a .out .now) (p .0) (p .1 .0 .0) (p .1 .0 .1) (p .1 .1) (l .out) (l .i) (l .o) (l .inv) (c .before .before .before .before .before .before .before .before .before .before .before .before .before .before .before .before .loop-test .taken) _ _ q in
-    omega (arith, r, p .1 .1, c .before .before .before .before .before .before .before .before .before .before .before .before .before .before .before .before .before .before .before .before .before .good))
-    (λ c. let a = c .before .before .before .before .before .before .before .before .before .before .before .before .before .before .before .before .before .before .before .before .before .args in
-    let p = c .before .before .before .before .before .before .before .before .before .before .before .before .before .before .before .before .before .before .before .before .before .pre .1 in
-    let l = c .before .before .before .before .before .before .before .before .before .before .before .before .before .before .before .before .before .loop in
+    let r = room h _ _ q in
+    omega (arith, r, h .fits, c .before .before .before .before .before .before .before .before .before .before .before .before .before .before .before .before .before .before .before .before .before .good))
+    (λ c. let h = place-at (c .before .before .before .before .before .before .before .before .before .before .before .before .before .before .before .before .before .before .before .before .before .args .tokens .now) (c .before .before .before .before .before .before .before .before .before .before .before .before .before .before .before .before .before .before .before .before .before .args .target .now) (c .before .before .before .before .before .before .before .before .before .before .before .before .before .before .before .before .before .before .before .before .before .args .name) (c .before .before .before .before .before .before .before .before .before .before .before .before .before .before .before .before .before .before .before .before .before .args .out .now) (c .before .before .before .before .before .before .before .before .before .before .before .before .before .before .before .before .before .before .before .before .before .pre .1) (c .before .before .before .before .before .before .before .before .before .before .before .before .before .before .before .before .before .loop .inv) (c .before .before .before .before .before .before .before .before .before .before .before .before .before .before .before .before .loop-test .taken) in
     let q = sym (c .before .before .before .before .before .before .before .before .before .before .before .before .part .given .1) ∙ c .before .before .before .before .before .before .before .before .before .before .before .before .before .before .first-part .ensures in
-    turn-switch (a .tokens .now) (a .target .now) (a .name) (a .out .now) (p .0) (p .1 .0 .0) (p .1 .0 .1) (p .1 .1) (l .out) (l .i) (l .o) (l .inv) (c .before .before .before .before .before .before .before .before .before .before .before .before .before .before .before .before .loop-test .taken) _ _ q (c .before .before .before .before .before .before .before .rewrite .result) (c .before .before .before .before .before .before .before .rewrite .last .1 .1 .1 .0) (c .before .before .before .before .before .before .before .rewrite .ensures) _ (c .before .before .copy .ensures))
+    turn-switch h _ _ q (c .before .before .before .before .before .before .before .rewrite .result) (c .before .before .before .before .before .before .before .rewrite .last .1 .1 .1 .0) (c .before .before .before .before .before .before .before .rewrite .ensures) _ (c .before .before .copy .ensures))
     (λ c. search needs)
     (λ c. search needs)
     (λ c. search needs)
-    (λ c. let a = c .before .before .before .before .before .before .before .before .before .before .args in
-    let p = c .before .before .before .before .before .before .before .before .before .before .pre .1 in
-    let l = c .before .before .before .before .before .before .loop in
-    omega (arith, out-room (a .tokens .now) (a .target .now) (a .name) (a .out .now) (p .0) (p .1 .0 .0) (p .1 .0 .1) (p .1 .1) (l .out) (l .i) (l .o) (l .inv) (c .before .before .before .before .before .loop-test .taken), c .before .before .before .before .before .before .before .before .before .before .good, l .inv .within, l .inv .fewer, p .1 .1))
-    (λ c. let a = c .before .before .before .before .before .before .before .before .before .before .args in
-    let p = c .before .before .before .before .before .before .before .before .before .before .pre .1 in
-    let l = c .before .before .before .before .before .before .loop in
-    omega (arith, out-room (a .tokens .now) (a .target .now) (a .name) (a .out .now) (p .0) (p .1 .0 .0) (p .1 .0 .1) (p .1 .1) (l .out) (l .i) (l .o) (l .inv) (c .before .before .before .before .before .loop-test .taken)))
+    (λ c. let h = place-at (c .before .before .before .before .before .before .before .before .before .before .args .tokens .now) (c .before .before .before .before .before .before .before .before .before .before .args .target .now) (c .before .before .before .before .before .before .before .before .before .before .args .name) (c .before .before .before .before .before .before .before .before .before .before .args .out .now) (c .before .before .before .before .before .before .before .before .before .before .pre .1) (c .before .before .before .before .before .before .loop .inv) (c .before .before .before .before .before .loop-test .taken) in
+    omega (arith, h, out-room h, c .before .before .before .before .before .before .before .before .before .before .good))
+    (λ c. let h = place-at (c .before .before .before .before .before .before .before .before .before .before .args .tokens .now) (c .before .before .before .before .before .before .before .before .before .before .args .target .now) (c .before .before .before .before .before .before .before .before .before .before .args .name) (c .before .before .before .before .before .before .before .before .before .before .args .out .now) (c .before .before .before .before .before .before .before .before .before .before .pre .1) (c .before .before .before .before .before .before .loop .inv) (c .before .before .before .before .before .loop-test .taken) in
+    omega (arith, out-room h))
     (λ c. search needs)
-    (λ c. let a = c .before .before .before .before .before .before .before .before .before .before .args in
-    let p = c .before .before .before .before .before .before .before .before .before .before .pre .1 in
-    let l = c .before .before .before .before .before .before .loop in
-    omega (arith, out-room (a .tokens .now) (a .target .now) (a .name) (a .out .now) (p .0) (p .1 .0 .0) (p .1 .0 .1) (p .1 .1) (l .out) (l .i) (l .o) (l .inv) (c .before .before .before .before .before .loop-test .taken), c .before .before .before .before .before .before .before .before .before .before .good, l .inv .within, l .inv .fewer, p .1 .1))
+    (λ c. let h = place-at (c .before .before .before .before .before .before .before .before .before .before .args .tokens .now) (c .before .before .before .before .before .before .before .before .before .before .args .target .now) (c .before .before .before .before .before .before .before .before .before .before .args .name) (c .before .before .before .before .before .before .before .before .before .before .args .out .now) (c .before .before .before .before .before .before .before .before .before .before .pre .1) (c .before .before .before .before .before .before .loop .inv) (c .before .before .before .before .before .loop-test .taken) in
+    omega (arith, h, out-room h, c .before .before .before .before .before .before .before .before .before .before .good))
     (λ c. search needs)
-    (λ c. let a = c .before .before .before .before .before .before .before .before .before .before .args in
-    let p = c .before .before .before .before .before .before .before .before .before .before .pre .1 in
-    let l = c .before .before .before .before .before .before .loop in
+    (λ c. let h = place-at (c .before .before .before .before .before .before .before .before .before .before .args .tokens .now) (c .before .before .before .before .before .before .before .before .before .before .args .target .now) (c .before .before .before .before .before .before .before .before .before .before .args .name) (c .before .before .before .before .before .before .before .before .before .before .args .out .now) (c .before .before .before .before .before .before .before .before .before .before .pre .1) (c .before .before .before .before .before .before .loop .inv) (c .before .before .before .before .before .loop-test .taken) in
     let q = sym (c .before .enum-told2 .given .1) ∙ c .before .before .before .first-part .ensures in
-    turn-node (a .tokens .now) (a .target .now) (a .name) (a .out .now) (p .0) (p .1 .0 .0) (p .1 .0 .1) (p .1 .1) (l .out) (l .i) (l .o) (l .inv) (c .before .before .before .before .before .loop-test .taken) q)
+    turn-node h q)
     (λ c. scan-long (by-words (c .before .before .before .before .before .args .target .now) (c .before .before .before .before .before .args .name)) (c .before .before .before .before .before .args .tokens .now) (c .before .before .before .before .before .args .out .now) (c .before .before .before .before .before .pre .1 .1 .1) (c .before .loop .inv))
     (λ c. scan-ends (by-words (c .before .before .before .before .before .args .target .now) (c .before .before .before .before .before .args .name)) (c .before .before .before .before .before .args .tokens .now) (c .before .before .before .before .before .args .out .now) (c .before .loop .inv) (c .loop-test .left))
