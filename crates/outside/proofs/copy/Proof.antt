@@ -25,9 +25,17 @@ copy-spec =
     (λ c. search needs)
     (λ c. search needs)
     (λ c. search needs)
-    (λ c. omega (arith, copy-long (c .before .before .before .args .s .now) (c .before .before .before .args .out .now) (c .before .before .loop .out) (c .before .before .loop .i) (c .before .before .before .pre) (c .before .before .loop .inv .0) (c .before .before .loop .inv .1), c .before .before .before .pre))
+    (λ c.
+    let start = c .before .before .before in
+    omega (arith, copy-long (start .args .s .now) (start .args .out .now) (c .before .before .loop .out) (c .before .before .loop .i) (start .pre) (c .before .before .loop .inv .0) (c .before .before .loop .inv .1), start .pre))
     (λ c. search needs)
     (λ c. search needs)
-    (λ c. (omega arith, copy-turn (c .before .before .before .args .s .now) (c .before .before .before .args .out .now) (c .before .before .loop .out) (c .before .before .loop .i) (c .before .before .before .pre) (c .before .loop-test .taken) (c .before .before .loop .inv .1)))
-    (λ c. copy-long (c .before .before .args .s .now) (c .before .before .args .out .now) (c .before .loop .out) (c .before .loop .i) (c .before .before .pre) (c .before .loop .inv .0) (c .before .loop .inv .1))
-    (λ c. copy-ends (c .before .before .args .s .now) (c .before .before .args .out .now) (c .before .loop .out) (c .before .loop .i) (c .before .loop .inv .0) (c .loop-test .left) (c .before .loop .inv .1)))
+    (λ c.
+    let start = c .before .before .before in
+    (omega arith, copy-turn (start .args .s .now) (start .args .out .now) (c .before .before .loop .out) (c .before .before .loop .i) (start .pre) (c .before .loop-test .taken) (c .before .before .loop .inv .1)))
+    (λ c.
+    let start = c .before .before in
+    copy-long (start .args .s .now) (start .args .out .now) (c .before .loop .out) (c .before .loop .i) (start .pre) (c .before .loop .inv .0) (c .before .loop .inv .1))
+    (λ c.
+    let start = c .before .before in
+    copy-ends (start .args .s .now) (start .args .out .now) (c .before .loop .out) (c .before .loop .i) (c .before .loop .inv .0) (c .loop-test .left) (c .before .loop .inv .1)))

@@ -14,7 +14,9 @@ check-spec =
     (λ c κs. search needs)
     (λ c. search needs)
     (λ c. search needs)
-    (λ c. words-broken (c .before .before .before .before .before .args .tokens .now) (c .before .before .before .before .before .args .part .now) (c .before .before .before .before .before .args .name) (c .before .before .before .before .before .args .room) (uncounted (trees-in (c .before .before .before .before .before .args .tokens .now)) (sym (c .enum-told2 .given .1) ∙ c .before .before .count-trees .ensures)))
+    (λ c.
+    let start = c .before .before .before .before .before in
+    words-broken (start .args .tokens .now) (start .args .part .now) (start .args .name) (start .args .room) (uncounted (trees-in (start .args .tokens .now)) (sym (c .enum-told2 .given .1) ∙ c .before .before .count-trees .ensures)))
     (λ c κs. search needs)
     (λ c. search needs)
     (λ c. search needs)

@@ -21,14 +21,20 @@ starts-with-spec =
     (tie.spec
     Inv-loop
     μ-loop
-    (λ c. begins-short (c .before .args .words .now) (c .before .args .start .now) (omega (arith, c .if1 .taken)))
+    (λ c.
+    let start = c .before in
+    begins-short (start .args .words .now) (start .args .start .now) (omega (arith, c .if1 .taken)))
     (λ c. search needs)
     (λ c. search needs)
     (λ c. search needs)
     (λ c. search needs)
     (λ c. search needs)
-    (λ c. begins-differs (c .before .before .before .before .before .before .args .words .now) (c .before .before .before .before .before .before .args .start .now) (c .before .before .before .before .loop .k) (c .before .before .before .loop-test .taken) (c .if2 .taken))
+    (λ c.
+    let start = c .before .before .before .before .before .before in
+    begins-differs (start .args .words .now) (start .args .start .now) (c .before .before .before .before .loop .k) (c .before .before .before .loop-test .taken) (c .if2 .taken))
     (λ c. search needs)
     (λ c. search needs)
     (λ c. (search needs, below-more _ _ (c .before .before .before .before .loop .inv .1) (c .if2 .left)))
-    (λ c. begins-all (c .before .before .before .args .words .now) (c .before .before .before .args .start .now) (omega (arith, c .before .before .if1 .left)) (λ m h. c .before .loop .inv .1 m (omega arith))))
+    (λ c.
+    let start = c .before .before .before in
+    begins-all (start .args .words .now) (start .args .start .now) (omega (arith, c .before .before .if1 .left)) (λ m h. c .before .loop .inv .1 m (omega arith))))
