@@ -15,6 +15,7 @@ use Rattle.tree.specs.Tokens.{kind-of, below-of, name-by, numbered, read, all-t
 abbrev pub number : List ℕ → ℕ
 number s = getD s 0 0
 
+-- the words of the trees that the trees of some words become
 unfoldable pub rewritten-words : (Tree → Tree) → List ℕ → List ℕ
 unfolding read all-tokens
 rewritten-words f ws = all-tokens number (map f (read numbered ws))
@@ -43,7 +44,7 @@ pub record Writes (f : Tree → Tree) (ws old : List ℕ) (n : ℕ) (out : List 
   pub count : n ≡ length (rewritten-words f ws)
   pub words : out ≡ rewritten-words f ws ++ drop (length (rewritten-words f ws)) old
 
--- ---- what may be rewritten: words none of which lacks an operand, one tree in them, and a symbol's word in its place
+-- ---- what may be rewritten: words none of which lacks an operand, by one tree to look for and a symbol's word
 
 unfoldable pub some-trees : Option ℕ → Bool
 some-trees none = false

@@ -23,6 +23,7 @@ pub enum Rewritten {
     NoRoom,
 }
 
+// Whether a rewriting may go on, or what it answers instead.
 pub enum Request {
     Sound,
     Broken,
