@@ -1,11 +1,11 @@
--- The expression writer's loop over an operation's operands: what is written and passed after i of them. Assumes nothing.
+-- The expression writer's loop over an operation's operands: what is written since the loop began, and passed, after i of them. Assumes nothing.
 use Prim.Native.Nat.{ℕ, zero, suc, _+_, _*_, _-_, _≤_, _<_}
 use native.Mathlib.Numerals.{add-one}
 use native.Mathlib.Omega.{arith}
 use mathlib.Core.Path.{_≡_, refl, sym, _∙_, ap, ap₂, subst}
 use mathlib.Core.Bool.{Bool, true, false, _&&_}
 use mathlib.Core.Option.{some}
-use mathlib.Core.List.{List, [], _∷_, _++_, append-assoc, append-nil, map}
+use mathlib.Core.List.{List, [], _∷_, _++_, map}
 use lib.Dec.{T}
 use lib.ListN.{length, getD, take, drop, length-map}
 use lib.Seq.{take-suc, take-all, length-take-le}
@@ -17,7 +17,7 @@ use Rattle.tree.proofs.Logic.{and-left, and-right}
 use Rattle.tree.proofs.TokenLaws.{sizes, sizes-append, map-append, operation-takes}
 use Rattle.text.specs.Text.{Part, part, display, bracketed}
 use Rattle.emit.specs.Writing.{Writes}
-use Rattle.emit.proofs.WriteLaws.{writes-then, writes-as}
+use Rattle.emit.proofs.WriteLaws.{writes-length, writes-none, writes-then, writes-as}
 use Rattle.shapes.specs.Operands.{opening, closing, brackets, between, operand-text, operands-text}
 use Rattle.shapes.specs.Places.{tree-here, Stands, Passes}
 use Rattle.shapes.proofs.PlaceLaws.{below-here, Node, Operand, operand}
@@ -34,7 +34,7 @@ kind-at ws at = kind-of (getD ws at 0)
 pub record Writing (dry : Bool) (rows ws : List ℕ) (at : ℕ) (old : List ℕ) (to : ℕ) (out : List ℕ) (next end i : ℕ) : Type 0 where
   pub few : i ≤ below-of (getD ws at 0)
   pub token : next ≡ at + 1 + sizes (take i (under rows ws at))
-  pub written : Writes dry old to (opening (kind-at ws at) ++ operands-text (kind-at ws at) 0 (map part (take i (under rows ws at)))) out end
+  pub written : Writes dry old to (operands-text (kind-at ws at) 0 (map part (take i (under rows ws at)))) out end
 
 no-sizes : sizes [] ≡ 0
 unfolding sizes total
@@ -57,22 +57,22 @@ operand-written {dry} {out} {mid} {new} {end} k i p t u q B P =
     writes-as (between k i ++ bracketed (brackets k i (part t .prec)) (display t)) (operand-text k i (part u))
     (ap (λ (s : List ℕ). between k i ++ bracketed (brackets k i (part t .prec)) s) (display-is t) ∙ ap (λ (v : Tree). operand-text k i (part v)) q) (writes-then B (P .written))
 
-module _ (dry : Bool) (rows ws : List ℕ) (at : ℕ) (old : List ℕ) (to : ℕ) (S : Stands rows ws at) (h : 1 < kind-at ws at) where
+module _ (rows ws : List ℕ) (at : ℕ) (S : Stands rows ws at) (h : 1 < kind-at ws at) where
   many : length (under rows ws at) ≡ below-of (getD ws at 0)
   many = stands-node rows ws at S .many ∙ operation-takes (getD ws at 0) h
 
   tested : T (operands-ok (kind-at ws at) (length (under rows ws at)) && trees-ok (under rows ws at))
   tested = subst T (ap tree-ok (operation-is rows ws at S h) ∙ ok-operation (kind-at ws at) (under rows ws at)) (S .good)
 
-  pub begin : {out : List ℕ} {end : ℕ} → Writes dry old to (opening (kind-at ws at)) out end → Writing dry rows ws at old to out (at + 1) end 0
+  pub begin : {dry : Bool} {old : List ℕ} {to : ℕ} {out : List ℕ} {end : ℕ} → Writes dry old to (opening (kind-at ws at)) out end → Writing dry rows ws at out end out (at + 1) end 0
   begin p = record {
     few = omega arith;
     token = omega (arith, no-sizes);
-    written = writes-as (opening (kind-at ws at)) (opening (kind-at ws at) ++ operands-text (kind-at ws at) 0 []) (sym (ap (λ (s : List ℕ). opening (kind-at ws at) ++ s) (no-operands (kind-at ws at)) ∙ append-nil (opening (kind-at ws at)))) p
+    written = writes-as [] (operands-text (kind-at ws at) 0 []) (sym (no-operands (kind-at ws at))) (writes-none (omega (arith, p .ends, writes-length p)))
   }
 
   -- the next operand
-  module _ {out : List ℕ} {next end i : ℕ} (W : Writing dry rows ws at old to out next end i) (less : i < below-of (getD ws at 0)) where
+  module _ {dry : Bool} {old : List ℕ} {to : ℕ} {out : List ℕ} {next end i : ℕ} (W : Writing dry rows ws at old to out next end i) (less : i < below-of (getD ws at 0)) where
     found : Operand (names rows) ws at i next
     found = operand (names rows) ws at i next (stands-node rows ws at S) (omega (arith, operation-takes (getD ws at 0) h)) (W .token)
 
@@ -93,8 +93,8 @@ module _ (dry : Bool) (rows ws : List ℕ) (at : ℕ) (old : List ℕ) (to : ℕ
     pub later : at < next
     later = omega (arith, W .token)
 
-    pub falls : (length ws - next) * 2 + 1 < (length ws - at) * 2
-    falls = omega (arith, later, stands-inside rows ws next stands)
+    pub less-left : (length ws - next) * 2 + 1 < (length ws - at) * 2
+    less-left = omega (arith, later, stands-inside rows ws next stands)
 
     taken : take (i + 1) (under rows ws at) ≡ take i (under rows ws at) ++ (getD (under rows ws at) i (Op 0 nil) ∷ [])
     taken = rw (add-one i) (take-suc (under rows ws at) i (Op 0 nil) (omega (arith, many)))
@@ -115,15 +115,15 @@ module _ (dry : Bool) (rows ws : List ℕ) (at : ℕ) (old : List ℕ) (to : ℕ
           few = omega arith;
           token = omega (arith, P .token, W .token, ap size is, ap sizes taken, sizes-append ts (t ∷ []), one-size t);
           written =
-              writes-as (opening k ++ operands-text k 0 (map part ts) ++ operand-text k i (part t)) (opening k ++ operands-text k 0 (map part (take (i + 1) (under rows ws at))))
-              (append-assoc (opening k) (operands-text k 0 (map part ts)) (operand-text k i (part t)) ∙ sym (ap (λ (s : List ℕ). opening k ++ s) texts))
+              writes-as (operands-text k 0 (map part ts) ++ operand-text k i (part t)) (operands-text k 0 (map part (take (i + 1) (under rows ws at)))) (sym texts)
               (writes-then (W .written) (operand-written k i next (tree-here rows ws next) t is B P))
         }
 
   -- after the last
-  pub finish : {out new : List ℕ} {next end i e : ℕ} → Writing dry rows ws at old to out next end i → below-of (getD ws at 0) ≤ i → Writes dry out end (closing (kind-at ws at)) new e
-      → Passes dry old at to (tree-here rows ws at) (display (tree-here rows ws at)) new next e
-  finish {out} {new} {next} {end} {i} {e} W g C =
+  pub finish :
+      {dry : Bool} {first : List ℕ} {from : ℕ} {old : List ℕ} {to : ℕ} {out new : List ℕ} {next end i e : ℕ} → Writes dry first from (opening (kind-at ws at)) old to → Writing dry rows ws at old to out next end i
+      → below-of (getD ws at 0) ≤ i → Writes dry out end (closing (kind-at ws at)) new e → Passes dry first at from (tree-here rows ws at) (display (tree-here rows ws at)) new next e
+  finish {i = i} O W g C =
       let k = kind-at ws at in
       let ts = under rows ws at in
       let all : take i ts ≡ ts = take-all i ts (omega (arith, many)) in
@@ -132,13 +132,8 @@ module _ (dry : Bool) (rows ws : List ℕ) (at : ℕ) (old : List ℕ) (to : ℕ
       let whole : display (tree-here rows ws at) ≡ opening k ++ (operands-text k 0 parts ++ closing k) =
       ap display (operation-is rows ws at S h) ∙ (display-operation k ts ∙ operation-layout k parts h ok) in
       record {
-        token = omega (arith, W .token, ap sizes all, sized);
+        token = omega (arith, W .token, ap sizes all, here-size rows ws at S);
         written =
-            writes-as (opening k ++ operands-text k 0 (map part (take i ts)) ++ closing k) (display (tree-here rows ws at))
-            (ap (λ (l : List Tree). opening k ++ operands-text k 0 (map part l) ++ closing k) all
-            ∙ (append-assoc (opening k) (operands-text k 0 parts) (closing k) ∙ sym whole))
-            (writes-then (W .written) C)
+            writes-as (opening k ++ (operands-text k 0 (map part (take i ts)) ++ closing k)) (display (tree-here rows ws at))
+            (ap (λ (l : List Tree). opening k ++ (operands-text k 0 (map part l) ++ closing k)) all ∙ sym whole) (writes-then O (writes-then (W .written) C))
       }
-    where
-      sized : size (tree-here rows ws at) ≡ suc (sizes (under rows ws at))
-      sized = here-size rows ws at S

@@ -23,6 +23,7 @@ use Rattle.emit.proofs.WriteLaws.{writes-then, writes-as}
 use Rattle.emit.proofs.TextLaws.{low-none}
 use Rattle.emit.proofs.NameLaws.{low-made, low-one, low-append}
 use Rattle.checked.specs.Check.{rows-in, tree-in}
+use Rattle.shapes.specs.Operands.{brackets}
 use Rattle.shapes.specs.Places.{tree-here, Stands, Passes}
 use Rattle.shapes.proofs.PlaceLaws.{here, below-here, Node, node}
 
@@ -160,6 +161,10 @@ module _ (rows ws : List ℕ) (at : ℕ) (S : Stands rows ws at) where
       go (a-symbol h) = ap (λ (t : Tree). part t .prec) (symbol-tree (names rows) w kids h) ∙ (prec-symbol _ ∙ sym (leaf-precedence (kind-of w) (omega arith)))
       go (a-constant h) = ap (λ (t : Tree). part t .prec) (constant-tree (names rows) w kids h) ∙ (prec-constant _ ∙ sym (leaf-precedence (kind-of w) (omega arith)))
       go (an-operation h) = ap (λ (t : Tree). part t .prec) (operation-tree (names rows) w kids h) ∙ prec-operation (kind-of w) kids
+
+  -- a child's test by the precedence of its word
+  pub child-test : (k i p : ℕ) (r b : Bool) → r ≡ brackets k i p → p ≡ precedence (kind-of w) → r ≡ b → brackets k i (part (tree-here rows ws at) .prec) ≡ b
+  child-test k i p r b e q f = ap (brackets k i) (here-prec ∙ sym q) ∙ (sym e ∙ f)
 
   -- an operation's operands
   pub operation-is : 1 < kind-of w → tree-here rows ws at ≡ Op (kind-of w) (forest kids)

@@ -210,13 +210,13 @@ fn child(rows: &[u64], tokens: &[u64], at: usize, out: &mut [u8], dry: bool, to:
 {
     let w = tokens[at];
     let p = precedence(w % KINDS);
-    if !in_brackets(parent, index, p) {
-        return expression(rows, tokens, at, out, dry, to);
+    if in_brackets(parent, index, p) {
+        let open = emit::put(out, dry, to, b'(');
+        let inner = expression(rows, tokens, at, out, dry, open);
+        let e = emit::put(out, dry, inner.to, b')');
+        return Pos { next: inner.next, to: e };
     }
-    let open = emit::put(out, dry, to, b'(');
-    let inner = expression(rows, tokens, at, out, dry, open);
-    let e = emit::put(out, dry, inner.to, b')');
-    Pos { next: inner.next, to: e }
+    expression(rows, tokens, at, out, dry, to)
 }
 
 // The text of the tree at `at`, written from `to` on; Broken, and nothing written, where its words aren't all there or it isn't a tree of an answer. The node
