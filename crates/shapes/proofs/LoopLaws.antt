@@ -57,24 +57,27 @@ operand-written {dry} {out} {mid} {new} {end} k i p t u q B P =
     writes-as (between k i ++ bracketed (brackets k i (part t .prec)) (display t)) (operand-text k i (part u))
     (ap (λ (s : List ℕ). between k i ++ bracketed (brackets k i (part t .prec)) s) (display-is t) ∙ ap (λ (v : Tree). operand-text k i (part v)) q) (writes-then B (P .written))
 
-module _ (rows ws : List ℕ) (at : ℕ) (S : Stands rows ws at) (h : 1 < kind-at ws at) where
+module _ {rows ws : List ℕ} {at : ℕ} (S : Stands rows ws at) (no-symbol : kind-at ws at ≡ 0 → ⊥) (no-constant : kind-at ws at ≡ 1 → ⊥) where
+  h : 1 < kind-at ws at
+  h = omega (arith, no-symbol, no-constant)
+
   many : length (under rows ws at) ≡ below-of (getD ws at 0)
-  many = stands-node rows ws at S .many ∙ operation-takes (getD ws at 0) h
+  many = stands-node S .many ∙ operation-takes (getD ws at 0) h
 
   tested : T (operands-ok (kind-at ws at) (length (under rows ws at)) && trees-ok (under rows ws at))
-  tested = subst T (ap tree-ok (operation-is rows ws at S h) ∙ ok-operation (kind-at ws at) (under rows ws at)) (S .good)
+  tested = subst T (ap tree-ok (operation-is S h) ∙ ok-operation (kind-at ws at) (under rows ws at)) (S .good)
 
   pub begin : {dry : Bool} {old : List ℕ} {to : ℕ} {out : List ℕ} {end : ℕ} → Writes dry old to (opening (kind-at ws at)) out end → Writing dry rows ws at out end out (at + 1) end 0
   begin p = record {
     few = omega arith;
     token = omega (arith, no-sizes);
-    written = writes-as [] (operands-text (kind-at ws at) 0 []) (sym (no-operands (kind-at ws at))) (writes-none (omega (arith, p .ends, writes-length p)))
+    written = writes-as [] (operands-text (kind-at ws at) 0 []) (sym (no-operands (kind-at ws at))) (writes-none (omega (arith, p .ends, writes-length p)));
   }
 
   -- the next operand
   module _ {dry : Bool} {old : List ℕ} {to : ℕ} {out : List ℕ} {next end i : ℕ} (W : Writing dry rows ws at old to out next end i) (less : i < below-of (getD ws at 0)) where
     found : Operand (names rows) ws at i next
-    found = operand (names rows) ws at i next (stands-node rows ws at S) (omega (arith, operation-takes (getD ws at 0) h)) (W .token)
+    found = operand (names rows) ws at i next (stands-node S) (omega (arith, operation-takes (getD ws at 0) h)) (W .token)
 
     is : tree-here rows ws next ≡ getD (under rows ws at) i (Op 0 nil)
     unfolding tree-here
@@ -87,14 +90,14 @@ module _ (rows ws : List ℕ) (at : ℕ) (S : Stands rows ws at) (h : 1 < kind-a
     pub stands : Stands rows ws next
     stands = record {
       run = runs;
-      good = subst (λ (t : Tree). T (tree-ok t)) (sym is) (ok-at (under rows ws at) i (Op 0 nil) (and-right (operands-ok (kind-at ws at) (length (under rows ws at))) (trees-ok (under rows ws at)) tested) (omega (arith, many)))
+      good = subst (λ (t : Tree). T (tree-ok t)) (sym is) (ok-at (under rows ws at) i (Op 0 nil) (and-right (operands-ok (kind-at ws at) (length (under rows ws at))) (trees-ok (under rows ws at)) tested) (omega (arith, many)));
     }
 
     pub later : at < next
     later = omega (arith, W .token)
 
     pub less-left : (length ws - next) * 2 + 1 < (length ws - at) * 2
-    less-left = omega (arith, later, stands-inside rows ws next stands)
+    less-left = omega (arith, later, stands-inside stands)
 
     taken : take (i + 1) (under rows ws at) ≡ take i (under rows ws at) ++ (getD (under rows ws at) i (Op 0 nil) ∷ [])
     taken = rw (add-one i) (take-suc (under rows ws at) i (Op 0 nil) (omega (arith, many)))
@@ -116,7 +119,7 @@ module _ (rows ws : List ℕ) (at : ℕ) (S : Stands rows ws at) (h : 1 < kind-a
           token = omega (arith, P .token, W .token, ap size is, ap sizes taken, sizes-append ts (t ∷ []), one-size t);
           written =
               writes-as (operands-text k 0 (map part ts) ++ operand-text k i (part t)) (operands-text k 0 (map part (take (i + 1) (under rows ws at)))) (sym texts)
-              (writes-then (W .written) (operand-written k i next (tree-here rows ws next) t is B P))
+              (writes-then (W .written) (operand-written k i next (tree-here rows ws next) t is B P));
         }
 
   -- after the last
@@ -130,10 +133,10 @@ module _ (rows ws : List ℕ) (at : ℕ) (S : Stands rows ws at) (h : 1 < kind-a
       let parts = map part ts in
       let ok : T (operands-ok k (length parts)) = subst (λ (n : ℕ). T (operands-ok k n)) (sym (length-map ts part)) (and-left (operands-ok k (length ts)) (trees-ok ts) tested) in
       let whole : display (tree-here rows ws at) ≡ opening k ++ (operands-text k 0 parts ++ closing k) =
-      ap display (operation-is rows ws at S h) ∙ (display-operation k ts ∙ operation-layout k parts h ok) in
+      ap display (operation-is S h) ∙ (display-operation k ts ∙ operation-layout k parts h ok) in
       record {
-        token = omega (arith, W .token, ap sizes all, here-size rows ws at S);
+        token = omega (arith, W .token, ap sizes all, here-size S);
         written =
             writes-as (opening k ++ (operands-text k 0 (map part (take i ts)) ++ closing k)) (display (tree-here rows ws at))
-            (ap (λ (l : List Tree). opening k ++ (operands-text k 0 (map part l) ++ closing k)) all ∙ sym whole) (writes-then O (writes-then (W .written) C))
+            (ap (λ (l : List Tree). opening k ++ (operands-text k 0 (map part l) ++ closing k)) all ∙ sym whole) (writes-then O (writes-then (W .written) C));
       }

@@ -125,18 +125,18 @@ ok-at (u ∷ l) (suc i) d t h = ok-at l i d (and-right (tree-ok u) (trees-ok l) 
 abbrev pub names : List ℕ → ℕ → List ℕ
 names rows = name-in (rows-in rows)
 
-pub stands-node : (rows ws : List ℕ) (at : ℕ) → Stands rows ws at → Node (names rows) ws at
+pub stands-node : {rows ws : List ℕ} {at : ℕ} → Stands rows ws at → Node (names rows) ws at
 unfolding tree-here
-stands-node rows ws at S = node (names rows) ws at (S .run)
+stands-node {rows} {ws} {at} S = node (names rows) ws at (S .run)
 
-pub stands-inside : (rows ws : List ℕ) (at : ℕ) → Stands rows ws at → at < length ws
-stands-inside rows ws at S = stands-node rows ws at S .inside
+pub stands-inside : {rows ws : List ℕ} {at : ℕ} → Stands rows ws at → at < length ws
+stands-inside S = stands-node S .inside
 
 none-sized : sizes [] ≡ 0
 unfolding sizes total
 none-sized = refl
 
-module _ (rows ws : List ℕ) (at : ℕ) (S : Stands rows ws at) where
+module _ {rows ws : List ℕ} {at : ℕ} (S : Stands rows ws at) where
   abbrev w : ℕ
   w = getD ws at 0
 
@@ -145,11 +145,11 @@ module _ (rows ws : List ℕ) (at : ℕ) (S : Stands rows ws at) where
 
   here-is : tree-here rows ws at ≡ tree-of-word (names rows) w kids
   unfolding tree-here
-  here-is = stands-node rows ws at S .is
+  here-is = stands-node S .is
 
   pub here-size : size (tree-here rows ws at) ≡ suc (sizes kids)
   unfolding tree-here
-  here-size = stands-node rows ws at S .sized
+  here-size = stands-node S .sized
 
   leaf-size : kind-of w ≤ 1 → size (tree-here rows ws at) ≡ 1
   leaf-size h = here-size ∙ (ap (λ (n : ℕ). suc (sizes (take n (read (names rows) (drop (suc at) ws))))) (leaf-takes w h) ∙ ap suc none-sized)
@@ -179,7 +179,7 @@ module _ (rows ws : List ℕ) (at : ℕ) (S : Stands rows ws at) where
         let ok : T (symbol-ok n) = subst T (ap tree-ok is ∙ ok-symbol n) (S .good) in
         record {
           token = omega (arith, leaf-size (omega arith));
-          written = writes-as (low-bytes (name-text n)) (display (tree-here rows ws at)) (low-symbol n ok ∙ sym (ap display is ∙ display-symbol n)) p
+          written = writes-as (low-bytes (name-text n)) (display (tree-here rows ws at)) (low-symbol n ok ∙ sym (ap display is ∙ display-symbol n)) p;
         }
 
     pub constant-done : kind-of w ≡ 1 → Writes dry old to (integer (constant-at (below-of w))) new e → Passes dry old at to (tree-here rows ws at) (display (tree-here rows ws at)) new (at + 1) e
@@ -187,7 +187,7 @@ module _ (rows ws : List ℕ) (at : ℕ) (S : Stands rows ws at) where
         let is = here-is ∙ constant-tree (names rows) w kids h in
         record {
           token = omega (arith, leaf-size (omega arith));
-          written = writes-as (integer (constant-at (below-of w))) (display (tree-here rows ws at)) (sym (ap display is ∙ display-constant (constant-at (below-of w)))) p
+          written = writes-as (integer (constant-at (below-of w))) (display (tree-here rows ws at)) (sym (ap display is ∙ display-constant (constant-at (below-of w)))) p;
         }
 
 -- ---- a child's brackets

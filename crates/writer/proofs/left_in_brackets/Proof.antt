@@ -1,11 +1,8 @@
 -- `writer::left_in_brackets` meets its contract. Assumes nothing.
 use borrow.Author.Tests.{eq-eqb, ne-eqb, le-leb, lt-leb}
 use Rattle.shapes.specs.Operands.{left-test}
-use borrow.Author.Needs.{needs}
 use Rattle.writer.proofs.left_in_brackets.Statement.{statement}
 use Rattle.writer.proofs.left_in_brackets.Tie as tie
-use Rattle.writer.proofs.left_in_brackets.Reads as reads
-use Rattle.writer.proofs.left_in_brackets.Lts as lts
 
 returns : tie.Need-returns
 unfolding left-test

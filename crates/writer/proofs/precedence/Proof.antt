@@ -1,11 +1,8 @@
 -- `writer::precedence` meets its contract. Assumes nothing.
 use borrow.Author.Tests.{lt-ltb, le-ltb, eq-eqb, ne-eqb, le-leb, lt-leb}
 use Rattle.text.specs.Text.{precedence}
-use borrow.Author.Needs.{needs}
 use Rattle.writer.proofs.precedence.Statement.{statement}
 use Rattle.writer.proofs.precedence.Tie as tie
-use Rattle.writer.proofs.precedence.Reads as reads
-use Rattle.writer.proofs.precedence.Lts as lts
 
 returns : tie.Need-returns
 unfolding precedence

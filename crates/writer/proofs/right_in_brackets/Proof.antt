@@ -1,11 +1,8 @@
 -- `writer::right_in_brackets` meets its contract. Assumes nothing.
 use borrow.Author.Tests.{eq-eqb, ne-eqb}
 use Rattle.shapes.specs.Operands.{right-test}
-use borrow.Author.Needs.{needs}
 use Rattle.writer.proofs.right_in_brackets.Statement.{statement}
 use Rattle.writer.proofs.right_in_brackets.Tie as tie
-use Rattle.writer.proofs.right_in_brackets.Reads as reads
-use Rattle.writer.proofs.right_in_brackets.Lts as lts
 
 returns : tie.Need-returns
 unfolding right-test
