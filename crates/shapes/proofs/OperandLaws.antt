@@ -112,11 +112,11 @@ module _ (k : ℕ) (h : 7 < k) where
   unfolding operation-text
   call-is parts = rw (not-at 2 (omega arith), not-at 3 (omega arith), not-at 4 (omega arith), not-at 5 (omega arith), not-at 6 (omega arith), not-at 7 (omega arith))
 
-  opening-is : opening k ≡ printed-name k ++ bytes "("
+  pub opening-is : opening k ≡ printed-name k ++ bytes "("
   unfolding opening
   opening-is = rw (not-at 2 (omega arith), lt-leb k 7 h)
 
-  closing-is : closing k ≡ bytes ")"
+  pub closing-is : closing k ≡ bytes ")"
   unfolding closing
   closing-is = rw (lt-leb k 7 h)
 
@@ -132,11 +132,11 @@ module _ (k : ℕ) (h : 7 < k) where
   unfolding right-test
   no-right p = rw (not-at 3 (omega arith), not-at 4 (omega arith), not-at 5 (omega arith), not-at 6 (omega arith), not-at 7 (omega arith))
 
-  first-is : (a : Part) → operand-text k 0 a ≡ a .text
+  pub first-is : (a : Part) → operand-text k 0 a ≡ a .text
   unfolding operand-text between brackets bracketed
   first-is a = rw (no-left (a .prec))
 
-  next-is : (i : ℕ) (a : Part) → operand-text k (suc i) a ≡ bytes ", " ++ a .text
+  pub next-is : (i : ℕ) (a : Part) → operand-text k (suc i) a ≡ bytes ", " ++ a .text
   unfolding operand-text between brackets bracketed
   next-is i a = rw (ne-eqb (suc i) 0 (λ e. omega arith), no-right (a .prec), separator-is)
 
