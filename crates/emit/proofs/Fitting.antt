@@ -1,11 +1,11 @@
 -- A text that ended inside the slice: it stands there whole, and all else is as it was. For those who call a writer. Assumes nothing.
-use Prim.Native.Nat.{ℕ, suc, _+_, _-_, _≤_, _<_}
-use mathlib.Core.Path.{_≡_, refl, sym, ap, _∙_}
-use mathlib.Core.Bool.{Bool, true, false}
-use mathlib.Core.List.{List, [], _∷_, _++_, append-assoc}
+use Prim.Native.Nat.{ℕ, _+_, _-_, _≤_, _<_}
+use mathlib.Core.Path.{_≡_, ap, _∙_}
+use mathlib.Core.Bool.{Bool, false}
+use mathlib.Core.List.{List, _++_, append-assoc}
 use native.Mathlib.Omega.{arith}
-use lib.ListN.{length, take, drop, length-append}
-use lib.Seq.{sets, sets-eq, length-take-le, take-at, drop-at}
+use lib.ListN.{length, take, drop}
+use lib.Seq.{sets-eq, length-take-le, take-at, drop-at}
 use Rattle.emit.specs.Writing.{Writes}
 
 module _ {dry : Bool} {old : List ℕ} {to : ℕ} {text new : List ℕ} {end : ℕ} (W : Writes dry old to text new end) where

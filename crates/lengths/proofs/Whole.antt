@@ -2,18 +2,18 @@
 -- below 2^64 is such an expression where it passes. Assumes nothing.
 use Prim.Native.Nat.{ℕ, zero, suc, _+_, _*_, _/_, _%_, _^_, _≤_, _<_}
 use native.Mathlib.Omega.{arith}
-use mathlib.Core.Path.{_≡_, refl, sym, _∙_, ap, subst}
-use mathlib.Core.Bool.{Bool, true, false, _&&_}
-use mathlib.Core.List.{List, [], _∷_, _++_, map}
+use mathlib.Core.Path.{_≡_, refl, sym, ap, subst}
+use mathlib.Core.Bool.{Bool, true, _&&_}
+use mathlib.Core.List.{List, [], _∷_, map}
 use lib.Dec.{T, ltb, ltb→lt, lt→ltb}
 use lib.ListN.{length, getD, take, drop}
 use Rattle.tree.specs.Bytes.{every, integer}
-use Rattle.tree.specs.Tree.{Name, Tree, Forest, Sym, Const, Op, nil, _◂_, fold, folds, forest}
+use Rattle.tree.specs.Tree.{Tree, Forest, Sym, Const, Op, nil, _◂_, fold, folds}
 use Rattle.tree.specs.Facts.{total, size}
 use Rattle.tree.specs.Passes.{all-of, symbol-ok, of-paper, operands-ok, tree-ok}
 use Rattle.tree.specs.Tokens.{kind-of, below-of, takes, name-by, tree-of-word, read, trees-at}
 use Rattle.tree.proofs.Logic.{and-left, and-right, and-both}
-use Rattle.tree.proofs.TokenLaws.{Word, a-symbol, a-constant, an-operation, word-is, symbol-tree, constant-tree, operation-tree, fold-operation, made, read-cons, tree-at}
+use Rattle.tree.proofs.TokenLaws.{Word, a-symbol, a-constant, an-operation, word-is, symbol-tree, constant-tree, operation-tree, fold-operation, made, tree-at}
 use Rattle.text.specs.Text.{Part, name-text, precedence, operation-text, part, display}
 use Rattle.emit.specs.Writing.{place-after}
 use Rattle.lengths.specs.Room.{number-fits, numbers-fit, text-room}

@@ -1,18 +1,18 @@
 -- The expression writer's loop over an operation's operands: what is written since the loop began, and passed, after i of them. Assumes nothing.
-use Prim.Native.Nat.{ℕ, zero, suc, _+_, _*_, _-_, _≤_, _<_}
+use Prim.Native.Nat.{ℕ, _+_, _*_, _-_, _≤_, _<_}
 use native.Mathlib.Numerals.{add-one}
 use native.Mathlib.Omega.{arith}
-use mathlib.Core.Path.{_≡_, refl, sym, _∙_, ap, ap₂, subst}
-use mathlib.Core.Bool.{Bool, true, false, _&&_}
+use mathlib.Core.Path.{_≡_, refl, sym, _∙_, ap, subst}
+use mathlib.Core.Bool.{Bool, _&&_}
 use mathlib.Core.Option.{some}
 use mathlib.Core.List.{List, [], _∷_, _++_, map}
 use lib.Dec.{T}
-use lib.ListN.{length, getD, take, drop, length-map}
+use lib.ListN.{length, getD, take, length-map}
 use lib.Seq.{take-suc, take-all, length-take-le}
-use Rattle.tree.specs.Tree.{Tree, Op, nil, forest}
+use Rattle.tree.specs.Tree.{Tree, Op, nil}
 use Rattle.tree.specs.Facts.{total, size}
 use Rattle.tree.specs.Passes.{operands-ok, tree-ok, trees-ok}
-use Rattle.tree.specs.Tokens.{kind-of, below-of, takes, run-at}
+use Rattle.tree.specs.Tokens.{kind-of, below-of, run-at}
 use Rattle.tree.proofs.Logic.{and-left, and-right}
 use Rattle.tree.proofs.TokenLaws.{sizes, sizes-append, map-append, operation-takes}
 use Rattle.text.specs.Text.{Part, part, display, bracketed}
@@ -20,7 +20,7 @@ use Rattle.emit.specs.Writing.{Writes}
 use Rattle.emit.proofs.WriteLaws.{writes-length, writes-none, writes-then, writes-as}
 use Rattle.shapes.specs.Operands.{opening, closing, brackets, between, operand-text, operands-text}
 use Rattle.shapes.specs.Places.{tree-here, Stands, Passes}
-use Rattle.shapes.proofs.PlaceLaws.{below-here, Node, Operand, operand}
+use Rattle.shapes.proofs.PlaceLaws.{below-here, Operand, operand}
 use Rattle.shapes.proofs.OperandLaws.{operation-layout, operands-more, no-operands}
 use Rattle.shapes.proofs.NodeLaws.{names, stands-node, stands-inside, here-size, operation-is, display-operation, ok-operation, ok-at}
 

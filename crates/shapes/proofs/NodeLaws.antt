@@ -1,31 +1,29 @@
 -- The text of the tree at a place from its word: a leaf's, an operation's, and a child's with its brackets. Assumes nothing.
-use Prim.Native.Nat.{ℕ, zero, suc, _+_, _*_, _/_, _%_, _≤_, _<_}
+use Prim.Native.Nat.{ℕ, zero, suc, _+_, _/_, _%_, _≤_, _<_}
 use native.Mathlib.Omega.{arith}
 use mathlib.Core.Path.{_≡_, refl, sym, _∙_, ap, ap₂, subst}
-use mathlib.Core.Bool.{Bool, true, false, _&&_, _||_, not, cond}
-use mathlib.Core.Option.{some}
+use mathlib.Core.Bool.{Bool, true, false, _&&_, _||_, not}
 use mathlib.Core.List.{List, [], _∷_, _++_, map}
 use borrow.Author.Tests.{lt-ltb}
 use lib.Dec.{T, eqb, leb, leb→le, eqb→eq}
 use lib.ListN.{length, getD, take, drop}
-use Rattle.tree.specs.Bytes.{bytes, decimal, integer, every}
+use Rattle.tree.specs.Bytes.{integer, every}
 use Rattle.tree.specs.Symbol.{is-letter, is-digit, is-made, is-name}
-use Rattle.tree.specs.Tree.{Name, input, xname, mname, Tree, Sym, Const, Op, nil, fold, forest}
+use Rattle.tree.specs.Tree.{Name, input, xname, mname, Tree, Sym, Const, Op, fold, forest}
 use Rattle.tree.specs.Facts.{total, size}
 use Rattle.tree.specs.Passes.{all-of, symbol-ok, of-paper, operands-ok, tree-ok, trees-ok}
-use Rattle.tree.specs.Tokens.{kind-of, below-of, takes, constant-at, name-by, name-in, tree-of-word, read, trees-at, run-at}
+use Rattle.tree.specs.Tokens.{kind-of, below-of, constant-at, name-by, name-in, tree-of-word, read}
 use Rattle.tree.proofs.Logic.{and-left, and-right}
-use Rattle.tree.proofs.TokenLaws.{Word, a-symbol, a-constant, an-operation, word-is, sizes, symbol-tree, constant-tree, operation-tree, operation-takes, leaf-takes, fold-operation}
+use Rattle.tree.proofs.TokenLaws.{Word, a-symbol, a-constant, an-operation, word-is, sizes, symbol-tree, constant-tree, operation-tree, leaf-takes, fold-operation}
 use Rattle.text.specs.Text.{Part, name-text, precedence, operation-text, part, display, bracketed}
-use Rattle.emit.specs.Writing.{Writes, low-bytes}
-use Rattle.emit.specs.Symbols.{row-name, symbol-text}
+use Rattle.emit.specs.Writing.{Writes}
+use Rattle.names.specs.Symbols.{low-bytes, row-name, symbol-text}
 use Rattle.emit.proofs.WriteLaws.{writes-then, writes-as}
-use Rattle.emit.proofs.TextLaws.{low-none}
-use Rattle.emit.proofs.NameLaws.{low-made, low-one, low-append}
-use Rattle.checked.specs.Check.{rows-in, tree-in}
+use Rattle.names.proofs.NameLaws.{low-none, low-made, low-one, low-append}
+use Rattle.checked.specs.Check.{rows-in}
 use Rattle.shapes.specs.Operands.{brackets}
 use Rattle.shapes.specs.Places.{tree-here, Stands, Passes}
-use Rattle.shapes.proofs.PlaceLaws.{here, below-here, Node, node}
+use Rattle.shapes.proofs.PlaceLaws.{below-here, Node, node}
 
 -- ---- a symbol's name is bytes
 

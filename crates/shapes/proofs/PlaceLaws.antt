@@ -1,17 +1,17 @@
 -- The tree at a place whose words are there: its word, its operands, and the place of each of them. Nothing is asked of the other words. Assumes nothing.
 use Prim.Native.Nat.{ℕ, zero, suc, _+_, _-_, _≤_, _<_}
-use native.Mathlib.Nat.{add-zero, zero-add, suc-add}
+use native.Mathlib.Nat.{zero-add, suc-add}
 use native.Mathlib.Omega.{arith}
 use mathlib.Core.Path.{_≡_, refl, sym, _∙_, ap, subst}
-use mathlib.Core.Option.{Option, none, some}
+use mathlib.Core.Option.{some}
 use mathlib.Core.List.{List, [], _∷_, _++_}
 use lib.ListN.{length, getD, take, drop, length-append, length-drop, take-append-drop}
 use lib.Seq.{drop-cons, drop-drop, take-add, take-take, length-take-le, getD-drop, getD-take}
 use Rattle.tree.specs.Tree.{Tree, Op, nil}
 use Rattle.tree.specs.Facts.{total, size}
-use Rattle.tree.specs.Tokens.{takes, tree-of-word, read, trees-at, trees-in, words-of, run-at}
+use Rattle.tree.specs.Tokens.{takes, tree-of-word, read, trees-at, words-of, run-at}
 use Rattle.tree.proofs.FactLaws.{size-one}
-use Rattle.tree.proofs.TokenLaws.{sizes, sizes-append, size-made, read-cons, read-past, complete-length, complete-read, words-complete, words-tail, words-none, tree-at}
+use Rattle.tree.proofs.TokenLaws.{sizes, sizes-append, size-made, read-cons, read-past, complete-length, complete-read, words-complete, words-tail, tree-at}
 
 some-is : {n m : ℕ} → some n ≡ some m → n ≡ m
 some-is e = cc

@@ -1,7 +1,7 @@
 -- What an answer of `write_tree` tells: for those who call it. Assumes nothing.
 use Prim.Native.Nat.{ℕ, _+_}
 use native.Mathlib.Omega.{arith}
-use mathlib.Core.Path.{_≡_, refl, sym, _∙_, ap}
+use mathlib.Core.Path.{_≡_, refl, _∙_, ap}
 use mathlib.Core.Bool.{Bool, true, false}
 use mathlib.Core.Option.{Option, none, some}
 use mathlib.Core.List.{List}
@@ -10,7 +10,7 @@ use Rattle.tree.specs.Facts.{size}
 use Rattle.tree.specs.Passes.{tree-ok}
 use Rattle.tree.specs.Tokens.{run-at}
 use Rattle.text.specs.Text.{display}
-use Rattle.emit.specs.Writing.{Writes, place-after, bytes-after}
+use Rattle.emit.specs.Writing.{Writes, place-after}
 use Rattle.shapes.specs.Places.{tree-here, Stands, Passes}
 use Rattle.shapes.proofs.PlaceLaws.{run-is-size}
 use Rattle.shapes.proofs.NodeLaws.{names}

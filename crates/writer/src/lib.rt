@@ -1,8 +1,7 @@
 // The text of the tree at a place of some words: `Display` for `Expr`. `write_tree` is for callers. The expression writer and the child writer, which puts
 // brackets where the source does, call each other down the tree; they ask that the tree is there and is one that print takes, which `tree_ok` decides first.
 ghost use mathlib.Core.Path.{_≡_};
-ghost use lib.ListN.{length};
-ghost use Rattle.text.specs.Text.{Part, part, display, precedence, bracketed};
+ghost use Rattle.text.specs.Text.{part, display, precedence, bracketed};
 ghost use Rattle.emit.specs.Writing.{Writes};
 ghost use Rattle.shapes.specs.Places.{tree-here, Stands, Passes};
 ghost use Rattle.shapes.specs.Operands.{opening, between, closing, left-test, right-test, brackets};
@@ -132,7 +131,7 @@ fn put_opening(out: &mut [u8], dry: bool, to: usize, kind: u64) -> usize
     if kind <= POW {
         return emit::place(out, to);
     }
-    emit::put_kind_name(out, dry, to, kind)
+    names::put_kind_name(out, dry, to, kind)
 }
 
 // What stands before operand `index`: nothing before the first.
@@ -181,7 +180,7 @@ fn expression(rows: &[u64], tokens: &[u64], at: usize, out: &mut [u8], dry: bool
     let below = w / KINDS;
     let mut next = at + 1;
     if kind == SYM {
-        let e = emit::put_name(rows, out, dry, to, below);
+        let e = names::put_name(rows, out, dry, to, below);
         return Pos { next, to: e };
     }
     if kind == CONST {

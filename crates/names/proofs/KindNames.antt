@@ -1,17 +1,17 @@
 -- The names of the kinds in one row of bytes: each stands where its start says, tested at all of them by computing. Assumes nothing.
 use Prim.Native.Nat.{ℕ, zero, suc, _+_, _-_, _≤_, _<_}
-use mathlib.Core.Path.{_≡_, refl, sym, ap, subst}
+use mathlib.Core.Path.{_≡_, sym, ap, subst}
 use mathlib.Core.Bool.{Bool, true, false, _&&_, not}
 use mathlib.Core.List.{List, [], _∷_, _++_}
 use native.Mathlib.Omega.{arith}
 use lib.Dec.{T, leb, ltb, leb→le, ltb→lt, nltb→le}
-use lib.ListN.{length, getD, take, drop, List·getD-eq-default}
+use lib.ListN.{getD, take, drop, List·getD-eq-default}
 use Rattle.tree.specs.Bytes.{bytes, eq-bytes}
 use Rattle.tree.specs.Kinds.{Kind, kinds, kind-at, printed-name}
 use Rattle.tree.proofs.Logic.{and-left, and-right}
 use Rattle.tree.proofs.TreeLaws.{eq-bytes-sound}
 use Rattle.emit.specs.Writing.{Writes}
 use Rattle.emit.proofs.WriteLaws.{writes-then, writes-as}
 
 abbrev row : List ℕ
 row = bytes "sincostanasinacosatanatan2sinhcoshtanhexplnlog2log10sqrtabsHclampbranchselectselect_or"
