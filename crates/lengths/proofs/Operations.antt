@@ -8,11 +8,11 @@ use borrow.Author.Tests.{le-leb}
 use lib.Dec.{T, eqb, leb, leb→le}
 use lib.ListN.{length, getD, length-append}
 use Rattle.tree.specs.Bytes.{bytes}
-use Rattle.tree.specs.Kinds.{Kind, kinds, kind-at, printed-name, arity-ok, Neg, Add, Sub, Mul, Div, Pow}
+use Rattle.tree.specs.Kinds.{Kind, kinds, kind-at, printed-name, arity-ok, Neg, Div, Pow}
 use Rattle.tree.specs.Passes.{operands-ok}
 use Rattle.tree.proofs.Logic.{and-left, and-right}
 use Rattle.text.specs.Text.{Part, bracketed, operation-text}
-use Rattle.shapes.specs.Operands.{opening, separator, closing, brackets, between, operand-text, operands-text}
+use Rattle.shapes.specs.Operands.{opening, sign, separator, closing, brackets, between, operand-text, operands-text}
 use Rattle.shapes.proofs.OperandLaws.{Which, neg, add, sub, mul, div, pow, past, which, opening-is, closing-is, first-is, next-is, operation-layout}
 
 -- the bytes of the operands' texts
@@ -29,10 +29,7 @@ cond-short n false x y h g = g
 separator-short : (k : ℕ) → length (separator k) ≤ 3
 unfolding separator
 separator-short k =
-    cond-short 3 (eqb k Add) (bytes " + ") _ (omega arith)
-    (cond-short 3 (eqb k Sub) (bytes " - ") _ (omega arith)
-    (cond-short 3 (eqb k Mul) (bytes " * ") _ (omega arith)
-    (cond-short 3 (eqb k Div) (bytes " / ") _ (omega arith) (cond-short 3 (eqb k Pow) (bytes "^") (bytes ", ") (omega arith) (omega arith)))))
+    cond-short 3 (leb k Div) (32 ∷ sign k ∷ 32 ∷ []) _ (omega arith) (cond-short 3 (eqb k Pow) (bytes "^") (bytes ", ") (omega arith) (omega arith))
 
 between-short : (k i : ℕ) → length (between k i) ≤ 3
 unfolding between

@@ -12,7 +12,7 @@ use Rattle.tree.specs.Kinds.{kinds, kind-at, printed-name, arity-ok, Neg}
 use Rattle.tree.specs.Passes.{operands-ok}
 use Rattle.tree.proofs.Logic.{and-left, and-right}
 use Rattle.text.specs.Text.{Part, bracketed, texts, call, infix-text, neg-text, operation-text}
-use Rattle.shapes.specs.Operands.{opening, separator, closing, left-test, right-test, brackets, between, operand-text, operands-text}
+use Rattle.shapes.specs.Operands.{opening, sign, separator, closing, left-test, right-test, brackets, between, operand-text, operands-text}
 
 -- ---- an operation by its kind
 
@@ -68,35 +68,35 @@ abbrev Infix : ℕ → Type 0
 Infix k = (parts : List Part) → length parts ≡ 2 → Layout k parts
 
 add-layout : Infix 3
-unfolding operation-text infix-text opening closing operands-text operand-text between separator brackets left-test right-test
+unfolding operation-text infix-text opening closing operands-text operand-text between separator sign brackets left-test right-test
 add-layout [] e = absurd (omega arith)
 add-layout (a ∷ []) e = absurd (omega arith)
 add-layout (a ∷ (b ∷ [])) e = infix-shape (bracketed (ltb (a .prec) 1) (a .text)) (bytes " + ") (bracketed (ltb (b .prec) 1) (b .text))
 add-layout (a ∷ (b ∷ (c ∷ l))) e = absurd (omega arith)
 
 sub-layout : Infix 4
-unfolding operation-text infix-text opening closing operands-text operand-text between separator brackets left-test right-test
+unfolding operation-text infix-text opening closing operands-text operand-text between separator sign brackets left-test right-test
 sub-layout [] e = absurd (omega arith)
 sub-layout (a ∷ []) e = absurd (omega arith)
 sub-layout (a ∷ (b ∷ [])) e = infix-shape (bracketed (ltb (a .prec) 1) (a .text)) (bytes " - ") (bracketed (leb (b .prec) 1) (b .text))
 sub-layout (a ∷ (b ∷ (c ∷ l))) e = absurd (omega arith)
 
 mul-layout : Infix 5
-unfolding operation-text infix-text opening closing operands-text operand-text between separator brackets left-test right-test
+unfolding operation-text infix-text opening closing operands-text operand-text between separator sign brackets left-test right-test
 mul-layout [] e = absurd (omega arith)
 mul-layout (a ∷ []) e = absurd (omega arith)
 mul-layout (a ∷ (b ∷ [])) e = infix-shape (bracketed (ltb (a .prec) 2) (a .text)) (bytes " * ") (bracketed (ltb (b .prec) 2) (b .text))
 mul-layout (a ∷ (b ∷ (c ∷ l))) e = absurd (omega arith)
 
 div-layout : Infix 6
-unfolding operation-text infix-text opening closing operands-text operand-text between separator brackets left-test right-test
+unfolding operation-text infix-text opening closing operands-text operand-text between separator sign brackets left-test right-test
 div-layout [] e = absurd (omega arith)
 div-layout (a ∷ []) e = absurd (omega arith)
 div-layout (a ∷ (b ∷ [])) e = infix-shape (bracketed (ltb (a .prec) 2) (a .text)) (bytes " / ") (bracketed (leb (b .prec) 2) (b .text))
 div-layout (a ∷ (b ∷ (c ∷ l))) e = absurd (omega arith)
 
 pow-layout : Infix 7
-unfolding operation-text infix-text opening closing operands-text operand-text between separator brackets left-test right-test
+unfolding operation-text infix-text opening closing operands-text operand-text between separator sign brackets left-test right-test
 pow-layout [] e = absurd (omega arith)
 pow-layout (a ∷ []) e = absurd (omega arith)
 pow-layout (a ∷ (b ∷ [])) e = infix-shape (bracketed (leb (a .prec) 4) (a .text)) (bytes "^") (bracketed (ltb (b .prec) 10) (b .text))
@@ -122,7 +122,7 @@ module _ (k : ℕ) (h : 7 < k) where
 
   separator-is : separator k ≡ bytes ", "
   unfolding separator
-  separator-is = rw (not-at 3 (omega arith), not-at 4 (omega arith), not-at 5 (omega arith), not-at 6 (omega arith), not-at 7 (omega arith))
+  separator-is = rw (lt-leb k 6 (omega arith), not-at 7 (omega arith))
 
   no-left : (p : ℕ) → left-test k p ≡ false
   unfolding left-test

@@ -11,13 +11,13 @@ use Rattle.text.specs.Text.{Part, bracketed}
 unfoldable pub opening : ℕ → List ℕ
 opening k = cond (eqb k Neg) (bytes "-") (cond (leb k Pow) [] (printed-name k ++ bytes "("))
 
+-- an operator's sign, as far as Div
+unfoldable pub sign : ℕ → ℕ
+sign k = cond (eqb k Add) 43 (cond (eqb k Sub) 45 (cond (eqb k Mul) 42 47))
+
 unfoldable pub separator : ℕ → List ℕ
-separator k =
-    cond (eqb k Add) (bytes " + ")
-    (cond (eqb k Sub) (bytes " - ")
-    (cond (eqb k Mul) (bytes " * ")
-    (cond (eqb k Div) (bytes " / ")
-    (cond (eqb k Pow) (bytes "^") (bytes ", ")))))
+unfolding sign
+separator k = cond (leb k Div) (32 ∷ sign k ∷ 32 ∷ []) (cond (eqb k Pow) (bytes "^") (bytes ", "))
 
 unfoldable pub closing : ℕ → List ℕ
 closing k = cond (leb k Pow) [] (bytes ")")

@@ -4,7 +4,7 @@ ghost use mathlib.Core.Path.{_≡_};
 ghost use Rattle.text.specs.Text.{part, display, precedence, bracketed};
 ghost use Rattle.emit.specs.Writing.{Writes};
 ghost use Rattle.shapes.specs.Places.{tree-here, Stands, Passes};
-ghost use Rattle.shapes.specs.Operands.{opening, between, closing, left-test, right-test, brackets};
+ghost use Rattle.shapes.specs.Operands.{opening, sign, between, closing, left-test, right-test, brackets};
 ghost use Rattle.writer.specs.Answers.{write-answer};
 use checked::Checked;
 
@@ -134,6 +134,19 @@ fn put_opening(out: &mut [u8], dry: bool, to: usize, kind: u64) -> usize
     names::put_kind_name(out, dry, to, kind)
 }
 
+// An operator's sign, as far as Div.
+fn sign(kind: u64) -> u8
+    ensures { λ r. ⌜ r ≡ sign kind ⌝ }
+{
+    if kind == ADD {
+        return b'+';
+    }
+    if kind == SUB {
+        return b'-';
+    }
+    if kind == MUL { b'*' } else { b'/' }
+}
+
 // What stands before operand `index`: nothing before the first.
 fn put_between(out: &mut [u8], dry: bool, to: usize, kind: u64, index: u64) -> usize
     ensures { λ r. ⌜ Writes dry (now (out .entry)) to (between kind index) (now (out .exit)) r ⌝ }
@@ -141,20 +154,13 @@ fn put_between(out: &mut [u8], dry: bool, to: usize, kind: u64, index: u64) -> u
     if index == 0 {
         return emit::place(out, to);
     }
-    if kind == ADD {
-        return emit::put_bytes(out, dry, to, b" + ");
-    }
-    if kind == SUB {
-        return emit::put_bytes(out, dry, to, b" - ");
-    }
-    if kind == MUL {
-        return emit::put_bytes(out, dry, to, b" * ");
-    }
-    if kind == DIV {
-        return emit::put_bytes(out, dry, to, b" / ");
+    if kind <= DIV {
+        let mut infix = *b"   ";
+        infix[1] = sign(kind);
+        return emit::put_bytes(out, dry, to, &infix);
     }
     if kind == POW {
-        return emit::put_bytes(out, dry, to, b"^");
+        return emit::put(out, dry, to, b'^');
     }
     emit::put_bytes(out, dry, to, b", ")
 }
