@@ -1,8 +1,8 @@
--- The texts that are written byte by byte: a slice's bytes, decimal digits and constants. Assumes nothing.
+-- The texts that are written byte by byte: a slice's bytes, words as bytes, decimal digits and constants. Assumes nothing.
 use Prim.Native.Nat.{ℕ, zero, suc, _+_, _/_, _%_, _≤_, _<_, min}
 use mathlib.Core.Path.{_≡_, refl, sym, ap, _∙_}
 use mathlib.Core.Bool.{Bool, true, false}
-use mathlib.Core.List.{List, [], _∷_, _++_}
+use mathlib.Core.List.{List, [], _∷_, _++_, map}
 use native.Mathlib.Numerals.{add-one}
 use native.Mathlib.Omega.{arith}
 use borrow.Author.Tests.{ltb-false, lt-ltb, le-ltb, eq-eqb, ne-eqb}
@@ -11,10 +11,15 @@ use lib.ListN.{length, getD, take}
 use lib.Seq.{take-suc, take-all}
 use Rattle.tree.specs.Bytes.{digits, decimal, integer}
 use Rattle.tree.specs.Tokens.{constant-at}
-use Rattle.emit.specs.Writing.{Writes}
+use Rattle.tree.proofs.TokenLaws.{map-append}
+use Rattle.emit.specs.Writing.{Writes, low-bytes}
 use Rattle.emit.proofs.WriteLaws.{writes-none, writes-then, writes-as}
 
 -- ---- a slice's bytes, i of them written
+
+pub low-none : low-bytes [] ≡ []
+unfolding low-bytes
+low-none = refl
 
 module _ {dry : Bool} {old : List ℕ} {to : ℕ} (s : List ℕ) where
   pub bytes-begin : (e : ℕ) → e ≡ min to (length old + 1) → Writes dry old to (take 0 s) old e
@@ -26,6 +31,18 @@ module _ {dry : Bool} {old : List ℕ} {to : ℕ} (s : List ℕ) where
 
   pub bytes-end : {new : List ℕ} {i e : ℕ} → length s ≤ i → Writes dry old to (take i s) new e → Writes dry old to s new e
   bytes-end {new} {i} h p = writes-as (take i s) s (take-all i s h) p
+
+  pub words-begin : (e : ℕ) → e ≡ min to (length old + 1) → Writes dry old to (low-bytes (take 0 s)) old e
+  words-begin e h = writes-as [] (low-bytes []) (sym low-none) (writes-none h)
+
+  pub words-turn : {mid new : List ℕ} {i at e : ℕ} → i < length s → Writes dry old to (low-bytes (take i s)) mid at → Writes dry mid at (getD s i 0 % 256 ∷ []) new e → Writes dry old to (low-bytes (take (i + 1) s)) new e
+  unfolding low-bytes
+  words-turn {mid} {new} {i} {at} {e} h p q =
+      writes-as (map (λ w. w % 256) (take i s) ++ (getD s i 0 % 256 ∷ [])) (map (λ w. w % 256) (take (i + 1) s))
+      (rw (add-one i, take-suc s i 0 h, map-append (λ w. w % 256) (take i s) (getD s i 0 ∷ []))) (writes-then p q)
+
+  pub words-end : {new : List ℕ} {i e : ℕ} → length s ≤ i → Writes dry old to (low-bytes (take i s)) new e → Writes dry old to (low-bytes s) new e
+  words-end {new} {i} h p = writes-as (low-bytes (take i s)) (low-bytes s) (ap low-bytes (take-all i s h)) p
 
 -- ---- decimal digits
 

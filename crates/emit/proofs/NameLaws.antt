@@ -2,43 +2,24 @@
 use Prim.Native.Nat.{ℕ, zero, suc, _+_, _-_, _*_, _/_, _%_, _≤_, _<_, min}
 use mathlib.Core.Path.{_≡_, refl, sym, ap, ap₂, _∙_}
 use mathlib.Core.Bool.{Bool, true, false}
-use mathlib.Core.List.{List, [], _∷_, _++_, map}
+use mathlib.Core.List.{List, [], _∷_, _++_}
 use native.Mathlib.Nat.{div-mul-le-self}
-use native.Mathlib.Numerals.{add-one}
 use native.Mathlib.Omega.{arith}
 use borrow.Author.Tests.{ltb-false, ltb-true}
 use lib.IntN.{pos}
 use lib.Dec.{ltb}
 use lib.ListN.{length, getD, take, drop, length-take, length-drop, List·getD-eq-default}
-use lib.Seq.{take-suc, take-all, take-add, drop-at, drop-drop, getD-take, getD-drop}
+use lib.Seq.{take-add, drop-at, drop-drop, getD-take, getD-drop}
 use Rattle.tree.specs.Bytes.{digits, decimal}
 use Rattle.tree.specs.Rows.{Row, row-const}
 use Rattle.tree.specs.Layout.{row-width, row-by, row-of, rows-of}
 use Rattle.tree.specs.Tokens.{name-of-row, name-in, name-by}
 use Rattle.tree.proofs.TokenLaws.{map-append}
 use Rattle.text.specs.Text.{name-text}
-use Rattle.emit.specs.Writing.{Writes}
-use Rattle.names.specs.Symbols.{low-bytes, row-name, symbol-text}
+use Rattle.emit.specs.Writing.{Writes, low-bytes}
+use Rattle.emit.specs.Symbols.{row-name, symbol-text}
 use Rattle.emit.proofs.WriteLaws.{writes-none, writes-then, writes-as}
-
--- ---- words as bytes, i of them written
-
-pub low-none : low-bytes [] ≡ []
-unfolding low-bytes
-low-none = refl
-
-module _ {dry : Bool} {old : List ℕ} {to : ℕ} (s : List ℕ) where
-  pub words-begin : (e : ℕ) → e ≡ min to (length old + 1) → Writes dry old to (low-bytes (take 0 s)) old e
-  words-begin e h = writes-as [] (low-bytes []) (sym low-none) (writes-none h)
-
-  pub words-turn : {mid new : List ℕ} {i at e : ℕ} → i < length s → Writes dry old to (low-bytes (take i s)) mid at → Writes dry mid at (getD s i 0 % 256 ∷ []) new e → Writes dry old to (low-bytes (take (i + 1) s)) new e
-  unfolding low-bytes
-  words-turn {mid} {new} {i} {at} {e} h p q =
-      writes-as (map (λ w. w % 256) (take i s) ++ (getD s i 0 % 256 ∷ [])) (map (λ w. w % 256) (take (i + 1) s))
-      (rw (add-one i, take-suc s i 0 h, map-append (λ w. w % 256) (take i s) (getD s i 0 ∷ []))) (writes-then p q)
-
-  pub words-end : {new : List ℕ} {i e : ℕ} → length s ≤ i → Writes dry old to (low-bytes (take i s)) new e → Writes dry old to (low-bytes s) new e
-  words-end {new} {i} h p = writes-as (low-bytes (take i s)) (low-bytes s) (ap low-bytes (take-all i s h)) p
+use Rattle.emit.proofs.TextLaws.{low-none}
 
 -- ---- a row's words
 

@@ -1,6 +1,6 @@
 -- A symbol's text by its code, with the names of the list from its node rows (Tokens, Layout). Assumes nothing.
 use Prim.Native.Nat.{ℕ, _/_, _%_}
-use mathlib.Core.List.{List, map}
+use mathlib.Core.List.{List}
 use lib.ListN.{length}
 use Rattle.tree.specs.Rows.{Row}
 use Rattle.tree.specs.Layout.{row-width, rows-of}
@@ -20,7 +20,3 @@ row-name ws n = name-in (rows-in ws) n
 unfoldable pub symbol-text : List ℕ → ℕ → List ℕ
 unfolding row-name name-by name-text
 symbol-text ws code = name-text (name-by (row-name ws) (code % 3) (code / 3))
-
--- words as bytes: what is above a byte is dropped
-unfoldable pub low-bytes : List ℕ → List ℕ
-low-bytes s = map (λ w. w % 256) s
