@@ -8,6 +8,7 @@ use Rattle.tree.specs.Bytes.{bytes}
 use Rattle.tree.specs.Kinds.{printed-name, Neg, Add, Sub, Mul, Div, Pow}
 use Rattle.text.specs.Text.{Part, bracketed}
 
+-- what stands before the operands
 unfoldable pub opening : ℕ → List ℕ
 opening k = cond (eqb k Neg) (bytes "-") (cond (leb k Pow) [] (printed-name k ++ bytes "("))
 
@@ -15,10 +16,12 @@ opening k = cond (eqb k Neg) (bytes "-") (cond (leb k Pow) [] (printed-name k ++
 unfoldable pub sign : ℕ → ℕ
 sign k = cond (eqb k Add) 43 (cond (eqb k Sub) 45 (cond (eqb k Mul) 42 47))
 
+-- what stands between two of them
 unfoldable pub separator : ℕ → List ℕ
 unfolding sign
 separator k = cond (leb k Div) (32 ∷ sign k ∷ 32 ∷ []) (cond (eqb k Pow) (bytes "^") (bytes ", "))
 
+-- what stands after them
 unfoldable pub closing : ℕ → List ℕ
 closing k = cond (leb k Pow) [] (bytes ")")
 
@@ -39,6 +42,7 @@ right-test k p =
     (cond (eqb k Div) (leb p 2)
     (cond (eqb k Pow) (ltb p 10) false))))
 
+-- whether operand i has brackets
 unfoldable pub brackets : ℕ → ℕ → ℕ → Bool
 unfolding left-test right-test
 brackets k i p = cond (eqb i 0) (left-test k p) (right-test k p)
