@@ -1,0 +1,4 @@
+pub mod Stacks
+pub mod Left
+pub mod Going
+pub mod Loops
