@@ -26,6 +26,9 @@ joined-long b j l e = rw e refl
 joined-as-long : (b : Bool) (j : ℕ) (l : List ℕ) → b ≡ false → length (joined b j l) ≡ length l
 joined-as-long b j l e = rw e refl
 
+pub counting-starts : (needs : List ℕ) (j count : ℕ) → 0 + length (columns needs j 0 (count - 0)) ≡ length (columns needs j 0 count)
+counting-starts needs j count = rw (let e : count - 0 ≡ count = omega arith in e) (omega arith)
+
 pub needs-more : (needs : List ℕ) (j i count : ℕ) → i < count → yes needs j i ≡ true → length (columns needs j i (count - i)) ≡ suc (length (columns needs j (i + 1) (count - (i + 1))))
 needs-more needs j i count h e = ap length (columns-next needs j i count h) ∙ joined-long (yes needs j i) i (columns needs j (i + 1) (count - (i + 1))) e
 
@@ -66,6 +69,12 @@ unfolding rows-from
 free-step needs count j stack h =
     let e : count - j ≡ suc (count - suc j) = omega arith in
     rw (e, add-one j) (free-row j (columns needs j 0 count) (rows-from needs count (suc j) (count - suc j)) stack)
+
+pub begun :
+    (n left j : ℕ) (waiting stack : List ℕ) (top : ℕ) (new-stack : List ℕ) (new-top : ℕ) → n ≡ left → Pushed (eqb n 0) j stack top new-stack new-top
+    → Begun left j waiting stack top (set waiting j n) new-stack new-top
+begun n left j waiting stack top new-stack new-top e p =
+    record { waits = ap (λ (k : ℕ). set waiting j k) e; pushes = subst (λ (k : ℕ). Pushed (eqb k 0) j stack top new-stack new-top) e p }
 
 pub record Starting (needs : List ℕ) (count : ℕ) (old-waiting old-stack waiting stack : List ℕ) (top j : ℕ) : Type 0 where
   pub turns : push (free-from j (rows-from needs count j (count - j))) (stack-of top stack) ≡ push (free-from 0 (table-of needs count)) []
