@@ -2,3 +2,4 @@ pub mod Stacks
 pub mod Left
 pub mod Going
 pub mod Loops
+pub mod Whole

@@ -1,10 +1,12 @@
 -- What needs what, read from a table of bits, and what the order of the statements answers and leaves (01, "Order"). Assumes nothing.
 use Prim.Native.Nat.{ℕ, zero, suc, _*_}
+use mathlib.Core.Path.{_≡_}
 use mathlib.Core.Bool.{Bool, true, false, _&&_}
 use mathlib.Core.List.{List, [], _∷_, _++_, reverse}
 use lib.Dec.{eqb, leb}
 use lib.ListN.{length, drop}
 use Rattle.bits.specs.Bits.{yes}
+use Rattle.cse.specs.Order.{positions-taken}
 use Rattle.order.specs.declared.Ordered.{Ordered}
 use Rattle.order.specs.declared.Ordered.the-variants as ordered
 
@@ -43,3 +45,7 @@ order-answer false count order = ordered.Broken
 unfoldable pub order-written : Bool → List ℕ → List ℕ → List ℕ
 order-written true order taken = reverse order ++ drop (length order) taken
 order-written false order taken = taken
+
+pub record Orders (needs : List ℕ) (count : ℕ) (waiting stack old-taken : List ℕ) (answer : Ordered) (taken : List ℕ) : Type 0 where
+  pub answer-is : answer ≡ order-answer (room needs count waiting stack old-taken) count (positions-taken (table-of needs count))
+  pub taken-is : taken ≡ order-written (room needs count waiting stack old-taken) (positions-taken (table-of needs count)) old-taken

@@ -7,7 +7,7 @@ ghost use lib.Dec.{eqb};
 ghost use lib.ListN.{length, getD, set};
 ghost use Rattle.bits.specs.Bits.{yes};
 ghost use Rattle.cse.specs.Order.{positions-taken, free-from, push};
-ghost use Rattle.order.specs.Needs.{columns, table-of, room, order-answer, order-written};
+ghost use Rattle.order.specs.Needs.{columns, table-of, Orders};
 ghost use Rattle.order.specs.Turns.{stack-of, joined, joins, Pushed, Met, Begun, Lowered, Counted, Room, Taken};
 
 use bits::get;
@@ -126,8 +126,7 @@ fn take_all(needs: &[u64], count: usize, waiting: &mut [u64], stack: &mut [u64],
 
 // The positions in the order in which they are taken, at the front of `taken`. What is lent in `waiting` and `stack` is for the work.
 pub fn order(needs: &[u64], count: usize, waiting: &mut [u64], stack: &mut [u64], taken: &mut [u64]) -> Ordered
-    ensures { λ r. ⌜ (r ≡ order-answer (room (now (needs .entry)) count (now (waiting .entry)) (now (stack .entry)) (now (taken .entry))) count (positions-taken (table-of (now (needs .entry)) count)))
-        × (now (taken .exit) ≡ order-written (room (now (needs .entry)) count (now (waiting .entry)) (now (stack .entry)) (now (taken .entry))) (positions-taken (table-of (now (needs .entry)) count)) (now (taken .entry))) ⌝ }
+    ensures { λ r. ⌜ Orders (now (needs .entry)) count (now (waiting .entry)) (now (stack .entry)) (now (taken .entry)) r (now (taken .exit)) ⌝ }
 {
     if count > MOST {
         return Ordered::Broken;
