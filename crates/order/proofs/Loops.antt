@@ -84,35 +84,37 @@ pub record Starting (needs : List ℕ) (count : ℕ) (old-waiting old-stack wait
   pub waiting-long : length waiting ≡ length old-waiting
   pub stack-long : length stack ≡ length old-stack
 
-pub starting : (needs : List ℕ) (count : ℕ) (waiting stack : List ℕ) → Starting needs count waiting stack waiting stack 0 0
+pub starting : (needs : List ℕ) (count : ℕ) (waiting stack : List ℕ) (j : ℕ) → 0 ≡ j → Starting needs count waiting stack waiting stack 0 j
 unfolding table-of
-starting needs count waiting stack =
-    record {
+starting needs count waiting stack j e =
+    subst (λ (k : ℕ). Starting needs count waiting stack waiting stack 0 k) e
+    (record {
       turns = rw (stack-empty stack, (let e : count - 0 ≡ count = omega arith in e)) refl;
       waits = λ k h. absurd (omega arith);
       low = omega arith;
       in-count = omega arith;
       waiting-long = refl;
       stack-long = refl;
-    }
+    })
 
 module _ (needs : List ℕ) (count : ℕ) (old-waiting old-stack waiting stack : List ℕ) (top j : ℕ) (s : Starting needs count old-waiting old-stack waiting stack top j)
     (wide : count ≤ length old-waiting) (deep : count ≤ length old-stack) where
   pub starting-turns :
-      j < count → (new-waiting new-stack : List ℕ) (new-top : ℕ)
+      j < count → (next : ℕ) → j + 1 ≡ next → (new-waiting new-stack : List ℕ) (new-top : ℕ)
       → Begun (length (columns needs j 0 count)) j waiting stack top new-waiting new-stack new-top
-      → Starting needs count old-waiting old-stack new-waiting new-stack new-top (j + 1)
-  starting-turns h new-waiting new-stack new-top b =
+      → Starting needs count old-waiting old-stack new-waiting new-stack new-top next
+  starting-turns h next e new-waiting new-stack new-top b =
       let p = b .pushes in
       let inside : top ≤ length stack = omega (arith, s .low, s .stack-long) in
-      record {
+      subst (λ (k : ℕ). Starting needs count old-waiting old-stack new-waiting new-stack new-top k) e
+      (record {
         turns = rw (p .pushed) (sym (free-step needs count j (stack-of top stack) h)) ∙ s .turns;
         waits = rw (b .waits) (set-reads (λ k w. w ≡ length (columns needs k 0 count)) waiting j (length (columns needs j 0 count)) (omega (arith, s .waiting-long)) (s .waits) refl);
         low = omega (arith, pushed-top (eqb (length (columns needs j 0 count)) 0) j stack top new-stack new-top p inside, s .low);
         in-count = omega arith;
         waiting-long = rw (b .waits, length-set waiting j (length (columns needs j 0 count))) (s .waiting-long);
         stack-long = p .long ∙ s .stack-long;
-      }
+      })
 
   pub started : count ≤ j → Counted needs count waiting stack top
   unfolding rows-from free-from push

@@ -38,13 +38,13 @@ module _ (needs : List ℕ) (count : ℕ) (waiting stack taken : List ℕ) where
         long = leb→le count (length taken) (and-right (leb count (length stack)) (leb count (length taken)) w);
       }
 
-  pub no-room : (Enough → ⊥) → Orders needs count waiting stack taken ordered.Broken taken
+  pub no-room : (Enough → ⊥) → Orders needs count waiting stack taken ordered.Broken waiting stack taken
   unfolding order-answer order-written
   no-room f = go (room needs count waiting stack taken) refl
     where
-      go : (b : Bool) → room needs count waiting stack taken ≡ b → Orders needs count waiting stack taken ordered.Broken taken
+      go : (b : Bool) → room needs count waiting stack taken ≡ b → Orders needs count waiting stack taken ordered.Broken waiting stack taken
       go true e = absurd (f (is-enough (subst T (sym e) tt)))
-      go false e = record { answer-is = rw e refl; taken-is = rw e refl }
+      go false e = record { answer-is = rw e refl; taken-is = rw e refl; work-is = λ f. (refl, refl) }
 
   there-is : Enough → room needs count waiting stack taken ≡ true
   unfolding room
@@ -52,20 +52,24 @@ module _ (needs : List ℕ) (count : ℕ) (waiting stack taken : List ℕ) where
       rw (le-leb count 1024 (h .few), le-leb (16 * count) (length needs) (h .rows), le-leb count (length waiting) (h .wide), le-leb count (length stack) (h .deep), le-leb count (length taken) (h .long))
       refl
 
-  module _ (h : Enough) (new : List ℕ) (n : ℕ) (t : Taken (positions-taken (table-of needs count)) taken new n) where
+  module _ (h : Enough) (new-waiting new-stack new : List ℕ) (n : ℕ) (t : Taken (positions-taken (table-of needs count)) taken new n) where
     written : new ≡ order-written (room needs count waiting stack taken) (positions-taken (table-of needs count)) taken
     unfolding order-written
     written = rw (there-is h) (subst (λ (k : ℕ). new ≡ reverse (positions-taken (table-of needs count)) ++ drop k taken) (t .many) (t .words))
 
-    pub all-taken : n ≡ count → Orders needs count waiting stack taken ordered.All new
+    work : room needs count waiting stack taken ≡ false → (new-waiting ≡ waiting) × (new-stack ≡ stack)
+    work e = absurd (subst T (sym (there-is h) ∙ e) tt)
+
+    pub all-taken : n ≡ count → Orders needs count waiting stack taken ordered.All new-waiting new-stack new
     unfolding order-answer
     all-taken e =
-        record { answer-is = rw (there-is h, eq-eqb (length (positions-taken (table-of needs count))) count (sym (t .many) ∙ e)) refl; taken-is = written }
+        record { answer-is = rw (there-is h, eq-eqb (length (positions-taken (table-of needs count))) count (sym (t .many) ∙ e)) refl; taken-is = written; work-is = work }
 
-    pub some-taken : (n ≡ count → ⊥) → Orders needs count waiting stack taken (ordered.Ring n) new
+    pub some-taken : (n ≡ count → ⊥) → Orders needs count waiting stack taken (ordered.Ring n) new-waiting new-stack new
     unfolding order-answer
     some-taken f =
         record {
           answer-is = rw (there-is h, ne-eqb (length (positions-taken (table-of needs count))) count (λ e. f (t .many ∙ e))) (ap (λ (k : ℕ). ordered.Ring k) (t .many));
           taken-is = written;
+          work-is = work;
         }

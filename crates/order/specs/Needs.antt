@@ -46,6 +46,8 @@ unfoldable pub order-written : Bool → List ℕ → List ℕ → List ℕ
 order-written true order taken = reverse order ++ drop (length order) taken
 order-written false order taken = taken
 
-pub record Orders (needs : List ℕ) (count : ℕ) (waiting stack old-taken : List ℕ) (answer : Ordered) (taken : List ℕ) : Type 0 where
-  pub answer-is : answer ≡ order-answer (room needs count waiting stack old-taken) count (positions-taken (table-of needs count))
-  pub taken-is : taken ≡ order-written (room needs count waiting stack old-taken) (positions-taken (table-of needs count)) old-taken
+-- the answer and what is left in what is lent; the work area is free where there is room, and as before where there isn't
+pub record Orders (needs : List ℕ) (count : ℕ) (waiting stack taken : List ℕ) (answer : Ordered) (new-waiting new-stack new-taken : List ℕ) : Type 0 where
+  pub answer-is : answer ≡ order-answer (room needs count waiting stack taken) count (positions-taken (table-of needs count))
+  pub taken-is : new-taken ≡ order-written (room needs count waiting stack taken) (positions-taken (table-of needs count)) taken
+  pub work-is : room needs count waiting stack taken ≡ false → (new-waiting ≡ waiting) × (new-stack ≡ stack)

@@ -70,10 +70,10 @@ fn start(needs: &[u64], count: usize, waiting: &mut [u64], stack: &mut [u64]) ->
     ensures { λ r. ⌜ Counted (now (needs .entry)) count (now (waiting .exit)) (now (stack .exit)) r ⌝ }
 {
     let mut top = 0;
-    let mut j = 0;
-    while j < count {
-        top = begin(needs, count, j, waiting, stack, top);
-        j += 1;
+    let mut rest = count;
+    while rest > 0 {
+        top = begin(needs, count, count - rest, waiting, stack, top);
+        rest -= 1;
     }
     top
 }
@@ -126,7 +126,7 @@ fn take_all(needs: &[u64], count: usize, waiting: &mut [u64], stack: &mut [u64],
 
 // The positions in the order in which they are taken, at the front of `taken`. What is lent in `waiting` and `stack` is for the work.
 pub fn order(needs: &[u64], count: usize, waiting: &mut [u64], stack: &mut [u64], taken: &mut [u64]) -> Ordered
-    ensures { λ r. ⌜ Orders (now (needs .entry)) count (now (waiting .entry)) (now (stack .entry)) (now (taken .entry)) r (now (taken .exit)) ⌝ }
+    ensures { λ r. ⌜ Orders (now (needs .entry)) count (now (waiting .entry)) (now (stack .entry)) (now (taken .entry)) r (now (waiting .exit)) (now (stack .exit)) (now (taken .exit)) ⌝ }
 {
     if count > MOST {
         return Ordered::Broken;

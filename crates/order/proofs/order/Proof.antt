@@ -39,7 +39,7 @@ order-spec =
     let a = c .before .before .before .before .before .before .before .before .before .before .before .before .before .before .before .before .before .before .before .before .args in
     all-taken (a .needs .now) (a .count) (a .waiting .now) (a .stack .now) (a .taken .now)
     (record { few = omega (arith, c .before .before .before .before .before .before .before .before .before .before .before .before .before .before .before .if1 .left); rows = omega (arith, c .before .before .before .before .before .before .before .before .before .before .before .before .before .before .if2 .left); wide = omega (arith, c .before .before .before .before .before .before .before .before .before .before .before .before .before .if3 .left); deep = omega (arith, c .before .before .before .before .before .before .before .before .before .before .before .before .if4 .left); long = omega (arith, c .before .before .before .before .before .before .before .before .before .before .before .if5 .left) })
-    _ _ (c .before .before .before .before .before .before .before .take-all .ensures) (c .if6 .taken))
+    _ _ _ _ (c .before .before .before .before .before .before .before .take-all .ensures) (c .if6 .taken))
     (λ c. search needs)
     (λ c. search needs)
     (λ c. search needs)
@@ -47,4 +47,4 @@ order-spec =
     let a = c .before .before .before .before .before .before .before .before .before .before .before .before .before .before .before .before .before .before .before .before .args in
     some-taken (a .needs .now) (a .count) (a .waiting .now) (a .stack .now) (a .taken .now)
     (record { few = omega (arith, c .before .before .before .before .before .before .before .before .before .before .before .before .before .before .before .if1 .left); rows = omega (arith, c .before .before .before .before .before .before .before .before .before .before .before .before .before .before .if2 .left); wide = omega (arith, c .before .before .before .before .before .before .before .before .before .before .before .before .before .if3 .left); deep = omega (arith, c .before .before .before .before .before .before .before .before .before .before .before .before .if4 .left); long = omega (arith, c .before .before .before .before .before .before .before .before .before .before .before .if5 .left) })
-    _ _ (c .before .before .before .before .before .before .before .take-all .ensures) (c .if6 .left)))
+    _ _ _ _ (c .before .before .before .before .before .before .before .take-all .ensures) (c .if6 .left)))
