@@ -61,7 +61,7 @@ module _ (table : List (List ℕ)) where
   going-room stack done g =
       let fuel = suc (length table) - length done in
       let q : min (length stack) fuel + length done ≤ length (positions-taken table) =
-        subst (λ (l : List ℕ). min (length stack) fuel + length done ≤ length l) (g .leads) (taken-most (min (length stack) fuel) fuel table stack done (omega arith) (omega arith))
+      subst (λ (l : List ℕ). min (length stack) fuel + length done ≤ length l) (g .leads) (taken-most (min (length stack) fuel) fuel table stack done (omega arith) (omega arith))
       in
       omega (arith, q, whole-few, g .few)
 
@@ -81,8 +81,7 @@ module _ (table : List (List ℕ)) where
   pub going-fresh : (i : ℕ) (stack done : List ℕ) → Going (i ∷ stack) done → (T (member i done) → ⊥) × (i < length table)
   going-fresh i stack done g =
       let t = going-turns i stack done g in
-      let k = taken-ok table in
-      (
+      let k = taken-ok table in (
         of-taken Distinct (λ j l d. d .1) (k .distinct) (push (joining 0 i (i ∷ done) table) stack) (i ∷ done) t .0,
         of-taken (All (λ j. j < length table)) (λ j l d. d .1) (k .inside) (push (joining 0 i (i ∷ done) table) stack) (i ∷ done) t .0,
       )

@@ -105,7 +105,7 @@ last-need i w done ns f d e = go (member i ns) (left-taken i done ns f d)
 
 -- ---- the needs read from a row of bits
 
-columns-step : (needs : List ℕ) (j i n : ℕ) → columns needs j i (suc n) ≡ joined (yes needs j i) i (columns needs j (suc i) n)
+pub columns-step : (needs : List ℕ) (j i n : ℕ) → columns needs j i (suc n) ≡ joined (yes needs j i) i (columns needs j (suc i) n)
 unfolding columns
 columns-step needs j i n = go (yes needs j i)
   where
@@ -174,7 +174,7 @@ joins-are needs count i waiting done h f w j zero l = refl
 joins-are needs count i waiting done h f w j (suc n) l =
     let row = columns needs j 0 count in
     let e : (yes needs j i && eqb (getD waiting j 0) 1) ≡ (member i row && within row (i ∷ done)) =
-      rw (sym (row-member needs j count i h)) (last-need i (getD waiting j 0) done row f (columns-distinct needs j 0 count) (w j (omega arith)))
+    rw (sym (row-member needs j count i h)) (last-need i (getD waiting j 0) done row f (columns-distinct needs j 0 count) (w j (omega arith)))
     in
     rw (e, joins-are needs count i waiting done h f w (suc j) n (omega arith)) (go (member i row && within row (i ∷ done)) (joining (suc j) i (i ∷ done) (rows-from needs count (suc j) n)))
   where

@@ -3,3 +3,5 @@ pub mod Left
 pub mod Going
 pub mod Loops
 pub mod Whole
+pub mod Sorted
+pub mod Examples

@@ -175,7 +175,12 @@ module _ (needs : List ℕ) (count i : ℕ) (old-waiting old-stack : List ℕ) (
       let q = ap length (sym (joins-step needs i old-waiting count j (stack-of t stack) h) ∙ s .turns) in
       let l = joined-long (yes needs j i && eqb (getD old-waiting j 0) 1) j (stack-of t stack) b in
       omega (
-        arith, q, l, stack-length t stack (s .inside), stack-length top old-stack (omega arith), s .stack-long,
+        arith,
+        q,
+        l,
+        stack-length t stack (s .inside),
+        stack-length top old-stack (omega arith),
+        s .stack-long,
         push-length (joins needs i old-waiting (j + 1) (count - (j + 1))) (joined (yes needs j i && eqb (getD old-waiting j 0) 1) j (stack-of t stack)),
         push-length (joins needs i old-waiting 0 count) (stack-of top old-stack),
       )
@@ -187,11 +192,11 @@ module _ (needs : List ℕ) (count i : ℕ) (old-waiting old-stack : List ℕ) (
       let p = m .pushes in
       record {
         turns =
-          rw (p .pushed, same-count) (sym (joins-step needs i old-waiting count j (stack-of t stack) h)) ∙ s .turns;
+            rw (p .pushed, same-count) (sym (joins-step needs i old-waiting count j (stack-of t stack) h)) ∙ s .turns;
         lowered =
-          rw (m .waits)
-          (set-reads (λ k w. w ≡ lower (yes needs k i) (getD old-waiting k 0)) waiting j (lower (yes needs j i) (getD waiting j 0)) (omega (arith, s .waiting-long)) (s .lowered)
-          (ap (λ (w : ℕ). lower (yes needs j i) w) same-count));
+            rw (m .waits)
+            (set-reads (λ k w. w ≡ lower (yes needs k i) (getD old-waiting k 0)) waiting j (lower (yes needs j i) (getD waiting j 0)) (omega (arith, s .waiting-long)) (s .lowered)
+            (ap (λ (w : ℕ). lower (yes needs j i) w) same-count));
         later = λ k l. rw (m .waits) (set-after waiting j (lower (yes needs j i) (getD waiting j 0)) k l ∙ s .later k (omega arith));
         inside = p .inside;
         in-count = omega arith;
@@ -205,8 +210,8 @@ module _ (needs : List ℕ) (count i : ℕ) (old-waiting old-stack : List ℕ) (
       record {
         waits = λ k l. s .lowered k (omega arith);
         pushes =
-          subst (λ (m : ℕ). push (joins needs i old-waiting j m) (stack-of t stack) ≡ push (joins needs i old-waiting 0 count) (stack-of top old-stack))
-          (let z : count - j ≡ 0 = omega arith in z) (s .turns);
+            subst (λ (m : ℕ). push (joins needs i old-waiting j m) (stack-of t stack) ≡ push (joins needs i old-waiting 0 count) (stack-of top old-stack))
+            (let z : count - j ≡ 0 = omega arith in z) (s .turns);
         inside = s .inside;
       }
 
@@ -309,8 +314,12 @@ module _ (needs : List ℕ) (count : ℕ) (old-taken waiting stack taken : List 
   pub taking-room : top - 1 + length (joins needs (getD stack (top - 1) 0) waiting 0 count) ≤ length stack
   taking-room =
       omega (
-        arith, going-room (table-of needs count) _ _ turned, push-length (joins needs (getD stack (top - 1) 0) waiting 0 count) (stack-of (top - 1) stack),
-        stack-length (top - 1) stack (omega (arith, s .inside)), table-length needs count, s .deep,
+        arith,
+        going-room (table-of needs count) _ _ turned,
+        push-length (joins needs (getD stack (top - 1) 0) waiting 0 count) (stack-of (top - 1) stack),
+        stack-length (top - 1) stack (omega (arith, s .inside)),
+        table-length needs count,
+        s .deep,
       )
 
   taken-grows : stack-of (n + 1) (set taken n (getD stack (top - 1) 0)) ≡ getD stack (top - 1) 0 ∷ stack-of n taken
@@ -324,16 +333,16 @@ module _ (needs : List ℕ) (count : ℕ) (old-taken waiting stack taken : List 
       record {
         going = rw (taken-grows, l .pushes) turned;
         waits = λ k h.
-          rw (taken-grows, l .waits k h, s .waits k h, sym (row-member needs k count (getD stack (top - 1) 0) top-inside))
-          (left-lower (getD stack (top - 1) 0) (stack-of n taken) (columns needs k 0 count) fresh (columns-distinct needs k 0 count));
+            rw (taken-grows, l .waits k h, s .waits k h, sym (row-member needs k count (getD stack (top - 1) 0) top-inside))
+            (left-lower (getD stack (top - 1) 0) (stack-of n taken) (columns needs k 0 count) fresh (columns-distinct needs k 0 count));
         inside = l .inside;
         few = omega (arith, taking-below);
         wide = omega (arith, s .wide);
         deep = omega (arith, s .deep);
         taken-long = length-set taken n (getD stack (top - 1) 0) ∙ s .taken-long;
         rest =
-          drop-set-lt (n + 1) taken n (getD stack (top - 1) 0) (omega arith)
-          ∙ (sym (drop-drop 1 n taken) ∙ (ap (λ (l : List ℕ). drop 1 l) (s .rest) ∙ drop-drop 1 n old-taken));
+            drop-set-lt (n + 1) taken n (getD stack (top - 1) 0) (omega arith)
+            ∙ (sym (drop-drop 1 n taken) ∙ (ap (λ (l : List ℕ). drop 1 l) (s .rest) ∙ drop-drop 1 n old-taken));
       }
 
 pub taking-ends :
@@ -342,13 +351,13 @@ pub taking-ends :
 unfolding stack-of
 taking-ends needs count old-taken waiting stack taken top n s h long =
     let e : stack-of n taken ≡ positions-taken (table-of needs count) =
-      going-ends (table-of needs count) (stack-of n taken)
-      (subst (λ (t : ℕ). Going (table-of needs count) (stack-of t stack) (stack-of n taken)) (let z : top ≡ 0 = omega arith in z) (s .going))
+    going-ends (table-of needs count) (stack-of n taken)
+    (subst (λ (t : ℕ). Going (table-of needs count) (stack-of t stack) (stack-of n taken)) (let z : top ≡ 0 = omega arith in z) (s .going))
     in
     record {
       many = sym (stack-length n taken (omega (arith, s .few, s .taken-long))) ∙ ap length e;
       words =
-        sym (take-append-drop n taken)
-        ∙ (ap (λ (l : List ℕ). l ++ drop n taken) (sym (reverse-reverse (take n taken)) ∙ ap (λ (l : List ℕ). reverse l) e)
-        ∙ ap (λ (l : List ℕ). reverse (positions-taken (table-of needs count)) ++ l) (s .rest));
+          sym (take-append-drop n taken)
+          ∙ (ap (λ (l : List ℕ). l ++ drop n taken) (sym (reverse-reverse (take n taken)) ∙ ap (λ (l : List ℕ). reverse l) e)
+          ∙ ap (λ (l : List ℕ). reverse (positions-taken (table-of needs count)) ++ l) (s .rest));
     }

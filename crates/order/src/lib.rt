@@ -9,7 +9,6 @@ ghost use Rattle.bits.specs.Bits.{yes};
 ghost use Rattle.cse.specs.Order.{positions-taken, free-from, push};
 ghost use Rattle.order.specs.Needs.{columns, table-of, Orders};
 ghost use Rattle.order.specs.Turns.{stack-of, joined, joins, Pushed, Met, Begun, Lowered, Counted, Room, Taken};
-
 use bits::get;
 
 // 01 has at most this many operations, and so bindings.
@@ -55,7 +54,14 @@ fn push_free(left: u64, j: usize, stack: &mut [u64], top: usize) -> usize
 }
 
 // The needs of statement j are counted; with none it joins the stack.
-fn begin(needs: &[u64], count: usize, j: usize, waiting: &mut [u64], stack: &mut [u64], top: usize) -> usize
+fn begin(
+    needs: &[u64],
+    count: usize,
+    j: usize,
+    waiting: &mut [u64],
+    stack: &mut [u64],
+    top: usize,
+) -> usize
     requires { ⌜ (j < length (now waiting)) × (top < length (now stack)) ⌝ }
     ensures { λ r. ⌜ Begun (length (columns (now (needs .entry)) j 0 count)) j (now (waiting .entry)) (now (stack .entry)) top (now (waiting .exit)) (now (stack .exit)) r ⌝ }
 {
@@ -79,7 +85,14 @@ fn start(needs: &[u64], count: usize, waiting: &mut [u64], stack: &mut [u64]) ->
 }
 
 // Statement i was taken: where statement j needs it, one need less is left, and with none left it joins the stack.
-fn meet(needs: &[u64], i: usize, j: usize, waiting: &mut [u64], stack: &mut [u64], top: usize) -> usize
+fn meet(
+    needs: &[u64],
+    i: usize,
+    j: usize,
+    waiting: &mut [u64],
+    stack: &mut [u64],
+    top: usize,
+) -> usize
     requires { ⌜ (j < length (now waiting)) × (top ≤ length (now stack)) ⌝ }
     requires { ⌜ (yes (now needs) j i ≡ true → 1 ≤ getD (now waiting) j 0) ⌝ }
     requires { ⌜ ((yes (now needs) j i && eqb (getD (now waiting) j 0) 1) ≡ true → top < length (now stack)) ⌝ }
@@ -94,7 +107,14 @@ fn meet(needs: &[u64], i: usize, j: usize, waiting: &mut [u64], stack: &mut [u64
 }
 
 // Statement i was taken: its dependents whose last need it is join the stack, by position.
-fn join(needs: &[u64], count: usize, i: usize, waiting: &mut [u64], stack: &mut [u64], top: usize) -> usize
+fn join(
+    needs: &[u64],
+    count: usize,
+    i: usize,
+    waiting: &mut [u64],
+    stack: &mut [u64],
+    top: usize,
+) -> usize
     requires { ⌜ (count ≤ length (now waiting)) × (top + length (joins (now needs) i (now waiting) 0 count) ≤ length (now stack)) ⌝ }
     requires { ⌜ ((k : ℕ) → k < count → yes (now needs) k i ≡ true → 1 ≤ getD (now waiting) k 0) ⌝ }
     ensures { λ r. ⌜ Lowered (now (needs .entry)) count i (now (waiting .entry)) (now (stack .entry)) top (now (waiting .exit)) (now (stack .exit)) r ⌝ }
@@ -109,7 +129,13 @@ fn join(needs: &[u64], count: usize, i: usize, waiting: &mut [u64], stack: &mut 
 }
 
 // Takes the top until the stack is empty. The answer is how many were taken.
-fn take_all(needs: &[u64], count: usize, waiting: &mut [u64], stack: &mut [u64], taken: &mut [u64]) -> usize
+fn take_all(
+    needs: &[u64],
+    count: usize,
+    waiting: &mut [u64],
+    stack: &mut [u64],
+    taken: &mut [u64],
+) -> usize
     requires { ⌜ Room count (now waiting) (now stack) (now taken) ⌝ }
     ensures { λ r. ⌜ Taken (positions-taken (table-of (now (needs .entry)) count)) (now (taken .entry)) (now (taken .exit)) r ⌝ }
 {
@@ -125,7 +151,13 @@ fn take_all(needs: &[u64], count: usize, waiting: &mut [u64], stack: &mut [u64],
 }
 
 // The positions in the order in which they are taken, at the front of `taken`. What is lent in `waiting` and `stack` is for the work.
-pub fn order(needs: &[u64], count: usize, waiting: &mut [u64], stack: &mut [u64], taken: &mut [u64]) -> Ordered
+pub fn order(
+    needs: &[u64],
+    count: usize,
+    waiting: &mut [u64],
+    stack: &mut [u64],
+    taken: &mut [u64],
+) -> Ordered
     ensures { λ r. ⌜ Orders (now (needs .entry)) count (now (waiting .entry)) (now (stack .entry)) (now (taken .entry)) r (now (waiting .exit)) (now (stack .exit)) (now (taken .exit)) ⌝ }
 {
     if count > MOST {
@@ -144,5 +176,9 @@ pub fn order(needs: &[u64], count: usize, waiting: &mut [u64], stack: &mut [u64]
         return Ordered::Broken;
     }
     let n = take_all(needs, count, waiting, stack, taken);
-    if n == count { Ordered::All } else { Ordered::Ring(n) }
+    if n == count {
+        Ordered::All
+    } else {
+        Ordered::Ring(n)
+    }
 }

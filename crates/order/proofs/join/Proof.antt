@@ -25,8 +25,7 @@ join-spec =
     let start = c .before .before .before .before .before .before .before in
     let a = start .args in
     let s = c .before .before .before .loop in
-    let below = c .before .before .loop-test .taken in
-    (
+    let below = c .before .before .loop-test .taken in (
       (omega (arith, below, s .inv .waiting-long, start .pre .0 .0), s .inv .inside),
       (
         joining-waits (a .needs .now) (a .count) (a .i) (a .waiting .now) (a .stack .now) (a .top) (s .waiting) (s .stack) (s .t) (s .j) (s .inv) (start .pre .0 .0) (start .pre .0 .1) below (start .pre .1),

@@ -32,8 +32,7 @@ start-spec =
     let start = c .before .before .before .before .before .before .before .before .before .before .before .before in
     let a = start .args in
     let s = c .before .before .before .before .before .before .before .before .loop in
-    let some = c .before .before .before .before .before .before .before .loop-test .taken in
-    (
+    let some = c .before .before .before .before .before .before .before .loop-test .taken in (
       omega (arith, s .inv .0),
       starting-turns (a .needs .now) (a .count) (a .waiting .now) (a .stack .now) (s .waiting) (s .stack) (s .top) (a .count - s .rest) (s .inv .1) (start .pre .0) (start .pre .1) (omega (arith, some, s .inv .0)) (a .count - (s .rest - 1)) (omega (arith, some, s .inv .0)) _ _ _ (c .before .before .before .before .begin .ensures),
     ))

@@ -26,8 +26,7 @@ take-all-spec =
     (λ c.
     let a = c .before .before .before .before .before .before .before .before .before .before .before .args in
     let room = c .before .before .before .before .before .before .before .before .before .before .before .pre in
-    let k = c .before .before .before .before .start .kept in
-    (
+    let k = c .before .before .before .before .start .kept in (
       taking-starts (a .needs .now) (a .count) _ _ (a .taken .now) _ (omega (arith, room .waiting-long, k .1 .1 .0)) (omega (arith, room .stack-long, k .1 .1 .1 .0)) (c .before .before .before .before .start .ensures),
       (refl, refl),
     ))
@@ -70,8 +69,7 @@ take-all-spec =
     let s = c .before .before .before .before .before .before .before .before .before .loop in
     let room = c .before .before .before .before .before .before .before .before .before .before .before .before .before .before .before .before .before .before .before .before .before .pre in
     let some = c .before .before .before .before .before .before .before .before .loop-test .taken in
-    let k = c .before .before .before .before .join .kept in
-    (
+    let k = c .before .before .before .before .join .kept in (
       taking-turns (a .needs .now) (a .count) (a .taken .now) (s .waiting) (s .stack) (s .taken) (s .top) (s .n) (s .inv .0) (room .taken-long) some _ _ _ (c .before .before .before .before .join .ensures) (k .1 .1 .1 .0) (k .1 .1 .1 .1 .0),
       (k .1 .1 .1 .0 ∙ s .inv .1 .0, k .1 .1 .1 .1 .0 ∙ s .inv .1 .1),
     ))
