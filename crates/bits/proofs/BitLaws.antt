@@ -3,17 +3,17 @@ use Prim.Native.Nat.{ℕ, zero, suc, _+_, _-_, _*_, _/_, _%_, _^_, _≤_, _<_, m
 use mathlib.Core.Path.{_≡_, refl, sym, _∙_, ap, subst}
 use mathlib.Core.Logic.{_⊎_, inl, inr, _≢_}
 use mathlib.Core.Bool.{Bool, true, false, _&&_, cond}
-use mathlib.Core.List.{List, [], _∷_, _++_}
+use mathlib.Core.List.{List, _++_}
 use native.Mathlib.Omega.{arith}
-use native.Mathlib.Nat.{one-mul, mul-one, div-eq-of-lt, pow-suc}
+use native.Mathlib.Nat.{one-mul, div-eq-of-lt, pow-suc}
 use borrow.Author.Fill.{fill-more}
 use borrow.Author.Tests.{ltb-true, ltb-false, lt-ltb, le-ltb, eqb-true, eqb-false, eq-eqb}
 use lib.Dec.{T, eqb, ltb, ltb→lt, lit<}
 use lib.Bits.{bitOr, or-shr, or-mod, or-zero-r}
 use lib.Pow.{pow-pos, pow-lt, pow-add, shl-exact, shl-shr}
-use lib.ListN.{length, getD, set, drop, replicate, length-set, length-append, length-replicate, length-drop, getD-replicate, List·getD-append, List·getD-eq-default}
+use lib.ListN.{length, getD, set, drop, replicate, length-set, length-append, length-replicate, length-drop, getD-replicate, List·getD-append}
 use lib.Seq.{getD-set-same, getD-set-other, getD-append-add, getD-drop}
-use Rattle.tree.proofs.Logic.{and-left, and-right, and-both}
+use Rattle.tree.proofs.Logic.{and-left, and-right}
 use Rattle.bits.specs.Bits.{bit, inside, yes, with-yes, cleared, word-of}
 
 -- ---- two numbers

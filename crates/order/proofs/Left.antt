@@ -4,12 +4,11 @@ use mathlib.Core.Path.{_≡_, refl, sym, _∙_, ap, subst}
 use mathlib.Core.Bool.{Bool, true, false, _&&_}
 use mathlib.Core.List.{List, [], _∷_}
 use native.Mathlib.Omega.{arith}
-use native.Mathlib.Nat.{add-zero}
 use borrow.Author.Tests.{eqb-true, eqb-false, eq-eqb, ne-eqb}
 use lib.Dec.{T, eqb, eqb·suc-zero, eqb·suc-suc}
 use lib.ListN.{length, getD}
 use Rattle.bits.specs.Bits.{yes}
-use Rattle.cse.specs.Order.{member, within, joining, free-from}
+use Rattle.cse.specs.Order.{member, within, joining}
 use Rattle.cse.proofs.OrderLaws.{Distinct}
 use Rattle.order.specs.Needs.{columns, rows-from, table-of}
 use Rattle.order.specs.Turns.{joined, lower, joins}

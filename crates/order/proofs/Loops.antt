@@ -1,7 +1,7 @@
 -- The loops of the order, turn by turn: needs counted, the first stack, the dependents of one taken, and all that are taken. Assumes nothing.
-use Prim.Native.Nat.{ℕ, zero, suc, _+_, _-_, _≤_, _<_}
+use Prim.Native.Nat.{ℕ, suc, _+_, _-_, _≤_, _<_}
 use mathlib.Core.Path.{_≡_, refl, sym, _∙_, ap, subst}
-use mathlib.Core.Logic.{_⊎_, inl, inr, _≢_}
+use mathlib.Core.Logic.{_≢_}
 use mathlib.Core.Bool.{Bool, true, false, _&&_}
 use mathlib.Core.List.{List, [], _∷_, _++_, reverse, reverse-reverse}
 use native.Mathlib.Omega.{arith}
@@ -13,7 +13,7 @@ use lib.Seq.{getD-set-same, getD-set-other, drop-set-lt, drop-drop, set-getD}
 use Rattle.bits.specs.Bits.{yes}
 use Rattle.cse.specs.Order.{member, free-from, joining, push, positions-taken}
 use Rattle.order.specs.Needs.{columns, rows-from, table-of}
-use Rattle.order.specs.Turns.{stack-of, joined, lower, joins, Pushed, Begun, Met, Counted, Lowered, Room, Taken}
+use Rattle.order.specs.Turns.{stack-of, joined, lower, joins, Pushed, Begun, Met, Counted, Lowered, Taken}
 use Rattle.order.proofs.Stacks.{stack-length, stack-grows, stack-top, stack-empty, pushed-top, push-length, push-joined}
 use Rattle.order.proofs.Left.{left, left-none, left-lower, left-some, columns-next, columns-distinct, row-member, table-length, joins-are}
 use Rattle.order.proofs.Going.{Going, going-starts, going-room, going-turns, going-fresh, going-ends}

@@ -4,11 +4,11 @@ use mathlib.Core.Path.{_≡_, refl, sym, _∙_, ap, subst}
 use mathlib.Core.Bool.{Bool, true, false, _&&_}
 use mathlib.Core.List.{List, _++_, reverse}
 use borrow.Author.Tests.{le-leb, eq-eqb, ne-eqb}
-use lib.Dec.{T, eqb, leb, leb→le}
+use lib.Dec.{T, leb, leb→le}
 use lib.ListN.{length, drop}
 use Rattle.tree.proofs.Logic.{and-left, and-right}
 use Rattle.cse.specs.Order.{positions-taken}
-use Rattle.order.specs.Needs.{table-of, room, all-or-ring, order-answer, order-written, Orders}
+use Rattle.order.specs.Needs.{table-of, room, order-answer, order-written, Orders}
 use Rattle.order.specs.Turns.{Taken}
 use Rattle.order.specs.declared.Ordered.the-variants as ordered
 

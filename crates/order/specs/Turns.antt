@@ -1,7 +1,7 @@
 -- The steps of the order as the code takes them: the stack in words, and how many needs of each statement are left. Assumes nothing.
 use Prim.Native.Nat.{ℕ, zero, suc, _-_, _≤_, _<_}
 use mathlib.Core.Path.{_≡_}
-use mathlib.Core.Bool.{Bool, true, false, _&&_, cond}
+use mathlib.Core.Bool.{Bool, true, false, _&&_}
 use mathlib.Core.List.{List, [], _∷_, _++_, reverse}
 use lib.Dec.{eqb}
 use lib.ListN.{length, getD, take, drop, set}

@@ -4,14 +4,14 @@ ghost use mathlib.Core.Path.{_≡_};
 ghost use mathlib.Core.Bool.{_&&_, true};
 ghost use Prim.Native.Nat.{ℕ, _+_, _≤_, _<_};
 ghost use lib.Dec.{eqb};
-ghost use lib.ListN.{length, getD, set};
+ghost use lib.ListN.{length, getD};
 ghost use Rattle.bits.specs.Bits.{yes};
-ghost use Rattle.cse.specs.Order.{positions-taken, free-from, push};
+ghost use Rattle.cse.specs.Order.{positions-taken};
 ghost use Rattle.order.specs.Needs.{columns, table-of, Orders};
-ghost use Rattle.order.specs.Turns.{stack-of, joined, joins, Pushed, Met, Begun, Lowered, Counted, Room, Taken};
+ghost use Rattle.order.specs.Turns.{joins, Pushed, Met, Begun, Lowered, Counted, Room, Taken};
 use bits::get;
 
-// 01 has at most this many operations, and so bindings.
+// As many statements as a row of the table has places.
 const MOST: usize = 1024;
 
 // Words of a row of the table.

@@ -1,6 +1,5 @@
 -- `order::meet` meets its contract. Assumes nothing.
-use mathlib.Core.Path.{_≡_, sym, _∙_}
-use native.Mathlib.Omega.{arith}
+use mathlib.Core.Path.{sym, _∙_}
 use borrow.Author.Tests.{not-true, not-false}
 use Rattle.order.proofs.Loops.{not-met, is-met, met-room}
 use borrow.Author.Needs.{needs}

@@ -1,7 +1,6 @@
 -- `order::push_free` meets its contract. Assumes nothing.
 use mathlib.Core.Path.{_≡_}
 use native.Mathlib.Omega.{arith}
-use lib.ListN.{length-set}
 use Rattle.order.proofs.Stacks.{not-pushed, is-pushed}
 use borrow.Author.Needs.{needs}
 use Rattle.order.proofs.push_free.Statement.{statement}
