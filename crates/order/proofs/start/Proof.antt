@@ -20,7 +20,7 @@ start-spec =
     (λ c.
     let a = c .before .before .before .args in
     (omega arith, starting (a .needs .now) (a .count) (a .waiting .now) (a .stack .now) (a .count - a .count) (omega arith)))
-    (λ c. c .before .loop .inv .0)
+    (λ c. omega (arith, c .loop-test .taken, c .before .loop .inv .0))
     (λ c κs.
     let start = c .before .before .before .before .before .before .before in
     let some = c .before .before .loop-test .taken in
