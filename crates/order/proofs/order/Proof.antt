@@ -1,7 +1,6 @@
 -- `order::order` meets its contract. Assumes nothing.
 use native.Mathlib.Omega.{arith}
 use Rattle.order.proofs.Whole.{no-room, all-taken, some-taken}
-use borrow.Author.Needs.{needs}
 use Rattle.order.proofs.order.Statement.{statement}
 use Rattle.order.proofs.order.Tie as tie
 
@@ -32,17 +31,17 @@ order-spec =
       stack-long = omega (arith, c .before .before .before .before .if4 .left);
       taken-long = omega (arith, c .before .before .before .if5 .left);
     })
-    (λ c. search needs)
-    (λ c. search needs)
-    (λ c. search needs)
+    (λ c. c .before .before .before .before .before .before .before .take-all .kept .1 .1 .0)
+    (λ c. c .before .before .before .before .before .before .before .take-all .kept .1 .1 .1 .0)
+    (λ c. c .before .before .before .before .before .before .before .take-all .kept .1 .1 .1 .1 .0)
     (λ c.
     let a = c .before .before .before .before .before .before .before .before .before .before .before .before .before .before .before .before .before .before .before .before .args in
     all-taken (a .needs .now) (a .count) (a .waiting .now) (a .stack .now) (a .taken .now)
     (record { few = omega (arith, c .before .before .before .before .before .before .before .before .before .before .before .before .before .before .before .if1 .left); rows = omega (arith, c .before .before .before .before .before .before .before .before .before .before .before .before .before .before .if2 .left); wide = omega (arith, c .before .before .before .before .before .before .before .before .before .before .before .before .before .if3 .left); deep = omega (arith, c .before .before .before .before .before .before .before .before .before .before .before .before .if4 .left); long = omega (arith, c .before .before .before .before .before .before .before .before .before .before .before .if5 .left) })
     _ _ _ _ (c .before .before .before .before .before .before .before .take-all .ensures) (c .if6 .taken))
-    (λ c. search needs)
-    (λ c. search needs)
-    (λ c. search needs)
+    (λ c. c .before .before .before .before .before .before .before .take-all .kept .1 .1 .0)
+    (λ c. c .before .before .before .before .before .before .before .take-all .kept .1 .1 .1 .0)
+    (λ c. c .before .before .before .before .before .before .before .take-all .kept .1 .1 .1 .1 .0)
     (λ c.
     let a = c .before .before .before .before .before .before .before .before .before .before .before .before .before .before .before .before .before .before .before .before .args in
     some-taken (a .needs .now) (a .count) (a .waiting .now) (a .stack .now) (a .taken .now)

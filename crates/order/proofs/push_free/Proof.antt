@@ -2,7 +2,7 @@
 use mathlib.Core.Path.{_≡_}
 use native.Mathlib.Omega.{arith}
 use Rattle.order.proofs.Stacks.{not-pushed, is-pushed}
-use borrow.Author.Needs.{needs}
+use lib.ListN.{length-set}
 use Rattle.order.proofs.push_free.Statement.{statement}
 use Rattle.order.proofs.push_free.Tie as tie
 
@@ -13,10 +13,10 @@ push-free-spec =
     (λ c.
     let a = c .before .args in
     not-pushed (a .left) (a .j) (a .stack .now) (a .top) (omega (arith, c .if1 .taken)) (c .before .pre .0))
-    (λ c. search needs)
+    (λ c. omega (arith, c .before .good, c .before .pre .0))
     (λ c. c .before .pre .1 (omega (arith, c .if1 .left)))
-    (λ c. search needs)
-    (λ c. search needs)
+    (λ c. omega (arith, c .before .good, c .before .pre .0))
+    (λ c. length-set (c .before .args .stack .now) (c .before .args .top) (c .before .args .j))
     (λ c.
     let a = c .before .args in
     let none : a .left ≡ 0 = omega (arith, c .if1 .left) in
