@@ -1,3 +1,5 @@
 pub mod SpanLaws
 pub mod RowSpans
 pub mod ReadBack
+pub mod ListNames
+pub mod LaidOut

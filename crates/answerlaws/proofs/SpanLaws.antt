@@ -16,6 +16,7 @@ use Rattle.tree.proofs.Logic.{and-left, and-right, and-both}
 use Rattle.tree.proofs.KindLaws.{arity-kind}
 use Rattle.tree.proofs.TokenLaws.{symbol-tree, constant-tree, operation-tree, forest-operands}
 use Rattle.tree.proofs.TokenCode.{known-name, coded, coded-each, fits-word, constant-back}
+use Rattle.rewrite.proofs.Names.{holds, holds-each}
 use Rattle.cse.specs.AnswerRows.{Span, Spans, span, no-span, spans, take-spans, drop-spans, stands-below, read-spans, tree-of-span, trees-of-spans}
 
 -- ---- spans one after another
@@ -136,21 +137,22 @@ operation-kind k n h = and-both (leb 2 k) (ltb k 29) (and-left (leb 2 k) (arity-
 
 module _ (known : List ℕ → Bool) where
   mutual
-    unfolding fitting coded tree-ok all-of
+    unfolding fitting holds tree-ok all-of
 
-    pub ok-fitting : (t : Tree) → T (tree-ok t) → T (coded known t) → T (fitting known t)
+    pub ok-fitting : (t : Tree) → T (tree-ok t) → T (holds (known-name known) t) → T (fitting known t)
     ok-fitting (Sym n) h g = g
     ok-fitting (Const c) h g = tt
     ok-fitting (Op k f) h g =
-        and-both (an-operation-kind k) (fitting-each known f) (operation-kind k (length (tests f)) (and-left (operands-ok k (length (tests f))) (all-of (tests f)) h))
-        (each-fitting f (and-right (operands-ok k (length (tests f))) (all-of (tests f)) h) (and-right (fits-word k) (coded-each known f) g))
+        and-both (an-operation-kind k) (fitting-each known f)
+        (operation-kind k (length (tests f)) (and-left (operands-ok k (length (tests f))) (all-of (tests f)) h))
+        (each-fitting f (and-right (operands-ok k (length (tests f))) (all-of (tests f)) h) g)
 
-    each-fitting : (f : Forest) → T (all-of (tests f)) → T (coded-each known f) → T (fitting-each known f)
+    each-fitting : (f : Forest) → T (all-of (tests f)) → T (holds-each (known-name known) f) → T (fitting-each known f)
     each-fitting nil h g = tt
     each-fitting (t ◂ f) h g =
         and-both (fitting known t) (fitting-each known f)
-        (ok-fitting t (and-left (tree-ok t) (all-of (tests f)) h) (and-left (coded known t) (coded-each known f) g))
-        (each-fitting f (and-right (tree-ok t) (all-of (tests f)) h) (and-right (coded known t) (coded-each known f) g))
+        (ok-fitting t (and-left (tree-ok t) (all-of (tests f)) h) (and-left (holds (known-name known) t) (holds-each (known-name known) f) g))
+        (each-fitting f (and-right (tree-ok t) (all-of (tests f)) h) (and-right (holds (known-name known) t) (holds-each (known-name known) f) g))
 
 -- ---- the spans of a tree
 
