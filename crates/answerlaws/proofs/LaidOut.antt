@@ -12,10 +12,9 @@ use Rattle.tree.proofs.Logic.{and-left, and-right, and-both}
 use Rattle.tree.proofs.TreeLaws.{eq-bytes-sound, eq-bytes-refl}
 use Rattle.cse.specs.Answer.{Answer}
 use Rattle.cse.specs.AnswerRows.{answer-words, answer-of, intermediates-ok, references-ok, answer-laid-out}
-use Rattle.answerlaws.proofs.RowSpans.{stmts-fitting}
-use Rattle.answerlaws.proofs.SpanLaws.{all-fitting}
+use Rattle.answerlaws.specs.Fitting.{all-fitting, stmts-fitting, numbered-in}
 use Rattle.answerlaws.proofs.ReadBack.{answer-back}
-use Rattle.answerlaws.proofs.ListNames.{numbered-in, numbered-back, answer-fits}
+use Rattle.answerlaws.proofs.ListNames.{numbered-back, answer-fits}
 
 -- the words are an answer's rows, and its parts and references are right
 pub record RowsOf (rows : List Row) (ws : List ℕ) : Type 0 where

@@ -3,3 +3,5 @@ pub mod RowSpans
 pub mod ReadBack
 pub mod ListNames
 pub mod LaidOut
+pub mod FrontLaws
+pub mod HeadLaws

@@ -24,13 +24,8 @@ use Rattle.cse.specs.Read.{arm-count}
 use Rattle.cse.specs.Demand.{bound-stmts, all-different, known, in-scope, stmt-in-scope, arms-in-scope}
 use Rattle.cse.specs.AnswerRows.{let-name, match-names, intermediate-ok, intermediates-ok, arms-ok, list-names, references-ok}
 use Rattle.cse.proofs.Symbols.{or-cases, elem-cases, elem-here, elem-later, elem-append, elem-left, elem-right, holds-by, no-elem}
-use Rattle.answerlaws.proofs.SpanLaws.{fitting, all-fitting, ok-fitting}
-use Rattle.answerlaws.proofs.RowSpans.{a-switch-kind, stmt-fitting, stmts-fitting, arms-fitting}
-
--- a symbol's number leads back to it
-unfoldable pub numbered-in : List Row → List ℕ → Bool
-unfolding name-in number-in eq-bytes
-numbered-in rows s = eq-bytes (name-in rows (number-in rows s)) s
+use Rattle.answerlaws.specs.Fitting.{fitting, all-fitting, a-switch-kind, stmt-fitting, stmts-fitting, arms-fitting, numbered-in}
+use Rattle.answerlaws.proofs.SpanLaws.{ok-fitting}
 
 pub numbered-back : (rows : List Row) (s : List ℕ) → T (numbered-in rows s) → name-in rows (number-in rows s) ≡ s
 unfolding numbered-in

@@ -14,8 +14,9 @@ use Rattle.tree.proofs.TokenCode.{known-name}
 use Rattle.cse.specs.Answer.{Intermediate, Intermediates, Arms, Answer, Let, Match, end, step, no-arm, arm}
 use Rattle.cse.specs.Read.{arm-count}
 use Rattle.cse.specs.AnswerRows.{let-row, match-row, name-row, arm-row, value-row, result-row, step-count, intermediates-words, each-words, answer-words, Span, Spans, span, no-span, spans, read-spans, row-of-span, first-tree, tree-of-span, tree-below, trees-below, names-of-spans, intermediate-of-span, intermediates-of-spans, arms-of-spans, arm-of-span, answer-of, let-name, match-names}
-use Rattle.answerlaws.proofs.SpanLaws.{join, span-count, fitting, fitting-each, an-operation-kind, all-fitting, tree-span, name-back, span-tree}
-use Rattle.answerlaws.proofs.RowSpans.{a-switch-kind, stmt-fitting, stmts-fitting, arms-fitting, name-spans, each-spans, stmt-span, stmt-spans, arm-spans, read-stmts, read-each}
+use Rattle.answerlaws.proofs.SpanLaws.{join, span-count, tree-span, name-back, span-tree}
+use Rattle.answerlaws.specs.Fitting.{an-operation-kind, fitting, fitting-each, all-fitting, a-switch-kind, stmt-fitting, stmts-fitting, arms-fitting}
+use Rattle.answerlaws.proofs.RowSpans.{name-spans, each-spans, stmt-span, stmt-spans, arm-spans, read-stmts, read-each}
 
 -- ---- one span in front, taken or passed over
 

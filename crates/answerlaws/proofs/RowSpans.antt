@@ -13,28 +13,8 @@ use Rattle.tree.proofs.Logic.{and-left, and-right, and-both}
 use Rattle.cse.specs.Answer.{Intermediate, Intermediates, Arms, Let, Match, end, step, no-arm, arm}
 use Rattle.cse.specs.Read.{arm-count}
 use Rattle.cse.specs.AnswerRows.{let-row, match-row, name-row, arm-row, value-row, result-row, step-count, names-words, each-words, intermediate-words, intermediates-words, arms-words, Span, Spans, span, no-span, spans, read-spans, let-name, match-names}
-use Rattle.answerlaws.proofs.SpanLaws.{join, span-count, join-assoc, count-join, read-row, below-many, below-name, below-let, below-each, fitting, all-fitting, tree-span, read-tree-span}
-
--- ---- statements that are spans: x names for lets, m names for matches, kinds that are switches, and trees that fit
-
-abbrev pub a-switch-kind : ℕ → Bool
-a-switch-kind k = leb 26 k && ltb k 29
-
-module _ (known : List ℕ → Bool) where
-  unfoldable mutual
-    unfolding fitting all-fitting let-name match-names
-
-    pub stmt-fitting : Intermediate → Bool
-    stmt-fitting (Let n e) = let-name n && fitting known e
-    stmt-fitting (Match k key ns arms) = a-switch-kind k && (fitting known key && (match-names ns && arms-fitting arms))
-
-    pub stmts-fitting : Intermediates → Bool
-    stmts-fitting end = true
-    stmts-fitting (step s l) = stmt-fitting s && stmts-fitting l
-
-    pub arms-fitting : Arms → Bool
-    arms-fitting no-arm = true
-    arms-fitting (arm s vs l) = (stmts-fitting s && all-fitting known vs) && arms-fitting l
+use Rattle.answerlaws.specs.Fitting.{fitting, all-fitting, a-switch-kind, stmt-fitting, stmts-fitting, arms-fitting}
+use Rattle.answerlaws.proofs.SpanLaws.{join, span-count, join-assoc, count-join, read-row, below-many, below-name, below-let, below-each, tree-span, read-tree-span}
 
 -- ---- their spans
 

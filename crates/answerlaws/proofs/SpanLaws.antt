@@ -17,6 +17,7 @@ use Rattle.tree.proofs.KindLaws.{arity-kind}
 use Rattle.tree.proofs.TokenLaws.{symbol-tree, constant-tree, operation-tree, forest-operands}
 use Rattle.tree.proofs.TokenCode.{known-name, coded, coded-each, fits-word, constant-back}
 use Rattle.rewrite.proofs.Names.{holds, holds-each}
+use Rattle.answerlaws.specs.Fitting.{an-operation-kind, fitting, fitting-each}
 use Rattle.cse.specs.AnswerRows.{Span, Spans, span, no-span, spans, take-spans, drop-spans, stands-below, read-spans, tree-of-span, trees-of-spans}
 
 -- ---- spans one after another
@@ -86,47 +87,7 @@ below-each w h =
     let l : kind-of w ≡ 29 → ⊥ = λ e. omega arith in
     rw (lt-leb (kind-of w) 1 a, ne-eqb (kind-of w) 33 n, ne-eqb (kind-of w) 29 l, le-leb 35 (kind-of w) h)
 
--- ---- trees that are spans: every symbol of the list is one that `known` passes, and every operation's kind is one of 01's
-
-abbrev pub an-operation-kind : ℕ → Bool
-an-operation-kind k = leb 2 k && ltb k 29
-
-module _ (known : List ℕ → Bool) where
-  unfoldable mutual
-    unfolding known-name
-
-    pub fitting : Tree → Bool
-    fitting (Sym n) = known-name known n
-    fitting (Const c) = true
-    fitting (Op k f) = an-operation-kind k && fitting-each f
-
-    pub fitting-each : Forest → Bool
-    fitting-each nil = true
-    fitting-each (t ◂ f) = fitting t && fitting-each f
-
-  unfoldable pub all-fitting : List Tree → Bool
-  unfolding fitting
-  all-fitting [] = true
-  all-fitting (t ∷ l) = fitting t && all-fitting l
-
-  mutual
-    unfolding fitting coded
-
-    pub fitting-coded : (t : Tree) → T (fitting t) → T (coded known t)
-    fitting-coded (Sym n) h = h
-    fitting-coded (Const c) h = tt
-    fitting-coded (Op k f) h =
-        let a = and-left (an-operation-kind k) (fitting-each f) h in
-        let b = ltb→lt k 29 (and-right (leb 2 k) (ltb k 29) a) in
-        and-both (fits-word k) (coded-each known f)
-        (and-both (leb 2 k) (ltb k 64) (and-left (leb 2 k) (ltb k 29) a) (lt→ltb k 64 (omega arith)))
-        (each-coded f (and-right (an-operation-kind k) (fitting-each f) h))
-
-    each-coded : (f : Forest) → T (fitting-each f) → T (coded-each known f)
-    each-coded nil h = tt
-    each-coded (t ◂ f) h =
-        and-both (coded known t) (coded-each known f) (fitting-coded t (and-left (fitting t) (fitting-each f) h))
-        (each-coded f (and-right (fitting t) (fitting-each f) h))
+-- ---- trees that are spans
 
 abbrev tests : Forest → List Bool
 tests f = folds symbol-ok of-paper (λ k l. operands-ok k (length l) && all-of l) f
