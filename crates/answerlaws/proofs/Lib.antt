@@ -5,3 +5,6 @@ pub mod ListNames
 pub mod LaidOut
 pub mod FrontLaws
 pub mod HeadLaws
+pub mod TreeFronts
+pub mod RowFirst
+pub mod CodeLaws

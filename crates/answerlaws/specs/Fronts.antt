@@ -1,9 +1,9 @@
 -- What stands in front of some words, by the part of an answer that it is, and what is left after it (01, "Turned down", refusal 13). Assumes nothing.
-use Prim.Native.Nat.{ℕ, suc, _+_, _≤_, _<_, _%_}
+use Prim.Native.Nat.{ℕ, suc, _+_, _-_, _≤_, _%_}
 use mathlib.Core.Path.{_≡_}
 use mathlib.Core.Bool.{Bool, true, false, not, _&&_}
 use mathlib.Core.List.{List, [], _∷_, _++_}
-use lib.ListN.{length}
+use lib.ListN.{length, drop}
 use lib.Dec.{T, leb, ltb, eqb}
 use Rattle.tree.specs.Kinds.{is-switch, arity-ok}
 use Rattle.tree.specs.Tree.{Name, Tree}
@@ -100,3 +100,21 @@ module _ (rows : List Row) where
     pub parts-fit : T (stmts-fitting (numbered-in rows) (answer .inters))
     pub results-fit : T (all-fitting (numbered-in rows) (answer .results))
     pub words : ws ≡ answer-words (number-in rows) answer
+
+  -- all that is left is results
+  abbrev pub Results : List ℕ → Type 0
+  Results l = (n : ℕ) × ValuesFront result-row n l []
+
+-- what is left after one part is exactly what is left after another
+pub record Same (part other : List ℕ → Type 0) : Type 0 where
+  pub to : (r : List ℕ) → part r → other r
+  pub from : (r : List ℕ) → other r → part r
+
+-- statements stand from a place to another, and what stands after them is as it would be read from the first place
+pub record Through (rows : List Row) (ws : List ℕ) (at count i : ℕ) : Type 0 where
+  pub to : (n : ℕ) (r : List ℕ) → StmtsFront rows n (drop i ws) r → StmtsFront rows (count + n) (drop at ws) r
+  pub from : (n : ℕ) (r : List ℕ) → StmtsFront rows n (drop at ws) r → (m : ℕ) × (n ≡ count + m) × StmtsFront rows m (drop i ws) r
+
+-- the same for match names
+abbrev pub Named : List ℕ → ℕ → ℕ → Type 0
+Named ws at i = (rows : List Row) (m : ℕ) (r : List ℕ) → NamesFront rows m (drop i ws) r → NamesFront rows (i - at + m) (drop at ws) r
