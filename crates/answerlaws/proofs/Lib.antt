@@ -8,3 +8,6 @@ pub mod HeadLaws
 pub mod TreeFronts
 pub mod RowFirst
 pub mod CodeLaws
+pub mod SpanWords
+pub mod BoundLaws
+pub mod ScopeLaws
