@@ -23,12 +23,13 @@ use Rattle.tree.proofs.Tests.{is-true}
 use Rattle.tree.proofs.TokenCode.{known-name}
 use Rattle.cse.specs.Answer.{Intermediate, Intermediates, Arms, Answer, Let, Match, end, step, no-arm, arm, names, concat, symbols, all-symbols, elem}
 use Rattle.cse.specs.Read.{arm-count}
-use Rattle.cse.specs.Demand.{known, in-scope, stmt-in-scope, arms-in-scope}
+use Rattle.cse.specs.Demand.{bound-stmt, bound-stmts, bound-arms, known, in-scope, stmt-in-scope, arms-in-scope}
 use Rattle.cse.specs.AnswerRows.{let-row, match-row, name-row, arm-row, value-row, step-count, names-words, each-words, intermediate-words, intermediates-words, arms-words, let-name, match-names, intermediate-ok, intermediates-ok, arms-ok, list-names}
 use Rattle.cse.proofs.Symbols.{elem-here, elem-later, no-elem}
 use Rattle.answerlaws.specs.Fitting.{an-operation-kind, fitting, fitting-each, all-fitting, a-switch-kind, stmt-fitting, stmts-fitting, arms-fitting, numbered-in}
 use Rattle.answerlaws.specs.Seen.{span-words, entered, names-bind, match-binds, binds, bound-by, is-use, use-ok, seen}
-use Rattle.answerlaws.proofs.ListNames.{numbered-back, made-names, made-no-input}
+use Rattle.answerlaws.proofs.ListNames.{numbered-back, made-names, made-append, made-no-input, let-made, match-made}
+use Rattle.answerlaws.proofs.HeadLaws.{arms-some}
 use Rattle.answerlaws.proofs.SpanWords.{Whole, tree-whole, names-whole, each-row, stmt-whole, arm-whole, name-whole}
 use Rattle.answerlaws.proofs.BoundLaws.{whole-span, pass, enter, stop, enters-match, enters-arm, enters-no, enters-none, binds-let, binds-match, binds-low, binds-high, code-same, let-made-name, names-bound}
 
@@ -400,3 +401,275 @@ module _ (rows : List Row) (b : List Name) (b-made : T (made-names b)) where
           inside = rw z (leads-inside q E w l r scope d whole shut (omega arith) h);
           leads = rw z (leads-pass q E w l r scope [] d whole (binds-nothing w (l ++ r) (inl (p .3))) h)
         }
+
+    -- ---- values, results and names
+
+    each-step : (row : ℕ) (t : Tree) (l : List Tree) (r : List ℕ) → each-words number row (t ∷ l) ++ r ≡ word row 0 ∷ (tokens number t ++ (each-words number row l ++ r))
+    unfolding each-words
+    each-step row t l r = ap (λ (x : List ℕ). word row 0 ∷ x) (append-assoc (tokens number t) (each-words number row l) r)
+
+    each-length : (row : ℕ) (t : Tree) (l : List Tree) → length (each-words number row (t ∷ l)) ≡ suc (length (tokens number t)) + length (each-words number row l)
+    unfolding each-words
+    each-length row t l = omega (arith, length-append (tokens number t) (each-words number row l))
+
+    all-cons : (t : Tree) (l : List Tree) → all-symbols (t ∷ l) ≡ symbols t ++ all-symbols l
+    unfolding all-symbols
+    all-cons t l = refl
+
+    all-nil : all-symbols [] ≡ []
+    unfolding all-symbols
+    all-nil = refl
+
+    each-nil : (row : ℕ) → length (each-words number row []) ≡ 0
+    unfolding each-words
+    each-nil row = refl
+
+    values-seen :
+        (row : ℕ) → 35 ≤ row → row < 64 → (vs : List Tree) → T (trees-ok vs) → T (all-fitting known-here vs) → (q E : ℕ) (r : List ℕ) (scope : List Name) → drop q ws ≡ each-words number row vs ++ r
+        → q + length (each-words number row vs) ≤ E → Leads q E scope → seen ws q (length (each-words number row vs)) ≡ known inputs b scope (all-symbols vs)
+    values-seen row low high [] o f q E r scope e less h = ap (seen ws q) (each-nil row) ∙ (none-seen ws scope q ∙ (sym (known-nil scope) ∙ ap (known inputs b scope) (sym all-nil)))
+    values-seen row low high (t ∷ l) o f q E r scope e less h =
+        let ot : T (tree-ok t) = unfold trees-ok in and-left (tree-ok t) (trees-ok l) o in
+        let ol : T (trees-ok l) = unfold trees-ok in and-right (tree-ok t) (trees-ok l) o in
+        let ft : T (fitting known-here t) = unfold all-fitting in and-left (fitting known-here t) (all-fitting known-here l) f in
+        let fl : T (all-fitting known-here l) = unfold all-fitting in and-right (fitting known-here t) (all-fitting known-here l) f in
+        let w = word row 0 in
+        let x = tokens number t in
+        let y = each-words number row l in
+        let len = each-length row t l in
+        let d : drop q ws ≡ w ∷ (x ++ (y ++ r)) = e ∙ each-step row t l r in
+        let whole = each-row number known-here row t low high ft in
+        let shut : entered w ≡ false = enters-none w (omega arith) (λ z. omega arith) in
+        let inside = leads-stop q E w x (y ++ r) scope d whole shut (omega arith) h in
+        let on : Leads (q + suc (length x)) E scope = leads-pass q E w x (y ++ r) scope [] d whole (binds-nothing w (x ++ (y ++ r)) (inr (omega arith))) h in
+        let here : seen ws q (suc (length x)) ≡ known inputs b scope (symbols t) =
+        seen-row ws q w (length x) (x ++ (y ++ r)) d (λ z. omega arith) ∙ tree-seen ws scope t ot ft (suc q) (y ++ r) (next ws q w (x ++ (y ++ r)) d) inside in
+        let rest = values-seen row low high l ol fl (q + suc (length x)) E r scope (move ws q (w ∷ x) (y ++ r) d) (omega arith) on in
+        ap (seen ws q) len
+        ∙ (seen-add ws q (suc (length x)) (length y) ∙ (ap₂ _&&_ here rest ∙ (sym (known-both (symbols t) (all-symbols l) scope) ∙ ap (known inputs b scope) (sym (all-cons t l)))))
+
+    names-length : (ns : List Name) → length (names-words number ns) ≡ length ns
+    unfolding names-words
+    names-length [] = refl
+    names-length (n ∷ l) = ap suc (names-length l)
+
+    record Names-passed (ns : List Name) (q E : ℕ) (scope : List Name) : Type 0 where
+      are-seen : seen ws q (length (names-words number ns)) ≡ true
+      on : Leads (q + length (names-words number ns)) E scope
+
+    names-passed : (ns : List Name) (q E : ℕ) (r : List ℕ) (scope : List Name) → drop q ws ≡ names-words number ns ++ r → q + length (names-words number ns) ≤ E → Leads q E scope → Names-passed ns q E scope
+    unfolding names-words
+    names-passed [] q E r scope e less h = let z : q + 0 ≡ q = omega arith in record { are-seen = none-seen ws scope q; on = rw z h }
+    names-passed (n ∷ l) q E r scope e less h =
+        let w = word name-row (code n) in
+        let x = names-words number l in
+        let one = leads-pass q E w [] (x ++ r) scope [] e (name-whole number n) (binds-nothing w (x ++ r) (inr (omega arith))) h in
+        let y : q + suc 0 ≡ suc q = omega arith in
+        let rest = names-passed l (suc q) E r scope (next ws q w (x ++ r) e) (omega arith) (subst (λ (k : ℕ). Leads k E scope) y one) in
+        let z : suc q + length x ≡ q + suc (length x) = omega arith in
+        record { are-seen = seen-row ws q w (length x) (x ++ r) e (λ k. omega arith) ∙ rest .are-seen; on = subst (λ (k : ℕ). Leads k E scope) z (rest .on) }
+
+    -- ---- what a statement binds
+
+    arm-next : (arms : Arms) (c : ℕ) (r : List ℕ) → 1 ≤ arm-count arms → names-bind c (arms-words number arms ++ r) ≡ false
+    unfolding arm-count arms-words names-bind
+    arm-next no-arm c r h = absurd (omega arith)
+    arm-next (arm s vs l) c r h =
+        let w = word arm-row (step-count s + length vs) in
+        let n : kind-of w ≡ 33 → ⊥ = λ e. omega arith in
+        rw (ne-eqb (kind-of w) 33 n, names-bind)
+
+    let-binds : (n : Name) (l : List ℕ) → T (let-name n) → (x : Name) → Made x → binds (code x) (word let-row (code n)) l ≡ elem x (n ∷ [])
+    let-binds n l h x m =
+        let w = word let-row (code n) in
+        let k : kind-of w ≡ 29 = omega arith in
+        let d : below-of w ≡ code n = omega arith in
+        binds-let (code x) w l k
+        ∙ (ap (λ (i : ℕ). eqb i (code x)) d
+        ∙ (code-same number n x (let-made-name number n h) m ∙ (sym (or-false (eq-name n x)) ∙ (ap (λ (t : Bool). eq-name n x || t) (sym (elem-nil x)) ∙ sym (elem-cons x n [])))))
+
+    match-binds-names :
+        (w : ℕ) (t : Tree) (ns : List Name) (a : List ℕ) → 30 ≤ kind-of w → kind-of w < 33 → T (fitting known-here t) → T (match-names ns) → ((c : ℕ) → names-bind c a ≡ false) → (x : Name) → Made x
+        → binds (code x) w (tokens number t ++ (names-words number ns ++ a)) ≡ elem x ns
+    match-binds-names w t ns a low high f m n x k =
+        let l = names-words number ns ++ a in
+        let e = whole-span (tokens number t) (tree-whole number known-here t f) l in
+        binds-match (code x) w (tokens number t ++ l) low high ∙ (key-past (code x) (length (tokens number t)) (tokens number t ++ l) e ∙ (ap (names-bind (code x)) (drop-at (tokens number t) l (length (tokens number t)) refl) ∙ names-bound number ns x a m k (n (code x))))
+      where
+        key-past : (c n : ℕ) (l : List ℕ) → span-words l 1 ≡ some n → match-binds c l ≡ names-bind c (drop n l)
+        key-past c n l e = unfold match-binds in rw (e, match-binds)
+
+    -- ---- statements and arms
+
+    two-parts : (x y z r : List ℕ) → (x ++ (y ++ z)) ++ r ≡ x ++ (y ++ (z ++ r))
+    two-parts x y z r = append-assoc x (y ++ z) r ∙ ap (λ (t : List ℕ). x ++ t) (append-assoc y z r)
+
+    let-seen :
+        (n : Name) (t : Tree) → T (let-name n && tree-ok t) → T (let-name n && fitting known-here t) → (q E : ℕ) (r : List ℕ) (scope : List Name) → drop q ws ≡ word let-row (code n) ∷ (tokens number t ++ r)
+        → q + suc (length (tokens number t)) ≤ E → Leads q E scope
+        → (seen ws q (suc (length (tokens number t))) ≡ known inputs b scope (symbols t)) × Leads (q + suc (length (tokens number t))) E ((n ∷ []) ++ scope)
+    let-seen n t o f q E r scope e less h =
+        let w = word let-row (code n) in
+        let x = tokens number t in
+        let ot = and-right (let-name n) (tree-ok t) o in
+        let ft = and-right (let-name n) (fitting known-here t) f in
+        let whole : Whole (w ∷ x) 1 = stmt-whole-let n t f in
+        let shut : entered w ≡ false = enters-no w (omega arith) in
+        let inside = leads-stop q E w x r scope e whole shut (omega arith) h in
+        (seen-row ws q w (length x) (x ++ r) e (λ z. omega arith) ∙ tree-seen ws scope t ot ft (suc q) r (next ws q w (x ++ r) e) inside,
+        leads-pass q E w x r scope (n ∷ []) e whole (let-binds n (x ++ r) (and-left (let-name n) (tree-ok t) o)) h)
+      where
+        stmt-whole-let : (n : Name) (t : Tree) → T (let-name n && fitting known-here t) → Whole (word let-row (code n) ∷ tokens number t) 1
+        stmt-whole-let n t f = unfold intermediate-words stmt-fitting in stmt-whole number known-here (Let n t) f
+
+    mutual
+      unfolding intermediate-ok stmt-fitting intermediate-words stmt-in-scope names step-count arm-count
+
+      stmt-seen :
+          (s : Intermediate) → T (intermediate-ok s) → T (stmt-fitting known-here s) → (q E : ℕ) (r : List ℕ) (scope : List Name) → drop q ws ≡ intermediate-words number s ++ r
+          → q + length (intermediate-words number s) ≤ E → Leads q E scope
+          → (seen ws q (length (intermediate-words number s)) ≡ stmt-in-scope inputs b s scope) × Leads (q + length (intermediate-words number s)) E (names s ++ scope)
+      stmt-seen (Let n t) o f q E r scope e less h = let-seen n t o f q E r scope e less h
+      stmt-seen (Match k t ns arms) o f q E r scope e less h =
+          let sw = is-switch k && arity-ok k (suc (arm-count arms)) in
+          let ds = leb 1 (length ns) && match-names ns in
+          let o1 = and-right sw (tree-ok t && (ds && arms-ok (length ns) arms)) o in
+          let o2 = and-right (tree-ok t) (ds && arms-ok (length ns) arms) o1 in
+          let ot = and-left (tree-ok t) (ds && arms-ok (length ns) arms) o1 in
+          let oa = and-right ds (arms-ok (length ns) arms) o2 in
+          let kf = and-left (a-switch-kind k) (fitting known-here t && (match-names ns && arms-fitting known-here arms)) f in
+          let f1 = and-right (a-switch-kind k) (fitting known-here t && (match-names ns && arms-fitting known-here arms)) f in
+          let f2 = and-right (fitting known-here t) (match-names ns && arms-fitting known-here arms) f1 in
+          let ft = and-left (fitting known-here t) (match-names ns && arms-fitting known-here arms) f1 in
+          let fm = and-left (match-names ns) (arms-fitting known-here arms) f2 in
+          let fa = and-right (match-names ns) (arms-fitting known-here arms) f2 in
+          let low = leb→le 26 k (and-left (leb 26 k) (ltb k 29) kf) in
+          let high = ltb→lt k 29 (and-right (leb 26 k) (ltb k 29) kf) in
+          let w = word (match-row k) (suc (length ns + arm-count arms)) in
+          let x = tokens number t in
+          let y = names-words number ns in
+          let z = arms-words number arms in
+          let l = x ++ (y ++ z) in
+          let l1 = length-append x (y ++ z) in
+          let l2 = length-append y z in
+          let whole : Whole (w ∷ l) 1 = stmt-whole number known-here (Match k t ns arms) f in
+          let F = q + suc (length l) in
+          let in1 = leads-enter q E F w l r scope e whole (enters-match w (omega arith) (omega arith)) (omega arith) (omega arith) h in
+          let d1 : drop (suc q) ws ≡ x ++ (y ++ (z ++ r)) = next ws q w (l ++ r) e ∙ two-parts x y z r in
+          let k1 = key t (suc q) F (y ++ (z ++ r)) scope ft d1 (omega (arith, l1, l2)) in1 in
+          let q1 = suc q + length x in
+          let d2 : drop q1 ws ≡ y ++ (z ++ r) = move ws (suc q) x (y ++ (z ++ r)) d1 in
+          let k2 = names-passed ns q1 F (z ++ r) scope d2 (omega (arith, l1, l2)) (k1 .leads) in
+          let q2 = q1 + length y in
+          let d3 : drop q2 ws ≡ z ++ r = move ws q1 y (z ++ r) d2 in
+          let s3 = arms-seen arms (length ns) oa fa q2 F r scope d3 (omega (arith, l1, l2)) (k2 .on) in
+          let s1 = tree-seen ws scope t ot ft (suc q) (y ++ (z ++ r)) d1 (k1 .inside) in
+          let sum : length l ≡ length x + (length y + length z) = omega (arith, l1, l2) in
+          let all : seen ws (suc q) (length l) ≡ (known inputs b scope (symbols t) && arms-in-scope inputs b arms scope) =
+          ap (seen ws (suc q)) sum
+          ∙ (seen-add ws (suc q) (length x) (length y + length z) ∙ ap₂ _&&_ s1 (seen-add ws q1 (length y) (length z) ∙ ap₂ _&&_ (k2 .are-seen) s3)) in
+          (seen-row ws q w (length l) (l ++ r) e (λ g. omega arith) ∙ all,
+          leads-pass q E w l r scope ns e whole
+          (λ v m. ap (binds (code v) w) (two-parts x y z r) ∙ match-binds-names w t ns (z ++ r) (omega arith) (omega arith) ft fm (λ c. arm-next arms c r (arms-some rows k (arm-count arms) (and-left sw (tree-ok t && (ds && arms-ok (length ns) arms)) o))) v m) h)
+
+      stmts-seen :
+          (l : Intermediates) → T (intermediates-ok l) → T (stmts-fitting known-here l) → (row : ℕ) → 35 ≤ row → row < 64 → (vs : List Tree) → T (trees-ok vs) → T (all-fitting known-here vs)
+          → (q E : ℕ) (r : List ℕ) (scope : List Name) → drop q ws ≡ intermediates-words number l ++ (each-words number row vs ++ r)
+          → q + (length (intermediates-words number l) + length (each-words number row vs)) ≤ E → Leads q E scope
+          → seen ws q (length (intermediates-words number l) + length (each-words number row vs)) ≡ in-scope inputs b l scope vs
+      stmts-seen end o f row low high vs ov fv q E r scope e less h =
+          let z : 0 + length (each-words number row vs) ≡ length (each-words number row vs) = omega arith in
+          ap (seen ws q) z ∙ values-seen row low high vs ov fv q E r scope e (omega arith) h
+      stmts-seen (step s l) o f row low high vs ov fv q E r scope e less h =
+          let x = intermediate-words number s in
+          let y = intermediates-words number l in
+          let v = each-words number row vs in
+          let len = length-append x y in
+          let d : drop q ws ≡ x ++ (y ++ (v ++ r)) = e ∙ append-assoc x y (v ++ r) in
+          let s1 = stmt-seen s (and-left (intermediate-ok s) (intermediates-ok l) o) (and-left (stmt-fitting known-here s) (stmts-fitting known-here l) f) q E (y ++ (v ++ r)) scope d (omega (arith, len)) h in
+          let s2 = stmts-seen l (and-right (intermediate-ok s) (intermediates-ok l) o) (and-right (stmt-fitting known-here s) (stmts-fitting known-here l) f) row low high vs ov fv (q + length x) E r (names s ++ scope)
+          (move ws q x (y ++ (v ++ r)) d) (omega (arith, len)) (s1 .1) in
+          let sum : length (x ++ y) + length v ≡ length x + (length y + length v) = omega (arith, len) in
+          ap (seen ws q) sum ∙ (seen-add ws q (length x) (length y + length v) ∙ ap₂ _&&_ (s1 .0) s2)
+
+      arms-seen :
+          (arms : Arms) (n : ℕ) → T (arms-ok n arms) → T (arms-fitting known-here arms) → (q E : ℕ) (r : List ℕ) (scope : List Name) → drop q ws ≡ arms-words number arms ++ r
+          → q + length (arms-words number arms) ≤ E → Leads q E scope → seen ws q (length (arms-words number arms)) ≡ arms-in-scope inputs b arms scope
+      arms-seen no-arm n o f q E r scope e less h = none-seen ws scope q
+      arms-seen (arm s vs l) n o f q E r scope e less h =
+          let og = and-left (intermediates-ok s && (eqb (length vs) n && trees-ok vs)) (arms-ok n l) o in
+          let os = and-left (intermediates-ok s) (eqb (length vs) n && trees-ok vs) og in
+          let ov = and-right (eqb (length vs) n) (trees-ok vs) (and-right (intermediates-ok s) (eqb (length vs) n && trees-ok vs) og) in
+          let fg = and-left (stmts-fitting known-here s && all-fitting known-here vs) (arms-fitting known-here l) f in
+          let fs = and-left (stmts-fitting known-here s) (all-fitting known-here vs) fg in
+          let fv = and-right (stmts-fitting known-here s) (all-fitting known-here vs) fg in
+          let w = word arm-row (step-count s + length vs) in
+          let x = intermediates-words number s in
+          let y = each-words number value-row vs in
+          let z = arms-words number l in
+          let l1 = length-append x (y ++ z) in
+          let l2 = length-append y z in
+          let l3 = length-append x y in
+          let whole = arm-whole number known-here s vs fs fv in
+          let d : drop q ws ≡ w ∷ ((x ++ y) ++ (z ++ r)) = e ∙ ap (λ (t : List ℕ). w ∷ t) (two-parts x y z r ∙ sym (append-assoc x y (z ++ r))) in
+          let F = q + suc (length (x ++ y)) in
+          let in1 = leads-enter q E F w (x ++ y) (z ++ r) scope d whole (enters-arm w (omega arith)) (omega arith) (omega (arith, l1, l2, l3)) h in
+          let d1 : drop (suc q) ws ≡ x ++ (y ++ (z ++ r)) = next ws q w ((x ++ y) ++ (z ++ r)) d ∙ append-assoc x y (z ++ r) in
+          let s1 = stmts-seen s os fs value-row (omega arith) (omega arith) vs ov fv (suc q) F (z ++ r) scope d1 (omega (arith, l3)) in1 in
+          let on = leads-pass q E w (x ++ y) (z ++ r) scope [] d whole (binds-nothing w ((x ++ y) ++ (z ++ r)) (inr (omega arith))) h in
+          let d2 : drop F ws ≡ z ++ r = move ws q (w ∷ (x ++ y)) (z ++ r) d in
+          let s2 = arms-seen l n (and-right (intermediates-ok s && (eqb (length vs) n && trees-ok vs)) (arms-ok n l) o) (and-right (stmts-fitting known-here s && all-fitting known-here vs) (arms-fitting known-here l) f)
+          F E r scope d2 (omega (arith, l1, l2, l3)) on in
+          let sum : suc (length (x ++ (y ++ z))) ≡ suc (length (x ++ y)) + length z = omega (arith, l1, l2, l3) in
+          let here : seen ws q (suc (length (x ++ y))) ≡ in-scope inputs b s scope vs = seen-row ws q w (length (x ++ y)) ((x ++ y) ++ (z ++ r)) d (λ g. omega arith) ∙ (ap (seen ws (suc q)) l3 ∙ s1) in
+          ap (seen ws q) sum ∙ (seen-add ws q (suc (length (x ++ y))) (length z) ∙ ap₂ _&&_ here s2)
+
+    starts : (E : ℕ) → Leads 0 E []
+    unfolding Leads
+    starts E x m p less =
+        let z : 0 + p ≡ p = omega arith in
+        ap (λ (i : ℕ). bound-by (code x) 0 i ws) z ∙ ap (λ (t : Bool). t || bound-by (code x) 0 p ws) (sym (elem-nil x))
+
+    pub all-seen :
+        (l : Intermediates) (vs : List Tree) → T (intermediates-ok l) → T (stmts-fitting known-here l) → T (trees-ok vs) → T (all-fitting known-here vs)
+        → ws ≡ intermediates-words number l ++ each-words number 36 vs → seen ws 0 (length ws) ≡ in-scope inputs b l [] vs
+    all-seen l vs o f ov fv e =
+        let x = intermediates-words number l in
+        let y = each-words number 36 vs in
+        let len : length ws ≡ length x + length y = ap length e ∙ length-append x y in
+        let d : ws ≡ x ++ (y ++ []) = e ∙ ap (λ (t : List ℕ). x ++ t) (sym (append-nil y)) in
+        ap (seen ws 0) len ∙ stmts-seen l o f 36 (omega arith) (omega arith) vs ov fv 0 (length ws) [] [] d (omega (arith, len)) (starts (length ws))
+      where
+        append-nil : (t : List ℕ) → t ++ [] ≡ t
+        append-nil [] = refl
+        append-nil (w ∷ t) = ap (λ (u : List ℕ). w ∷ u) (append-nil t)
+
+-- ---- the names that an answer binds are made
+
+none-made : T (made-names [])
+unfolding made-names
+none-made = tt
+
+mutual
+  unfolding intermediate-ok bound-stmt
+
+  pub stmt-bound-made : (s : Intermediate) → T (intermediate-ok s) → T (made-names (bound-stmt s))
+  stmt-bound-made (Let n e) o = let-made n (and-left (let-name n) (tree-ok e) o)
+  stmt-bound-made (Match k t ns arms) o =
+      let sw = is-switch k && arity-ok k (suc (arm-count arms)) in
+      let ds = leb 1 (length ns) && match-names ns in
+      let o1 = and-right sw (tree-ok t && (ds && arms-ok (length ns) arms)) o in
+      let o2 = and-right (tree-ok t) (ds && arms-ok (length ns) arms) o1 in
+      made-append (bound-arms arms) ns (arms-bound-made arms (length ns) (and-right ds (arms-ok (length ns) arms) o2))
+      (match-made ns (and-right (leb 1 (length ns)) (match-names ns) (and-left ds (arms-ok (length ns) arms) o2)))
+
+  pub stmts-bound-made : (l : Intermediates) → T (intermediates-ok l) → T (made-names (bound-stmts l))
+  stmts-bound-made end o = none-made
+  stmts-bound-made (step s l) o = made-append (bound-stmt s) (bound-stmts l) (stmt-bound-made s (and-left (intermediate-ok s) (intermediates-ok l) o)) (stmts-bound-made l (and-right (intermediate-ok s) (intermediates-ok l) o))
+
+  pub arms-bound-made : (arms : Arms) (n : ℕ) → T (arms-ok n arms) → T (made-names (bound-arms arms))
+  arms-bound-made no-arm n o = none-made
+  arms-bound-made (arm s vs l) n o =
+      let g = and-left (intermediates-ok s && (eqb (length vs) n && trees-ok vs)) (arms-ok n l) o in
+      made-append (bound-stmts s) (bound-arms l) (stmts-bound-made s (and-left (intermediates-ok s) (eqb (length vs) n && trees-ok vs) g))
+      (arms-bound-made l n (and-right (intermediates-ok s && (eqb (length vs) n && trees-ok vs)) (arms-ok n l) o))
