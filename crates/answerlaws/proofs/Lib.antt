@@ -11,3 +11,4 @@ pub mod CodeLaws
 pub mod SpanWords
 pub mod BoundLaws
 pub mod ScopeLaws
+pub mod OnceLaws

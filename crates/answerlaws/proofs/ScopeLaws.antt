@@ -399,7 +399,7 @@ module _ (rows : List Row) (b : List Name) (b-made : T (made-names b)) where
         let shut : entered w ≡ false = enters-no w (omega (arith, p .3)) in
         record {
           inside = rw z (leads-inside q E w l r scope d whole shut (omega arith) h);
-          leads = rw z (leads-pass q E w l r scope [] d whole (binds-nothing w (l ++ r) (inl (p .3))) h)
+          leads = rw z (leads-pass q E w l r scope [] d whole (binds-nothing w (l ++ r) (inl (p .3))) h);
         }
 
     -- ---- values, results and names
@@ -515,9 +515,10 @@ module _ (rows : List Row) (b : List Name) (b-made : T (made-names b)) where
         let ft = and-right (let-name n) (fitting known-here t) f in
         let whole : Whole (w ∷ x) 1 = stmt-whole-let n t f in
         let shut : entered w ≡ false = enters-no w (omega arith) in
-        let inside = leads-stop q E w x r scope e whole shut (omega arith) h in
-        (seen-row ws q w (length x) (x ++ r) e (λ z. omega arith) ∙ tree-seen ws scope t ot ft (suc q) r (next ws q w (x ++ r) e) inside,
-        leads-pass q E w x r scope (n ∷ []) e whole (let-binds n (x ++ r) (and-left (let-name n) (tree-ok t) o)) h)
+        let inside = leads-stop q E w x r scope e whole shut (omega arith) h in (
+          seen-row ws q w (length x) (x ++ r) e (λ z. omega arith) ∙ tree-seen ws scope t ot ft (suc q) r (next ws q w (x ++ r) e) inside,
+          leads-pass q E w x r scope (n ∷ []) e whole (let-binds n (x ++ r) (and-left (let-name n) (tree-ok t) o)) h,
+        )
       where
         stmt-whole-let : (n : Name) (t : Tree) → T (let-name n && fitting known-here t) → Whole (word let-row (code n) ∷ tokens number t) 1
         stmt-whole-let n t f = unfold intermediate-words stmt-fitting in stmt-whole number known-here (Let n t) f
@@ -567,10 +568,11 @@ module _ (rows : List Row) (b : List Name) (b-made : T (made-names b)) where
           let sum : length l ≡ length x + (length y + length z) = omega (arith, l1, l2) in
           let all : seen ws (suc q) (length l) ≡ (known inputs b scope (symbols t) && arms-in-scope inputs b arms scope) =
           ap (seen ws (suc q)) sum
-          ∙ (seen-add ws (suc q) (length x) (length y + length z) ∙ ap₂ _&&_ s1 (seen-add ws q1 (length y) (length z) ∙ ap₂ _&&_ (k2 .are-seen) s3)) in
-          (seen-row ws q w (length l) (l ++ r) e (λ g. omega arith) ∙ all,
-          leads-pass q E w l r scope ns e whole
-          (λ v m. ap (binds (code v) w) (two-parts x y z r) ∙ match-binds-names w t ns (z ++ r) (omega arith) (omega arith) ft fm (λ c. arm-next arms c r (arms-some rows k (arm-count arms) (and-left sw (tree-ok t && (ds && arms-ok (length ns) arms)) o))) v m) h)
+          ∙ (seen-add ws (suc q) (length x) (length y + length z) ∙ ap₂ _&&_ s1 (seen-add ws q1 (length y) (length z) ∙ ap₂ _&&_ (k2 .are-seen) s3)) in (
+            seen-row ws q w (length l) (l ++ r) e (λ g. omega arith) ∙ all,
+            leads-pass q E w l r scope ns e whole
+                (λ v m. ap (binds (code v) w) (two-parts x y z r) ∙ match-binds-names w t ns (z ++ r) (omega arith) (omega arith) ft fm (λ c. arm-next arms c r (arms-some rows k (arm-count arms) (and-left sw (tree-ok t && (ds && arms-ok (length ns) arms)) o))) v m) h,
+          )
 
       stmts-seen :
           (l : Intermediates) → T (intermediates-ok l) → T (stmts-fitting known-here l) → (row : ℕ) → 35 ≤ row → row < 64 → (vs : List Tree) → T (trees-ok vs) → T (all-fitting known-here vs)
