@@ -12,3 +12,4 @@ pub mod SpanWords
 pub mod BoundLaws
 pub mod ScopeLaws
 pub mod OnceLaws
+pub mod WayLaws

@@ -1,6 +1,7 @@
 -- References in rows (01, "Turned down", refusal 13, "earlier reference"): which names are bound on the way to a place, whether each use of a name is one of them, and
 -- whether each name is bound once. Assumes nothing.
-use Prim.Native.Nat.{ℕ, zero, suc, _+_, _%_}
+use Prim.Native.Nat.{ℕ, zero, suc, _+_, _-_, _%_, _≤_, _<_}
+use mathlib.Core.Path.{_≡_}
 use mathlib.Core.Bool.{Bool, true, false, not, _&&_, _||_, cond}
 use mathlib.Core.Option.{Option, none, some}
 use mathlib.Core.List.{List, [], _∷_}
@@ -85,3 +86,17 @@ unfoldable pub once : List ℕ → Bool
 unfolding occurs
 once [] = true
 once (w ∷ l) = not (a-binding w && occurs w l) && once l
+
+-- the span at a place ends at another, which is none past `by`; or it ends past `by`, or not at all
+pub record Ended (ws : List ℕ) (at by e : ℕ) : Type 0 where
+  pub after : at ≤ e
+  pub before-by : e ≤ by
+  pub words : span-words (drop at ws) 1 ≡ some (e - at)
+
+abbrev pub Unended : List ℕ → ℕ → ℕ → Type 0
+Unended ws at by = (m : ℕ) → span-words (drop at ws) 1 ≡ some m → by < at + m
+
+-- so many spans are left of one that was begun
+pub record Left (ws : List ℕ) (at i left : ℕ) : Type 0 where
+  pub to : (n : ℕ) → span-words (drop at ws) 1 ≡ some n → (m : ℕ) × (n ≡ i - at + m) × (span-words (drop i ws) left ≡ some m)
+  pub from : (m : ℕ) → span-words (drop i ws) left ≡ some m → span-words (drop at ws) 1 ≡ some (i - at + m)

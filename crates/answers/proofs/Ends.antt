@@ -1,8 +1,8 @@
 -- What is answered where a part ends or breaks, from what is answered of the parts that it is made of. Assumes nothing.
 use Prim.Native.Nat.{ℕ, _+_, _-_, _/_, _%_, _≤_, _<_}
 use native.Mathlib.Omega.{arith}
-use mathlib.Core.Path.{_≡_, refl, sym, _∙_, ap, subst}
-use mathlib.Core.Bool.{Bool, true, false}
+use mathlib.Core.Path.{_≡_, refl, sym, _∙_, ap, ap₂, subst}
+use mathlib.Core.Bool.{Bool, true, false, _&&_}
 use mathlib.Core.Option.{Option, none, some}
 use mathlib.Core.List.{List, []}
 use lib.ListN.{length, getD, take, drop}
@@ -15,13 +15,19 @@ use Rattle.checked.specs.declared.Checked.the-variants as checked
 use Rattle.answerlaws.specs.First.{first-word}
 use Rattle.answerlaws.specs.Fronts.{TreeFront, ValuesFront, StmtFront, StmtsFront, ArmsFront, HeadFront, AnswerRows, Results}
 use Rattle.answerlaws.proofs.CodeLaws.{run-within, tree-ends, tree-none, tree-unfit, tree-unnamed, let-broken, let-ends, match-broken, match-ends, arm-valueless, arm-ends, answer-some, answer-not}
-use Rattle.answers.specs.Said.{Stands, Says, Counts, Heads, Tells}
+use Rattle.cse.specs.AnswerRows.{answer-laid-out}
+use Rattle.answerlaws.specs.Seen.{bound-by, seen, once, Ended, Unended}
+use Rattle.answerlaws.proofs.WayLaws.{laid-unshaped, laid-shaped}
+use Rattle.answers.specs.Said.{Stands, Says, Counts, Heads, Tells, Spans, Ways, laid-answer}
 use Rattle.answers.specs.declared.Part.{Part}
 use Rattle.answers.specs.declared.Part.the-variants as one
 use Rattle.answers.specs.declared.Parts.{Parts}
 use Rattle.answers.specs.declared.Parts.the-variants as several
 use Rattle.answers.specs.declared.Opening.{Opening}
 use Rattle.answers.specs.declared.Opening.the-variants as opening
+use Rattle.answers.specs.declared.Step.{Step}
+use Rattle.answers.specs.declared.Step.the-variants as step
+use Rattle.answers.specs.declared.Laid.the-variants.{Answer, Refused}
 
 -- ---- an answer by its case
 
@@ -114,3 +120,44 @@ module _ (rows : List Row) (ws : List ℕ) (at : ℕ) where
 pub shaped-tells : (rows : List Row) (ws : List ℕ) (b : Bool) (c e : ℕ) → StmtsFront rows c (drop 0 ws) (drop e ws) → Tells (Results rows (drop e ws)) b → Tells (AnswerRows rows ws) b
 shaped-tells rows ws true c e f t = answer-some rows ws c e f t
 shaped-tells rows ws false c e f t = answer-not rows ws c e f t
+
+-- ---- references
+
+module _ (ws : List ℕ) (at by : ℕ) (p : Part) (says : Spans ws at by p) where
+  pub span-ends : (e : ℕ) → p ≡ one.Ends e → Ended ws at by e
+  span-ends e q = subst (λ (x : Part). Spans ws at by x) q says
+
+  pub span-breaks : p ≡ one.Broken → Unended ws at by
+  span-breaks q = subst (λ (x : Part). Spans ws at by x) q says
+
+module _ (ws : List ℕ) (c i at : ℕ) (p : Step) (says : Ways ws c i at p) where
+  pub goes-on : (j : ℕ) → p ≡ step.On j → (i < j) × (j ≤ at) × (bound-by c 0 (at - i) (drop i ws) ≡ bound-by c 0 (at - j) (drop j ws))
+  goes-on j q = subst (λ (x : Step). Ways ws c i at x) q says
+
+  pub is-bound : p ≡ step.Bound → bound-by c 0 (at - i) (drop i ws) ≡ true
+  is-bound q = subst (λ (x : Step). Ways ws c i at x) q says
+
+  pub is-unbound : p ≡ step.Unbound → bound-by c 0 (at - i) (drop i ws) ≡ false
+  is-unbound q = subst (λ (x : Step). Ways ws c i at x) q says
+
+-- ---- the whole
+
+module _ (rows : List Row) (ws : List ℕ) (b : Bool) (tells : Tells (AnswerRows rows ws) b) where
+  pub unshaped : b ≡ false → Refused ≡ laid-answer (answer-laid-out rows ws)
+  unfolding laid-answer
+  unshaped e = ap laid-answer (laid-unshaped rows ws (subst (λ (x : Bool). Tells (AnswerRows rows ws) x) e tells))
+
+  shape : b ≡ true → AnswerRows rows ws
+  shape e = subst (λ (x : Bool). Tells (AnswerRows rows ws) x) e tells
+
+  pub repeats : b ≡ true → once ws ≡ false → Refused ≡ laid-answer (answer-laid-out rows ws)
+  unfolding laid-answer
+  repeats e o = ap laid-answer (sym (ap (λ (x : Bool). x && seen ws 0 (length ws)) o) ∙ laid-shaped rows ws (shape e))
+
+  pub unscoped : b ≡ true → once ws ≡ true → seen ws 0 (length ws) ≡ false → Refused ≡ laid-answer (answer-laid-out rows ws)
+  unfolding laid-answer
+  unscoped e o s = ap laid-answer (sym (ap₂ _&&_ o s) ∙ laid-shaped rows ws (shape e))
+
+  pub laid : b ≡ true → once ws ≡ true → seen ws 0 (length ws) ≡ true → Answer ≡ laid-answer (answer-laid-out rows ws)
+  unfolding laid-answer
+  laid e o s = ap laid-answer (sym (ap₂ _&&_ o s) ∙ laid-shaped rows ws (shape e))
