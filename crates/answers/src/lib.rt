@@ -106,7 +106,7 @@ fn fields_held(count: u64) -> u64
     }
 }
 
-// Whether a row is a symbol's of this name.
+// Whether a row is a symbol's of that name.
 fn named(rows: &[u64], row: usize, name: &[u64]) -> bool
     requires { ⌜ row < length (now rows) / 35 ⌝ }
     ensures { λ r. ⌜ r ≡ has-name (row-at (now (rows .entry)) row) (now (name .entry)) ⌝ }
