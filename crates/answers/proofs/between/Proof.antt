@@ -3,14 +3,14 @@ use Rattle.answerlaws.proofs.CodeLaws.{between-low, between-high}
 use borrow.Author.Needs.{needs}
 use Rattle.answers.proofs.between.Statement.{statement}
 use Rattle.answers.proofs.between.Tie as tie
-use Rattle.answers.proofs.between.Reads as reads
-use Rattle.answers.proofs.between.Lts as lts
-
-returns : tie.Need-returns
-returns c = between-low (c .before .args .n) (c .before .args .least) (c .before .args .most) (c .if1 .taken)
-
-returns-2 : tie.Need-returns-2
-returns-2 c = between-high (c .before .args .n) (c .before .args .least) (c .before .args .most) (c .if1 .left)
 
 pub between-spec : {M : Type 1} → statement M
-between-spec = tie.close (tie.spec returns returns-2)
+between-spec =
+    tie.close
+    (tie.spec
+    (λ c.
+    let start = c .before in
+    between-low (start .args .n) (start .args .least) (start .args .most) (c .if1 .taken))
+    (λ c.
+    let start = c .before in
+    between-high (start .args .n) (start .args .least) (start .args .most) (c .if1 .left)))

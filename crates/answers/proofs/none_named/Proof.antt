@@ -10,9 +10,6 @@ use Rattle.answerlaws.proofs.RowFirst.{rows-many, none-yet, none-some, none-mor
 use borrow.Author.Needs.{needs}
 use Rattle.answers.proofs.none_named.Statement.{statement}
 use Rattle.answers.proofs.none_named.Tie as tie
-use Rattle.answers.proofs.none_named.Reads as reads
-use Rattle.answers.proofs.none_named.Lts as lts
-use Rattle.answers.proofs.named.Reads as named-reads
 
 abbrev Inv-loop : tie.InvT-loop
 Inv-loop rows n name i₀ i = (i ≤ n) × (none-named (take i (rows-in rows)) name ≡ true)
@@ -20,37 +17,31 @@ Inv-loop rows n name i₀ i = (i ≤ n) × (none-named (take i (rows-in rows)) n
 abbrev μ-loop : tie.MeasureT-loop
 μ-loop rows n name i₀ i = n - i
 
-loop-holds : tie.Need-loop-holds Inv-loop μ-loop
-loop-holds c = (omega arith, none-yet (c .before .before .args .name .now) (rows-in (c .before .before .args .rows .now)))
-
-named-requires : tie.Need-named-requires Inv-loop μ-loop
-named-requires c κs = omega (arith, c .loop-test .taken, c .before .before .before .before .pre)
-
-returns : tie.Need-returns Inv-loop μ-loop
-returns c = none-some (c .before .before .before .before .before .before .args .name .now) (rows-in (c .before .before .before .before .before .before .args .rows .now)) (c .before .before .before .loop .i) (c .before .before .before .before .before .before .args .n) (c .before .before .loop-test .taken) (let l = rows-many (c .before .before .before .before .before .before .args .rows .now) in omega (arith, l, c .before .before .loop-test .taken, c .before .before .before .before .before .before .pre)) (sym (c .before .named .ensures) ∙ c .if1 .taken)
-
-add-i : tie.Need-add-i Inv-loop μ-loop
-add-i c = search needs
-
-loop-less : tie.Need-loop-less Inv-loop μ-loop
-loop-less c = search needs
-
-loop-again : tie.Need-loop-again Inv-loop μ-loop
-loop-again c = (omega (arith, c .before .before .loop-test .taken), none-more (c .before .before .before .before .before .before .args .name .now) (rows-in (c .before .before .before .before .before .before .args .rows .now)) (c .before .before .before .loop .i) (let l = rows-many (c .before .before .before .before .before .before .args .rows .now) in omega (arith, l, c .before .before .loop-test .taken, c .before .before .before .before .before .before .pre)) (sym (c .before .named .ensures) ∙ c .if1 .left) (c .before .before .before .loop .inv .1))
-
-returns-2 : tie.Need-returns-2 Inv-loop μ-loop
-returns-2 c = let z : c .before .loop .i ≡ c .before .before .before .before .args .n = omega (arith, c .before .loop .inv .0, c .loop-test .left) in sym (c .before .loop .inv .1) ∙ ap (λ (k : ℕ). none-named (take k (rows-in (c .before .before .before .before .args .rows .now))) (c .before .before .before .before .args .name .now)) z
-
 pub none-named-spec : {M : Type 1} → statement M
 none-named-spec =
     tie.close
     (tie.spec
     Inv-loop
     μ-loop
-    loop-holds
-    named-requires
-    returns
-    add-i
-    loop-less
-    loop-again
-    returns-2)
+    (λ c.
+    let start = c .before .before in
+    (omega arith, none-yet (start .args .name .now) (rows-in (start .args .rows .now))))
+    (λ c κs.
+    let start = c .before .before .before .before in
+    omega (arith, c .loop-test .taken, start .pre))
+    (λ c.
+    let start = c .before .before .before .before .before .before in
+    let at-loop = c .before .before .before in
+    let at-loop-test = c .before .before in
+    none-some (start .args .name .now) (rows-in (start .args .rows .now)) (at-loop .loop .i) (start .args .n) (at-loop-test .loop-test .taken) (let l = rows-many (start .args .rows .now) in omega (arith, l, at-loop-test .loop-test .taken, start .pre)) (sym (c .before .named .ensures) ∙ c .if1 .taken))
+    (λ c. search needs)
+    (λ c. search needs)
+    (λ c.
+    let at-loop-test = c .before .before in
+    let start = c .before .before .before .before .before .before in
+    let at-loop = c .before .before .before in
+    (omega (arith, at-loop-test .loop-test .taken), none-more (start .args .name .now) (rows-in (start .args .rows .now)) (at-loop .loop .i) (let l = rows-many (start .args .rows .now) in omega (arith, l, at-loop-test .loop-test .taken, start .pre)) (sym (c .before .named .ensures) ∙ c .if1 .left) (at-loop .loop .inv .1)))
+    (λ c.
+    let at-loop = c .before in
+    let start = c .before .before .before .before in
+    let z : at-loop .loop .i ≡ start .args .n = omega (arith, at-loop .loop .inv .0, c .loop-test .left) in sym (at-loop .loop .inv .1) ∙ ap (λ (k : ℕ). none-named (take k (rows-in (start .args .rows .now))) (start .args .name .now)) z))

@@ -9,9 +9,6 @@ use Rattle.answers.proofs.Ends.{ends, breaks}
 use borrow.Author.Needs.{needs}
 use Rattle.answers.proofs.results.Statement.{statement}
 use Rattle.answers.proofs.results.Tie as tie
-use Rattle.answers.proofs.results.Reads as reads
-use Rattle.answers.proofs.results.Lts as lts
-use Rattle.answers.proofs.tree.Reads as tree-reads
 
 abbrev Inv-loop : tie.InvT-loop
 Inv-loop rows words at i₀ i = (at ≤ i) × (i ≤ length words) × (Results (rows-in rows) (drop at words) → Results (rows-in rows) (drop i words)) × (Results (rows-in rows) (drop i words) → Results (rows-in rows) (drop at words))
@@ -19,58 +16,55 @@ Inv-loop rows words at i₀ i = (at ≤ i) × (i ≤ length words) × (Results (
 abbrev μ-loop : tie.MeasureT-loop
 μ-loop rows words at i₀ i = length words - i
 
-loop-holds : tie.Need-loop-holds Inv-loop μ-loop
-loop-holds c = (omega arith, c .before .before .pre, λ f. f, λ f. f)
-
-mul-if1 : tie.Need-mul-if1 Inv-loop μ-loop
-mul-if1 c = search needs
-
-shared-slice-read-if1 : tie.Need-shared-slice-read-if1 Inv-loop μ-loop
-shared-slice-read-if1 c = search needs
-
-returns : tie.Need-returns Inv-loop μ-loop
-returns c = λ f. results-other (rows-in (c .before .before .before .before .before .before .args .rows .now)) (c .before .before .before .before .before .before .args .words .now) (c .before .before .before .loop .i) (c .before .before .loop-test .taken) (c .if1 .taken) (c .before .before .before .loop .inv .2 f)
-
-add-tree : tie.Need-add-tree Inv-loop μ-loop
-add-tree c = search needs
-
-tree-requires : tie.Need-tree-requires Inv-loop μ-loop
-tree-requires c κs = search needs
-
-enum-known-end : tie.Need-enum-known-end Inv-loop μ-loop
-enum-known-end c = search needs
-
-enum-told : tie.Need-enum-told Inv-loop μ-loop
-enum-told c = search needs
-
-returns-2 : tie.Need-returns-2 Inv-loop μ-loop
-returns-2 c = λ f. results-broken (rows-in (c .before .before .before .before .before .before .before .before .before .args .rows .now)) (c .before .before .before .before .before .before .before .before .before .args .words .now) (c .before .before .before .before .before .before .loop .i) (c .before .before .before .before .before .loop-test .taken) (breaks (TreeFront (rows-in (c .before .before .before .before .before .before .before .before .before .args .rows .now))) (c .before .before .before .before .before .before .before .before .before .args .words .now) (c .before .before .before .before .before .before .loop .i + 1) (c .before .before .tree .result) (c .before .before .tree .ensures) (c .enum-told .given .1)) (c .before .before .before .before .before .before .loop .inv .2 f)
-
-loop-less : tie.Need-loop-less Inv-loop μ-loop
-loop-less c = omega (arith, c .before .before .before .before .before .before .loop-test .taken, (ends (TreeFront (rows-in (c .before .before .before .before .before .before .before .before .before .before .args .rows .now))) (c .before .before .before .before .before .before .before .before .before .before .args .words .now) (c .before .before .before .before .before .before .before .loop .i + 1) (c .before .before .before .tree .result) (c .before .before .before .tree .ensures) (c .before .end .given .0 .0) (c .before .end .given .1)) .0, (ends (TreeFront (rows-in (c .before .before .before .before .before .before .before .before .before .before .args .rows .now))) (c .before .before .before .before .before .before .before .before .before .before .args .words .now) (c .before .before .before .before .before .before .before .loop .i + 1) (c .before .before .before .tree .result) (c .before .before .before .tree .ensures) (c .before .end .given .0 .0) (c .before .end .given .1)) .1)
-
-loop-again : tie.Need-loop-again Inv-loop μ-loop
-loop-again c = let n = results-next (rows-in (c .before .before .before .before .before .before .before .before .before .before .args .rows .now)) (c .before .before .before .before .before .before .before .before .before .before .args .words .now) (c .before .before .before .before .before .before .before .loop .i) (c .before .end .given .0 .0) (c .before .before .before .before .before .before .loop-test .taken) (c .before .before .before .before .if1 .left) ((ends (TreeFront (rows-in (c .before .before .before .before .before .before .before .before .before .before .args .rows .now))) (c .before .before .before .before .before .before .before .before .before .before .args .words .now) (c .before .before .before .before .before .before .before .loop .i + 1) (c .before .before .before .tree .result) (c .before .before .before .tree .ensures) (c .before .end .given .0 .0) (c .before .end .given .1)) .2) in
-    (omega (arith, c .before .before .before .before .before .before .before .loop .inv .0, (ends (TreeFront (rows-in (c .before .before .before .before .before .before .before .before .before .before .args .rows .now))) (c .before .before .before .before .before .before .before .before .before .before .args .words .now) (c .before .before .before .before .before .before .before .loop .i + 1) (c .before .before .before .tree .result) (c .before .before .before .tree .ensures) (c .before .end .given .0 .0) (c .before .end .given .1)) .0), (ends (TreeFront (rows-in (c .before .before .before .before .before .before .before .before .before .before .args .rows .now))) (c .before .before .before .before .before .before .before .before .before .before .args .words .now) (c .before .before .before .before .before .before .before .loop .i + 1) (c .before .before .before .tree .result) (c .before .before .before .tree .ensures) (c .before .end .given .0 .0) (c .before .end .given .1)) .1, λ f. n .0 (c .before .before .before .before .before .before .before .loop .inv .2 f), λ f. c .before .before .before .before .before .before .before .loop .inv .3 (n .1 f))
-
-returns-3 : tie.Need-returns-3 Inv-loop μ-loop
-returns-3 c = c .before .loop .inv .3 (results-done (rows-in (c .before .before .before .before .args .rows .now)) (c .before .before .before .before .args .words .now) (c .before .loop .i) (c .loop-test .left))
-
 pub results-spec : {M : Type 1} → statement M
 results-spec =
     tie.close
     (tie.spec
     Inv-loop
     μ-loop
-    loop-holds
-    mul-if1
-    shared-slice-read-if1
-    returns
-    add-tree
-    tree-requires
-    enum-known-end
-    enum-told
-    returns-2
-    loop-less
-    loop-again
-    returns-3)
+    (λ c.
+    let start = c .before .before in
+    (omega arith, start .pre, λ f. f, λ f. f))
+    (λ c. search needs)
+    (λ c. search needs)
+    (λ c.
+    let start = c .before .before .before .before .before .before in
+    let at-loop = c .before .before .before in
+    let at-loop-test = c .before .before in
+    λ f. results-other (rows-in (start .args .rows .now)) (start .args .words .now) (at-loop .loop .i) (at-loop-test .loop-test .taken) (c .if1 .taken) (at-loop .loop .inv .2 f))
+    (λ c. search needs)
+    (λ c κs. search needs)
+    (λ c. search needs)
+    (λ c. search needs)
+    (λ c.
+    let start = c .before .before .before .before .before .before .before .before .before in
+    let at-loop = c .before .before .before .before .before .before in
+    let at-loop-test = c .before .before .before .before .before in
+    let at-tree = c .before .before in
+    let list = rows-in (start .args .rows .now) in
+    let words = start .args .words .now in
+    λ f. results-broken list words (at-loop .loop .i) (at-loop-test .loop-test .taken) (breaks (TreeFront list) words (at-loop .loop .i + 1) (at-tree .tree .result) (at-tree .tree .ensures) (c .enum-told .given .1)) (at-loop .loop .inv .2 f))
+    (λ c.
+    let at-loop-test = c .before .before .before .before .before .before in
+    let start = c .before .before .before .before .before .before .before .before .before .before in
+    let at-loop = c .before .before .before .before .before .before .before in
+    let at-tree = c .before .before .before in
+    let at-end = c .before in
+    let end = ends (TreeFront (rows-in (start .args .rows .now))) (start .args .words .now) (at-loop .loop .i + 1) (at-tree .tree .result) (at-tree .tree .ensures) (at-end .end .given .0 .0) (at-end .end .given .1) in
+    omega (arith, at-loop-test .loop-test .taken, end .0, end .1))
+    (λ c.
+    let start = c .before .before .before .before .before .before .before .before .before .before in
+    let at-loop = c .before .before .before .before .before .before .before in
+    let at-end = c .before in
+    let at-loop-test = c .before .before .before .before .before .before in
+    let at-if1 = c .before .before .before .before in
+    let at-tree = c .before .before .before in
+    let list = rows-in (start .args .rows .now) in
+    let place = at-end .end .given .0 .0 in
+    let words = start .args .words .now in
+    let end = ends (TreeFront list) words (at-loop .loop .i + 1) (at-tree .tree .result) (at-tree .tree .ensures) place (at-end .end .given .1) in
+    let n = results-next list words (at-loop .loop .i) place (at-loop-test .loop-test .taken) (at-if1 .if1 .left) (end .2) in (omega (arith, at-loop .loop .inv .0, end .0), end .1, λ f. n .0 (at-loop .loop .inv .2 f), λ f. at-loop .loop .inv .3 (n .1 f)))
+    (λ c.
+    let at-loop = c .before in
+    let start = c .before .before .before .before in
+    at-loop .loop .inv .3 (results-done (rows-in (start .args .rows .now)) (start .args .words .now) (at-loop .loop .i) (c .loop-test .left))))

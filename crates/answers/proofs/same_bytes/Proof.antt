@@ -8,8 +8,6 @@ use Rattle.answerlaws.proofs.RowFirst.{other-lengths, same-next, same-stop, sam
 use borrow.Author.Needs.{needs}
 use Rattle.answers.proofs.same_bytes.Statement.{statement}
 use Rattle.answers.proofs.same_bytes.Tie as tie
-use Rattle.answers.proofs.same_bytes.Reads as reads
-use Rattle.answers.proofs.same_bytes.Lts as lts
 
 abbrev Inv-loop : tie.InvT-loop
 Inv-loop a b k₀ k = (k ≤ length a) × (eq-bytes a b ≡ eq-bytes (drop k a) (drop k b))
@@ -17,53 +15,36 @@ Inv-loop a b k₀ k = (k ≤ length a) × (eq-bytes a b ≡ eq-bytes (drop k a) 
 abbrev μ-loop : tie.MeasureT-loop
 μ-loop a b k₀ k = length a - k
 
-returns : tie.Need-returns Inv-loop μ-loop
-returns c = other-lengths (c .before .args .a .now) (c .before .args .b .now) (c .if1 .taken)
-
-loop-holds : tie.Need-loop-holds Inv-loop μ-loop
-loop-holds c = (omega arith, refl)
-
-mul-if2 : tie.Need-mul-if2 Inv-loop μ-loop
-mul-if2 c = search needs
-
-shared-slice-read-if2 : tie.Need-shared-slice-read-if2 Inv-loop μ-loop
-shared-slice-read-if2 c = search needs
-
-mul-if2-2 : tie.Need-mul-if2-2 Inv-loop μ-loop
-mul-if2-2 c = search needs
-
-shared-slice-read-if2-2 : tie.Need-shared-slice-read-if2-2 Inv-loop μ-loop
-shared-slice-read-if2-2 c = search needs
-
-returns-2 : tie.Need-returns-2 Inv-loop μ-loop
-returns-2 c = same-stop (c .before .before .before .before .before .before .args .a .now) (c .before .before .before .before .before .before .args .b .now) (c .before .before .before .before .before .if1 .left) (c .before .before .before .before .loop .k) (c .before .before .before .before .loop .inv .1) (c .before .before .before .loop-test .taken) (c .if2 .taken)
-
-add-k : tie.Need-add-k Inv-loop μ-loop
-add-k c = search needs
-
-loop-less : tie.Need-loop-less Inv-loop μ-loop
-loop-less c = search needs
-
-loop-again : tie.Need-loop-again Inv-loop μ-loop
-loop-again c = (omega (arith, c .before .before .before .loop-test .taken), same-next (c .before .before .before .before .before .before .args .a .now) (c .before .before .before .before .before .before .args .b .now) (c .before .before .before .before .before .if1 .left) (c .before .before .before .before .loop .k) (c .before .before .before .before .loop .inv .1) (c .before .before .before .loop-test .taken) (c .if2 .left))
-
-returns-3 : tie.Need-returns-3 Inv-loop μ-loop
-returns-3 c = same-end (c .before .before .before .args .a .now) (c .before .before .before .args .b .now) (c .before .before .if1 .left) (c .before .loop .k) (c .before .loop .inv .1) (c .loop-test .left)
-
 pub same-bytes-spec : {M : Type 1} → statement M
 same-bytes-spec =
     tie.close
     (tie.spec
     Inv-loop
     μ-loop
-    returns
-    loop-holds
-    mul-if2
-    shared-slice-read-if2
-    mul-if2-2
-    shared-slice-read-if2-2
-    returns-2
-    add-k
-    loop-less
-    loop-again
-    returns-3)
+    (λ c.
+    let start = c .before in
+    other-lengths (start .args .a .now) (start .args .b .now) (c .if1 .taken))
+    (λ c. (omega arith, refl))
+    (λ c. search needs)
+    (λ c. search needs)
+    (λ c. search needs)
+    (λ c. search needs)
+    (λ c.
+    let start = c .before .before .before .before .before .before in
+    let at-if1 = c .before .before .before .before .before in
+    let at-loop = c .before .before .before .before in
+    let at-loop-test = c .before .before .before in
+    same-stop (start .args .a .now) (start .args .b .now) (at-if1 .if1 .left) (at-loop .loop .k) (at-loop .loop .inv .1) (at-loop-test .loop-test .taken) (c .if2 .taken))
+    (λ c. search needs)
+    (λ c. search needs)
+    (λ c.
+    let at-loop-test = c .before .before .before in
+    let start = c .before .before .before .before .before .before in
+    let at-if1 = c .before .before .before .before .before in
+    let at-loop = c .before .before .before .before in
+    (omega (arith, at-loop-test .loop-test .taken), same-next (start .args .a .now) (start .args .b .now) (at-if1 .if1 .left) (at-loop .loop .k) (at-loop .loop .inv .1) (at-loop-test .loop-test .taken) (c .if2 .left)))
+    (λ c.
+    let start = c .before .before .before in
+    let at-if1 = c .before .before in
+    let at-loop = c .before in
+    same-end (start .args .a .now) (start .args .b .now) (at-if1 .if1 .left) (at-loop .loop .k) (at-loop .loop .inv .1) (c .loop-test .left)))

@@ -9,9 +9,6 @@ use Rattle.answers.proofs.Ends.{ends, breaks}
 use borrow.Author.Needs.{needs}
 use Rattle.answers.proofs.values.Statement.{statement}
 use Rattle.answers.proofs.values.Tie as tie
-use Rattle.answers.proofs.values.Reads as reads
-use Rattle.answers.proofs.values.Lts as lts
-use Rattle.answers.proofs.tree.Reads as tree-reads
 
 abbrev Inv-loop : tie.InvT-loop
 Inv-loop rows words at count i₀ left₀ i left = (at ≤ i) × (i ≤ length words) × Same (ValuesFront (rows-in rows) 35 count (drop at words)) (ValuesFront (rows-in rows) 35 left (drop i words))
@@ -19,66 +16,56 @@ Inv-loop rows words at count i₀ left₀ i left = (at ≤ i) × (i ≤ length w
 abbrev μ-loop : tie.MeasureT-loop
 μ-loop rows words at count i₀ left₀ i left = left
 
-loop-holds : tie.Need-loop-holds Inv-loop μ-loop
-loop-holds c = (omega arith, c .before .before .pre, record { to = λ r f. f; from = λ r f. f })
-
-returns : tie.Need-returns Inv-loop μ-loop
-returns c = λ r f. values-short (rows-in (c .before .before .before .before .before .args .rows .now)) (c .before .before .before .before .before .args .words .now) 35 (c .before .before .loop .i) (c .before .before .loop .left) (c .before .loop-test .taken) (c .if1 .taken) r (c .before .before .loop .inv .2 .to r f)
-
-mul-if2 : tie.Need-mul-if2 Inv-loop μ-loop
-mul-if2 c = search needs
-
-shared-slice-read-if2 : tie.Need-shared-slice-read-if2 Inv-loop μ-loop
-shared-slice-read-if2 c = search needs
-
-returns-2 : tie.Need-returns-2 Inv-loop μ-loop
-returns-2 c = λ r f. values-other (rows-in (c .before .before .before .before .before .before .before .args .rows .now)) (c .before .before .before .before .before .before .before .args .words .now) 35 (c .before .before .before .before .loop .i) (c .before .before .before .before .loop .left) (c .before .before .before .loop-test .taken) (c .before .before .if1 .left) (c .if2 .taken) r (c .before .before .before .before .loop .inv .2 .to r f)
-
-add-tree : tie.Need-add-tree Inv-loop μ-loop
-add-tree c = search needs
-
-tree-requires : tie.Need-tree-requires Inv-loop μ-loop
-tree-requires c κs = search needs
-
-enum-known-end : tie.Need-enum-known-end Inv-loop μ-loop
-enum-known-end c = search needs
-
-enum-told : tie.Need-enum-told Inv-loop μ-loop
-enum-told c = search needs
-
-returns-3 : tie.Need-returns-3 Inv-loop μ-loop
-returns-3 c = λ r f. values-broken (rows-in (c .before .before .before .before .before .before .before .before .before .before .args .rows .now)) (c .before .before .before .before .before .before .before .before .before .before .args .words .now) 35 (c .before .before .before .before .before .before .before .loop .i) (c .before .before .before .before .before .before .before .loop .left) (c .before .before .before .before .before .before .loop-test .taken) (c .before .before .before .before .before .if1 .left) (breaks (TreeFront (rows-in (c .before .before .before .before .before .before .before .before .before .before .args .rows .now))) (c .before .before .before .before .before .before .before .before .before .before .args .words .now) (c .before .before .before .before .before .before .before .loop .i + 1) (c .before .before .tree .result) (c .before .before .tree .ensures) (c .enum-told .given .1)) r (c .before .before .before .before .before .before .before .loop .inv .2 .to r f)
-
-sub-left : tie.Need-sub-left Inv-loop μ-loop
-sub-left c = search needs
-
-loop-less : tie.Need-loop-less Inv-loop μ-loop
-loop-less c = search needs
-
-loop-again : tie.Need-loop-again Inv-loop μ-loop
-loop-again c = let n = values-next (rows-in (c .before .before .before .before .before .before .before .before .before .before .before .args .rows .now)) (c .before .before .before .before .before .before .before .before .before .before .before .args .words .now) 35 (c .before .before .before .before .before .before .before .before .loop .i) (c .before .before .before .before .before .before .before .before .loop .left) (c .before .end .given .0 .0) (c .before .before .before .before .before .before .before .loop-test .taken) (c .before .before .before .before .before .before .if1 .left) (c .before .before .before .before .if2 .left) ((ends (TreeFront (rows-in (c .before .before .before .before .before .before .before .before .before .before .before .args .rows .now))) (c .before .before .before .before .before .before .before .before .before .before .before .args .words .now) (c .before .before .before .before .before .before .before .before .loop .i + 1) (c .before .before .before .tree .result) (c .before .before .before .tree .ensures) (c .before .end .given .0 .0) (c .before .end .given .1)) .2) in
-    (omega (arith, c .before .before .before .before .before .before .before .before .loop .inv .0, (ends (TreeFront (rows-in (c .before .before .before .before .before .before .before .before .before .before .before .args .rows .now))) (c .before .before .before .before .before .before .before .before .before .before .before .args .words .now) (c .before .before .before .before .before .before .before .before .loop .i + 1) (c .before .before .before .tree .result) (c .before .before .before .tree .ensures) (c .before .end .given .0 .0) (c .before .end .given .1)) .0), (ends (TreeFront (rows-in (c .before .before .before .before .before .before .before .before .before .before .before .args .rows .now))) (c .before .before .before .before .before .before .before .before .before .before .before .args .words .now) (c .before .before .before .before .before .before .before .before .loop .i + 1) (c .before .before .before .tree .result) (c .before .before .before .tree .ensures) (c .before .end .given .0 .0) (c .before .end .given .1)) .1, record { to = λ r f. n .to r (c .before .before .before .before .before .before .before .before .loop .inv .2 .to r f); from = λ r f. c .before .before .before .before .before .before .before .before .loop .inv .2 .from r (n .from r f) })
-
-returns-4 : tie.Need-returns-4 Inv-loop μ-loop
-returns-4 c = (c .before .loop .inv .0, c .before .loop .inv .1, c .before .loop .inv .2 .from _ (values-done (rows-in (c .before .before .before .before .args .rows .now)) (c .before .before .before .before .args .words .now) 35 (c .before .loop .i) (c .before .loop .left) (c .loop-test .left)))
-
 pub values-spec : {M : Type 1} → statement M
 values-spec =
     tie.close
     (tie.spec
     Inv-loop
     μ-loop
-    loop-holds
-    returns
-    mul-if2
-    shared-slice-read-if2
-    returns-2
-    add-tree
-    tree-requires
-    enum-known-end
-    enum-told
-    returns-3
-    sub-left
-    loop-less
-    loop-again
-    returns-4)
+    (λ c.
+    let start = c .before .before in
+    (omega arith, start .pre, record { to = λ r f. f; from = λ r f. f }))
+    (λ c.
+    let start = c .before .before .before .before .before in
+    let at-loop = c .before .before in
+    λ r f. values-short (rows-in (start .args .rows .now)) (start .args .words .now) 35 (at-loop .loop .i) (at-loop .loop .left) (c .before .loop-test .taken) (c .if1 .taken) r (at-loop .loop .inv .2 .to r f))
+    (λ c. search needs)
+    (λ c. search needs)
+    (λ c.
+    let start = c .before .before .before .before .before .before .before in
+    let at-loop = c .before .before .before .before in
+    let at-loop-test = c .before .before .before in
+    let at-if1 = c .before .before in
+    λ r f. values-other (rows-in (start .args .rows .now)) (start .args .words .now) 35 (at-loop .loop .i) (at-loop .loop .left) (at-loop-test .loop-test .taken) (at-if1 .if1 .left) (c .if2 .taken) r (at-loop .loop .inv .2 .to r f))
+    (λ c. search needs)
+    (λ c κs. search needs)
+    (λ c. search needs)
+    (λ c. search needs)
+    (λ c.
+    let start = c .before .before .before .before .before .before .before .before .before .before in
+    let at-loop = c .before .before .before .before .before .before .before in
+    let at-loop-test = c .before .before .before .before .before .before in
+    let at-if1 = c .before .before .before .before .before in
+    let at-tree = c .before .before in
+    let list = rows-in (start .args .rows .now) in
+    let words = start .args .words .now in
+    λ r f. values-broken list words 35 (at-loop .loop .i) (at-loop .loop .left) (at-loop-test .loop-test .taken) (at-if1 .if1 .left) (breaks (TreeFront list) words (at-loop .loop .i + 1) (at-tree .tree .result) (at-tree .tree .ensures) (c .enum-told .given .1)) r (at-loop .loop .inv .2 .to r f))
+    (λ c. search needs)
+    (λ c. search needs)
+    (λ c.
+    let start = c .before .before .before .before .before .before .before .before .before .before .before in
+    let at-loop = c .before .before .before .before .before .before .before .before in
+    let at-end = c .before in
+    let at-loop-test = c .before .before .before .before .before .before .before in
+    let at-if1 = c .before .before .before .before .before .before in
+    let at-if2 = c .before .before .before .before in
+    let at-tree = c .before .before .before in
+    let list = rows-in (start .args .rows .now) in
+    let place = at-end .end .given .0 .0 in
+    let words = start .args .words .now in
+    let end = ends (TreeFront list) words (at-loop .loop .i + 1) (at-tree .tree .result) (at-tree .tree .ensures) place (at-end .end .given .1) in
+    let n = values-next list words 35 (at-loop .loop .i) (at-loop .loop .left) place (at-loop-test .loop-test .taken) (at-if1 .if1 .left) (at-if2 .if2 .left) (end .2) in (omega (arith, at-loop .loop .inv .0, end .0), end .1, record { to = λ r f. n .to r (at-loop .loop .inv .2 .to r f); from = λ r f. at-loop .loop .inv .2 .from r (n .from r f) }))
+    (λ c.
+    let at-loop = c .before in
+    let start = c .before .before .before .before in
+    (at-loop .loop .inv .0, at-loop .loop .inv .1, at-loop .loop .inv .2 .from _ (values-done (rows-in (start .args .rows .now)) (start .args .words .now) 35 (at-loop .loop .i) (at-loop .loop .left) (c .loop-test .left)))))

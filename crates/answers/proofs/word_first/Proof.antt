@@ -5,21 +5,19 @@ use Rattle.answerlaws.proofs.RowFirst.{word-other, word-made, word-listed}
 use borrow.Author.Needs.{needs}
 use Rattle.answers.proofs.word_first.Statement.{statement}
 use Rattle.answers.proofs.word_first.Tie as tie
-use Rattle.answers.proofs.word_first.Reads as reads
-use Rattle.answers.proofs.word_first.Lts as lts
-use Rattle.answers.proofs.row_first.Reads as row-first-reads
-
-returns : tie.Need-returns
-returns c = word-other (rows-in (c .before .before .args .rows .now)) (c .before .before .args .w) (c .if1 .taken)
-
-returns-2 : tie.Need-returns-2
-returns-2 c = word-made (rows-in (c .before .before .before .args .rows .now)) (c .before .before .before .args .w) (c .before .if1 .left) (c .if2 .taken)
-
-row-first-requires : tie.Need-row-first-requires
-row-first-requires c κs = search needs
-
-returns-3 : tie.Need-returns-3
-returns-3 c = c .row-first .ensures ∙ word-listed (rows-in (c .before .before .before .before .args .rows .now)) (c .before .before .before .before .args .w) (c .before .before .if1 .left) (c .before .if2 .left)
 
 pub word-first-spec : {M : Type 1} → statement M
-word-first-spec = tie.close (tie.spec returns returns-2 row-first-requires returns-3)
+word-first-spec =
+    tie.close
+    (tie.spec
+    (λ c.
+    let start = c .before .before in
+    word-other (rows-in (start .args .rows .now)) (start .args .w) (c .if1 .taken))
+    (λ c.
+    let start = c .before .before .before in
+    word-made (rows-in (start .args .rows .now)) (start .args .w) (c .before .if1 .left) (c .if2 .taken))
+    (λ c κs. search needs)
+    (λ c.
+    let start = c .before .before .before .before in
+    let at-if1 = c .before .before in
+    c .row-first .ensures ∙ word-listed (rows-in (start .args .rows .now)) (start .args .w) (at-if1 .if1 .left) (c .before .if2 .left)))
