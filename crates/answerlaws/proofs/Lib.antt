@@ -13,3 +13,4 @@ pub mod BoundLaws
 pub mod ScopeLaws
 pub mod OnceLaws
 pub mod WayLaws
+pub mod ExtractRefs

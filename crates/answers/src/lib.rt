@@ -123,6 +123,21 @@ fn named(rows: &[u64], row: usize, name: &[u64]) -> bool
     same_bytes(&rows[start..end], name)
 }
 
+// Whether no row before row n is a symbol's of this name.
+fn none_named(rows: &[u64], n: usize, name: &[u64]) -> bool
+    requires { ⌜ n ≤ length (now rows) / 35 ⌝ }
+    ensures { λ r. ⌜ r ≡ none-named (take n (rows-in (now (rows .entry)))) (now (name .entry)) ⌝ }
+{
+    let mut i = 0;
+    while i < n {
+        if named(rows, i, name) {
+            return false;
+        }
+        i += 1;
+    }
+    true
+}
+
 // Whether a row is a symbol's, and no row before it has its name.
 fn row_first(rows: &[u64], n: u64) -> bool
     ensures { λ r. ⌜ r ≡ first-row (rows-in (now (rows .entry))) n ⌝ }
@@ -142,14 +157,25 @@ fn row_first(rows: &[u64], n: u64) -> bool
     none_named(rows, n as usize, &rows[start..end])
 }
 
-// Whether no row before row n is a symbol's of this name.
-fn none_named(rows: &[u64], n: usize, name: &[u64]) -> bool
-    requires { ⌜ n ≤ length (now rows) / 35 ⌝ }
-    ensures { λ r. ⌜ r ≡ none-named (take n (rows-in (now (rows .entry)))) (now (name .entry)) ⌝ }
+fn word_first(rows: &[u64], w: u64) -> bool
+    ensures { λ r. ⌜ r ≡ first-word (rows-in (now (rows .entry))) w ⌝ }
+{
+    if w % KINDS != 0 {
+        return true;
+    }
+    let code = w / KINDS;
+    if code % CLASSES != 0 {
+        return true;
+    }
+    row_first(rows, code / CLASSES)
+}
+
+fn all_first(rows: &[u64], words: &[u64]) -> bool
+    ensures { λ r. ⌜ r ≡ every (first-word (rows-in (now (rows .entry)))) (now (words .entry)) ⌝ }
 {
     let mut i = 0;
-    while i < n {
-        if named(rows, i, name) {
+    while i < words.len() {
+        if !word_first(rows, words[i]) {
             return false;
         }
         i += 1;
@@ -169,32 +195,6 @@ fn tree(rows: &[u64], words: &[u64], at: usize) -> Part
     } else {
         Part::Broken
     }
-}
-
-fn all_first(rows: &[u64], words: &[u64]) -> bool
-    ensures { λ r. ⌜ r ≡ every (first-word (rows-in (now (rows .entry)))) (now (words .entry)) ⌝ }
-{
-    let mut i = 0;
-    while i < words.len() {
-        if !word_first(rows, words[i]) {
-            return false;
-        }
-        i += 1;
-    }
-    true
-}
-
-fn word_first(rows: &[u64], w: u64) -> bool
-    ensures { λ r. ⌜ r ≡ first-word (rows-in (now (rows .entry))) w ⌝ }
-{
-    if w % KINDS != 0 {
-        return true;
-    }
-    let code = w / KINDS;
-    if code % CLASSES != 0 {
-        return true;
-    }
-    row_first(rows, code / CLASSES)
 }
 
 // As many values of an arm as its match has names.
@@ -339,6 +339,16 @@ fn statement(rows: &[u64], words: &[u64], at: usize) -> Part
     arms(rows, words, start, count, many)
 }
 
+fn is_statement(w: u64) -> bool
+    ensures { λ r. ⌜ r ≡ statement-row w ⌝ }
+{
+    let row = w % KINDS;
+    if row < LET {
+        return false;
+    }
+    row < NAME
+}
+
 // Statements as long as there is one.
 fn statements(rows: &[u64], words: &[u64], at: usize) -> Parts
     requires { ⌜ at ≤ length (now words) ⌝ }
@@ -357,16 +367,6 @@ fn statements(rows: &[u64], words: &[u64], at: usize) -> Parts
         count += 1;
     }
     Parts::Ends(i, count)
-}
-
-fn is_statement(w: u64) -> bool
-    ensures { λ r. ⌜ r ≡ statement-row w ⌝ }
-{
-    let row = w % KINDS;
-    if row < LET {
-        return false;
-    }
-    row < NAME
 }
 
 // The arms of a match, each with a value for each of its names.
