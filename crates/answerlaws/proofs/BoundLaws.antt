@@ -1,24 +1,21 @@
 -- Which codes are bound on the way to a place, part by part (Seen). Assumes nothing.
-use Prim.Native.Nat.{ℕ, zero, suc, _+_, _-_, _*_, _/_, _%_, _≤_, _<_}
+use Prim.Native.Nat.{ℕ, zero, suc, _+_, _-_, _*_, _≤_, _<_}
 use native.Mathlib.Omega.{arith}
-use mathlib.Core.Path.{_≡_, refl, sym, _∙_, ap, subst}
-use mathlib.Core.Bool.{Bool, true, false, not, _&&_, _||_, cond}
+use mathlib.Core.Path.{_≡_, refl, sym, _∙_, ap}
+use mathlib.Core.Bool.{Bool, true, false, _||_}
 use mathlib.Core.Option.{Option, none, some}
-use mathlib.Core.List.{List, [], _∷_, _++_, append-assoc}
-use borrow.Author.Tests.{eq-eqb, ne-eqb, le-leb, lt-leb, lt-ltb, le-ltb, eqb-true, eqb-false}
-use lib.ListN.{length, getD, drop, length-append}
-use lib.Seq.{drop-drop, drop-at}
-use lib.Dec.{T, eqb, leb, ltb, leb→le, ltb→lt}
-use Rattle.tree.specs.Tree.{Name, input, xname, mname, Tree, Sym, Const, Op, operands, eq-name}
-use Rattle.tree.specs.Tokens.{word, constant-code, name-code, tokens, kind-of, below-of}
-use Rattle.tree.proofs.Logic.{and-left, and-right}
-use Rattle.cse.specs.Answer.{Intermediate, Intermediates, Arms, Let, Match, end, step, no-arm, arm, names, elem}
-use Rattle.cse.specs.Read.{arm-count}
-use Rattle.cse.specs.AnswerRows.{let-row, match-row, name-row, arm-row, value-row, step-count, names-words, each-words, intermediate-words, intermediates-words, arms-words, stands-below, let-name, match-names}
-use Rattle.answerlaws.specs.Fitting.{an-operation-kind, fitting, fitting-each, a-switch-kind, stmt-fitting, arms-fitting}
-use Rattle.answerlaws.specs.Seen.{span-words, a-match, entered, names-bind, match-binds, binds, ended, bound-by}
+use mathlib.Core.List.{List, [], _∷_, _++_}
+use borrow.Author.Tests.{eq-eqb, ne-eqb, le-leb, lt-leb, lt-ltb, le-ltb, eqb-true}
+use lib.ListN.{length, drop}
+use lib.Seq.{drop-at}
+use lib.Dec.{T, eqb}
+use Rattle.tree.specs.Tree.{Name, input, xname, mname, eq-name}
+use Rattle.tree.specs.Tokens.{word, name-code, kind-of, below-of}
+use Rattle.cse.specs.Answer.{names, elem}
+use Rattle.cse.specs.AnswerRows.{name-row, names-words, stands-below, let-name, match-names}
+use Rattle.answerlaws.specs.Seen.{span-words, entered, names-bind, match-binds, binds, ended, bound-by}
 use Rattle.answerlaws.proofs.ListNames.{made-names}
-use Rattle.answerlaws.proofs.SpanWords.{Whole, tree-whole}
+use Rattle.answerlaws.proofs.SpanWords.{Whole}
 
 -- ---- a row and what stands below it
 

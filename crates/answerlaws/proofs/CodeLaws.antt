@@ -1,12 +1,12 @@
 -- The laws that the functions of a check of rows use, at places of the words: what stands from a place on, one part after another (Fronts). Assumes nothing.
-use Prim.Native.Nat.{ℕ, zero, suc, _+_, _-_, _*_, _/_, _%_, _≤_, _<_}
+use Prim.Native.Nat.{ℕ, zero, suc, _+_, _-_, _/_, _%_, _≤_, _<_}
 use native.Mathlib.Omega.{arith}
 use native.Mathlib.Numerals.{add-one}
 use mathlib.Core.Path.{_≡_, refl, sym, _∙_, ap, subst}
 use mathlib.Core.Bool.{Bool, true, false, not, _&&_}
-use mathlib.Core.Option.{Option, none, some}
+use mathlib.Core.Option.{none, some}
 use mathlib.Core.List.{List, [], _∷_}
-use borrow.Author.Tests.{eq-eqb, ne-eqb, eqb-true, eqb-false, le-leb, lt-leb, lt-ltb, le-ltb, leb-true, leb-false}
+use borrow.Author.Tests.{ne-eqb, eqb-true, eqb-false, le-leb, lt-leb, leb-true, leb-false}
 use lib.ListN.{length, getD, take, drop, length-drop, drop-of-length-le}
 use lib.Seq.{drop-cons}
 use lib.Dec.{T, eqb, leb, ltb, leb→le}
@@ -14,14 +14,14 @@ use Rattle.tree.specs.Bytes.{every}
 use Rattle.tree.specs.Kinds.{is-switch, arity-ok, kind-at, kinds}
 use Rattle.tree.specs.Rows.{Row}
 use Rattle.tree.specs.Passes.{tree-ok}
-use Rattle.tree.specs.Tokens.{word, kind-of, below-of, words-of, run-at}
-use Rattle.tree.proofs.Logic.{and-left, and-right, and-both}
+use Rattle.tree.specs.Tokens.{word, kind-of, words-of, run-at}
+use Rattle.tree.proofs.Logic.{and-left, and-right}
 use Rattle.tree.proofs.KindLaws.{arity-kind}
 use Rattle.tree.proofs.TokenLaws.{words-complete}
 use Rattle.cse.specs.AnswerRows.{match-row, value-row, result-row, arm-row}
 use Rattle.answerlaws.specs.First.{first-word}
 use Rattle.answerlaws.specs.Fronts.{statement-row, match-name-row, no-statement, no-match-name, TreeFront, ValuesFront, StmtFront, StmtsFront, ArmsFront, NamesFront, HeadFront, AnswerRows, Results, Same, Through, Named}
-use Rattle.answerlaws.proofs.FrontLaws.{head-is, tail-is, tree-rest, values-none, values-apart, values-zero, values-more, values-cons, stmt-starts, stmt-longer, stmts-none, stmts-cons, stmts-more, stmts-first, stmts-rest, arms-none, arms-cons, arms-apart, arms-zero, arm-made, arm-apart, arm-rest, arms-more}
+use Rattle.answerlaws.proofs.FrontLaws.{head-is, tail-is, tree-rest, values-none, values-apart, values-zero, values-more, values-cons, stmt-longer, stmts-none, stmts-cons, stmts-more, stmts-first, stmts-rest, arms-none, arms-cons, arms-apart, arm-made, arm-apart, arms-more}
 use Rattle.answerlaws.proofs.HeadLaws.{names-none, names-cons, names-rest, head-rest, match-made, match-apart, let-made, let-apart, answer-made, answer-apart}
 use Rattle.answerlaws.proofs.TreeFronts.{here, tree-found, tree-there}
 

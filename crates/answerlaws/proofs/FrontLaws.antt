@@ -1,22 +1,20 @@
 -- Parts in front of words are put together and taken apart, and what is left after a part is known (Fronts). Assumes nothing.
-use Prim.Native.Nat.{ℕ, zero, suc, _+_, _-_, _*_, _/_, _%_, _≤_, _<_}
+use Prim.Native.Nat.{ℕ, zero, suc, _+_, _≤_, _<_}
 use native.Mathlib.Omega.{arith}
 use mathlib.Core.Path.{_≡_, refl, sym, _∙_, ap, ap₂, subst}
 use mathlib.Core.Bool.{Bool, true, false, not, _&&_}
 use mathlib.Core.List.{List, [], _∷_, _++_, append-assoc}
-use borrow.Author.Tests.{eq-eqb, ne-eqb, le-leb, lt-leb, lt-ltb, le-ltb}
 use lib.ListN.{length, length-append}
-use lib.Dec.{T, eqb, leb, ltb, leb→le, ltb→lt, eqb→eq, eqb-refl, le→leb, lt→ltb}
-use Rattle.tree.specs.Kinds.{is-switch, arity-ok}
-use Rattle.tree.specs.Tree.{Name, input, xname, mname, Tree, Sym, Const, Op}
+use lib.Dec.{T, eqb, leb, ltb, eqb→eq, le→leb, lt→ltb}
+use Rattle.tree.specs.Tree.{Tree}
 use Rattle.tree.specs.Rows.{Row}
 use Rattle.tree.specs.Passes.{tree-ok, trees-ok}
-use Rattle.tree.specs.Tokens.{word, name-code, tokens, number-in, name-in, kind-of, below-of}
+use Rattle.tree.specs.Tokens.{word, name-code, tokens, number-in, name-in, kind-of}
 use Rattle.tree.proofs.Logic.{and-left, and-right, and-both}
 use Rattle.tree.proofs.Tests.{eq→eqb}
-use Rattle.cse.specs.Answer.{Intermediate, Intermediates, Arms, Answer, Let, Match, end, step, no-arm, arm}
+use Rattle.cse.specs.Answer.{Intermediate, Intermediates, Arms, Let, Match, end, step, no-arm, arm}
 use Rattle.cse.specs.Read.{arm-count}
-use Rattle.cse.specs.AnswerRows.{let-row, match-row, name-row, arm-row, value-row, result-row, step-count, names-words, each-words, intermediate-words, intermediates-words, arms-words, answer-words, read-spans, spans, span, row-of-span, tree-of-span, intermediate-of-span, arms-of-spans, let-name, match-names, intermediate-ok, intermediates-ok, arms-ok}
+use Rattle.cse.specs.AnswerRows.{let-row, match-row, arm-row, value-row, step-count, names-words, each-words, intermediate-words, intermediates-words, arms-words, read-spans, row-of-span, tree-of-span, intermediate-of-span, arms-of-spans, intermediate-ok, intermediates-ok, arms-ok}
 use Rattle.answerlaws.specs.Fitting.{fitting, all-fitting, stmt-fitting, stmts-fitting, arms-fitting, numbered-in}
 use Rattle.answerlaws.specs.Fronts.{statement-row, no-statement, TreeFront, ValuesFront, StmtFront, StmtsFront, ArmsFront}
 use Rattle.answerlaws.proofs.SpanLaws.{join, tree-span, read-tree-span, span-tree}

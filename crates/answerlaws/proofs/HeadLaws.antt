@@ -1,24 +1,24 @@
 -- Match names, heads of matches, statements and whole answers put together and taken apart (Fronts). Assumes nothing.
-use Prim.Native.Nat.{ℕ, zero, suc, _+_, _-_, _*_, _/_, _%_, _≤_, _<_}
+use Prim.Native.Nat.{ℕ, zero, suc, _+_, _*_, _/_, _%_, _≤_, _<_}
 use native.Mathlib.Omega.{arith}
 use mathlib.Core.Path.{_≡_, refl, sym, _∙_, ap, ap₂, subst}
-use mathlib.Core.Bool.{Bool, true, false, not, _&&_}
+use mathlib.Core.Bool.{Bool, true, false, _&&_}
 use mathlib.Core.List.{List, [], _∷_, _++_, append-assoc}
 use borrow.Author.Tests.{eqb-true, eqb-false}
-use lib.ListN.{length, length-append}
-use lib.Dec.{T, eqb, leb, ltb, leb→le, ltb→lt, eqb→eq, le→leb, lt→ltb}
-use Rattle.tree.specs.Kinds.{is-switch, arity-ok, kind-at, kinds}
+use lib.ListN.{length}
+use lib.Dec.{T, eqb, leb, ltb, leb→le, eqb→eq, le→leb, lt→ltb}
+use Rattle.tree.specs.Kinds.{is-switch, arity-ok}
 use Rattle.tree.specs.Tree.{Name, input, xname, mname, Tree}
 use Rattle.tree.specs.Rows.{Row}
-use Rattle.tree.specs.Passes.{tree-ok, trees-ok}
+use Rattle.tree.specs.Passes.{tree-ok}
 use Rattle.tree.specs.Tokens.{word, name-code, tokens, number-in, kind-of, below-of}
 use Rattle.tree.proofs.Logic.{and-left, and-right, and-both}
 use Rattle.tree.proofs.KindLaws.{arity-kind}
 use Rattle.tree.proofs.Tests.{eq→eqb}
-use Rattle.cse.specs.Answer.{Intermediate, Intermediates, Arms, Answer, Let, Match, end, step, no-arm, arm}
+use Rattle.cse.specs.Answer.{Intermediate, Arms, Let, Match, no-arm, arm}
 use Rattle.cse.specs.Read.{arm-count}
-use Rattle.cse.specs.AnswerRows.{let-row, match-row, name-row, arm-row, value-row, result-row, step-count, names-words, each-words, intermediate-words, intermediates-words, arms-words, answer-words, let-name, match-names, intermediate-ok, intermediates-ok, arms-ok}
-use Rattle.answerlaws.specs.Fitting.{fitting, all-fitting, a-switch-kind, stmt-fitting, stmts-fitting, arms-fitting, numbered-in}
+use Rattle.cse.specs.AnswerRows.{let-row, match-row, name-row, arm-row, result-row, step-count, names-words, each-words, intermediate-words, intermediates-words, arms-words, answer-words, let-name, match-names, intermediate-ok, arms-ok}
+use Rattle.answerlaws.specs.Fitting.{fitting, a-switch-kind, stmt-fitting, arms-fitting, numbered-in}
 use Rattle.answerlaws.specs.Fronts.{match-name-row, no-statement, no-match-name, TreeFront, ValuesFront, StmtFront, StmtsFront, ArmsFront, NamesFront, HeadFront, AnswerRows}
 use Rattle.answerlaws.proofs.FrontLaws.{tail-is, head-is, not-both, tree-rest}
 

@@ -1,7 +1,7 @@
 -- 13 decided by what answers are: words are laid out exactly where they are the rows of an answer whose parts and references are right. Assumes nothing.
 use Prim.Native.Nat.{ℕ}
 use mathlib.Core.Path.{_≡_, refl, sym, _∙_, ap, subst}
-use mathlib.Core.Bool.{Bool, true, false, _&&_}
+use mathlib.Core.Bool.{Bool, _&&_}
 use mathlib.Core.List.{List}
 use lib.Dec.{T}
 use Rattle.tree.specs.Bytes.{eq-bytes}

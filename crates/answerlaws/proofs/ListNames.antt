@@ -1,8 +1,8 @@
 -- The symbols of a list by their rows' numbers, and what the references of an answer say of its symbols (AnswerRows). Assumes nothing.
-use Prim.Native.Nat.{ℕ, zero, suc, _+_, _≤_, _<_}
+use Prim.Native.Nat.{ℕ, suc, _+_}
 use native.Mathlib.Omega.{arith}
-use mathlib.Core.Path.{_≡_, refl, sym, _∙_, ap, subst}
-use mathlib.Core.Logic.{_⊎_, inl, inr}
+use mathlib.Core.Path.{_≡_, refl, sym, _∙_, subst}
+use mathlib.Core.Logic.{inl, inr}
 use mathlib.Core.Bool.{Bool, true, false, not, _&&_, _||_}
 use mathlib.Core.List.{List, [], _∷_, _++_}
 use lib.IntN.{pos}
@@ -23,7 +23,7 @@ use Rattle.cse.specs.Answer.{Intermediate, Intermediates, Arms, Answer, Let, Ma
 use Rattle.cse.specs.Read.{arm-count}
 use Rattle.cse.specs.Demand.{bound-stmts, all-different, known, in-scope, stmt-in-scope, arms-in-scope}
 use Rattle.cse.specs.AnswerRows.{let-name, match-names, intermediate-ok, intermediates-ok, arms-ok, list-names, references-ok}
-use Rattle.cse.proofs.Symbols.{or-cases, elem-cases, elem-here, elem-later, elem-append, elem-left, elem-right, holds-by, no-elem}
+use Rattle.cse.proofs.Symbols.{or-cases, elem-cases, holds-by, no-elem}
 use Rattle.answerlaws.specs.Fitting.{fitting, all-fitting, a-switch-kind, stmt-fitting, stmts-fitting, arms-fitting, numbered-in}
 use Rattle.answerlaws.proofs.SpanLaws.{ok-fitting}
 

@@ -1,16 +1,14 @@
 -- Rows that bind are all different exactly where the names that an answer binds are (Seen). Rows have a match's names before its arms, and the list of bound names has
 -- them after, so both are counted. Assumes nothing.
-use Prim.Native.Nat.{ℕ, zero, suc, _+_, _-_, _*_, _/_, _%_, _≤_, _<_}
+use Prim.Native.Nat.{ℕ, zero, suc, _+_, _*_, _/_, _%_, _≤_, _<_}
 use native.Mathlib.Omega.{arith}
-use mathlib.Core.Path.{_≡_, refl, sym, _∙_, ap, ap₂, subst}
-use mathlib.Core.Bool.{Bool, true, false, not, _&&_, _||_, cond}
+use mathlib.Core.Path.{_≡_, refl, sym, _∙_, ap}
+use mathlib.Core.Bool.{Bool, true, false, not, _&&_, _||_}
 use mathlib.Core.List.{List, [], _∷_, _++_}
-use borrow.Author.Tests.{eq-eqb, ne-eqb, eqb-true, eqb-false}
+use borrow.Author.Tests.{eq-eqb, ne-eqb, eqb-true}
 use lib.ListN.{length}
 use lib.Dec.{T, eqb, leb, ltb, leb→le, ltb→lt}
-use Rattle.tree.specs.Kinds.{is-switch, arity-ok}
 use Rattle.tree.specs.Tree.{Name, input, xname, mname, Tree, Forest, Sym, Const, Op, nil, _◂_, operands, eq-name}
-use Rattle.tree.specs.Passes.{tree-ok, trees-ok}
 use Rattle.tree.specs.Tokens.{word, constant-code, name-code, tokens, tokens-of, kind-of, below-of}
 use Rattle.tree.proofs.Logic.{and-left, and-right, and-both}
 use Rattle.tree.proofs.TreeLaws.{eq-name-sound, eq-name-refl}

@@ -1,5 +1,5 @@
 -- Reading back what was written: the answer that an answer's rows are (AnswerRows). Assumes nothing.
-use Prim.Native.Nat.{ℕ, zero, suc, _+_, _-_, _*_, _/_, _%_, _≤_, _<_}
+use Prim.Native.Nat.{ℕ, suc, _+_, _-_, _/_, _%_, _≤_, _<_}
 use native.Mathlib.Omega.{arith}
 use mathlib.Core.Path.{_≡_, refl, sym, _∙_, ap, ap₂}
 use mathlib.Core.Bool.{Bool, true, false, _&&_}
@@ -7,14 +7,14 @@ use mathlib.Core.List.{List, [], _∷_, _++_}
 use borrow.Author.Tests.{eq-eqb, ne-eqb, le-leb, lt-leb, lt-ltb, le-ltb}
 use lib.ListN.{length}
 use lib.Dec.{T, eqb, leb, ltb, leb→le, ltb→lt}
-use Rattle.tree.specs.Tree.{Name, input, xname, mname, Tree, Sym, Const, Op, operands}
-use Rattle.tree.specs.Tokens.{word, name-code, kind-of, below-of, name-by, constant-code}
-use Rattle.tree.proofs.Logic.{and-left, and-right, and-both}
+use Rattle.tree.specs.Tree.{Name, input, xname, mname, Tree, Sym, Const, Op}
+use Rattle.tree.specs.Tokens.{word, name-code, kind-of, below-of, name-by}
+use Rattle.tree.proofs.Logic.{and-left, and-right}
 use Rattle.tree.proofs.TokenCode.{known-name}
 use Rattle.cse.specs.Answer.{Intermediate, Intermediates, Arms, Answer, Let, Match, end, step, no-arm, arm}
 use Rattle.cse.specs.Read.{arm-count}
-use Rattle.cse.specs.AnswerRows.{let-row, match-row, name-row, arm-row, value-row, result-row, step-count, intermediates-words, each-words, answer-words, Span, Spans, span, no-span, spans, read-spans, row-of-span, first-tree, tree-of-span, tree-below, trees-below, names-of-spans, intermediate-of-span, intermediates-of-spans, arms-of-spans, arm-of-span, answer-of, let-name, match-names}
-use Rattle.answerlaws.proofs.SpanLaws.{join, span-count, tree-span, name-back, span-tree}
+use Rattle.cse.specs.AnswerRows.{let-row, match-row, name-row, arm-row, value-row, result-row, step-count, intermediates-words, each-words, answer-words, Span, Spans, span, no-span, spans, read-spans, row-of-span, first-tree, tree-of-span, tree-below, trees-below, names-of-spans, intermediate-of-span, intermediates-of-spans, arms-of-spans, answer-of, let-name, match-names}
+use Rattle.answerlaws.proofs.SpanLaws.{join, tree-span, name-back, span-tree}
 use Rattle.answerlaws.specs.Fitting.{an-operation-kind, fitting, fitting-each, all-fitting, a-switch-kind, stmt-fitting, stmts-fitting, arms-fitting}
 use Rattle.answerlaws.proofs.RowSpans.{name-spans, each-spans, stmt-span, stmt-spans, arm-spans, read-stmts, read-each}
 

@@ -1,18 +1,17 @@
 -- The spans that the rows of statements, arms, values and results are (AnswerRows). Assumes nothing.
-use Prim.Native.Nat.{ℕ, zero, suc, _+_, _*_, _/_, _%_, _≤_, _<_}
+use Prim.Native.Nat.{ℕ, suc, _+_, _≤_, _<_}
 use native.Mathlib.Omega.{arith}
-use mathlib.Core.Path.{_≡_, refl, sym, _∙_, ap, ap₂}
-use mathlib.Core.Bool.{Bool, true, false, _&&_}
+use mathlib.Core.Path.{_≡_, refl, sym, _∙_, ap}
+use mathlib.Core.Bool.{Bool, _&&_}
 use mathlib.Core.List.{List, [], _∷_, _++_, append-assoc}
 use lib.ListN.{length}
-use lib.Dec.{T, leb, ltb, leb→le, ltb→lt, lt→ltb}
-use Rattle.tree.specs.Kinds.{is-switch, arity-ok}
-use Rattle.tree.specs.Tree.{Name, input, xname, mname, Tree}
+use lib.Dec.{T, leb, ltb, leb→le, ltb→lt}
+use Rattle.tree.specs.Tree.{Name, Tree}
 use Rattle.tree.specs.Tokens.{word, name-code, tokens, kind-of, below-of}
-use Rattle.tree.proofs.Logic.{and-left, and-right, and-both}
+use Rattle.tree.proofs.Logic.{and-left, and-right}
 use Rattle.cse.specs.Answer.{Intermediate, Intermediates, Arms, Let, Match, end, step, no-arm, arm}
 use Rattle.cse.specs.Read.{arm-count}
-use Rattle.cse.specs.AnswerRows.{let-row, match-row, name-row, arm-row, value-row, result-row, step-count, names-words, each-words, intermediate-words, intermediates-words, arms-words, Span, Spans, span, no-span, spans, read-spans, let-name, match-names}
+use Rattle.cse.specs.AnswerRows.{let-row, match-row, name-row, arm-row, value-row, step-count, names-words, each-words, intermediate-words, intermediates-words, arms-words, Span, Spans, span, no-span, spans, read-spans, let-name, match-names}
 use Rattle.answerlaws.specs.Fitting.{fitting, all-fitting, a-switch-kind, stmt-fitting, stmts-fitting, arms-fitting}
 use Rattle.answerlaws.proofs.SpanLaws.{join, span-count, join-assoc, count-join, read-row, below-many, below-name, below-let, below-each, tree-span, read-tree-span}
 

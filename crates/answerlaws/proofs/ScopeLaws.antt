@@ -1,13 +1,12 @@
 -- Names used in rows are bound on the way to them exactly where the answer's names are in scope (Seen). Assumes nothing.
-use Prim.Native.Nat.{ℕ, zero, suc, _+_, _-_, _*_, _/_, _%_, _≤_, _<_}
+use Prim.Native.Nat.{ℕ, zero, suc, _+_, _*_, _%_, _≤_, _<_}
 use native.Mathlib.Omega.{arith}
-use native.Mathlib.Numerals.{add-one}
 use mathlib.Core.Path.{_≡_, refl, sym, _∙_, ap, ap₂, subst}
 use mathlib.Core.Logic.{_⊎_, inl, inr}
-use mathlib.Core.Bool.{Bool, true, false, not, _&&_, _||_, cond}
-use mathlib.Core.Option.{Option, none, some}
+use mathlib.Core.Bool.{Bool, true, false, not, _&&_, _||_}
+use mathlib.Core.Option.{some}
 use mathlib.Core.List.{List, [], _∷_, _++_, append-assoc}
-use borrow.Author.Tests.{eq-eqb, ne-eqb, le-leb, lt-leb, lt-ltb, le-ltb, eqb-true, eqb-false}
+use borrow.Author.Tests.{ne-eqb}
 use lib.IntN.{pos}
 use lib.ListN.{length, getD, drop, length-append}
 use lib.Seq.{drop-drop, drop-at, getD-drop}
@@ -18,19 +17,19 @@ use Rattle.tree.specs.Tree.{Name, input, xname, mname, Tree, Forest, Sym, Const
 use Rattle.tree.specs.Rows.{Row, row-sym, row-const, row-op}
 use Rattle.tree.specs.Passes.{all-of, symbol-ok, of-paper, operands-ok, tree-ok, trees-ok}
 use Rattle.tree.specs.Tokens.{word, constant-code, name-code, tokens, tokens-of, number-in, name-in, name-of-row, kind-of, below-of}
-use Rattle.tree.proofs.Logic.{and-left, and-right, and-both}
+use Rattle.tree.proofs.Logic.{and-left, and-right}
 use Rattle.tree.proofs.Tests.{is-true}
 use Rattle.tree.proofs.TokenCode.{known-name}
-use Rattle.cse.specs.Answer.{Intermediate, Intermediates, Arms, Answer, Let, Match, end, step, no-arm, arm, names, concat, symbols, all-symbols, elem}
+use Rattle.cse.specs.Answer.{Intermediate, Intermediates, Arms, Let, Match, end, step, no-arm, arm, names, concat, symbols, all-symbols, elem}
 use Rattle.cse.specs.Read.{arm-count}
 use Rattle.cse.specs.Demand.{bound-stmt, bound-stmts, bound-arms, known, in-scope, stmt-in-scope, arms-in-scope}
 use Rattle.cse.specs.AnswerRows.{let-row, match-row, name-row, arm-row, value-row, step-count, names-words, each-words, intermediate-words, intermediates-words, arms-words, let-name, match-names, intermediate-ok, intermediates-ok, arms-ok, list-names}
-use Rattle.cse.proofs.Symbols.{elem-here, elem-later, no-elem}
+use Rattle.cse.proofs.Symbols.{elem-here, elem-later}
 use Rattle.answerlaws.specs.Fitting.{an-operation-kind, fitting, fitting-each, all-fitting, a-switch-kind, stmt-fitting, stmts-fitting, arms-fitting, numbered-in}
 use Rattle.answerlaws.specs.Seen.{span-words, entered, names-bind, match-binds, binds, bound-by, is-use, use-ok, seen}
 use Rattle.answerlaws.proofs.ListNames.{numbered-back, made-names, made-append, made-no-input, let-made, match-made}
 use Rattle.answerlaws.proofs.HeadLaws.{arms-some}
-use Rattle.answerlaws.proofs.SpanWords.{Whole, tree-whole, names-whole, each-row, stmt-whole, arm-whole, name-whole}
+use Rattle.answerlaws.proofs.SpanWords.{Whole, tree-whole, each-row, stmt-whole, arm-whole, name-whole}
 use Rattle.answerlaws.proofs.BoundLaws.{whole-span, pass, enter, stop, enters-match, enters-arm, enters-no, enters-none, binds-let, binds-match, binds-low, binds-high, code-same, let-made-name, names-bound}
 
 -- ---- tests

@@ -1,21 +1,20 @@
 -- Spans of rows (AnswerRows): how many stand below each kind of row, and the spans that a tree's words are. Assumes nothing.
 use Prim.Native.Nat.{ℕ, zero, suc, _+_, _*_, _/_, _%_, _≤_, _<_}
 use native.Mathlib.Omega.{arith}
-use mathlib.Core.Path.{_≡_, refl, sym, _∙_, ap, ap₂, subst}
-use mathlib.Core.Bool.{Bool, true, false, _&&_, cond}
+use mathlib.Core.Path.{_≡_, refl, _∙_, ap, ap₂}
+use mathlib.Core.Bool.{Bool, _&&_}
 use mathlib.Core.List.{List, [], _∷_, _++_, append-assoc}
-use borrow.Author.Tests.{eq-eqb, ne-eqb, le-leb, lt-leb}
-use lib.IntN.{ℤ}
+use borrow.Author.Tests.{ne-eqb, le-leb, lt-leb}
 use lib.ListN.{length}
-use lib.Dec.{T, eqb, leb, ltb, leb→le, ltb→lt, le→leb, lt→ltb}
+use lib.Dec.{T, leb, ltb, leb→le, ltb→lt, lt→ltb}
 use Rattle.tree.specs.Kinds.{arity-ok}
-use Rattle.tree.specs.Tree.{Name, input, xname, mname, Tree, Forest, Sym, Const, Op, nil, _◂_, operands, forest, folds}
-use Rattle.tree.specs.Passes.{all-of, of-paper, symbol-ok, operands-ok, tree-ok, trees-ok}
-use Rattle.tree.specs.Tokens.{word, constant-code, name-code, tokens, tokens-of, kind-of, below-of, constant-at, name-by, tree-of-word}
+use Rattle.tree.specs.Tree.{Name, input, xname, mname, Tree, Forest, Sym, Const, Op, nil, _◂_, operands, folds}
+use Rattle.tree.specs.Passes.{all-of, of-paper, symbol-ok, operands-ok, tree-ok}
+use Rattle.tree.specs.Tokens.{word, constant-code, name-code, tokens, tokens-of, kind-of, below-of, name-by}
 use Rattle.tree.proofs.Logic.{and-left, and-right, and-both}
 use Rattle.tree.proofs.KindLaws.{arity-kind}
 use Rattle.tree.proofs.TokenLaws.{symbol-tree, constant-tree, operation-tree, forest-operands}
-use Rattle.tree.proofs.TokenCode.{known-name, coded, coded-each, fits-word, constant-back}
+use Rattle.tree.proofs.TokenCode.{known-name, constant-back}
 use Rattle.rewrite.proofs.Names.{holds, holds-each}
 use Rattle.answerlaws.specs.Fitting.{an-operation-kind, fitting, fitting-each}
 use Rattle.cse.specs.AnswerRows.{Span, Spans, span, no-span, spans, take-spans, drop-spans, stands-below, read-spans, tree-of-span, trees-of-spans}

@@ -1,13 +1,13 @@
 -- A tree in front of words: found where it passes and its symbols of the list are named by their first rows, and nowhere else (Fronts, First). Assumes nothing.
-use Prim.Native.Nat.{ℕ, zero, suc, _+_, _-_, _*_, _/_, _%_, _≤_, _<_}
+use Prim.Native.Nat.{ℕ, zero, suc, _+_, _*_, _/_, _%_, _≤_, _<_}
 use native.Mathlib.Omega.{arith}
 use mathlib.Core.Path.{_≡_, refl, sym, _∙_, ap, ap₂, subst}
 use mathlib.Core.Bool.{Bool, true, false, _&&_, cond}
-use mathlib.Core.Option.{Option, none, some}
+use mathlib.Core.Option.{some}
 use mathlib.Core.List.{List, [], _∷_, _++_, append-assoc}
 use borrow.Author.Tests.{eq-eqb, ne-eqb, eqb-true, eqb-false}
 use lib.IntN.{ℤ, pos, negsuc}
-use lib.ListN.{length, getD, take, drop, length-append, length-take, length-drop, take-append-drop}
+use lib.ListN.{length, getD, take, drop, length-append, length-drop, take-append-drop}
 use lib.Seq.{length-take-le, drop-drop, take-at}
 use lib.Dec.{T, eqb, leb, ltb, leb→le, ltb→lt, eqb→eq, lt→ltb}
 use Rattle.tree.specs.Bytes.{eq-bytes, every}
@@ -17,11 +17,11 @@ use Rattle.tree.specs.Rows.{Row, row-sym, row-const, row-op}
 use Rattle.tree.specs.Passes.{all-of, symbol-ok, of-paper, operands-ok, tree-ok}
 use Rattle.tree.specs.Tokens.{word, constant-code, name-code, tokens, tokens-of, all-tokens, number-in, name-of-row, name-in, kind-of, below-of, takes, constant-at, name-by, read, trees-at, trees-in, words-of, run-at}
 use Rattle.tree.proofs.Logic.{and-left, and-right, and-both}
-use Rattle.tree.proofs.Tests.{is-true, every-more, eq→eqb}
+use Rattle.tree.proofs.Tests.{every-more, eq→eqb}
 use Rattle.tree.proofs.TreeLaws.{eq-bytes-refl}
 use Rattle.tree.proofs.TokenLaws.{Word, a-symbol, a-constant, an-operation, word-is, leaf-takes, operation-takes, symbol-tree, constant-tree, operation-tree, operands-forest, made, read-cons, complete-tail, complete-length, complete-read, words-complete, words-none, tree-at}
 use Rattle.tree.proofs.TokenCode.{known-name, coded, coded-each, all-coded, fits-word, renamed, read-tree, reads-back, all-tokens-cons, all-tokens-append, tokens-forest}
-use Rattle.rewrite.proofs.Names.{holds, holds-each, holds-all, holds-append, holds-left, holds-right}
+use Rattle.rewrite.proofs.Names.{holds, holds-each, holds-all, holds-left, holds-right}
 use Rattle.answerlaws.specs.Fitting.{an-operation-kind, fitting, fitting-each, numbered-in}
 use Rattle.answerlaws.specs.First.{is-symbol-row, first-row, first-word}
 use Rattle.answerlaws.specs.Fronts.{TreeFront}

@@ -1,29 +1,25 @@
 -- The laws that a check of references uses, at places of the words: where spans end, which names are bound on the way, and which rows repeat (Seen). Assumes nothing.
-use Prim.Native.Nat.{ℕ, zero, suc, _+_, _-_, _*_, _/_, _%_, _≤_, _<_}
+use Prim.Native.Nat.{ℕ, zero, suc, _+_, _-_, _/_, _%_, _≤_, _<_}
 use native.Mathlib.Omega.{arith}
-use native.Mathlib.Numerals.{add-one}
 use mathlib.Core.Path.{_≡_, refl, sym, _∙_, ap, ap₂, subst}
-use mathlib.Core.Bool.{Bool, true, false, not, _&&_, _||_, cond}
+use mathlib.Core.Bool.{Bool, true, false, not, _&&_, _||_}
 use mathlib.Core.Option.{Option, none, some}
 use mathlib.Core.List.{List, [], _∷_}
-use borrow.Author.Tests.{eq-eqb, ne-eqb, eqb-true, eqb-false, le-leb, lt-leb, lt-ltb, le-ltb}
-use lib.ListN.{length, getD, drop, length-drop, drop-of-length-le}
+use borrow.Author.Tests.{eq-eqb, ne-eqb, le-leb, lt-leb}
+use lib.ListN.{length, getD, drop, length-drop}
 use lib.Seq.{drop-drop}
 use lib.Dec.{T, eqb, leb, ltb}
-use Rattle.tree.specs.Bytes.{eq-bytes}
 use Rattle.tree.specs.Rows.{Row}
 use Rattle.tree.specs.Tokens.{kind-of, below-of, number-in}
-use Rattle.tree.proofs.Logic.{and-left, and-right, and-both}
-use Rattle.cse.specs.Answer.{Answer}
-use Rattle.cse.specs.Demand.{bound-stmts, all-different, in-scope}
-use Rattle.cse.specs.AnswerRows.{stands-below, answer-words, intermediates-words, each-words, list-names, references-ok, answer-laid-out}
+use Rattle.cse.specs.Demand.{bound-stmts, all-different}
+use Rattle.cse.specs.AnswerRows.{stands-below, answer-words, references-ok, answer-laid-out}
 use Rattle.answerlaws.specs.Fitting.{numbered-in}
 use Rattle.answerlaws.specs.Fronts.{AnswerRows}
-use Rattle.answerlaws.specs.Seen.{span-words, a-match, entered, names-bind, match-binds, binds, ended, bound-by, is-use, use-ok, seen, a-binding, occurs, once, Ended, Unended, Left}
+use Rattle.answerlaws.specs.Seen.{span-words, entered, names-bind, match-binds, binds, ended, bound-by, use-ok, seen, a-binding, occurs, once, Ended, Unended, Left}
 use Rattle.answerlaws.proofs.CodeLaws.{place, past}
-use Rattle.answerlaws.proofs.BoundLaws.{none-first, row-below, ended-yes, ended-none, ended-later, pass-row, enter-row, stop-row, enters-match, enters-no, enters-none, binds-let, binds-match, binds-low, binds-high}
+use Rattle.answerlaws.proofs.BoundLaws.{none-first, row-below, ended-yes, ended-none, ended-later, pass-row, enter-row, stop-row, enters-match, enters-no, binds-let, binds-match, binds-low, binds-high}
 use Rattle.answerlaws.proofs.ListNames.{answer-fits}
-use Rattle.answerlaws.proofs.LaidOut.{RowsOf, laid-rows, rows-laid}
+use Rattle.answerlaws.proofs.LaidOut.{laid-rows, rows-laid}
 use Rattle.answerlaws.proofs.ScopeLaws.{all-seen, stmts-bound-made}
 use Rattle.answerlaws.proofs.OnceLaws.{once-different}
 

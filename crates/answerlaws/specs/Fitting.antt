@@ -1,7 +1,7 @@
 -- Parts of an answer whose words are read back as that part (AnswerRows): each operation's kind is one of 01's, each match's a switch's, and each symbol of the list
 -- is one that a test passes, such as that its number leads back to it. Assumes nothing.
 use Prim.Native.Nat.{ℕ}
-use mathlib.Core.Bool.{Bool, true, false, _&&_}
+use mathlib.Core.Bool.{Bool, true, _&&_}
 use mathlib.Core.List.{List, [], _∷_}
 use lib.Dec.{leb, ltb}
 use Rattle.tree.specs.Bytes.{eq-bytes}

@@ -1,7 +1,7 @@
 -- What the functions of this crate answer, by cases: where a part of an answer ends (Fronts), or that none stands there. Assumes nothing.
 use Prim.Native.Nat.{ℕ, _+_, _-_, _≤_, _<_}
 use mathlib.Core.Path.{_≡_}
-use mathlib.Core.Bool.{Bool, true, false, cond}
+use mathlib.Core.Bool.{Bool, true, false}
 use mathlib.Core.List.{List}
 use lib.IntN.{pos}
 use lib.ListN.{length, getD, drop}

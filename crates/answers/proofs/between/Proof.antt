@@ -1,6 +1,5 @@
 -- `answers::between` meets its contract. Assumes nothing.
 use Rattle.answerlaws.proofs.CodeLaws.{between-low, between-high}
-use borrow.Author.Needs.{needs}
 use Rattle.answers.proofs.between.Statement.{statement}
 use Rattle.answers.proofs.between.Tie as tie
 

@@ -1,8 +1,7 @@
 -- `answers::head` meets its contract. Assumes nothing.
-use Prim.Native.Nat.{_+_, _-_, _/_, _%_}
+use Prim.Native.Nat.{_+_, _-_}
 use native.Mathlib.Omega.{arith}
 use mathlib.Core.Path.{sym, _∙_}
-use lib.ListN.{getD}
 use Rattle.checked.specs.Check.{rows-in}
 use Rattle.answerlaws.specs.Fronts.{TreeFront}
 use Rattle.answerlaws.proofs.CodeLaws.{head-low, head-high, head-keyless, head-nameless, head-narrow, head-unfit, head-ends}

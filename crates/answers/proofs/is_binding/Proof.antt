@@ -1,6 +1,5 @@
 -- `answers::is_binding` meets its contract. Assumes nothing.
 use Rattle.answerlaws.proofs.WayLaws.{binding-let, binding-name, binding-no}
-use borrow.Author.Needs.{needs}
 use Rattle.answers.proofs.is_binding.Statement.{statement}
 use Rattle.answers.proofs.is_binding.Tie as tie
 

@@ -1,6 +1,5 @@
 -- `answers::is_entered` meets its contract. Assumes nothing.
 use Rattle.answerlaws.proofs.WayLaws.{entered-arm, entered-no, entered-some}
-use borrow.Author.Needs.{needs}
 use Rattle.answers.proofs.is_entered.Statement.{statement}
 use Rattle.answers.proofs.is_entered.Tie as tie
 

@@ -1,6 +1,5 @@
 -- `answers::is_statement` meets its contract. Assumes nothing.
 use Rattle.answerlaws.proofs.CodeLaws.{statement-low, statement-high}
-use borrow.Author.Needs.{needs}
 use Rattle.answers.proofs.is_statement.Statement.{statement}
 use Rattle.answers.proofs.is_statement.Tie as tie
 

@@ -1,7 +1,6 @@
 -- `answers::span_end` meets its contract: a word passed is one span fewer, and those below it more. Assumes nothing.
 use Prim.Native.Nat.{_≤_, _-_}
 use native.Mathlib.Omega.{arith}
-use lib.ListN.{length}
 use Rattle.answerlaws.specs.Seen.{Left}
 use Rattle.answerlaws.proofs.WayLaws.{left-begin, left-next, left-over, left-ends}
 use borrow.Author.Needs.{needs}

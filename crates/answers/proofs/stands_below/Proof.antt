@@ -1,7 +1,6 @@
 -- `answers::stands_below` meets its contract. Assumes nothing.
 use native.Mathlib.Omega.{arith}
 use Rattle.answerlaws.proofs.WayLaws.{stands-none, stands-name, stands-let, stands-each, stands-many}
-use borrow.Author.Needs.{needs}
 use Rattle.answers.proofs.stands_below.Statement.{statement}
 use Rattle.answers.proofs.stands_below.Tie as tie
 
