@@ -1,5 +1,3 @@
 pub mod WriteLaws
 pub mod Fitting
 pub mod TextLaws
-pub mod NameLaws
-pub mod KindNames

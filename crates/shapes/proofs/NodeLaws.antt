@@ -17,10 +17,10 @@ use Rattle.tree.proofs.Logic.{and-left, and-right}
 use Rattle.tree.proofs.TokenLaws.{Word, a-symbol, a-constant, an-operation, word-is, sizes, symbol-tree, constant-tree, operation-tree, leaf-takes, fold-operation}
 use Rattle.text.specs.Text.{Part, name-text, precedence, operation-text, part, display, bracketed}
 use Rattle.emit.specs.Writing.{Writes, low-bytes}
-use Rattle.emit.specs.Symbols.{row-name, symbol-text}
+use Rattle.symbols.specs.Symbols.{row-name, symbol-text}
 use Rattle.emit.proofs.WriteLaws.{writes-then, writes-as}
 use Rattle.emit.proofs.TextLaws.{low-none}
-use Rattle.emit.proofs.NameLaws.{low-made, low-one, low-append}
+use Rattle.symbols.proofs.NameLaws.{low-made, low-one, low-append}
 use Rattle.checked.specs.Check.{rows-in}
 use Rattle.shapes.specs.Operands.{brackets}
 use Rattle.shapes.specs.Places.{tree-here, Stands, Passes}

@@ -131,7 +131,7 @@ fn put_opening(out: &mut [u8], dry: bool, to: usize, kind: u64) -> usize
     if kind <= POW {
         return emit::place(out, to);
     }
-    emit::put_kind_name(out, dry, to, kind)
+    kindnames::put_kind_name(out, dry, to, kind)
 }
 
 // An operator's sign, as far as Div.
@@ -186,7 +186,7 @@ fn expression(rows: &[u64], tokens: &[u64], at: usize, out: &mut [u8], dry: bool
     let below = w / KINDS;
     let mut next = at + 1;
     if kind == SYM {
-        let e = emit::put_name(rows, out, dry, to, below);
+        let e = symbols::put_name(rows, out, dry, to, below);
         return Pos { next, to: e };
     }
     if kind == CONST {

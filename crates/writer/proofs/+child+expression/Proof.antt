@@ -18,7 +18,7 @@ use Rattle.writer.proofs.expression.Kinds as expression-kinds
 use Rattle.writer.proofs.+child+expression.Lts-expression as expression-lts
 use Rattle.emit.proofs.put.Reads as put-reads
 use Rattle.emit.proofs.put_integer.Reads as put-integer-reads
-use Rattle.emit.proofs.put_name.Reads as put-name-reads
+use Rattle.symbols.proofs.put_name.Reads as put-name-reads
 use Rattle.writer.proofs.in_brackets.Reads as in-brackets-reads
 use Rattle.writer.proofs.precedence.Reads as precedence-reads
 use Rattle.writer.proofs.put_between.Reads as put-between-reads

@@ -16,10 +16,10 @@ use Rattle.tree.specs.Layout.{row-width, row-by, row-of, rows-of}
 use Rattle.tree.specs.Tokens.{name-of-row, name-in, name-by}
 use Rattle.tree.proofs.TokenLaws.{map-append}
 use Rattle.text.specs.Text.{name-text}
 use Rattle.emit.specs.Writing.{Writes, low-bytes}
-use Rattle.emit.specs.Symbols.{row-name, symbol-text}
+use Rattle.symbols.specs.Symbols.{row-name, symbol-text}
 use Rattle.emit.proofs.WriteLaws.{writes-none, writes-then, writes-as}
 use Rattle.emit.proofs.TextLaws.{low-none}
 
 -- ---- a row's words
 

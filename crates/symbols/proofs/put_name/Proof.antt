@@ -1,9 +1,9 @@
--- `emit::put_name` meets its contract. Assumes nothing.
+-- `symbols::put_name` meets its contract. Assumes nothing.
 use native.Mathlib.Omega.{arith}
-use Rattle.emit.proofs.NameLaws.{list-written, made-written, match-written}
+use Rattle.symbols.proofs.NameLaws.{list-written, made-written, match-written}
 use borrow.Author.Needs.{needs}
-use Rattle.emit.proofs.put_name.Statement.{statement}
-use Rattle.emit.proofs.put_name.Tie as tie
+use Rattle.symbols.proofs.put_name.Statement.{statement}
+use Rattle.symbols.proofs.put_name.Tie as tie
 
 pub put-name-spec : {M : Type 1} → statement M
 put-name-spec =

@@ -1,8 +1,8 @@
--- `emit::put_kind_name` meets its contract. Assumes nothing.
-use Rattle.emit.proofs.KindNames.{part, bracket-written, name-written}
+-- `kindnames::put_kind_name` meets its contract. Assumes nothing.
+use Rattle.kindnames.proofs.KindNames.{part, bracket-written, name-written}
 use borrow.Author.Needs.{needs}
-use Rattle.emit.proofs.put_kind_name.Statement.{statement}
-use Rattle.emit.proofs.put_kind_name.Tie as tie
+use Rattle.kindnames.proofs.put_kind_name.Statement.{statement}
+use Rattle.kindnames.proofs.put_kind_name.Tie as tie
 
 pub put-kind-name-spec : {M : Type 1} → statement M
 put-kind-name-spec =

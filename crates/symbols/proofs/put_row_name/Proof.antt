@@ -1,9 +1,9 @@
--- `emit::put_row_name` meets its contract. Assumes nothing.
+-- `symbols::put_row_name` meets its contract. Assumes nothing.
 use native.Mathlib.Omega.{arith}
-use Rattle.emit.proofs.NameLaws.{past-written, other-written, row-written}
+use Rattle.symbols.proofs.NameLaws.{past-written, other-written, row-written}
 use borrow.Author.Needs.{needs}
-use Rattle.emit.proofs.put_row_name.Statement.{statement}
-use Rattle.emit.proofs.put_row_name.Tie as tie
+use Rattle.symbols.proofs.put_row_name.Statement.{statement}
+use Rattle.symbols.proofs.put_row_name.Tie as tie
 
 pub put-row-name-spec : {M : Type 1} → statement M
 put-row-name-spec =

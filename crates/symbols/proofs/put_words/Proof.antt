@@ -1,12 +1,12 @@
--- `emit::put_words` meets its contract: so many words are written. Assumes nothing.
+-- `symbols::put_words` meets its contract: so many words are written. Assumes nothing.
 use Prim.Native.Nat.{_≤_, _-_}
 use lib.ListN.{length, take}
 use Rattle.emit.specs.Writing.{Writes, low-bytes}
 use Rattle.emit.proofs.TextLaws.{words-begin, words-turn, words-end}
 use Rattle.emit.proofs.WriteLaws.{writes-length}
 use borrow.Author.Needs.{needs}
-use Rattle.emit.proofs.put_words.Statement.{statement}
-use Rattle.emit.proofs.put_words.Tie as tie
+use Rattle.symbols.proofs.put_words.Statement.{statement}
+use Rattle.symbols.proofs.put_words.Tie as tie
 
 abbrev Inv-loop : tie.InvT-loop
 Inv-loop out₀ dry to s at₀ i₀ out at i = Writes dry out₀ to (low-bytes (take i s)) out at × (i ≤ length s)
