@@ -1,0 +1,5 @@
+pub mod Chain
+pub mod Unit
+pub mod Taken
+pub mod Steps
+pub mod Spine
