@@ -3,3 +3,4 @@ pub mod Unit
 pub mod Taken
 pub mod Steps
 pub mod Spine
+pub mod Products
