@@ -4,3 +4,4 @@ pub mod Taken
 pub mod Steps
 pub mod Spine
 pub mod Products
+pub mod Equal

@@ -8,7 +8,7 @@ use lib.Dec.{eqb}
 use lib.ListN.{length}
 use lib.Ieee as Ieee
 use lib.Ieee.{Float}
-use Rattle.tree.specs.Outcome.{Outcome, ok, refused, _>>=_, by, each}
+use Rattle.tree.specs.Outcome.{Outcome, ok, _>>=_, each}
 use Rattle.tree.specs.Tree.{Name, Tree, Forest, Sym, Const, Op, nil, _◂_, eq-tree}
 use Rattle.tree.specs.Kinds.{Neg, Mul}
 use Rattle.rewrite.specs.Rewrite.{Factors, one, flatten-mul-factors, flatten-operands, constant-of, built, remove-each, is-mul}
@@ -74,7 +74,7 @@ module _ (target : Tree) (n : Name) where
           | true ↦ ok (Sym n)
           | false ↦ elim (eqb k Mul && by-factors target) [
             | true ↦ (let q = taken (flatten-mul-factors target .factors) (flatten-operands f .factors) in
-            rebuilt n (becomes-in (factors-of-operands f)) (flatten-operands f .coefficient) (q .rest) (q .copies) (closed-each f >>= λ g. ok (Op k g)))
+                rebuilt n (becomes-in (rewritings-of f)) (flatten-operands f .coefficient) (q .rest) (q .copies) (closed-each f >>= λ g. ok (Op k g)))
             | false ↦ (closed-each f >>= λ g. ok (Op k g))
           ]
         ]
@@ -84,22 +84,22 @@ module _ (target : Tree) (n : Name) where
     closed-each (t ◂ f) = closed t >>= λ u. closed-each f >>= λ r. ok (u ◂ r)
 
     -- each factor with its rewriting
-    pub factors-of : Tree → List Rewriting
-    factors-of (Sym s) = record { factor = Sym s; becomes = elim (eq-tree (Sym s) target) [ true ↦ ok (Sym n) | false ↦ ok (Sym s) ] } ∷ []
-    factors-of (Const c) = []
-    factors-of (Op k f) =
+    pub rewritings : Tree → List Rewriting
+    rewritings (Sym s) = record { factor = Sym s; becomes = elim (eq-tree (Sym s) target) [ true ↦ ok (Sym n) | false ↦ ok (Sym s) ] } ∷ []
+    rewritings (Const c) = []
+    rewritings (Op k f) =
         elim (eqb k Mul) [
-          | true ↦ factors-of-operands f
+          | true ↦ rewritings-of f
           | false ↦ elim (eqb k Neg) [
-            | true ↦ factors-of-operands f
+            | true ↦ rewritings-of f
             | false ↦ record {
               factor = Op k f;
               becomes = elim (eq-tree (Op k f) target) [ true ↦ ok (Sym n) | false ↦ (closed-each f >>= λ g. ok (Op k g)) ];
             }
-            ∷ []
+                ∷ []
           ]
         ]
 
-    pub factors-of-operands : Forest → List Rewriting
-    factors-of-operands nil = []
-    factors-of-operands (t ◂ f) = factors-of t ++ factors-of-operands f
+    pub rewritings-of : Forest → List Rewriting
+    rewritings-of nil = []
+    rewritings-of (t ◂ f) = rewritings t ++ rewritings-of f
