@@ -1,0 +1,5 @@
+pub mod Rewriting
+pub mod Requests
+pub mod Scanning
+pub mod Ends
+pub mod Chains
