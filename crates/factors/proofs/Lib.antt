@@ -1,0 +1,3 @@
+pub mod WordRuns
+pub mod PlaceLaws
+pub mod Flattening

@@ -1,0 +1,146 @@
+// `flatten_mul_factors` of the source over words (Tokens): a product's coefficient, multiplied as f64 in the source's order, and where its factors stand among
+// the words. A Mul and a Neg are passed through, a constant goes into the coefficient, and any other node is a factor.
+ghost use mathlib.Core.Path.{_≡_};
+ghost use Prim.Native.Nat.{_+_, _≤_};
+ghost use mathlib.Core.List.{map};
+ghost use lib.ListN.{length};
+ghost use Rattle.tree.specs.Facts.{total, size};
+ghost use Rattle.tree.specs.Tree.{forest};
+ghost use Rattle.rewrite.specs.Rewrite.{flatten-mul-factors, flatten-operands};
+ghost use Rattle.factors.specs.Places.{tree, trees-from, Stands, factor-places, operand-places, Flat};
+ghost use Rattle.factors.specs.Answers.{flatten-answer};
+use tokens::Run;
+
+// A word is kind + KINDS * below.
+const KINDS: u64 = 64;
+
+const CONST: u64 = 1;
+
+const NEG: u64 = 2;
+
+const MUL: u64 = 5;
+
+// A product's coefficient and how many factors it has.
+pub struct Product {
+    pub coefficient: f64,
+    pub count: usize,
+}
+
+pub enum Flattened {
+    Of(Product),
+    // No tree starts there.
+    Broken,
+    // Fewer places than the tree has words.
+    NoRoom,
+}
+
+// A product, and the place after its words.
+struct Passed {
+    product: Product,
+    next: usize,
+}
+
+// The place after the tree at `at`. A tree is there, so that `end_of` finds its end.
+fn past(tokens: &[u64], at: usize) -> usize
+    requires { ⌜ Stands (now tokens) at 1 ⌝ }
+    ensures { λ r. ⌜ r ≡ at + size (tree (now (tokens .entry)) at) ⌝ }
+{
+    let Run::Ends(end) = tokens::end_of(tokens, at) else {
+        return at;
+    };
+    end
+}
+
+// Takes the tree at `at` apart. The places of its factors are written from `used` on.
+fn flatten_tree(tokens: &[u64], at: usize, places: &mut [u64], used: usize) -> Passed
+    requires { ⌜ Stands (now tokens) at 1 ⌝ }
+    requires { ⌜ used + size (tree (now tokens) at) ≤ length (now places) ⌝ }
+    ensures { λ r. ⌜ Flat (flatten-mul-factors (tree (now (tokens .entry)) at) .coefficient) (factor-places at (tree (now (tokens .entry)) at)) (now (places .entry)) used
+        (r .product .coefficient) (r .product .count) (now (places .exit)) × (r .next ≡ at + size (tree (now (tokens .entry)) at)) ⌝ }
+{
+    let w = tokens[at];
+    let kind = w % KINDS;
+    if kind == CONST {
+        return Passed {
+            product: Product {
+                coefficient: coefficient::float_of(w / KINDS),
+                count: 0,
+            },
+            next: at + 1,
+        };
+    }
+    if kind == MUL {
+        return flatten_operands(tokens, at + 1, tokens::operand_count(w) as usize, places, used);
+    }
+    if kind == NEG {
+        let p = flatten_operands(tokens, at + 1, tokens::operand_count(w) as usize, places, used);
+        return Passed {
+            product: Product {
+                coefficient: -p.product.coefficient,
+                count: p.product.count,
+            },
+            next: p.next,
+        };
+    }
+    places[used] = at as u64;
+    Passed {
+        product: Product {
+            coefficient: 1.0,
+            count: 1,
+        },
+        next: past(tokens, at),
+    }
+}
+
+// Takes `count` trees from `at` on apart as one product, from the left.
+fn flatten_operands(tokens: &[u64], at: usize, count: usize, places: &mut [u64], used: usize) -> Passed
+    requires { ⌜ Stands (now tokens) at count ⌝ }
+    requires { ⌜ used + total (map size (trees-from (now tokens) at count)) ≤ length (now places) ⌝ }
+    ensures { λ r. ⌜ Flat (flatten-operands (forest (trees-from (now (tokens .entry)) at count)) .coefficient)
+        (operand-places at (forest (trees-from (now (tokens .entry)) at count))) (now (places .entry)) used
+        (r .product .coefficient) (r .product .count) (now (places .exit)) × (r .next ≡ at + total (map size (trees-from (now (tokens .entry)) at count))) ⌝ }
+{
+    if count == 0 {
+        return Passed {
+            product: Product {
+                coefficient: 1.0,
+                count: 0,
+            },
+            next: at,
+        };
+    }
+    let first = flatten_tree(tokens, at, places, used);
+    let mut coefficient = first.product.coefficient;
+    let mut found = first.product.count;
+    let mut next = first.next;
+    let mut left = count - 1;
+    while left > 0 {
+        let p = flatten_tree(tokens, next, places, used + found);
+        coefficient = coefficient * p.product.coefficient;
+        found += p.product.count;
+        next = p.next;
+        left -= 1;
+    }
+    Passed {
+        product: Product {
+            coefficient,
+            count: found,
+        },
+        next,
+    }
+}
+
+// The coefficient and the number of factors of the tree at `at`; where each factor stands is written in order from the front of `places`.
+pub fn flatten_mul_factors(tokens: &[u64], at: usize, places: &mut [u64]) -> Flattened
+    ensures { λ r. ⌜ (r ≡ flatten-answer (now (tokens .entry)) at (now (places .entry)) .answer) × (now (places .exit) ≡ flatten-answer (now (tokens .entry)) at (now (places .entry)) .places) ⌝ }
+{
+    let Run::Ends(end) = tokens::end_of(tokens, at) else {
+        return Flattened::Broken;
+    };
+    if places.len() < end - at {
+        return Flattened::NoRoom;
+    }
+    let p = flatten_tree(tokens, at, places, 0);
+    let product = p.product;
+    Flattened::Of(product)
+}
