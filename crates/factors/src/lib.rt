@@ -70,10 +70,22 @@ fn flatten_tree(tokens: &[u64], at: usize, places: &mut [u64], used: usize) -> P
         };
     }
     if kind == MUL {
-        return flatten_operands(tokens, at + 1, tokens::operand_count(w) as usize, places, used);
+        return flatten_operands(
+            tokens,
+            at + 1,
+            tokens::operand_count(w) as usize,
+            places,
+            used,
+        );
     }
     if kind == NEG {
-        let p = flatten_operands(tokens, at + 1, tokens::operand_count(w) as usize, places, used);
+        let p = flatten_operands(
+            tokens,
+            at + 1,
+            tokens::operand_count(w) as usize,
+            places,
+            used,
+        );
         return Passed {
             product: Product {
                 coefficient: -p.product.coefficient,
@@ -93,7 +105,13 @@ fn flatten_tree(tokens: &[u64], at: usize, places: &mut [u64], used: usize) -> P
 }
 
 // Takes `count` trees from `at` on apart as one product, from the left.
-fn flatten_operands(tokens: &[u64], at: usize, count: usize, places: &mut [u64], used: usize) -> Passed
+fn flatten_operands(
+    tokens: &[u64],
+    at: usize,
+    count: usize,
+    places: &mut [u64],
+    used: usize,
+) -> Passed
     requires { ⌜ Stands (now tokens) at count ⌝ }
     requires { ⌜ used + total (map size (trees-from (now tokens) at count)) ≤ length (now places) ⌝ }
     ensures { λ r. ⌜ Flat (flatten-operands (forest (trees-from (now (tokens .entry)) at count)) .coefficient)

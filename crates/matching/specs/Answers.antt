@@ -13,6 +13,7 @@ use Rattle.matching.specs.declared.Taken.the-variants as taken
 
 -- the next factor's place is q, or the end
 pub record Seeks (part : List ℕ) (from q : ℕ) : Type 0 where
+  pub after : from ≤ q
   pub within : q ≤ length part
   pub runs : factor-runs (drop from part) ≡ factor-runs (drop q part)
   pub starts : q < length part → is-passed (getD part q 0) ≡ false
