@@ -1,3 +1,4 @@
 pub mod Whole
 pub mod Constants
 pub mod Exactness
+pub mod Wholeness

@@ -1,13 +1,13 @@
 -- Floats and the numbers below 10^15: what the tests of `size_of` and `constant_of` show. Assumes nothing.
 use mathlib.Core.Path.{_≡_, refl, sym, ap, _∙_, subst}
-use mathlib.Core.Bool.{Bool, true, false, not, cond, _&&_, _||_}
+use mathlib.Core.Bool.{Bool, true, false, not, cond}
 use Prim.Native.Nat.{ℕ, zero, suc, _+_, _-_, _*_, _/_, _^_, _≤_, _<_, min}
-use native.Mathlib.Nat.{le-trans, le-of-eq, lt-of-lt-of-le, lt-of-le-of-lt, mul-one, mul-pos, mul-lt-mul-of-pos-right, div-lt-iff-lt-mul, lt-of-mul-lt-mul-right, zero-lt-suc}
+use native.Mathlib.Nat.{lt-of-lt-of-le, mul-one, mul-pos, mul-lt-mul-of-pos-right, div-lt-iff-lt-mul}
 use native.Mathlib.Omega.{arith}
-use lib.Dec.{T, ltb, eqb, leb, lit<, lit≤, ltb→lt, lt→ltb, le→leb, leb→le}
-use lib.IntN.{ℤ, pos, negsuc}
-use lib.Ieee.{Float, nan, inf, fin, Format, binary64, prec, emax, low, up, down, round, units, odd, neg, lt, fits, isNan, ofInt, toUnsigned, inFloat, toBits, ofBits, below}
-use lib.Ieee.Fits.{down-pos, up-pos, round-is, round-fits}
+use lib.Dec.{T, ltb, lit<, lit≤, ltb→lt, lt→ltb, le→leb}
+use lib.IntN.{pos}
+use lib.Ieee.{Float, nan, inf, fin, binary64, prec, emax, low, up, down, units, odd, neg, lt, fits, isNan, ofInt, toUnsigned, inFloat, toBits, ofBits}
+use lib.Ieee.Fits.{down-pos, round-is}
 use lib.Ieee.Exact.{HasValue}
 use lib.Ieee.Back.{round-whole, unsigned-back}
 use lib.Ieee.Bits.{ofBits-toBits}

@@ -1,3 +1,6 @@
 pub mod WordRuns
 pub mod PlaceLaws
 pub mod Flattening
+pub mod Answering
+pub mod Products
+pub mod Examples

@@ -8,20 +8,16 @@ use mathlib.Core.Option.{some}
 use mathlib.Core.List.{List, [], _∷_, _++_, append-assoc, append-nil, map}
 use lib.ListN.{length, getD, length-append}
 use lib.Dec.{eqb}
-use lib.Ieee as Ieee
 use Rattle.tree.specs.Tree.{Tree, Forest, Sym, Const, Op, nil, _◂_, forest}
 use Rattle.tree.specs.Kinds.{Neg, Mul}
 use Rattle.tree.specs.Facts.{total, size}
-use Rattle.tree.specs.Tokens.{kind-of, takes, tree-of-word, numbered, run-at}
+use Rattle.tree.specs.Tokens.{kind-of, takes, numbered, run-at}
 use Rattle.tree.proofs.TokenLaws.{Word, a-symbol, a-constant, an-operation, word-is, symbol-tree, constant-tree, operation-tree, map-append}
 use Rattle.rewrite.specs.Rewrite.{Factors, one, flatten-mul-factors, flatten-operands, flatten-after, times, negated}
 use Rattle.factors.specs.Places.{tree, trees-from, Stands, factor-places, operand-places, at-places}
-use Rattle.factors.proofs.WordRuns.{First, first-of, none-from, Node, node-of, stands-run}
+use Rattle.factors.proofs.WordRuns.{first-of, none-from, Node, node-of, stands-run}
 
 -- ---- from a node to its operands
-
-Sym≢Op : {n : Rattle.tree.specs.Tree.Name} {k : ℕ} {f : Forest} → Sym n ≡ Op k f → ⊥
-Sym≢Op e = let z : _≡_ {A = ℕ} 0 1 = cc in omega arith
 
 pub record Operands (ws : List ℕ) (at : ℕ) (f : Forest) : Type 0 where
   pub count : ℕ

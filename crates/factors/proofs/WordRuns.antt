@@ -1,11 +1,10 @@
 -- Runs of words taken apart: the first tree and those after it, a tree's word and its operands. Assumes nothing.
 use Prim.Native.Nat.{ℕ, zero, suc, _+_, _-_, _≤_, _<_}
 use native.Mathlib.Omega.{arith}
-use native.Mathlib.Numerals.{add-one}
 use mathlib.Core.Path.{_≡_, refl, sym, _∙_, ap, ap₂, subst}
-use mathlib.Core.Option.{Option, none, some}
+use mathlib.Core.Option.{some}
 use mathlib.Core.List.{List, [], _∷_, map}
-use lib.ListN.{length, getD, take, drop, length-drop, drop-of-length-le}
+use lib.ListN.{length, getD, take, drop, length-drop}
 use lib.Seq.{drop-cons, drop-drop, take-add}
 use Rattle.tree.specs.Tree.{Tree, Op, nil}
 use Rattle.tree.specs.Facts.{total, size}
@@ -101,17 +100,13 @@ unfolding sizes total
 first-size [] h = absurd (omega arith)
 first-size (t ∷ ts) h = omega arith
 
-pub sizes-are : {ws : List ℕ} {at n : ℕ} → (s : Stands ws at n) → s .run ≡ total (map size (trees-from ws at n))
-unfolding sizes trees-from
-sizes-are {ws} {at} {n} s = words-are (drop at ws) n (s .run) (s .are) .long
-
 pub record First (ws : List ℕ) (at n : ℕ) : Type 0 where
   pub alone : Stands ws at 1
   pub rest : Stands ws (at + size (tree ws at)) n
   pub are : trees-from ws at (suc n) ≡ tree ws at ∷ trees-from ws (at + size (tree ws at)) n
 
 pub first-of : {ws : List ℕ} {at n : ℕ} → Stands ws at (suc n) → First ws at n
-unfolding trees-from tree
+unfolding trees-from
 first-of {ws} {at} {n} s =
     let us = drop at ws in
     let rs = read numbered us in
@@ -149,7 +144,7 @@ run-inside ws at m e = go (drop at ws) refl e
     go (w ∷ us) d e = omega (arith, length-drop at ws, ap length d)
 
 pub node-of : {ws : List ℕ} {at : ℕ} → Stands ws at 1 → Node ws at
-unfolding trees-from sizes tree
+unfolding trees-from sizes
 node-of {ws} {at} s =
     let w = getD ws at 0 in
     let i = run-inside ws at (s .run) (s .are) in
@@ -169,7 +164,7 @@ node-of {ws} {at} s =
 
 -- as `run-at` says it
 pub stands-run : {ws : List ℕ} {at : ℕ} → Stands ws at 1 → run-at ws at ≡ some (size (tree ws at))
-unfolding run-at trees-from tree
+unfolding run-at trees-from
 stands-run {ws} {at} s =
     let h = words-are (drop at ws) 1 (s .run) (s .are) in
     s .are ∙ ap some (h .long ∙ (first-size (read numbered (drop at ws)) (h .enough) ∙ ap size (sym (tree-at numbered ws at))))

@@ -1,7 +1,7 @@
 -- What `flatten_mul_factors` answers, and the places after it. Assumes nothing.
 use Prim.Native.Nat.{ℕ}
 use mathlib.Core.Bool.{Bool, true, false}
-use mathlib.Core.Option.{Option, none, some}
+use mathlib.Core.Option.{none, some}
 use mathlib.Core.List.{List, _++_}
 use lib.ListN.{length, drop}
 use lib.Dec.{ltb}
@@ -28,5 +28,5 @@ flattened-by false at t old =
 
 -- a tree must be there; then a place is wanted for each of its words
 unfoldable pub flatten-answer : List ℕ → ℕ → List ℕ → Flattening
-unfolding flattened-by run-at tree
+unfolding flattened-by run-at
 flatten-answer ws at old = elim (run-at ws at) [ none ↦ record { answer = flattened.Broken; places = old } | some n ↦ flattened-by (ltb (length old) n) at (tree ws at) old ]

@@ -1,21 +1,21 @@
 -- Where the factors of a product stand among the words (01, "Rewriting"; Tokens), and what the inner functions ask and write. Assumes nothing.
 use Prim.Native.Nat.{ℕ, _+_}
 use mathlib.Core.Path.{_≡_}
-use mathlib.Core.Bool.{true, false}
+use mathlib.Core.Bool.{Bool, true, false, _||_}
 use mathlib.Core.Option.{some}
 use mathlib.Core.List.{List, [], _∷_, _++_, map}
 use lib.ListN.{length, getD, take, drop}
 use lib.Seq.{sets}
 use lib.Dec.{eqb}
 use lib.Ieee.{Float}
-use Rattle.tree.specs.Tree.{Tree, Forest, Sym, Const, Op, nil, _◂_}
+use Rattle.tree.specs.Tree.{Tree, Forest, Sym, Const, Op, nil, _◂_, forest}
 use Rattle.tree.specs.Kinds.{Neg, Mul}
-use Rattle.tree.specs.Facts.{size}
-use Rattle.tree.specs.Tokens.{numbered, trees-at, read, words-of}
+use Rattle.tree.specs.Facts.{total, size}
+use Rattle.tree.specs.Tokens.{kind-of, numbered, trees-at, read, words-of}
+use Rattle.rewrite.specs.Rewrite.{flatten-mul-factors, flatten-operands}
 
 -- the tree at a place
-unfoldable pub tree : List ℕ → ℕ → Tree
-unfolding trees-at
+abbrev pub tree : List ℕ → ℕ → Tree
 tree ws at = getD (trees-at numbered ws) at (Op 0 nil)
 
 -- the n trees from a place on
@@ -48,7 +48,6 @@ unfoldable mutual
 
 -- the trees at some places
 unfoldable pub at-places : List ℕ → List ℕ → List Tree
-unfolding tree
 at-places ws ps = map (tree ws) ps
 
 -- what is answered and written for a product with a coefficient and the places of its factors
@@ -56,3 +55,17 @@ pub record Flat (product : Float) (ps old : List ℕ) (used : ℕ) (coefficient 
   pub coefficient-is : coefficient ≡ product
   pub count-is : count ≡ length ps
   pub places-are : new ≡ sets old used ps
+
+-- for the tree at a place, and for the n trees from there on
+abbrev pub Tree-flat : List ℕ → ℕ → List ℕ → ℕ → Float → ℕ → ℕ → List ℕ → Type 0
+Tree-flat ws at old used coefficient count next new =
+    Flat (flatten-mul-factors (tree ws at) .coefficient) (factor-places at (tree ws at)) old used coefficient count new × (next ≡ at + size (tree ws at))
+
+abbrev pub Each-flat : List ℕ → ℕ → ℕ → List ℕ → ℕ → Float → ℕ → ℕ → List ℕ → Type 0
+Each-flat ws at n old used coefficient count next new =
+    Flat (flatten-operands (forest (trees-from ws at n)) .coefficient) (operand-places at (forest (trees-from ws at n))) old used coefficient count new
+    × (next ≡ at + total (map size (trees-from ws at n)))
+
+-- whether a word's factors are those of its operands: a Mul or a Neg
+unfoldable pub passes-through : ℕ → Bool
+passes-through w = eqb (kind-of w) Mul || eqb (kind-of w) Neg

@@ -1,13 +1,12 @@
 // `flatten_mul_factors` of the source over words (Tokens): a product's coefficient, multiplied as f64 in the source's order, and where its factors stand among
 // the words. A Mul and a Neg are passed through, a constant goes into the coefficient, and any other node is a factor.
 ghost use mathlib.Core.Path.{_≡_};
-ghost use Prim.Native.Nat.{_+_, _≤_};
+ghost use mathlib.Core.Bool.{false};
 ghost use mathlib.Core.List.{map};
-ghost use lib.ListN.{length};
+ghost use Prim.Native.Nat.{_+_, _≤_};
+ghost use lib.ListN.{length, getD};
 ghost use Rattle.tree.specs.Facts.{total, size};
-ghost use Rattle.tree.specs.Tree.{forest};
-ghost use Rattle.rewrite.specs.Rewrite.{flatten-mul-factors, flatten-operands};
-ghost use Rattle.factors.specs.Places.{tree, trees-from, Stands, factor-places, operand-places, Flat};
+ghost use Rattle.factors.specs.Places.{tree, trees-from, Stands, passes-through, Tree-flat, Each-flat};
 ghost use Rattle.factors.specs.Answers.{flatten-answer};
 use tokens::Run;
 
@@ -51,47 +50,21 @@ fn past(tokens: &[u64], at: usize) -> usize
     end
 }
 
-// Takes the tree at `at` apart. The places of its factors are written from `used` on.
-fn flatten_tree(tokens: &[u64], at: usize, places: &mut [u64], used: usize) -> Passed
+// A tree that is neither a Mul nor a Neg: a constant is a coefficient with no factor, and any other is a factor itself, whose place is written at `used`.
+fn flatten_other(tokens: &[u64], at: usize, places: &mut [u64], used: usize) -> Passed
     requires { ⌜ Stands (now tokens) at 1 ⌝ }
     requires { ⌜ used + size (tree (now tokens) at) ≤ length (now places) ⌝ }
-    ensures { λ r. ⌜ Flat (flatten-mul-factors (tree (now (tokens .entry)) at) .coefficient) (factor-places at (tree (now (tokens .entry)) at)) (now (places .entry)) used
-        (r .product .coefficient) (r .product .count) (now (places .exit)) × (r .next ≡ at + size (tree (now (tokens .entry)) at)) ⌝ }
+    requires { ⌜ passes-through (getD (now tokens) at 0) ≡ false ⌝ }
+    ensures { λ r. ⌜ Tree-flat (now (tokens .entry)) at (now (places .entry)) used (r .product .coefficient) (r .product .count) (r .next) (now (places .exit)) ⌝ }
 {
     let w = tokens[at];
-    let kind = w % KINDS;
-    if kind == CONST {
+    if w % KINDS == CONST {
         return Passed {
             product: Product {
                 coefficient: coefficient::float_of(w / KINDS),
                 count: 0,
             },
             next: at + 1,
-        };
-    }
-    if kind == MUL {
-        return flatten_operands(
-            tokens,
-            at + 1,
-            tokens::operand_count(w) as usize,
-            places,
-            used,
-        );
-    }
-    if kind == NEG {
-        let p = flatten_operands(
-            tokens,
-            at + 1,
-            tokens::operand_count(w) as usize,
-            places,
-            used,
-        );
-        return Passed {
-            product: Product {
-                coefficient: -p.product.coefficient,
-                count: p.product.count,
-            },
-            next: p.next,
         };
     }
     places[used] = at as u64;
@@ -104,19 +77,35 @@ fn flatten_tree(tokens: &[u64], at: usize, places: &mut [u64], used: usize) -> P
     }
 }
 
-// Takes `count` trees from `at` on apart as one product, from the left.
-fn flatten_operands(
-    tokens: &[u64],
-    at: usize,
-    count: usize,
-    places: &mut [u64],
-    used: usize,
-) -> Passed
+// Takes the tree at `at` apart. The places of its factors are written from `used` on.
+fn flatten_tree(tokens: &[u64], at: usize, places: &mut [u64], used: usize) -> Passed
+    requires { ⌜ Stands (now tokens) at 1 ⌝ }
+    requires { ⌜ used + size (tree (now tokens) at) ≤ length (now places) ⌝ }
+    ensures { λ r. ⌜ Tree-flat (now (tokens .entry)) at (now (places .entry)) used (r .product .coefficient) (r .product .count) (r .next) (now (places .exit)) ⌝ }
+{
+    let w = tokens[at];
+    let operands = tokens::operand_count(w) as usize;
+    if w % KINDS == MUL {
+        return flatten_each(tokens, at + 1, operands, places, used);
+    }
+    if w % KINDS == NEG {
+        let p = flatten_each(tokens, at + 1, operands, places, used);
+        return Passed {
+            product: Product {
+                coefficient: -p.product.coefficient,
+                count: p.product.count,
+            },
+            next: p.next,
+        };
+    }
+    flatten_other(tokens, at, places, used)
+}
+
+// Takes `count` trees from `at` on apart as one product, multiplied from the left.
+fn flatten_each(tokens: &[u64], at: usize, count: usize, places: &mut [u64], used: usize) -> Passed
     requires { ⌜ Stands (now tokens) at count ⌝ }
     requires { ⌜ used + total (map size (trees-from (now tokens) at count)) ≤ length (now places) ⌝ }
-    ensures { λ r. ⌜ Flat (flatten-operands (forest (trees-from (now (tokens .entry)) at count)) .coefficient)
-        (operand-places at (forest (trees-from (now (tokens .entry)) at count))) (now (places .entry)) used
-        (r .product .coefficient) (r .product .count) (now (places .exit)) × (r .next ≡ at + total (map size (trees-from (now (tokens .entry)) at count))) ⌝ }
+    ensures { λ r. ⌜ Each-flat (now (tokens .entry)) at count (now (places .entry)) used (r .product .coefficient) (r .product .count) (r .next) (now (places .exit)) ⌝ }
 {
     if count == 0 {
         return Passed {

@@ -1,5 +1,4 @@
 -- `coefficient::float_of` meets its contract. Assumes nothing.
-use native.Mathlib.Omega.{arith}
 use mathlib.Core.Path.{refl, _∙_, ap}
 use lib.Ieee.{neg}
 use Rattle.coefficient.proofs.Constants.{even-float, odd-float}

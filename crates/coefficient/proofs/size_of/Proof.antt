@@ -1,7 +1,7 @@
 -- `coefficient::size_of` meets its contract. The truncated number is the only one whose float a can be, and equal bits say that it is. Assumes nothing.
 use borrow.Author.Needs.{needs}
 use mathlib.Core.Path.{_≡_, sym, ap, subst, _∙_}
-use mathlib.Core.Bool.{Bool, true, false, true≢false, not}
+use mathlib.Core.Bool.{false, true≢false, not}
 use Prim.Native.Nat.{ℕ, _^_, _<_}
 use lib.Dec.{T}
 use lib.IntN.{pos}

@@ -1,57 +1,27 @@
+-- `factors::flatten_mul_factors` meets its contract. Assumes nothing.
+use native.Mathlib.Omega.{arith}
+use mathlib.Core.Path.{sym, _∙_}
+use Rattle.tokens.proofs.Comparing.{run-after}
+use Rattle.factors.proofs.Answering.{answers-broken, answers-no-room, answers-product, stands-there, long-is}
+use Rattle.factors.proofs.Flattening.{flat-long}
 use borrow.Author.Needs.{needs}
 use Rattle.factors.proofs.flatten_mul_factors.Statement.{statement}
 use Rattle.factors.proofs.flatten_mul_factors.Tie as tie
-use Rattle.factors.proofs.flatten_mul_factors.Reads as reads
-use Rattle.factors.proofs.flatten_mul_factors.Lts as lts
-use Rattle.factors.proofs.flatten_tree.Reads as flatten-tree-reads
-use Rattle.tokens.proofs.end_of.Reads as end-of-reads
-
--- src/lib.rt:137:26
-end-of-requires : tie.Need-end-of-requires
-end-of-requires c κs = search needs
-
--- src/lib.rt:137:19
-enum-known-end : tie.Need-enum-known-end
-enum-known-end c = search needs
-
--- src/lib.rt:138:9
-enum-told : tie.Need-enum-told
-enum-told c = search needs
-
--- src/lib.rt:138:9
-returns : tie.Need-returns
-returns c = ?
-
--- src/lib.rt:140:23
-sub-if1 : tie.Need-sub-if1
-sub-if1 c = ?
-
--- src/lib.rt:141:9
-returns-2 : tie.Need-returns-2
-returns-2 c = ?
-
--- src/lib.rt:143:9
-flatten-tree-requires : tie.Need-flatten-tree-requires
-flatten-tree-requires c κs = ?
-
--- src/lib.rt:134:1
-same-length : tie.Need-same-length
-same-length c = search needs
-
--- src/lib.rt:134:1
-returns-3 : tie.Need-returns-3
-returns-3 c = ?
 
 pub flatten-mul-factors-spec : {M : Type 1} → statement M
 flatten-mul-factors-spec =
     tie.close
     (tie.spec
-    end-of-requires
-    enum-known-end
-    enum-told
-    returns
-    sub-if1
-    returns-2
-    flatten-tree-requires
-    same-length
-    returns-3)
+    (λ c κs. search needs)
+    (λ c. search needs)
+    (λ c. search needs)
+    (λ c. let a = c .before .before .before .before .before .args in answers-broken (a .tokens .now) (a .at) (a .places .now) (sym (c .enum-told .given .1) ∙ c .before .before .end-of .ensures))
+    (λ c. let a = c .before .before .before .before .before .before .args in run-after (a .tokens .now) (a .at) (c .before .end .given .0 .0) (sym (c .before .end .given .1) ∙ c .before .before .before .end-of .ensures))
+    (λ c. let a = c .before .before .before .before .before .before .before .args in answers-no-room (a .tokens .now) (a .at) (a .places .now) (c .before .before .end .given .0 .0) (sym (c .before .before .end .given .1) ∙ c .before .before .before .before .end-of .ensures) (c .if1 .taken))
+    (λ c κs. let a = c .before .before .before .before .before .before .before .before .args in let p = sym (c .before .before .before .end .given .1) ∙ c .before .before .before .before .before .end-of .ensures in
+    let e = c .before .before .before .end .given .0 .0 in
+    let left = c .before .if1 .left in
+    (stands-there (a .tokens .now) (a .at) (a .places .now) e p, omega (arith, long-is (a .tokens .now) (a .at) (a .places .now) e p, left)))
+    (λ c. flat-long (c .before .before .before .flatten-tree .ensures .0))
+    (λ c. let a = c .before .before .before .before .before .before .before .before .before .before .before .before .args in let p = sym (c .before .before .before .before .before .before .before .end .given .1) ∙ c .before .before .before .before .before .before .before .before .before .end-of .ensures in
+    answers-product (a .tokens .now) (a .at) (a .places .now) (c .before .before .before .before .before .before .before .end .given .0 .0) p _ _ _ (omega (arith, c .before .before .before .before .before .if1 .left)) (c .before .before .before .flatten-tree .ensures .0)))
