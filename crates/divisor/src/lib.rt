@@ -47,13 +47,13 @@ fn first_division(tokens: &[u64], divisor: &[u64]) -> Division
     let Run::Ends(second) = end_of(tokens, 1) else {
         return Division::Other;
     };
-    if !starts_with(&tokens[second..], divisor) {
-        return Division::Other;
+    if starts_with(&tokens[second..], divisor) {
+        let Run::Ends(end) = end_of(tokens, 0) else {
+            return Division::Other;
+        };
+        return Division::By(second, end);
     }
-    let Run::Ends(end) = end_of(tokens, 0) else {
-        return Division::Other;
-    };
-    Division::By(second, end)
+    Division::Other
 }
 
 // Rewrites the words from the left and returns how many were written. A division by the divisor becomes a Mul of its first operand, which is rewritten by a

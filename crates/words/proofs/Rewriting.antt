@@ -13,8 +13,9 @@ use Rattle.tree.specs.Bytes.{eq-bytes}
 use Rattle.tree.specs.Tree.{Name, input, xname, mname, Tree, Forest, Sym, Const, Op, nil, _◂_, operands, forest, eq-tree}
 use Rattle.tree.specs.Facts.{total, size}
 use Rattle.tree.specs.Tokens.{word, name-code, tokens, tokens-of, all-tokens, kind-of, below-of, takes, name-by, tree-of-word, read, trees-in, words-of, numbered}
+use Rattle.tree.proofs.FactLaws.{size-one}
 use Rattle.tree.proofs.TreeLaws.{eq-bytes-sound, eq-bytes-refl, eq-tree-sound, eq-tree-refl}
-use Rattle.tree.proofs.TokenLaws.{Word, a-symbol, a-constant, an-operation, word-is, leaf-takes, operation-takes, symbol-tree, constant-tree, operation-tree, operands-forest, map-append, map-take, map-drop, sizes, made, read-cons, read-size, Takes, complete-tail, complete-length, complete-read, complete-end, words-complete, words-sizes}
+use Rattle.tree.proofs.TokenLaws.{Word, a-symbol, a-constant, an-operation, word-is, leaf-takes, operation-takes, symbol-tree, constant-tree, operation-tree, operands-forest, map-append, map-take, map-drop, sizes, made, read-cons, read-size, Takes, complete-tail, complete-length, complete-read, words-tail, words-complete, words-sizes}
 use Rattle.tree.proofs.TokenCode.{tokens-length, all-tokens-append, all-tokens-cons, tokens-forest, writes-back}
 use Rattle.words.specs.Words.{number, rewritten-words, tree-of, name-of, begins-with}
 
@@ -140,6 +141,73 @@ module _ (us : List ℕ) (n : ℕ) (all : trees-in us ≡ some n) (some-there : 
       go : (c : Bool) → eq-tree (tree-of us) (tree-of d) ≡ c → eq-tree (tree-of us) (tree-of d) ≡ false
       go true p = absurd (subst T (sym e) (begins-so (subst T (sym p) tt)))
       go false p = p
+
+-- ---- a node of complete words: where its first operand and the whole of it end
+
+pub first-tree : (w : ℕ) (ws : List ℕ) → tree-of (w ∷ ws) ≡ made numbered w (read numbered ws)
+unfolding tree-of read
+first-tree w ws = refl
+
+pub first-there : (w : ℕ) (ws : List ℕ) (n : ℕ) → trees-in (w ∷ ws) ≡ some n → 1 ≤ takes w → (x : ℕ) × (words-of ws 1 ≡ some x)
+first-there w ws n e h =
+    let t = complete-tail w ws n e in
+    (sizes (take 1 (read numbered ws)), words-sizes numbered ws (t .trees) 1 (t .are) (omega (arith, t .enough)))
+
+pub whole-there : (w : ℕ) (ws : List ℕ) (n : ℕ) → trees-in (w ∷ ws) ≡ some n → (y : ℕ) × (words-of (w ∷ ws) 1 ≡ some y)
+whole-there w ws n e =
+    let t = complete-tail w ws n e in
+    (sizes (take 1 (read numbered (w ∷ ws))), words-sizes numbered (w ∷ ws) n 1 e (omega (arith, t .left)))
+
+-- each tree has a word at least
+many-words : (a : ℕ) (l : List Tree) → a ≤ length l → a ≤ sizes (take a l)
+unfolding sizes total
+many-words zero l h = omega arith
+many-words (suc a) [] h = absurd (omega arith)
+many-words (suc a) (t ∷ l) h = omega (arith, size-one t, many-words a l (omega arith))
+
+first-and-others : (a : ℕ) (l : List Tree) → 1 ≤ a → a ≤ length l → sizes (take 1 l) + a ≤ suc (sizes (take a l))
+unfolding sizes total
+first-and-others zero l h k = absurd (omega arith)
+first-and-others (suc a) [] h k = absurd (omega arith)
+first-and-others (suc a) (t ∷ l) h k = omega (arith, many-words a l (omega arith))
+
+some-same : {n m : ℕ} → some n ≡ some m → n ≡ m
+some-same e = cc
+
+-- x words of the first operand, y of the node
+pub record Node (w : ℕ) (ws : List ℕ) (x y : ℕ) : Type 0 where
+  pub inside : x + takes w ≤ y
+  pub within : y ≤ suc (length ws)
+  pub operands : words-of ws (takes w) ≡ some (y - 1)
+  pub first-whole : trees-in (take x ws) ≡ some 1
+  pub first-long : length (take x ws) ≡ x
+  pub first-read : read numbered (take x ws) ≡ take 1 (read numbered ws)
+  pub after : read numbered (drop y (w ∷ ws)) ≡ drop (takes w) (read numbered ws)
+
+pub node :
+    (w : ℕ) (ws : List ℕ) (n x y : ℕ) → trees-in (w ∷ ws) ≡ some n → 1 ≤ takes w → words-of ws 1 ≡ some x → words-of (w ∷ ws) 1 ≡ some y → Node w ws x y
+node w ws n x y e h ex ey =
+    let rs = read numbered ws in
+    let t = complete-tail w ws n e in
+    let l = complete-length numbered ws (t .trees) (t .are) in
+    let tail = words-tail w ws 0 y ey in
+    let z : 0 + takes w ≡ takes w = omega arith in
+    let are : words-of ws (takes w) ≡ some (tail .words) = ap (words-of ws) (sym z) ∙ tail .are in
+    let first = segment ws 1 x ex in
+    let whole = segment (w ∷ ws) 1 y ey in
+    let sx : x ≡ sizes (take 1 rs) = some-same (sym ex ∙ words-sizes numbered ws (t .trees) 1 (t .are) (omega (arith, t .enough))) in
+    let sy : tail .words ≡ sizes (take (takes w) rs) = some-same (sym are ∙ words-sizes numbered ws (t .trees) (takes w) (t .are) (t .enough)) in
+    let m = first-and-others (takes w) rs h (omega (arith, t .enough, l)) in
+    let less : tail .words ≡ y - 1 = omega (arith, tail .one-more) in
+    record {
+      inside = omega (arith, m, sx, sy, tail .one-more);
+      within = whole .within;
+      operands = are ∙ ap some less;
+      first-whole = first .whole;
+      first-long = length-take-le x ws (first .within);
+      first-read = first .first;
+      after = whole .rest ∙ ap (drop 1) (read-cons numbered w ws);
+    }
 
 -- ---- rewriting
 

@@ -67,7 +67,7 @@ put-lent old x new u e =
 
 -- ---- the scan
 
-module _ (f : Tree → Tree) (ws old : List ℕ) (fits : length ws ≤ length old) where
+module _ (f : Tree → Tree) (ws old : List ℕ) where
   pub record Scanned (out : List ℕ) (i o : ℕ) : Type 0 where
     pub within : i ≤ length ws
     pub fewer : o ≤ i
@@ -79,8 +79,8 @@ module _ (f : Tree → Tree) (ws old : List ℕ) (fits : length ws ≤ length ol
   pub scan-starts : Scanned old 0 0
   scan-starts = record { within = omega arith; fewer = omega arith; done = []; many = refl; written = refl; to-come = refl }
 
-  pub scan-long : {out : List ℕ} {i o : ℕ} → Scanned out i o → length out ≡ length old
-  scan-long {out} {i} {o} s = ap length (s .written) ∙ omega (arith, length-append (s .done) (drop o old), length-drop o old, s .many, s .fewer, s .within)
+  pub scan-long : {out : List ℕ} {i o : ℕ} → length ws ≤ length old → Scanned out i o → length out ≡ length old
+  scan-long {out} {i} {o} fits s = ap length (s .written) ∙ omega (arith, length-append (s .done) (drop o old), length-drop o old, s .many, s .fewer, s .within)
 
   pub scan-turn :
       {out : List ℕ} {i o : ℕ} (s : Scanned out i o) (new : List ℕ) (j : ℕ) (out' : List ℕ) (i' o' : ℕ)
