@@ -1,7 +1,7 @@
 -- `replace` on words of trees (01, "Rewriting"): the words are read as trees, each is rewritten, and the trees are written as words. Assumes nothing.
-use Prim.Native.Nat.{ℕ}
+use Prim.Native.Nat.{ℕ, zero, suc, _+_, _*_}
 use mathlib.Core.Bool.{Bool, true, false, not, _&&_, _||_}
-use mathlib.Core.List.{List, [], _∷_}
+use mathlib.Core.List.{List, [], _∷_, _++_}
 use lib.Dec.{eqb, leb}
 use Rattle.tree.specs.Bytes.{every}
 use Rattle.tree.specs.Outcome.{Outcome, ok, refused, _>>=_, each}
@@ -37,3 +37,19 @@ lacks name ws = every (λ w. not (eqb w name)) ws
 unfoldable pub replaceable : List ℕ → List ℕ → ℕ → Bool
 unfolding every formed-word has-symbol-word lacks sound
 replaceable ws target name = every formed-word ws && (has-symbol-word target && (lacks name target && sound ws target name))
+
+-- ---- a rebuilt product as words: a left-nested product's are its signs, then its factors
+
+-- a word n times
+unfoldable pub repeated : ℕ → ℕ → List ℕ
+repeated zero w = []
+repeated (suc n) w = w ∷ repeated n w
+
+-- nothing for the coefficient 1, a Neg for -1, a Mul and the constant for any other, by the constant's code
+unfoldable pub coefficient-words : ℕ → List ℕ
+coefficient-words code = elim (eqb code 2) [ true ↦ [] | false ↦ elim (eqb code 1) [ true ↦ 66 ∷ [] | false ↦ 133 ∷ (1 + 64 * code) ∷ [] ] ]
+
+-- before the factors
+unfoldable pub head-words : ℕ → ℕ → List ℕ
+unfolding repeated coefficient-words
+head-words code signs = coefficient-words code ++ repeated signs 133
