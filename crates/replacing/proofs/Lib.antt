@@ -2,3 +2,4 @@ pub mod Turns
 pub mod Runs
 pub mod Products
 pub mod Deciding
+pub mod Targets
