@@ -17,7 +17,7 @@ use Rattle.tree.proofs.TokenCode.{all-tokens-append, all-tokens-cons}
 use Rattle.rewrite.specs.Rewrite.{divides-by, replace-divisor, replace-divisors, dividend}
 use Rattle.rewrite.proofs.DivisorCount.{divisor-size}
 use Rattle.words.specs.Words.{number, rewritten-words, tree-of, name-of, begins-with, Complete}
-use Rattle.words.proofs.Rewriting.{Segment, segment, name-written, one-long, begins-tree, first-tree, first-there, whole-there, Node, node, rewritten-read, rewritten-word, rewritten-node}
+use Rattle.words.proofs.Rewriting.{Segment, segment, name-written, first-tree, first-of, take-one, one-tree-words, Node, node, rewritten-read, rewritten-word, rewritten-node}
 use Rattle.divisor.specs.Division.{divided-by}
 
 -- ---- on trees
@@ -172,19 +172,6 @@ module _ (d : Tree) where
           let b : (eqb (kind-of w) Div && divides-by d (forest (take (takes w) (read numbered ws)))) ≡ true =
           sym (ap (divided-by d) (operation-tree numbered w (take (takes w) (read numbered ws)) k)) ∙ is in
           two-at-least d (takes w) (read numbered ws) (and-second (eqb (kind-of w) Div) (divides-by d (forest (take (takes w) (read numbered ws)))) b)
-
-  first-of : (a : ℕ) (l : List Tree) → 1 ≤ a → a ≤ length l → take a l ≡ getD l 0 (Op 0 nil) ∷ drop 1 (take a l)
-  first-of zero l h k = absurd (omega arith)
-  first-of (suc a) [] h k = absurd (omega arith)
-  first-of (suc a) (t ∷ l) h k = refl
-
-  take-one : (l : List Tree) → 1 ≤ length l → take 1 l ≡ getD l 0 (Op 0 nil) ∷ []
-  take-one [] h = absurd (omega arith)
-  take-one (t ∷ l) h = refl
-
-  one-tree-words : (f : Tree → Tree) (t : Tree) → all-tokens number (map f (t ∷ [])) ≡ tokens number (f t)
-  unfolding all-tokens
-  one-tree-words f t = append-nil (tokens number (f t))
 
   -- a division by d becomes a product
   pub record Divided (us : List ℕ) (w e y : ℕ) : Type 0 where

@@ -15,28 +15,12 @@ use Rattle.tokens.specs.Answers.{end-answer}
 use Rattle.tokens.specs.declared.Run.the-variants as run
 use Rattle.tokens.proofs.Comparing.{run-ends, run-after}
 use Rattle.words.specs.Words.{tree-of, begins-with, Complete}
-use Rattle.words.proofs.Rewriting.{segment, begins-tree, first-there, whole-there}
+use Rattle.words.proofs.Rewriting.{segment, begins-tree}
+use Rattle.words.proofs.Runs.{first-run, whole-run, first-not-broken, whole-not-broken}
 use Rattle.words.proofs.Scanning.{rest-is}
 use Rattle.divisor.specs.Division.{divided-by, division-answer, division-of}
 use Rattle.divisor.specs.declared.Division.the-variants as division
 use Rattle.divisor.proofs.Dividing.{second-tree, takes-two}
-
--- ---- the runs are there
-
-pub first-run : (us : List ℕ) → 0 < length us → Complete us → 1 ≤ takes (getD us 0 0) → (x : ℕ) × (run-at us 1 ≡ some x)
-unfolding run-at
-first-run [] h c k = absurd (omega arith)
-first-run (w ∷ ws) h c k = first-there w ws (c .0) (c .1) k
-
-pub whole-run : (us : List ℕ) → 0 < length us → Complete us → (y : ℕ) × (run-at us 0 ≡ some y)
-unfolding run-at
-whole-run [] h c = absurd (omega arith)
-whole-run (w ∷ ws) h c = whole-there w ws (c .0) (c .1)
-
-not-broken : (at : ℕ) (o : Option ℕ) (x : ℕ) → o ≡ some x → run.Broken ≡ end-answer at o → ⊥
-unfolding end-answer
-not-broken at none x e p = absurd (let z : _≡_ {A = ℕ} 0 1 = cc in omega arith)
-not-broken at (some k) x e p = let z : _≡_ {A = ℕ} 0 1 = cc in absurd (omega arith)
 
 -- ---- the second operand
 
@@ -71,16 +55,14 @@ module _ (us d : List ℕ) where
 
   module _ (some-words : 0 < length us) (complete : Complete us) (one : trees-in d ≡ some 1) where
     pub whole-there-is : run.Broken ≡ end-answer 0 (run-at us 0) → ⊥
-    whole-there-is p = let q = whole-run us some-words complete in not-broken 0 (run-at us 0) (q .0) (q .1) p
+    whole-there-is p = whole-not-broken us some-words complete p
 
     module _ (div : kind-of (getD us 0 0) ≡ 6) (two : 2 ≤ below-of (getD us 0 0)) where
       takes-both : 2 ≤ takes (getD us 0 0)
       takes-both = omega (arith, operation-takes (getD us 0 0) (omega arith))
 
       pub first-there-is : run.Broken ≡ end-answer 1 (run-at us 1) → ⊥
-      first-there-is p =
-          let q = first-run us some-words complete (omega (arith, takes-both)) in
-          not-broken 1 (run-at us 1) (q .0) (q .1) p
+      first-there-is p = first-not-broken us some-words complete (omega (arith, takes-both)) p
 
       module _ (e : ℕ) (first : run.Ends e ≡ end-answer 1 (run-at us 1)) where
         first-words : words-of (drop 1 us) 1 ≡ some (e - 1)

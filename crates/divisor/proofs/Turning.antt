@@ -1,7 +1,7 @@
 -- One turn of the scan in `rewrite`: a division by the divisor becomes a product, any other word is copied. Assumes nothing.
 use Prim.Native.Nat.{ℕ, zero, suc, _+_, _-_, _≤_, _<_}
 use native.Mathlib.Omega.{arith}
-use mathlib.Core.Path.{_≡_, refl, sym, _∙_, ap, subst}
+use mathlib.Core.Path.{_≡_, refl, sym, _∙_, ap}
 use mathlib.Core.Option.{some}
 use mathlib.Core.List.{List, [], _∷_, _++_}
 use borrow.Rule.Slice.PartMut.{putMid}
@@ -9,12 +9,11 @@ use lib.ListN.{length, getD, take, drop, set, length-set, length-append, length-
 use lib.Seq.{getD-drop, drop-drop}
 use Rattle.tree.specs.Tree.{Tree}
 use Rattle.tree.specs.Tokens.{kind-of, trees-in}
-use Rattle.tree.proofs.TokenLaws.{complete-end}
 use Rattle.rewrite.specs.Rewrite.{replace-divisor}
 use Rattle.rewrite.proofs.DivisorCount.{divisor-size}
 use Rattle.words.specs.Words.{rewritten-words, tree-of, name-of, Complete, Writes}
 use Rattle.words.proofs.Rewriting.{rewritten-short}
-use Rattle.words.proofs.Scanning.{put-one, put-more, put-lent, put-long, rest-is, Scanned, scan-long, scan-turn}
+use Rattle.words.proofs.Scanning.{put-one, put-more, put-lent, put-long, rest-is, here-long, here-complete, Scanned, scan-long, scan-turn}
 use Rattle.divisor.specs.Division.{division-of}
 use Rattle.divisor.specs.declared.Division.the-variants as division
 use Rattle.divisor.proofs.Dividing.{Divided, division-made, node-stays}
@@ -32,15 +31,11 @@ module _ (ws d : List ℕ) (name : ℕ) (old : List ℕ) (complete : Complete ws
     here : take (length ws - i) (drop i ws) ≡ drop i ws
     here = rest-is ws i
 
-    here-long : 0 < length (drop i ws)
-    here-long = omega (arith, length-drop i ws)
+    long-here : 0 < length (drop i ws)
+    long-here = here-long ws complete i more
 
-    here-complete : Complete (drop i ws)
-    here-complete = complete-end i ws (complete .0) (complete .1)
-
-    -- what is asked of the words from here on
-    pub asked : (0 < length (take (length ws - i) (drop i ws))) × Complete (take (length ws - i) (drop i ws))
-    asked = (subst (λ (l : List ℕ). 0 < length l) (sym here) here-long, subst (λ (l : List ℕ). Complete l) (sym here) here-complete)
+    complete-here : Complete (drop i ws)
+    complete-here = here-complete ws complete i more
 
     pub out-room : o < length out
     out-room = omega (arith, scan-long (by-words d name) ws old fits s, s .fewer)
@@ -49,10 +44,10 @@ module _ (ws d : List ℕ) (name : ℕ) (old : List ℕ) (complete : Complete ws
         division.Other ≡ division-of (take (length ws - i) (drop i ws)) d → State ws d name old (set out o (getD ws i 0)) (i + 1) (o + 1)
     turn-other q =
         let f = by-words d name in
-        let n = other-means (drop i ws) d here-long here-complete (q ∙ ap (λ (l : List ℕ). division-of l d) here) in
+        let n = other-means (drop i ws) d long-here complete-here (q ∙ ap (λ (l : List ℕ). division-of l d) here) in
         let z : i + 0 ≡ i = omega arith in
         let w : getD (drop i ws) 0 0 ≡ getD ws i 0 = getD-drop i ws 0 0 ∙ ap (λ (k : ℕ). getD ws k 0) z in
-        let step = node-stays (tree-of d) (name-of name) (drop i ws) here-complete here-long n in
+        let step = node-stays (tree-of d) (name-of name) (drop i ws) complete-here long-here n in
         scan-turn f ws old s (getD ws i 0 ∷ []) 1 (set out o (getD ws i 0)) (i + 1) (o + 1) refl refl (omega arith) (omega arith)
         (step ∙ ap (λ (k : ℕ). (k ∷ []) ++ rewritten-words f (drop 1 (drop i ws))) w)
         (put-one out o (getD ws i 0) out-room)
@@ -61,7 +56,7 @@ module _ (ws d : List ℕ) (name : ℕ) (old : List ℕ) (complete : Complete ws
       divided : Divided (tree-of d) (drop i ws) name e y
       divided =
           let b = by-means (drop i ws) d e y (found ∙ ap (λ (l : List ℕ). division-of l d) here) in
-          division-made (tree-of d) (drop i ws) name e y symbol here-complete here-long (b .divides) (b .start) (b .first) (b .whole)
+          division-made (tree-of d) (drop i ws) name e y symbol complete-here long-here (b .divides) (b .start) (b .first) (b .whole)
 
       -- the words of the first operand
       abbrev pub part : List ℕ

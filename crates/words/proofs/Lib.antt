@@ -1,4 +1,5 @@
 pub mod Rewriting
+pub mod Runs
 pub mod Requests
 pub mod Scanning
 pub mod Ends

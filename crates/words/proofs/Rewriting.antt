@@ -105,9 +105,18 @@ after-tree us d e t =
 first-is : (l : List Tree) (t : Tree) (m : List Tree) → l ≡ t ∷ m → getD l 0 (Op 0 nil) ≡ t
 first-is l t m e = ap (λ (q : List Tree). getD q 0 (Op 0 nil)) e
 
-take-one : (l : List Tree) → 1 ≤ length l → take 1 l ≡ getD l 0 (Op 0 nil) ∷ []
+pub take-one : (l : List Tree) → 1 ≤ length l → take 1 l ≡ getD l 0 (Op 0 nil) ∷ []
 take-one [] h = absurd (omega arith)
 take-one (t ∷ l) h = refl
+
+pub first-of : (a : ℕ) (l : List Tree) → 1 ≤ a → a ≤ length l → take a l ≡ getD l 0 (Op 0 nil) ∷ drop 1 (take a l)
+first-of zero l h k = absurd (omega arith)
+first-of (suc a) [] h k = absurd (omega arith)
+first-of (suc a) (t ∷ l) h k = refl
+
+pub one-tree-words : (f : Tree → Tree) (t : Tree) → all-tokens number (map f (t ∷ [])) ≡ tokens number (f t)
+unfolding all-tokens
+one-tree-words f t = append-nil (tokens number (f t))
 
 module _ (us : List ℕ) (n : ℕ) (all : trees-in us ≡ some n) (some-there : 1 ≤ n) (d : List ℕ) (one : trees-in d ≡ some 1) where
   -- the words of the first tree

@@ -7,7 +7,8 @@ use borrow.Rule.Slice.PartMut.{putMid}
 use lib.ListN.{length, take, drop, set, length-append, length-drop, drop-of-length-le}
 use lib.Seq.{take-all, take-at, drop-at, drop-drop, length-take-le, set-split}
 use Rattle.tree.specs.Tree.{Tree}
-use Rattle.words.specs.Words.{rewritten-words, Writes}
+use Rattle.tree.proofs.TokenLaws.{complete-end}
+use Rattle.words.specs.Words.{rewritten-words, Complete, Writes}
 use Rattle.words.proofs.Rewriting.{rewritten-none}
 
 -- ---- words put at a place, everything else as it was
@@ -64,6 +65,20 @@ pub put-lent :
 put-lent old x new u e =
     rest-back old x u
     ∙ ap (λ (l : List ℕ). take u old ++ l) (e ∙ ap (λ (l : List ℕ). new ++ l) (ap (drop (length new)) (rest-is old u) ∙ drop-drop (length new) u old))
+
+-- ---- the words from a place on
+
+module _ (ws : List ℕ) (complete : Complete ws) (i : ℕ) (more : i < length ws) where
+  pub here-long : 0 < length (drop i ws)
+  here-long = omega (arith, length-drop i ws)
+
+  pub here-complete : Complete (drop i ws)
+  here-complete = complete-end i ws (complete .0) (complete .1)
+
+  -- as they are lent
+  pub here-asked : (0 < length (take (length ws - i) (drop i ws))) × Complete (take (length ws - i) (drop i ws))
+  here-asked =
+      (subst (λ (l : List ℕ). 0 < length l) (sym (rest-is ws i)) here-long, subst (λ (l : List ℕ). Complete l) (sym (rest-is ws i)) here-complete)
 
 -- ---- the scan
 

@@ -2,8 +2,8 @@
 use native.Mathlib.Omega.{arith}
 use mathlib.Core.Path.{sym, _∙_}
 use lib.ListN.{length, length-set}
-use Rattle.words.proofs.Scanning.{scan-starts, scan-long, scan-ends}
-use Rattle.divisor.proofs.Turning.{by-words, State, asked, out-room, turn-other, room, part-complete, lent-room, few, back-long, turn-by}
+use Rattle.words.proofs.Scanning.{here-asked, scan-starts, scan-long, scan-ends}
+use Rattle.divisor.proofs.Turning.{by-words, State, out-room, turn-other, room, part-complete, lent-room, few, back-long, turn-by}
 use borrow.Author.Needs.{needs}
 use Prim.Native.Nat.{ℕ, _<_, _-_}
 use borrow.Fn.Kinds.{In}
@@ -49,7 +49,7 @@ rewrite-first-division-requires : (t : ℕ) → rewrite-lts.Need-first-division-
 rewrite-first-division-requires t c κs = let a = c .before .before .before .before .before .before .args in
     let p = c .before .before .before .before .before .before .pre .1 in
     let l = c .before .before .loop in
-    (asked (a .tokens .now) (a .divisor .now) (a .name) (a .out .now) (p .0) (p .1 .0 .1) (p .1 .1) (l .out) (l .i) (l .o) (l .inv) (c .before .loop-test .taken), p .1 .0 .0)
+    (here-asked (a .tokens .now) (p .0) (l .i) (c .before .loop-test .taken), p .1 .0 .0)
 
 rewrite-enum-known-found : (t : ℕ) → rewrite-lts.Need-enum-known-found (first-division-reads.Asked, first-division-reads.Learnt, rewrite-below t, rewrite.Post) (rewrite-at t) rewrite.Post rewrite-Inv-loop rewrite-μ-loop
 rewrite-enum-known-found t c = search needs

@@ -1,3 +1,10 @@
+-- `divisor::replace_divisor` meets its contract. Assumes nothing.
+use native.Mathlib.Omega.{arith}
+use mathlib.Core.Path.{sym, _∙_}
+use lib.ListN.{length}
+use Rattle.rewrite.specs.Rewrite.{replace-divisor}
+use Rattle.words.proofs.Requests.{sound-has}
+use Rattle.words.proofs.Ends.{ends-broken, ends-full, ends-written}
 use borrow.Author.Needs.{needs}
 use Rattle.divisor.proofs.replace_divisor.Statement.{statement}
 use Rattle.divisor.proofs.replace_divisor.Tie as tie
@@ -6,41 +13,37 @@ use Rattle.divisor.proofs.replace_divisor.Lts as lts
 use Rattle.divisor.proofs.rewrite.Reads as rewrite-reads
 use Rattle.words.proofs.check.Reads as check-reads
 
--- src/lib.rt:98:9
 check-requires : tie.Need-check-requires
 check-requires c κs = search needs
 
--- src/lib.rt:101:52
 enum-told : tie.Need-enum-told
 enum-told c = search needs
 
--- src/lib.rt:101:17
 rewrite-requires : tie.Need-rewrite-requires
-rewrite-requires c κs = ?
+rewrite-requires c κs = let a = c .before .before .before .before .before .before .before .args in
+    let s = sound-has (a .tokens .now) (a .divisor .now) (a .name) (length (a .out .now)) (sym (c .before .enum-told .given .1) ∙ c .before .before .before .check .ensures) in
+    ((s .trees, s .words), ((s .one, s .symbol), s .fits))
 
--- src/lib.rt:104:28
 enum-told-2 : tie.Need-enum-told-2
 enum-told-2 c = search needs
 
--- src/lib.rt:105:28
 enum-told-3 : tie.Need-enum-told-3
 enum-told-3 c = search needs
 
--- src/lib.rt:94:1
 same-length : tie.Need-same-length
 same-length c = search needs
 
--- src/lib.rt:94:1
 returns : tie.Need-returns
-returns c = ?
+returns c = let a = c .before .before .before .before .before .before .before .before .before .before .args in
+    ends-written replace-divisor (a .tokens .now) (a .divisor .now) (a .name) (a .out .now) (sym (c .before .before .before .before .enum-told .given .1) ∙ c .before .before .before .before .before .before .check .ensures) _ _ (c .before .before .rewrite .ensures .count) (c .before .before .rewrite .ensures .words)
 
--- src/lib.rt:94:1
 returns-2 : tie.Need-returns-2
-returns-2 c = ?
+returns-2 c = let a = c .before .before .before .before .before .before .args in
+    ends-broken replace-divisor (a .tokens .now) (a .divisor .now) (a .name) (a .out .now) (sym (c .enum-told2 .given .1) ∙ c .before .before .check .ensures)
 
--- src/lib.rt:94:1
 returns-3 : tie.Need-returns-3
-returns-3 c = ?
+returns-3 c = let a = c .before .before .before .before .before .before .args in
+    ends-full replace-divisor (a .tokens .now) (a .divisor .now) (a .name) (a .out .now) (sym (c .enum-told3 .given .1) ∙ c .before .before .check .ensures)
 
 pub replace-divisor-spec : {M : Type 1} → statement M
 replace-divisor-spec =
