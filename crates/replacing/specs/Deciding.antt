@@ -13,7 +13,8 @@ use Rattle.tree.specs.Facts.{size, count as count-of}
 use Rattle.tree.specs.Rows.{occurrences}
 use Rattle.tree.specs.Tokens.{kind-of, tokens, all-tokens, trees-in, run-at}
 use Rattle.rewrite.specs.Rewrite.{flatten-mul-factors, replace}
-use Rattle.words.specs.Words.{number, tree-of, name-of}
+use Rattle.words.specs.Words.{number, tree-of, name-of, begins-with}
+use Rattle.closed.specs.Closed.{by-factors}
 use Rattle.factors.specs.Places.{tree, at-places}
 use Rattle.replacing.specs.Replacing.{replaced-words, formed-word, repeated, head-words}
 
@@ -62,3 +63,16 @@ module _ (part : List ℕ) (name : ℕ) where
         ≡ (each rewritten (at-places ws (take left places)) >>= λ l. ok (head-words code (left + copies - 1) ++ (all-tokens number l ++ repeated copies name)))
     pub room : length (head-words code (left + copies - 1)) + occurrences (at-places ws (take left places)) + copies ≤ long
     pub smaller : occurrences (at-places ws (take left places)) < long
+
+  -- the words that the first tree becomes
+  abbrev pub product-out : List ℕ → Outcome (List ℕ)
+  product-out ws = rewritten (tree-of ws) >>= λ u. ok (tokens number u)
+
+-- the first tree is a product and not the target, which is sought by its factors
+pub record ProductFirst (ws part : List ℕ) (name : ℕ) : Type 0 where
+  pub some-word : 0 < length ws
+  pub trees : Trees ws
+  pub target : Target part name
+  pub other : false ≡ begins-with ws part
+  pub kind : kind-of (getD ws 0 0) ≡ 5
+  pub sought : true ≡ by-factors (tree-of part)
