@@ -5,12 +5,21 @@ use mathlib.Core.Bool.{true}
 use mathlib.Core.List.{List, _++_}
 use lib.ListN.{length, drop}
 use Rattle.tree.specs.Outcome.{Refusal, Outcome, ok, refused}
+use lib.Ieee.{Float}
 use Rattle.words.specs.Words.{begins-with}
+use Rattle.factors.specs.Answers.{flatten-answer}
+use Rattle.factors.specs.declared.Flattened.the-variants as flattened
 use Rattle.replacing.specs.Deciding.{StaysAt, RefusedAt, Match}
 use Rattle.replace.specs.declared.Decision.{Decision}
 use Rattle.replace.specs.declared.Decision.the-variants as decision
 use Rattle.replace.specs.declared.Step.{Step}
 use Rattle.replace.specs.declared.Step.the-variants as step
+
+-- `flatten_mul_factors` answered these for the first tree
+pub record FlatFirst (ws : List ℕ) (coefficient : Float) (count : ℕ) (places : List ℕ) : Type 0 where
+  pub old : List ℕ
+  pub answer : flattened.Of (record { coefficient = coefficient; count = count }) ≡ flatten-answer ws 0 old .answer
+  pub written : places ≡ flatten-answer ws 0 old .places
 
 -- what becomes of the first of some trees
 abbrev pub Decides : List ℕ → ℕ → List ℕ → List ℕ → Decision → Type 0

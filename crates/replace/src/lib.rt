@@ -3,7 +3,7 @@
 // symbols.
 ghost use mathlib.Core.Path.{_≡_};
 ghost use mathlib.Core.List.{_++_};
-ghost use Prim.Native.Nat.{_+_, _-_, _*_, _≤_, _<_};
+ghost use Prim.Native.Nat.{_+_, _-_, _*_, _^_, _≤_, _<_};
 ghost use mathlib.Core.Bool.{_&&_};
 ghost use mathlib.Core.Option.{some};
 ghost use lib.ListN.{length, take, drop};
@@ -12,7 +12,7 @@ ghost use Rattle.words.specs.Words.{tree-of};
 ghost use Rattle.closed.specs.Closed.{by-factors};
 ghost use Rattle.replacing.specs.Replacing.{repeated, head-words};
 ghost use Rattle.replacing.specs.Deciding.{Trees, Target, Match, ProductFirst, rewritten-words, product-out};
-ghost use Rattle.replace.specs.Answers.{Decides, Writes};
+ghost use Rattle.replace.specs.Answers.{FlatFirst, Decides, Writes};
 use tokens::Run;
 use tokens::end_of;
 use words::starts_with;
@@ -67,10 +67,37 @@ fn is_sought(target: &[u64], places: &mut [u64]) -> bool
     if target[0] % KINDS != MUL {
         return false;
     }
-    let Flattened::Of(p) = flatten_mul_factors(target, 0, places) else {
-        return false;
+    let flat = flatten_mul_factors(target, 0, places);
+    match flat {
+        Flattened::Of(p) => {
+            let coefficient = p.coefficient;
+            is_one(coefficient)
+        }
+        Flattened::Broken => false,
+        Flattened::NoRoom => false,
+    }
+}
+
+// Decides on a product whose factors' places are known.
+fn decide_factors(tokens: &[u64], target: &[u64], name: u64, coefficient: f64, count: usize, places: &mut [u64]) -> Decision
+    requires { ⌜ ProductFirst (now tokens) (now target) name ⌝ }
+    requires { ⌜ FlatFirst (now tokens) coefficient count (now places) ⌝ }
+    requires { ⌜ 2 * length (now tokens) ≤ length (now places) ⌝ }
+    ensures { λ r. ⌜ Decides (now (target .entry)) name (now (tokens .entry)) (now (places .exit)) r ⌝ }
+{
+    let Taken::Out(left, copies) = take_out(tokens, target, places, count) else {
+        return Decision::Refused;
     };
-    is_one(p.coefficient)
+    if copies == 0 {
+        return Decision::Stays;
+    }
+    let Constant::Is(code) = constant_of(coefficient) else {
+        return Decision::Refused;
+    };
+    let Run::Ends(end) = end_of(tokens, 0) else {
+        return Decision::Refused;
+    };
+    Decision::Matched(left, copies, code, end)
 }
 
 // Decides on a product that isn't the target.
@@ -79,22 +106,16 @@ fn decide_product(tokens: &[u64], target: &[u64], name: u64, places: &mut [u64])
     requires { ⌜ 2 * length (now tokens) ≤ length (now places) ⌝ }
     ensures { λ r. ⌜ Decides (now (target .entry)) name (now (tokens .entry)) (now (places .exit)) r ⌝ }
 {
-    let Flattened::Of(p) = flatten_mul_factors(tokens, 0, places) else {
-        return Decision::Refused;
-    };
-    let Taken::Out(left, copies) = take_out(tokens, target, places, p.count) else {
-        return Decision::Refused;
-    };
-    if copies == 0 {
-        return Decision::Stays;
+    let flat = flatten_mul_factors(tokens, 0, places);
+    match flat {
+        Flattened::Of(p) => {
+            let coefficient = p.coefficient;
+            let count = p.count;
+            decide_factors(tokens, target, name, coefficient, count, places)
+        }
+        Flattened::Broken => Decision::Refused,
+        Flattened::NoRoom => Decision::Refused,
     }
-    let Constant::Is(code) = constant_of(p.coefficient) else {
-        return Decision::Refused;
-    };
-    let Run::Ends(end) = end_of(tokens, 0) else {
-        return Decision::Refused;
-    };
-    Decision::Matched(left, copies, code, end)
 }
 
 // Decides on the first tree.
@@ -128,7 +149,7 @@ fn put_repeated(w: u64, n: usize, at: usize, out: &mut [u64])
 
 // Writes what stands before the factors of a product: its coefficient and its signs.
 fn write_head(code: u64, signs: usize, out: &mut [u64]) -> usize
-    requires { ⌜ length (head-words code signs) ≤ length (now out) ⌝ }
+    requires { ⌜ (code < 2 ^ 51) × (length (head-words code signs) ≤ length (now out)) ⌝ }
     ensures { λ r. ⌜ (r ≡ length (head-words code signs)) × (now (out .exit) ≡ head-words code signs ++ drop (length (head-words code signs)) (now (out .entry))) ⌝ }
 {
     if code == ONE {

@@ -1,5 +1,5 @@
 -- What is decided at the first of some trees: the target, a word that stays, or a product with matches. Assumes nothing.
-use Prim.Native.Nat.{ℕ, zero, suc, _+_, _-_, _*_, _/_, _%_, _≤_, _<_}
+use Prim.Native.Nat.{ℕ, zero, suc, _+_, _-_, _*_, _/_, _%_, _^_, _≤_, _<_}
 use native.Mathlib.Omega.{arith}
 use mathlib.Core.Path.{_≡_, refl, sym, _∙_, ap, ap₂, subst}
 use mathlib.Core.Bool.{Bool, true, false}
@@ -8,8 +8,8 @@ use mathlib.Core.List.{List, [], _∷_, _++_, append-nil, map}
 use borrow.Author.Tests.{ne-eqb, eq-eqb, eqb-true}
 use lib.ListN.{length, getD, take, drop, length-append}
 use lib.Seq.{length-take-le, getD-take}
-use lib.Dec.{T, eqb}
-use lib.IntN.{ℤ}
+use lib.Dec.{T, eqb, lit≤}
+use lib.IntN.{ℤ, pos, negsuc}
 use lib.Ieee.{Float}
 use Rattle.tree.specs.Bytes.{every}
 use Rattle.tree.specs.Outcome.{Refusal, Outcome, ok, refused, _>>=_, each}
@@ -36,6 +36,7 @@ use Rattle.factors.proofs.PlaceLaws.{Each, Inside}
 use Rattle.factors.proofs.Products.{Product-of}
 use Rattle.closed.specs.Closed.{Taken, taken, take-out, named, by-factors, rebuilt}
 use Rattle.closed.proofs.Chain.{chain, chain-same}
+use Rattle.closed.proofs.Unit.{Small, magnitude, accepted-small}
 use Rattle.closed.proofs.Steps.{at-operation, at-op}
 use Rattle.closed.proofs.Products.{at-symbol, at-constant, at-other, at-unmatched, no-match, at-product}
 use Rattle.matching.specs.Matching.{factor-runs, take-out-places}
@@ -169,6 +170,11 @@ accepted : (code : ℕ) (o : Outcome ℤ) → constant.Is code ≡ constant-answ
 unfolding constant-answer
 accepted code (ok c) e = (c, (refl, cc))
 accepted code (refused i) e = (let z : _≡_ {A = ℕ} 0 1 = cc in absurd (omega arith))
+
+small-code : (c : ℤ) → Small c → constant-code c < 2 ^ 51
+unfolding constant-code magnitude
+small-code (pos n) h = (let l : 2 * 10 ^ 15 ≤ 2 ^ 51 = lit≤ tt in omega arith)
+small-code (negsuc n) h = (let l : 2 * 10 ^ 15 ≤ 2 ^ 51 = lit≤ tt in omega arith)
 
 unaccepted : (o : Outcome ℤ) → constant.Not ≡ constant-answer o → (i : Refusal) × (o ≡ refused i)
 unfolding constant-answer
@@ -328,6 +334,7 @@ module _
               size-is = ap size (tree-first ∙ sym (is-product .is));
               run-is = pr .there;
               some-copy = omega (arith, some-copy);
+              small = subst (λ (i : ℕ). i < 2 ^ 51) (sym code-is) (small-code c (accepted-small (p .coefficient) c c-is));
               there = ta .1;
               within = λ j l.
                   (let x = each-at inside (take left places) j (subst (Each inside) (sym (ta .0)) (agree .kept)) (omega (arith, length-take-le left places (ta .1))) in

@@ -1,5 +1,5 @@
 -- What is decided at the first of some trees, and what a product with matches is rewritten from. Assumes nothing.
-use Prim.Native.Nat.{ℕ, _+_, _-_, _≤_, _<_}
+use Prim.Native.Nat.{ℕ, _+_, _-_, _^_, _≤_, _<_}
 use mathlib.Core.Path.{_≡_}
 use mathlib.Core.Bool.{Bool, true, false}
 use mathlib.Core.Option.{some}
@@ -56,6 +56,7 @@ module _ (part : List ℕ) (name : ℕ) where
     pub size-is : long ≡ size (tree-of ws)
     pub run-is : run-at ws 0 ≡ some long
     pub some-copy : 1 ≤ copies
+    pub small : code < 2 ^ 51
     pub there : left ≤ length places
     pub within : (j : ℕ) → j < left → Within ws long (getD places j 0)
     pub becomes :
