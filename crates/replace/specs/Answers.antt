@@ -1,15 +1,14 @@
 -- What the functions of this crate answer and write. Assumes nothing.
-use Prim.Native.Nat.{ℕ, _≤_, _<_}
+use Prim.Native.Nat.{ℕ}
 use mathlib.Core.Path.{_≡_}
 use mathlib.Core.Bool.{true}
-use mathlib.Core.List.{List, _++_}
-use lib.ListN.{length, drop}
-use Rattle.tree.specs.Outcome.{Refusal, Outcome, ok, refused}
+use mathlib.Core.List.{List}
+use Rattle.tree.specs.Outcome.{Outcome}
 use lib.Ieee.{Float}
 use Rattle.words.specs.Words.{begins-with}
 use Rattle.factors.specs.Answers.{flatten-answer}
 use Rattle.factors.specs.declared.Flattened.the-variants as flattened
-use Rattle.replacing.specs.Deciding.{StaysAt, RefusedAt, Match}
+use Rattle.replacing.specs.Deciding.{StaysAt, RefusedAt, Match, Wrote, Left}
 use Rattle.replace.specs.declared.Decision.{Decision}
 use Rattle.replace.specs.declared.Decision.the-variants as decision
 use Rattle.replace.specs.declared.Step.{Step}
@@ -27,19 +26,6 @@ Decides part name ws places decision.Equal = true ≡ begins-with ws part
 Decides part name ws places decision.Stays = StaysAt part name ws
 Decides part name ws places (decision.Matched left copies code long) = Match part name ws places left copies code long
 Decides part name ws places decision.Refused = RefusedAt part name ws
-
--- new words stand in front, and everything after them is as it was
-pub record Wrote (o : Outcome (List ℕ)) (old : List ℕ) (n : ℕ) (out : List ℕ) : Type 0 where
-  pub new : List ℕ
-  pub is : o ≡ ok new
-  pub count : n ≡ length new
-  pub words : out ≡ new ++ drop n old
-
--- everything from a place on is as it was
-pub record Left (o : Outcome (List ℕ)) (limit : ℕ) (old out : List ℕ) : Type 0 where
-  pub why : Refusal
-  pub is : o ≡ refused why
-  pub rest : drop limit out ≡ drop limit old
 
 abbrev pub Writes : Outcome (List ℕ) → ℕ → List ℕ → Step → List ℕ → Type 0
 Writes o limit old (step.Wrote n) out = Wrote o old n out

@@ -56,7 +56,7 @@ module _ (part : List ℕ) (name : ℕ) (t : Target part name) where
 
   -- ---- the first tree
 
-  head-formed : (ws : List ℕ) → Trees ws → 0 < length ws → T (well-formed (tree-of ws))
+  pub head-formed : (ws : List ℕ) → Trees ws → 0 < length ws → T (well-formed (tree-of ws))
   unfolding well-formed-all
   head-formed [] h p = absurd (omega arith)
   head-formed (w ∷ ws) h p =

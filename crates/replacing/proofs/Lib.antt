@@ -3,3 +3,4 @@ pub mod Runs
 pub mod Products
 pub mod Deciding
 pub mod Targets
+pub mod Scanning

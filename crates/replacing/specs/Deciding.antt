@@ -77,3 +77,18 @@ pub record ProductFirst (ws part : List ℕ) (name : ℕ) : Type 0 where
   pub other : false ≡ begins-with ws part
   pub kind : kind-of (getD ws 0 0) ≡ 5
   pub sought : true ≡ by-factors (tree-of part)
+
+-- ---- what was written
+
+-- new words stand in front, and everything after them is as it was
+pub record Wrote (o : Outcome (List ℕ)) (old : List ℕ) (n : ℕ) (out : List ℕ) : Type 0 where
+  pub new : List ℕ
+  pub is : o ≡ ok new
+  pub count : n ≡ length new
+  pub words : out ≡ new ++ drop n old
+
+-- everything from a place on is as it was
+pub record Left (o : Outcome (List ℕ)) (limit : ℕ) (old out : List ℕ) : Type 0 where
+  pub why : Refusal
+  pub is : o ≡ refused why
+  pub rest : drop limit out ≡ drop limit old
