@@ -4,3 +4,4 @@ pub mod Products
 pub mod Deciding
 pub mod Targets
 pub mod Scanning
+pub mod Factoring

@@ -84,7 +84,7 @@ words-formed (w ∷ ws) n e h =
 -- ---- steps at each of some trees
 
 module _ (g : Tree → Outcome Tree) where
-  each-both : (l m : List Tree) → each g (l ++ m) ≡ (each g l >>= λ a. each g m >>= λ b. ok (a ++ b))
+  pub each-both : (l m : List Tree) → each g (l ++ m) ≡ (each g l >>= λ a. each g m >>= λ b. ok (a ++ b))
   unfolding each
   each-both [] m = go (each g m)
     where
