@@ -212,7 +212,7 @@ module _ (part : List ℕ) (name : ℕ) (t : Target part name) (ws : List ℕ) (
           go (ok u) q = (let z : _≡_ {A = ℕ} 0 1 = cc in absurd (omega arith))
           go (refused i) q = (let z : i ≡ r = cc in ap (λ (y : Refusal). refused y) z)
 
-      run-long : length run ≡ size (tree ws at)
+      pub run-long : length run ≡ size (tree ws at)
       unfolding run-at
       run-long = length-take-le (size (tree ws at)) (drop at ws) (segment (drop at ws) 1 (size (tree ws at)) (here-within l .run) .within)
 
