@@ -4,18 +4,21 @@
 ghost use mathlib.Core.Path.{_≡_};
 ghost use mathlib.Core.List.{_++_};
 ghost use Prim.Native.Nat.{_+_, _-_, _*_, _^_, _≤_, _<_};
-ghost use mathlib.Core.Bool.{_&&_};
+ghost use mathlib.Core.Bool.{true};
 ghost use mathlib.Core.Option.{some};
 ghost use lib.ListN.{length, take, drop};
 ghost use Rattle.tree.specs.Tokens.{trees-in};
 ghost use Rattle.words.specs.Words.{tree-of};
 ghost use Rattle.closed.specs.Closed.{by-factors};
-ghost use Rattle.replacing.specs.Replacing.{repeated, head-words};
+ghost use Rattle.replacing.specs.Replacing.{replaceable, repeated, head-words};
 ghost use Rattle.replacing.specs.Deciding.{Trees, Target, Match, ProductFirst, rewritten-words, product-out};
-ghost use Rattle.replace.specs.Answers.{FlatFirst, Decides, Writes};
+ghost use Rattle.replace.specs.Answers.{FlatFirst, Decides, Writes, Answers, scratch-short, short-of-room};
 use tokens::Run;
 use tokens::end_of;
+use words::Request;
+use words::check;
 use words::starts_with;
+use replaceable::may_replace;
 use coefficient::Constant;
 use coefficient::constant_of;
 use coefficient::is_one;
@@ -51,6 +54,17 @@ enum Decision {
     Matched(usize, usize, u64, usize),
     // It is a product with matches whose coefficient is no constant.
     Refused,
+}
+
+pub enum Replaced {
+    // How many words were written.
+    Words(usize),
+    // Refusal 10: the coefficient of a product to be rebuilt is no constant. The trees are written as they were.
+    Refused,
+    // The words aren't trees that may be rewritten, the target isn't one tree with a symbol, or the name isn't a new symbol's word.
+    Broken,
+    // Fewer words of `out` than there are tokens, fewer than twice as many of `places`, or fewer than the target has.
+    NoRoom,
 }
 
 enum Step {
@@ -225,4 +239,55 @@ fn rewrite(tokens: &[u64], target: &[u64], name: u64, sought: bool, places: &mut
         }
     }
     Step::Wrote(o)
+}
+
+// Writes the trees as they were.
+fn put_back(tokens: &[u64], out: &mut [u64])
+    requires { ⌜ length (now tokens) ≤ length (now out) ⌝ }
+    ensures { λ _. ⌜ now (out .exit) ≡ now (tokens .entry) ++ drop (length (now (tokens .entry))) (now (out .entry)) ⌝ }
+{
+    let mut k = 0;
+    while k < tokens.len() {
+        out[k] = tokens[k];
+        k += 1;
+    }
+}
+
+// Rewrites trees that may be rewritten, where there is room for them.
+fn replace_trees(tokens: &[u64], target: &[u64], name: u64, places: &mut [u64], out: &mut [u64]) -> Replaced
+    requires { ⌜ Trees (now tokens) × Target (now target) name × (length (now tokens) ≤ length (now out)) ⌝ }
+    ensures { λ r. ⌜ Answers (now (tokens .entry)) (now (target .entry)) name true (scratch-short (now (tokens .entry)) (now (target .entry)) (length (now (places .entry)))) (now (out .entry)) r (now (out .exit)) ⌝ }
+{
+    if places.len() / 2 < tokens.len() {
+        return Replaced::NoRoom;
+    }
+    if places.len() < target.len() {
+        return Replaced::NoRoom;
+    }
+    let sought = is_sought(target, places);
+    let step = rewrite(tokens, target, name, sought, places, out);
+    match step {
+        Step::Wrote(n) => Replaced::Words(n),
+        Step::Refused => {
+            put_back(tokens, out);
+            Replaced::Refused
+        }
+    }
+}
+
+// Each node equal to the target becomes the name, and so do the target's factors in a product, as often as they are all there.
+pub fn replace(tokens: &[u64], target: &[u64], name: u64, places: &mut [u64], out: &mut [u64]) -> Replaced
+    ensures { λ r. ⌜ Answers (now (tokens .entry)) (now (target .entry)) name (replaceable (now (tokens .entry)) (now (target .entry)) name)
+        (short-of-room (now (tokens .entry)) (now (target .entry)) (length (now (places .entry))) (length (now (out .entry)))) (now (out .entry)) r (now (out .exit)) ⌝ }
+{
+    if may_replace(tokens, target, name) {
+        let request = check(tokens, target, name, out.len());
+        match request {
+            Request::Sound => replace_trees(tokens, target, name, places, out),
+            Request::Broken => Replaced::Broken,
+            Request::NoRoom => Replaced::NoRoom,
+        }
+    } else {
+        Replaced::Broken
+    }
 }

@@ -39,6 +39,9 @@ fn is_formed(w: u64) -> bool
     if kind == SELECT_OR {
         return operands_fit(SELECT, true, w / KINDS);
     }
+    if SELECT_OR < kind {
+        return false;
+    }
     operands_fit(kind, false, w / KINDS)
 }
 
