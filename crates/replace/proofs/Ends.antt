@@ -155,8 +155,7 @@ module _ (ws part : List ℕ) (name places : ℕ) (old : List ℕ) where
       go false f b g = (let x = requested false b f g request.NoRoom e in let z : _≡_ {A = ℕ} 0 1 = cc in absurd (omega arith))
       go true f false g = (let x = requested true false f g request.NoRoom e in let z : _≡_ {A = ℕ} 0 1 = cc in absurd (omega arith))
       go true f true g =
-          let m = may true true t (sym f) in
-          (
+          let m = may true true t (sym f) in (
             sym (ap₂ (λ (a b : Bool). replacement a (b || scratch-short ws part places) q ws old .answer) m g),
             sym (ap₂ (λ (a b : Bool). replacement a (b || scratch-short ws part places) q ws old .out) m g),
           )
@@ -170,8 +169,7 @@ module _ (ws part : List ℕ) (name places : ℕ) (old : List ℕ) where
 
     pub asked : Trees ws × Target part name × (length ws ≤ length old)
     asked =
-        let rest = and-right (every formed-word ws) (has-symbol-word part && lacks name part) t-all in
-        (
+        let rest = and-right (every formed-word ws) (has-symbol-word part && lacks name part) t-all in (
           record { count = has .trees; complete = has .words; formed = and-left (every formed-word ws) (has-symbol-word part && lacks name part) t-all },
           target-of part name (has .one) (has .symbol) (and-left (has-symbol-word part) (lacks name part) rest) (and-right (has-symbol-word part) (lacks name part) rest),
           has .fits,
@@ -185,8 +183,7 @@ module _ (ws part : List ℕ) (name places : ℕ) (old : List ℕ) where
         go false f b g = (let x = requested false b f g request.Sound e in let z : _≡_ {A = ℕ} 0 1 = cc in absurd (omega arith))
         go true f true g = (let x = requested true true f g request.Sound e in let z : _≡_ {A = ℕ} 0 1 = cc in absurd (omega arith))
         go true f false g =
-            let m = may true true t (sym f) in
-            (
+            let m = may true true t (sym f) in (
               a .0 ∙ sym (ap₂ (λ (a b : Bool). replacement a (b || scratch-short ws part places) q ws old .answer) m g),
               a .1 ∙ sym (ap₂ (λ (a b : Bool). replacement a (b || scratch-short ws part places) q ws old .out) m g),
             )

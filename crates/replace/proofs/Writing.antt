@@ -52,8 +52,7 @@ module _ (code signs : ℕ) (old : List ℕ) where
   headed : (c : List ℕ) (n : ℕ) (out : List ℕ) → coefficient-words code ≡ c → n ≡ length c + signs → out ≡ c ++ (repeated signs 133 ++ drop n old) → Headed n out
   unfolding head-words
   headed c n out e f g =
-      let l : length (coefficient-words code ++ repeated signs 133) ≡ n = length-append (coefficient-words code) (repeated signs 133) ∙ omega (arith, ap length e, repeated-long signs 133) in
-      (
+      let l : length (coefficient-words code ++ repeated signs 133) ≡ n = length-append (coefficient-words code) (repeated signs 133) ∙ omega (arith, ap length e, repeated-long signs 133) in (
         sym l,
         g ∙ ap (λ (x : List ℕ). x ++ (repeated signs 133 ++ drop n old)) (sym e) ∙ sym (append-assoc (coefficient-words code) (repeated signs 133) (drop n old))
             ∙ ap (λ (k : ℕ). (coefficient-words code ++ repeated signs 133) ++ drop k old) (sym l),

@@ -13,12 +13,6 @@ ghost use Rattle.closed.specs.Closed.{by-factors};
 ghost use Rattle.replacing.specs.Replacing.{replaceable, repeated, head-words};
 ghost use Rattle.replacing.specs.Deciding.{Trees, Target, Match, ProductFirst, rewritten-words, product-out};
 ghost use Rattle.replace.specs.Answers.{FlatFirst, Decides, Writes, Answers, scratch-short, short-of-room};
-use tokens::Run;
-use tokens::end_of;
-use words::Request;
-use words::check;
-use words::starts_with;
-use replaceable::may_replace;
 use coefficient::Constant;
 use coefficient::constant_of;
 use coefficient::is_one;
@@ -26,6 +20,12 @@ use factors::Flattened;
 use factors::flatten_mul_factors;
 use matching::Taken;
 use matching::take_out;
+use replaceable::may_replace;
+use tokens::Run;
+use tokens::end_of;
+use words::Request;
+use words::check;
+use words::starts_with;
 
 // A word is kind + KINDS * below.
 const KINDS: u64 = 64;
@@ -93,7 +93,14 @@ fn is_sought(target: &[u64], places: &mut [u64]) -> bool
 }
 
 // Decides on a product whose factors' places are known.
-fn decide_factors(tokens: &[u64], target: &[u64], name: u64, coefficient: f64, count: usize, places: &mut [u64]) -> Decision
+fn decide_factors(
+    tokens: &[u64],
+    target: &[u64],
+    name: u64,
+    coefficient: f64,
+    count: usize,
+    places: &mut [u64],
+) -> Decision
     requires { ⌜ ProductFirst (now tokens) (now target) name ⌝ }
     requires { ⌜ FlatFirst (now tokens) coefficient count (now places) ⌝ }
     requires { ⌜ 2 * length (now tokens) ≤ length (now places) ⌝ }
@@ -182,7 +189,18 @@ fn write_head(code: u64, signs: usize, out: &mut [u64]) -> usize
 }
 
 // Writes the first tree, a product with matches.
-fn rewrite_product(tokens: &[u64], target: &[u64], name: u64, sought: bool, left: usize, copies: usize, code: u64, long: usize, places: &mut [u64], out: &mut [u64]) -> Step
+fn rewrite_product(
+    tokens: &[u64],
+    target: &[u64],
+    name: u64,
+    sought: bool,
+    left: usize,
+    copies: usize,
+    code: u64,
+    long: usize,
+    places: &mut [u64],
+    out: &mut [u64],
+) -> Step
     requires { ⌜ Trees (now tokens) × Target (now target) name × (sought ≡ by-factors (tree-of (now target))) ⌝ }
     requires { ⌜ Match (now target) name (now tokens) (now places) left copies code long ⌝ }
     requires { ⌜ (2 * long ≤ length (now places)) × (long ≤ length (now out)) ⌝ }
@@ -195,7 +213,14 @@ fn rewrite_product(tokens: &[u64], target: &[u64], name: u64, sought: bool, left
         let Run::Ends(end) = end_of(tokens, at) else {
             return Step::Refused;
         };
-        let Step::Wrote(n) = rewrite(&tokens[at..end], target, name, sought, &mut places[left..], &mut out[o..]) else {
+        let Step::Wrote(n) = rewrite(
+            &tokens[at..end],
+            target,
+            name,
+            sought,
+            &mut places[left..],
+            &mut out[o..],
+        ) else {
             return Step::Refused;
         };
         o += n;
@@ -206,7 +231,14 @@ fn rewrite_product(tokens: &[u64], target: &[u64], name: u64, sought: bool, left
 }
 
 // Rewrites the words from the left.
-fn rewrite(tokens: &[u64], target: &[u64], name: u64, sought: bool, places: &mut [u64], out: &mut [u64]) -> Step
+fn rewrite(
+    tokens: &[u64],
+    target: &[u64],
+    name: u64,
+    sought: bool,
+    places: &mut [u64],
+    out: &mut [u64],
+) -> Step
     requires { ⌜ Trees (now tokens) × Target (now target) name × (sought ≡ by-factors (tree-of (now target))) ⌝ }
     requires { ⌜ (2 * length (now tokens) ≤ length (now places)) × (length (now tokens) ≤ length (now out)) ⌝ }
     ensures { λ r. ⌜ Writes (rewritten-words (now (target .entry)) name (now (tokens .entry))) (length (now (tokens .entry))) (now (out .entry)) r (now (out .exit)) ⌝ }
@@ -227,7 +259,18 @@ fn rewrite(tokens: &[u64], target: &[u64], name: u64, sought: bool, places: &mut
                 o += 1;
             }
             Decision::Matched(left, copies, code, long) => {
-                let Step::Wrote(n) = rewrite_product(&tokens[i..], target, name, sought, left, copies, code, long, places, &mut out[o..]) else {
+                let Step::Wrote(n) = rewrite_product(
+                    &tokens[i..],
+                    target,
+                    name,
+                    sought,
+                    left,
+                    copies,
+                    code,
+                    long,
+                    places,
+                    &mut out[o..],
+                ) else {
                     return Step::Refused;
                 };
                 i += long;
@@ -254,7 +297,13 @@ fn put_back(tokens: &[u64], out: &mut [u64])
 }
 
 // Rewrites trees that may be rewritten, where there is room for them.
-fn replace_trees(tokens: &[u64], target: &[u64], name: u64, places: &mut [u64], out: &mut [u64]) -> Replaced
+fn replace_trees(
+    tokens: &[u64],
+    target: &[u64],
+    name: u64,
+    places: &mut [u64],
+    out: &mut [u64],
+) -> Replaced
     requires { ⌜ Trees (now tokens) × Target (now target) name × (length (now tokens) ≤ length (now out)) ⌝ }
     ensures { λ r. ⌜ Answers (now (tokens .entry)) (now (target .entry)) name true (scratch-short (now (tokens .entry)) (now (target .entry)) (length (now (places .entry)))) (now (out .entry)) r (now (out .exit)) ⌝ }
 {
@@ -276,7 +325,13 @@ fn replace_trees(tokens: &[u64], target: &[u64], name: u64, places: &mut [u64], 
 }
 
 // Each node equal to the target becomes the name, and so do the target's factors in a product, as often as they are all there.
-pub fn replace(tokens: &[u64], target: &[u64], name: u64, places: &mut [u64], out: &mut [u64]) -> Replaced
+pub fn replace(
+    tokens: &[u64],
+    target: &[u64],
+    name: u64,
+    places: &mut [u64],
+    out: &mut [u64],
+) -> Replaced
     ensures { λ r. ⌜ Answers (now (tokens .entry)) (now (target .entry)) name (replaceable (now (tokens .entry)) (now (target .entry)) name)
         (short-of-room (now (tokens .entry)) (now (target .entry)) (length (now (places .entry))) (length (now (out .entry)))) (now (out .entry)) r (now (out .exit)) ⌝ }
 {

@@ -51,8 +51,7 @@ fn are_formed(tokens: &[u64]) -> bool
     let mut i = tokens.len();
     while i > 0 {
         i -= 1;
-        if is_formed(tokens[i]) {
-        } else {
+        if is_formed(tokens[i]) {} else {
             return false;
         }
     }

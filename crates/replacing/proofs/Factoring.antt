@@ -243,7 +243,7 @@ module _ (part : List ℕ) (name : ℕ) (t : Target part name) (ws : List ℕ) (
           record {
             most = omega arith;
             front = ap (take left) pz ∙ take-at (take left places) z left lt ∙ s .front;
-            same = ap length pz ∙ length-append (take left places) z ∙ (let ld = length-drop left places in let th = m .there in omega (arith, s .same)) ;
+            same = ap length pz ∙ length-append (take left places) z ∙ (let ld = length-drop left places in let th = m .there in omega (arith, s .same));
             wide =
                 ap length put ∙ length-append (take o out) (w .new ++ drop (o + length (w .new)) out)
                 ∙ (let a = length-append (w .new) (drop (o + length (w .new)) out) in

@@ -167,8 +167,7 @@ runs-most (suc most) (w ∷ ws) n h e = go (is-passed w) refl (λ us m a b. runs
         let d : drop (y .0 - 1) ws ≡ drop (y .0) (w ∷ ws) = shifted (y .0) up in
         subst (Runs (take (first-run (w ∷ ws)) (w ∷ ws) ∷ runs-after (first-run (w ∷ ws) - 1) ws))
         (sym (read-is ∙ ap (λ (l : List Tree). l ++ factors-all (drop (takes w) rs)) (word-alone w (take (takes w) rs) p)))
-        (subst (λ (k : ℕ). Runs (take k (w ∷ ws) ∷ runs-after (k - 1) ws) (made numbered w rs ∷ factors-all (drop (takes w) rs))) (sym f)
-        (
+        (subst (λ (k : ℕ). Runs (take k (w ∷ ws) ∷ runs-after (k - 1) ws) (made numbered w rs ∷ factors-all (drop (takes w) rs))) (sym f) (
           s .whole,
           ap (λ (l : List Tree). getD l 0 (Op 0 nil)) (s .first ∙ ap (take 1) (read-cons numbered w ws)),
           subst (λ (l : List (List ℕ)). Runs l (factors-all (drop (takes w) rs))) (sym (skipped (y .0 - 1) ws))

@@ -6,10 +6,6 @@ use Rattle.replace.proofs.Deciding.{first-product}
 use borrow.Author.Needs.{needs}
 use Rattle.replace.proofs.decide.Statement.{statement}
 use Rattle.replace.proofs.decide.Tie as tie
-use Rattle.replace.proofs.decide.Reads as reads
-use Rattle.replace.proofs.decide.Lts as lts
-use Rattle.replace.proofs.decide_product.Reads as decide-product-reads
-use Rattle.words.proofs.starts_with.Reads as starts-with-reads
 
 starts-with-requires : tie.Need-starts-with-requires
 starts-with-requires c κs = search needs

@@ -5,10 +5,6 @@ use Rattle.replace.proofs.Deciding.{never-broken, never-full, flat-firs
 use borrow.Author.Needs.{needs}
 use Rattle.replace.proofs.decide_product.Statement.{statement}
 use Rattle.replace.proofs.decide_product.Tie as tie
-use Rattle.replace.proofs.decide_product.Reads as reads
-use Rattle.replace.proofs.decide_product.Lts as lts
-use Rattle.factors.proofs.flatten_mul_factors.Reads as flatten-mul-factors-reads
-use Rattle.replace.proofs.decide_factors.Reads as decide-factors-reads
 
 flatten-mul-factors-requires : tie.Need-flatten-mul-factors-requires
 flatten-mul-factors-requires c κs = search needs

@@ -6,8 +6,6 @@ use Rattle.replace.proofs.Ends.{Back, back-starts, back-turns, back-end
 use borrow.Author.Needs.{needs}
 use Rattle.replace.proofs.put_back.Statement.{statement}
 use Rattle.replace.proofs.put_back.Tie as tie
-use Rattle.replace.proofs.put_back.Reads as reads
-use Rattle.replace.proofs.put_back.Lts as lts
 
 abbrev Inv-loop : tie.InvT-loop
 Inv-loop tokens out₀ k₀ out k = Back tokens out₀ out k

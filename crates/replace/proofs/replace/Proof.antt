@@ -6,11 +6,6 @@ use Rattle.replace.proofs.Ends.{tests-fail, request-fails, request-full
 use borrow.Author.Needs.{needs}
 use Rattle.replace.proofs.replace.Statement.{statement}
 use Rattle.replace.proofs.replace.Tie as tie
-use Rattle.replace.proofs.replace.Reads as reads
-use Rattle.replace.proofs.replace.Lts as lts
-use Rattle.replace.proofs.replace_trees.Reads as replace-trees-reads
-use Rattle.replaceable.proofs.may_replace.Reads as may-replace-reads
-use Rattle.words.proofs.check.Reads as check-reads
 
 may-replace-requires : tie.Need-may-replace-requires
 may-replace-requires c κs = search needs

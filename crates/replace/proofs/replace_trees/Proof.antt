@@ -6,11 +6,6 @@ use Rattle.replace.proofs.Ends.{words-short, target-short, wrote, refus
 use borrow.Author.Needs.{needs}
 use Rattle.replace.proofs.replace_trees.Statement.{statement}
 use Rattle.replace.proofs.replace_trees.Tie as tie
-use Rattle.replace.proofs.replace_trees.Reads as reads
-use Rattle.replace.proofs.replace_trees.Lts as lts
-use Rattle.replace.proofs.is_sought.Reads as is-sought-reads
-use Rattle.replace.proofs.put_back.Reads as put-back-reads
-use Rattle.replace.proofs.rewrite.Reads as rewrite-reads
 
 returns : tie.Need-returns
 returns c = let a = c .before .before .before .before .before .args in words-short (a .tokens .now) (a .target .now) (a .name) (length (a .places .now)) (a .out .now) (c .if1 .taken)

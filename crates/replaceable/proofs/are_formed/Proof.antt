@@ -10,9 +10,6 @@ use Rattle.replaceable.proofs.Tests.{every-none, every-more, every-fail
 use borrow.Author.Needs.{needs}
 use Rattle.replaceable.proofs.are_formed.Statement.{statement}
 use Rattle.replaceable.proofs.are_formed.Tie as tie
-use Rattle.replaceable.proofs.are_formed.Reads as reads
-use Rattle.replaceable.proofs.are_formed.Lts as lts
-use Rattle.replaceable.proofs.is_formed.Reads as is-formed-reads
 
 abbrev Inv-loop : tie.InvT-loop
 Inv-loop tokens i₀ i = (i ≤ length tokens) × (every formed-word (drop i tokens) ≡ true)

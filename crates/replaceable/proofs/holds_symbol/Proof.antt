@@ -9,8 +9,6 @@ use Rattle.replaceable.proofs.Tests.{symbol-none, symbol-more, symbol-f
 use borrow.Author.Needs.{needs}
 use Rattle.replaceable.proofs.holds_symbol.Statement.{statement}
 use Rattle.replaceable.proofs.holds_symbol.Tie as tie
-use Rattle.replaceable.proofs.holds_symbol.Reads as reads
-use Rattle.replaceable.proofs.holds_symbol.Lts as lts
 
 abbrev Inv-loop : tie.InvT-loop
 Inv-loop target i₀ i = (i ≤ length target) × (has-symbol-word (drop i target) ≡ false)

@@ -4,9 +4,6 @@ use Rattle.replaceable.proofs.Tests.{leaf-formed, select-formed, past-f
 use borrow.Author.Needs.{needs}
 use Rattle.replaceable.proofs.is_formed.Statement.{statement}
 use Rattle.replaceable.proofs.is_formed.Tie as tie
-use Rattle.replaceable.proofs.is_formed.Reads as reads
-use Rattle.replaceable.proofs.is_formed.Lts as lts
-use Rattle.replaceable.proofs.operands_fit.Reads as operands-fit-reads
 
 returns : tie.Need-returns
 returns c = leaf-formed (c .before .args .w) (c .if1 .taken)

@@ -10,8 +10,6 @@ use Rattle.replaceable.proofs.Tests.{every-none, every-more, every-fail
 use borrow.Author.Needs.{needs}
 use Rattle.replaceable.proofs.lacks_word.Statement.{statement}
 use Rattle.replaceable.proofs.lacks_word.Tie as tie
-use Rattle.replaceable.proofs.lacks_word.Reads as reads
-use Rattle.replaceable.proofs.lacks_word.Lts as lts
 
 abbrev Inv-loop : tie.InvT-loop
 Inv-loop target name i₀ i = (i ≤ length target) × (every (λ w. not (eqb w name)) (drop i target) ≡ true)

@@ -5,11 +5,6 @@ use Rattle.replaceable.proofs.Tests.{all-three, not-second, not-first}
 use borrow.Author.Needs.{needs}
 use Rattle.replaceable.proofs.may_replace.Statement.{statement}
 use Rattle.replaceable.proofs.may_replace.Tie as tie
-use Rattle.replaceable.proofs.may_replace.Reads as reads
-use Rattle.replaceable.proofs.may_replace.Lts as lts
-use Rattle.replaceable.proofs.are_formed.Reads as are-formed-reads
-use Rattle.replaceable.proofs.holds_symbol.Reads as holds-symbol-reads
-use Rattle.replaceable.proofs.lacks_word.Reads as lacks-word-reads
 
 are-formed-requires : tie.Need-are-formed-requires
 are-formed-requires c κs = search needs

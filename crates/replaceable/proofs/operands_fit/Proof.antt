@@ -5,9 +5,6 @@ use Rattle.replaceable.proofs.Tests.{arity-by}
 use borrow.Author.Needs.{needs}
 use Rattle.replaceable.proofs.operands_fit.Statement.{statement}
 use Rattle.replaceable.proofs.operands_fit.Tie as tie
-use Rattle.replaceable.proofs.operands_fit.Reads as reads
-use Rattle.replaceable.proofs.operands_fit.Lts as lts
-use Rattle.fields.proofs.operand_counts.Reads as operand-counts-reads
 
 operand-counts-requires : tie.Need-operand-counts-requires
 operand-counts-requires c κs = search needs
