@@ -1,13 +1,12 @@
 -- What `replace` answers and leaves, from what was tested and written. Assumes nothing.
-use Prim.Native.Nat.{ℕ, zero, suc, _+_, _-_, _/_, _≤_, _<_}
+use Prim.Native.Nat.{ℕ, suc, _+_, _/_, _≤_, _<_}
 use native.Mathlib.Omega.{arith}
 use mathlib.Core.Path.{_≡_, refl, sym, _∙_, ap, ap₂, subst}
 use mathlib.Core.Bool.{Bool, true, false, _&&_, _||_}
-use mathlib.Core.Option.{some}
 use mathlib.Core.List.{List, [], _∷_, _++_, append-assoc}
 use borrow.Author.Tests.{lt-ltb, le-ltb}
-use lib.ListN.{length, getD, take, drop, set, length-append, length-drop, length-set}
-use lib.Seq.{take-suc, drop-cons, set-at, take-length, length-take-le, drop-drop, drop-at}
+use lib.ListN.{length, getD, take, drop, set, length-set}
+use lib.Seq.{take-suc, drop-cons, set-at, take-length, length-take-le}
 use lib.Dec.{T, ltb}
 use Rattle.tree.specs.Bytes.{every}
 use Rattle.tree.specs.Outcome.{Outcome, ok, refused}
@@ -18,7 +17,7 @@ use Rattle.words.specs.declared.Request.{Request}
 use Rattle.words.specs.declared.Request.the-variants as request
 use Rattle.words.proofs.Requests.{Sound, sound-has}
 use Rattle.replacing.specs.Replacing.{replaced-words, formed-word, has-symbol-word, lacks, replaceable}
-use Rattle.replacing.specs.Deciding.{Trees, Target, Wrote, Left}
+use Rattle.replacing.specs.Deciding.{Trees, Target, Wrote}
 use Rattle.replacing.proofs.Targets.{target-of}
 use Rattle.replace.specs.Answers.{Replacement, replaced-by, replacement, scratch-short, short-of-room, Answers, Writes}
 use Rattle.replace.specs.declared.Replaced.{Replaced}

@@ -1,9 +1,8 @@
 -- The two functions that call each other, turn by turn, with the slices that they lend. Assumes nothing.
-use Prim.Native.Nat.{ℕ, zero, suc, _+_, _-_, _*_, _≤_, _<_}
+use Prim.Native.Nat.{ℕ, _+_, _-_, _*_, _≤_, _<_}
 use native.Mathlib.Omega.{arith}
-use mathlib.Core.Path.{_≡_, refl, sym, _∙_, ap, ap₂, subst}
-use mathlib.Core.Bool.{Bool, true, false}
-use mathlib.Core.Option.{Option, none, some}
+use mathlib.Core.Path.{_≡_, refl, sym, _∙_, ap, subst}
+use mathlib.Core.Option.{some}
 use mathlib.Core.List.{List, [], _∷_, _++_}
 use borrow.Rule.Slice.PartMut.{putMid}
 use lib.ListN.{length, getD, take, drop, set, length-drop, length-append}
@@ -16,7 +15,6 @@ use Rattle.tokens.specs.declared.Run.the-variants as run
 use Rattle.words.proofs.Rewriting.{whole-there, one-long}
 use Rattle.words.proofs.Scanning.{rest-is}
 use Rattle.factors.specs.Places.{tree}
-use Rattle.replacing.specs.Replacing.{repeated, head-words}
 use Rattle.replacing.specs.Deciding.{Trees, Target, Within, rewritten-words, Match, product-out, Wrote, Left}
 use Rattle.replacing.proofs.Scanning.{Scanned, trees-after, target-within, turn-equal, turn-stays, long-within, turn-matched, matched-few, turn-refused, here-refused}
 use Rattle.replacing.proofs.Factoring.{Factored, here-within, here-smaller, here-scratch, here-room, here-inside, run-trees, run-long, factor-turns, factor-refused}

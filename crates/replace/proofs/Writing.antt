@@ -1,14 +1,14 @@
 -- Words written at a place: a word again and again, and what stands before the factors of a product. Assumes nothing.
-use Prim.Native.Nat.{ℕ, zero, suc, _+_, _-_, _*_, _≤_, _<_}
+use Prim.Native.Nat.{ℕ, _+_, _*_, _≤_, _<_}
 use native.Mathlib.Omega.{arith}
 use mathlib.Core.Path.{_≡_, refl, sym, _∙_, ap, ap₂, subst}
 use mathlib.Core.Bool.{Bool, true, false}
-use mathlib.Core.List.{List, [], _∷_, _++_, append-assoc, append-nil}
+use mathlib.Core.List.{List, [], _∷_, _++_, append-assoc}
 use borrow.Author.Tests.{eq-eqb, ne-eqb}
-use lib.ListN.{length, getD, take, drop, set, length-set, length-append, take-append-drop}
-use lib.Seq.{set-split, drop-set-lt}
+use lib.ListN.{length, take, drop, set, length-set, length-append, take-append-drop}
+use lib.Seq.{drop-set-lt}
 use lib.Dec.{eqb}
-use Rattle.words.proofs.Scanning.{Put, put-one, put-long, put-more}
+use Rattle.words.proofs.Scanning.{Put, put-one, put-more}
 use Rattle.replacing.specs.Replacing.{repeated, coefficient-words, head-words}
 use Rattle.replacing.proofs.Products.{repeated-long, repeated-more}
 

@@ -1,26 +1,24 @@
 -- A product with matches written: what stands before its factors, the factors left, each rewritten by itself, and the names. Assumes nothing.
-use Prim.Native.Nat.{ℕ, zero, suc, _+_, _-_, _*_, _≤_, _<_}
+use Prim.Native.Nat.{ℕ, zero, suc, _+_, _-_, _≤_, _<_}
 use native.Mathlib.Omega.{arith}
 use mathlib.Core.Path.{_≡_, refl, sym, _∙_, ap, ap₂, subst}
-use mathlib.Core.Bool.{Bool, true, false}
-use mathlib.Core.Option.{Option, none, some}
-use mathlib.Core.List.{List, [], _∷_, _++_, append-assoc, append-nil, map}
+use mathlib.Core.Option.{some}
+use mathlib.Core.List.{List, [], _∷_, _++_, append-assoc, append-nil}
 use borrow.Rule.Slice.PartMut.{putMid}
-use lib.ListN.{length, getD, take, drop, length-append, length-take, length-drop, take-append-drop, drop-of-length-le}
+use lib.ListN.{length, getD, take, drop, length-append, length-drop, take-append-drop, drop-of-length-le}
 use lib.Seq.{length-take-le, take-at, drop-at, drop-drop, take-all, take-suc, getD-take}
 use Rattle.tree.specs.Outcome.{Refusal, Outcome, ok, refused, _>>=_, each}
 use Rattle.tree.specs.Tree.{Tree, Op, nil}
 use Rattle.tree.specs.Facts.{size}
 use Rattle.tree.specs.Rows.{occurrences}
-use Rattle.tree.specs.Tokens.{numbered, read, tokens, all-tokens, trees-in, words-of, run-at}
+use Rattle.tree.specs.Tokens.{numbered, read, tokens, all-tokens, run-at}
 use Rattle.tree.proofs.FactLaws.{size-one}
 use Rattle.tree.proofs.TokenLaws.{complete-length, tree-at}
-use Rattle.tree.proofs.TokenCode.{all-tokens-append, all-tokens-cons}
+use Rattle.tree.proofs.TokenCode.{all-tokens-append}
 use Rattle.words.specs.Words.{number, tree-of, name-of}
-use Rattle.words.proofs.Rewriting.{Segment, segment}
-use Rattle.words.proofs.Scanning.{Put, put-lent}
+use Rattle.words.proofs.Rewriting.{segment}
+use Rattle.words.proofs.Scanning.{put-lent}
 use Rattle.factors.specs.Places.{tree, at-places}
-use Rattle.closed.proofs.Chain.{chain-end}
 use Rattle.replacing.specs.Replacing.{repeated, head-words}
 use Rattle.replacing.specs.Deciding.{Trees, Target, Within, rewritten, rewritten-words, Match, product-out, Wrote, Left}
 use Rattle.replacing.proofs.Turns.{each-both, replaced-read}

@@ -1,7 +1,7 @@
 -- `replace::rewrite` and `replace::rewrite_product` meet their contracts. They fall by the words that are rewritten. Assumes nothing.
 use native.Mathlib.Omega.{arith}
-use mathlib.Core.Path.{_≡_, refl, sym, _∙_, ap}
-use lib.ListN.{length, length-set, getD}
+use mathlib.Core.Path.{_≡_, refl, sym, _∙_}
+use lib.ListN.{length}
 use Rattle.words.proofs.Rewriting.{one-long}
 use Rattle.replacing.specs.Replacing.{head-words}
 use Rattle.replacing.specs.Deciding.{Trees, Target, Match}

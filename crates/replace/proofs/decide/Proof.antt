@@ -1,6 +1,5 @@
 -- `replace::decide` meets its contract. Assumes nothing.
-use native.Mathlib.Omega.{arith}
-use mathlib.Core.Path.{_≡_, refl, sym, _∙_}
+use mathlib.Core.Path.{sym}
 use Rattle.replacing.proofs.Deciding.{plain-turn}
 use Rattle.replace.proofs.Deciding.{first-product}
 use borrow.Author.Needs.{needs}

@@ -1,6 +1,5 @@
 -- `replace::decide_factors` meets its contract. Assumes nothing.
-use native.Mathlib.Omega.{arith}
-use mathlib.Core.Path.{_≡_, sym, _∙_}
+use mathlib.Core.Path.{sym, _∙_}
 use Rattle.replace.proofs.Deciding.{taken-full, taken-none, taken-refused, never-ends, taken-matched}
 use borrow.Author.Needs.{needs}
 use Rattle.replace.proofs.decide_factors.Statement.{statement}

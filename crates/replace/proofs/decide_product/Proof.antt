@@ -1,6 +1,6 @@
 -- `replace::decide_product` meets its contract. Assumes nothing.
 use native.Mathlib.Omega.{arith}
-use mathlib.Core.Path.{_≡_, refl, sym, _∙_}
+use mathlib.Core.Path.{sym, _∙_}
 use Rattle.replace.proofs.Deciding.{never-broken, never-full, flat-first}
 use borrow.Author.Needs.{needs}
 use Rattle.replace.proofs.decide_product.Statement.{statement}

@@ -1,6 +1,5 @@
 -- `replace::is_sought` meets its contract. Assumes nothing.
-use native.Mathlib.Omega.{arith}
-use mathlib.Core.Path.{_≡_, sym, _∙_}
+use mathlib.Core.Path.{sym, _∙_}
 use Rattle.replace.proofs.Deciding.{some-words, not-sought, sought-by, never-broken, never-full}
 use borrow.Author.Needs.{needs}
 use Rattle.replace.proofs.is_sought.Statement.{statement}

@@ -3,7 +3,6 @@ use native.Mathlib.Omega.{arith}
 use Prim.Native.Nat.{_-_}
 use lib.ListN.{length}
 use Rattle.replace.proofs.Ends.{Back, back-starts, back-turns, back-ends}
-use borrow.Author.Needs.{needs}
 use Rattle.replace.proofs.put_back.Statement.{statement}
 use Rattle.replace.proofs.put_back.Tie as tie
 

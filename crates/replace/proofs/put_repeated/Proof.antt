@@ -2,7 +2,6 @@
 use native.Mathlib.Omega.{arith}
 use Prim.Native.Nat.{_-_}
 use Rattle.replace.proofs.Writing.{Repeating, repeat-starts, repeat-turns, repeat-ends}
-use borrow.Author.Needs.{needs}
 use Rattle.replace.proofs.put_repeated.Statement.{statement}
 use Rattle.replace.proofs.put_repeated.Tie as tie
 

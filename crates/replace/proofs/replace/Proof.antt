@@ -1,6 +1,5 @@
 -- `replace::replace` meets its contract. Assumes nothing.
-use native.Mathlib.Omega.{arith}
-use mathlib.Core.Path.{_≡_, refl, sym, _∙_}
+use mathlib.Core.Path.{sym, _∙_}
 use lib.ListN.{length}
 use Rattle.replace.proofs.Ends.{tests-fail, request-fails, request-full, asked, done}
 use borrow.Author.Needs.{needs}

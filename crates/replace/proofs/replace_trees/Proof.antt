@@ -1,6 +1,5 @@
 -- `replace::replace_trees` meets its contract. Assumes nothing.
 use native.Mathlib.Omega.{arith}
-use mathlib.Core.Path.{_≡_, refl, sym, _∙_}
 use lib.ListN.{length}
 use Rattle.replace.proofs.Ends.{words-short, target-short, wrote, refused-there}
 use borrow.Author.Needs.{needs}

@@ -1,6 +1,6 @@
 -- `replace::write_head` meets its contract. Assumes nothing.
 use native.Mathlib.Omega.{arith}
-use mathlib.Core.Path.{_≡_, refl, sym, _∙_}
+use mathlib.Core.Path.{refl, _∙_}
 use lib.ListN.{length-set}
 use Rattle.replace.proofs.Writing.{head-one, head-minus, head-other, room-one, room-minus, room-other}
 use borrow.Author.Needs.{needs}

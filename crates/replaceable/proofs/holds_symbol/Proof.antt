@@ -1,12 +1,11 @@
 -- `replaceable::holds_symbol` meets its contract. Assumes nothing.
 use native.Mathlib.Omega.{arith}
-use mathlib.Core.Path.{_≡_, refl, sym, _∙_}
+use mathlib.Core.Path.{_≡_}
 use mathlib.Core.Bool.{false}
 use Prim.Native.Nat.{_≤_, _-_}
 use lib.ListN.{length, drop}
 use Rattle.replacing.specs.Replacing.{has-symbol-word}
 use Rattle.replaceable.proofs.Tests.{symbol-none, symbol-more, symbol-found, symbol-ends}
-use borrow.Author.Needs.{needs}
 use Rattle.replaceable.proofs.holds_symbol.Statement.{statement}
 use Rattle.replaceable.proofs.holds_symbol.Tie as tie
 

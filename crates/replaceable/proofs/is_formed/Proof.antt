@@ -1,5 +1,4 @@
 -- `replaceable::is_formed` meets its contract. Assumes nothing.
-use native.Mathlib.Omega.{arith}
 use Rattle.replaceable.proofs.Tests.{leaf-formed, select-formed, past-formed, other-formed}
 use borrow.Author.Needs.{needs}
 use Rattle.replaceable.proofs.is_formed.Statement.{statement}

@@ -1,13 +1,12 @@
 -- `replaceable::lacks_word` meets its contract. Assumes nothing.
 use native.Mathlib.Omega.{arith}
-use mathlib.Core.Path.{_≡_, refl, sym, _∙_}
+use mathlib.Core.Path.{_≡_, sym, _∙_}
 use mathlib.Core.Bool.{true, not}
 use Prim.Native.Nat.{_≤_, _-_}
 use lib.Dec.{eqb}
 use lib.ListN.{length, drop, getD}
 use Rattle.tree.specs.Bytes.{every}
 use Rattle.replaceable.proofs.Tests.{every-none, every-more, every-fails, every-ends, differs, equals, lacks-is}
-use borrow.Author.Needs.{needs}
 use Rattle.replaceable.proofs.lacks_word.Statement.{statement}
 use Rattle.replaceable.proofs.lacks_word.Tie as tie
 
