@@ -5,3 +5,4 @@ pub mod Deciding
 pub mod Targets
 pub mod Scanning
 pub mod Factoring
+pub mod Examples
