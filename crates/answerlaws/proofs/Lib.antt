@@ -1,0 +1,10 @@
+pub mod SpanLaws
+pub mod RowSpans
+pub mod ReadBack
+pub mod ListNames
+pub mod LaidOut
+pub mod FrontLaws
+pub mod HeadLaws
+pub mod TreeFronts
+pub mod RowFirst
+pub mod CodeLaws
