@@ -17,7 +17,7 @@ use Rattle.tree.specs.Tokens.{name-of-row, name-in, name-by}
 use Rattle.tree.proofs.TokenLaws.{map-append}
 use Rattle.text.specs.Text.{name-text}
 use Rattle.emit.specs.Writing.{Writes, low-bytes}
-use Rattle.emit.specs.Symbols.{rows-in, row-name, symbol-text}
+use Rattle.emit.specs.Symbols.{row-name, symbol-text}
 use Rattle.emit.proofs.WriteLaws.{writes-none, writes-then, writes-as}
 use Rattle.emit.proofs.TextLaws.{low-none}
 
@@ -69,7 +69,7 @@ own-name (suc k) s h = absurd (omega arith)
 
 module _ (ws : List ℕ) (n : ℕ) where
   name-past : length ws / 35 ≤ n → row-name ws n ≡ []
-  unfolding row-name rows-in name-in name-of-row
+  unfolding row-name name-in name-of-row
   name-past h = ap name-of-row (List·getD-eq-default (rows-of (length ws / 35) ws) (row-const (pos 0)) (let l = rows-long (length ws / 35) ws in omega arith))
 
   abbrev number : ℕ
@@ -79,7 +79,7 @@ module _ (ws : List ℕ) (n : ℕ) where
   fields = take (min (getD ws (n * 35 + 2) 0) 32) (drop (n * 35 + 3) ws)
 
   name-is : n < length ws / 35 → row-name ws n ≡ name-of-row (row-by number fields)
-  unfolding row-name rows-in name-in row-of
+  unfolding row-name name-in row-of
   name-is h =
       ap name-of-row (rows-at (length ws / 35) ws n (row-const (pos 0)) h)
       ∙ ap name-of-row (ap₂ row-by (ap₂ _+_ (word 0 (omega arith) ∙ ap (λ (i : ℕ). getD ws i 0) (let e : n * 35 + 0 ≡ n * 35 = omega arith in e)) (word 1 (omega arith))) (ap₂ take (word 2 (omega arith)) (drop-take (drop (n * 35) ws) long ∙ ap (take 32) (drop-drop 3 (n * 35) ws)) ∙ take-min (getD ws (n * 35 + 2) 0) 32 (drop (n * 35 + 3) ws)))
@@ -95,11 +95,11 @@ module _ (ws : List ℕ) (n : ℕ) where
 
 -- ---- bytes
 
-low-append : (a b : List ℕ) → low-bytes (a ++ b) ≡ low-bytes a ++ low-bytes b
+pub low-append : (a b : List ℕ) → low-bytes (a ++ b) ≡ low-bytes a ++ low-bytes b
 unfolding low-bytes
 low-append a b = map-append (λ w. w % 256) a b
 
-low-one : (b : ℕ) → b < 256 → low-bytes (b ∷ []) ≡ b ∷ []
+pub low-one : (b : ℕ) → b < 256 → low-bytes (b ∷ []) ≡ b ∷ []
 unfolding low-bytes
 low-one b h = ap (λ (c : ℕ). c ∷ []) (let e : b % 256 ≡ b = omega arith in e)
 
@@ -150,7 +150,7 @@ list-text : (ws : List ℕ) (code : ℕ) → code % 3 ≡ 0 → symbol-text ws c
 unfolding symbol-text name-by name-text
 list-text ws code h = rw h
 
-low-made : (a b c n : ℕ) → a < 256 → b < 256 → c < 256 → low-bytes (a ∷ (b ∷ (c ∷ decimal n))) ≡ a ∷ (b ∷ (c ∷ decimal n))
+pub low-made : (a b c n : ℕ) → a < 256 → b < 256 → c < 256 → low-bytes (a ∷ (b ∷ (c ∷ decimal n))) ≡ a ∷ (b ∷ (c ∷ decimal n))
 low-made a b c n h k l =
     low-append (a ∷ (b ∷ (c ∷ []))) (decimal n)
     ∙ ap₂ _++_ (low-append (a ∷ []) (b ∷ (c ∷ [])) ∙ ap₂ _++_ (low-one a h) (low-append (b ∷ []) (c ∷ []) ∙ ap₂ _++_ (low-one b k) (low-one c l))) (low-decimal n)

@@ -8,13 +8,12 @@ use Rattle.tree.specs.Tokens.{name-in, name-by}
 use Rattle.text.specs.Text.{name-text}
 
 -- the rows that the words are
-unfoldable pub rows-in : List ℕ → List Row
-unfolding rows-of
+abbrev pub rows-in : List ℕ → List Row
 rows-in ws = rows-of (length ws / row-width) ws
 
 -- the name of the list's symbol by its row's number
 unfoldable pub row-name : List ℕ → ℕ → List ℕ
-unfolding rows-in name-in
+unfolding name-in
 row-name ws n = name-in (rows-in ws) n
 
 -- a symbol's code is three times its number and its class: 0 for one of the list, 1 for `__xN`, 2 for `__mN`
