@@ -15,6 +15,7 @@ use Rattle.cse.specs.Read.{arm-count}
 use Rattle.cse.specs.AnswerRows.{arm-row, value-row, step-count, each-words, intermediate-words, intermediates-words, arms-words, intermediates-ok}
 use Rattle.answerlaws.specs.Fitting.{stmts-fitting, numbered-in}
 use Rattle.emit.specs.Writing.{Writes}
+use Rattle.emit.proofs.WriteLaws.{writes-then, writes-as}
 use Rattle.printlaws.specs.Places.{At, ValuesAt, StmtAt, ArmAt, ArmsAt, Passed, Owes}
 use Rattle.printlaws.specs.Pieces.{brace-opening, brace-closing, spaced, arm-opening, arm-closing, arms-closing, arms-run}
 use Rattle.printlaws.specs.Writers.{ValuesWritten, StmtWritten, ArmWritten, ArmsWritten}
@@ -47,7 +48,7 @@ module _ (rows : List Row) (ws : List ℕ) (n at : ℕ) (bare dry : Bool) (old :
     pub counted : i + step-count rest ≡ count
     pub after-row : at < next
     pub token : next + length (intermediates-words number rest ++ values) ≡ at + length (arm-words rows ws s vs)
-    pub owes : Owes dry old to (arm-text bare (stmts-texts s) (tuple (displays vs))) mid place (spaced (stmts-texts rest) (after count))
+    pub owes : Owes dry old to (spaced (stmts-texts s) (after count)) mid place (spaced (stmts-texts rest) (after count))
 
   -- an arm's row says how many statements it has
   pub arm-row-is : ArmAt rows ws n at s vs → (at < length ws) × (getD ws at 0 / 64 ≡ step-count s + n)
@@ -56,22 +57,29 @@ module _ (rows : List Row) (ws : List ℕ) (n at : ℕ) (bare dry : Bool) (old :
       let e = at-head w (intermediates-words number s ++ values) (h .here) in
       (at-in w (intermediates-words number s ++ values) (h .here), omega (arith, e, h .count))
 
-  pub stmts-begin : {mid : List ℕ} {place : ℕ} (count : ℕ) → ArmAt rows ws n at s vs → count ≡ step-count s → Writes dry old to (brace-opening bare count) mid place → StmtsLeft count 0 (at + 1) mid place
-  stmts-begin {mid} {place} count h c w =
-      let row = word arm-row (step-count s + length vs) in
-      let k : length (stmts-texts s) ≡ count = stmts-counted s ∙ sym c in
-      let e : arm-text bare (stmts-texts s) (tuple (displays vs)) ≡ brace-opening bare count ++ spaced (stmts-texts s) (after count) =
-      arm-is bare (stmts-texts s) (tuple (displays vs)) ∙ ap (λ (x : ℕ). brace-opening bare x ++ spaced (stmts-texts s) (tuple (displays vs) ++ brace-closing bare x)) k in
+  pub stmts-begin : (count : ℕ) → ArmAt rows ws n at s vs → count ≡ step-count s → StmtsLeft count 0 (at + 1) old to
+  stmts-begin count h c =
       record {
         rest = s;
         passes = h .passes;
         fits = h .fits;
-        here = at-tail row (intermediates-words number s ++ values) (h .here);
+        here = at-tail (word arm-row (step-count s + length vs)) (intermediates-words number s ++ values) (h .here);
         counted = omega arith;
         after-row = omega arith;
         token = omega arith;
-        owes = owes-less (brace-opening bare count) (spaced (stmts-texts s) (after count)) (owes-all (brace-opening bare count ++ spaced (stmts-texts s) (after count)) e) w;
+        owes = owes-all (spaced (stmts-texts s) (after count)) refl;
       }
+
+  -- with what was written before the loop
+  pub arm-whole :
+      {new : List ℕ} {next e : ℕ} (count : ℕ) (old0 : List ℕ) (to0 : ℕ) → count ≡ step-count s → Writes dry old0 to0 (brace-opening bare count) old to
+      → Passed dry old at to (arm-words rows ws s vs) (spaced (stmts-texts s) (after count)) new next e
+      → Passed dry old0 at to0 (arm-words rows ws s vs) (arm-text bare (stmts-texts s) (tuple (displays vs))) new next e
+  arm-whole count old0 to0 c w p =
+      let k : length (stmts-texts s) ≡ count = stmts-counted s ∙ sym c in
+      let e : arm-text bare (stmts-texts s) (tuple (displays vs)) ≡ brace-opening bare count ++ spaced (stmts-texts s) (after count) =
+      arm-is bare (stmts-texts s) (tuple (displays vs)) ∙ ap (λ (x : ℕ). brace-opening bare x ++ spaced (stmts-texts s) (tuple (displays vs) ++ brace-closing bare x)) k in
+      record { token = p .token; written = writes-as (brace-opening bare count ++ spaced (stmts-texts s) (after count)) (arm-text bare (stmts-texts s) (tuple (displays vs))) (sym e) (writes-then w (p .written)) }
 
   module _ {count i next : ℕ} {mid : List ℕ} {place : ℕ} (v : StmtsLeft count i next mid place) where
     pub stmts-next : i < count → (x : Intermediate) × StmtAt rows ws next x
@@ -92,7 +100,7 @@ module _ (rows : List Row) (ws : List ℕ) (n at : ℕ) (bare dry : Bool) (old :
 
         go : (l : Intermediates) → T (intermediates-ok l) → T (stmts-fitting (numbered-in rows) l) → At ws next (intermediates-words number l ++ values) → i + step-count l ≡ count
             → next + length (intermediates-words number l ++ values) ≡ at + length (arm-words rows ws s vs)
-            → Owes dry old to (arm-text bare (stmts-texts s) (tuple (displays vs))) mid place (spaced (stmts-texts l) (after count)) → StmtsLeft count (i + 1) next1 mid2 place2
+            → Owes dry old to (spaced (stmts-texts s) (after count)) mid place (spaced (stmts-texts l) (after count)) → StmtsLeft count (i + 1) next1 mid2 place2
         go end p f g c k o = absurd (unfold step-count in omega arith)
         go (step x l) p f g c k o =
             let q = t x (first-stmt rows ws x l values p f g) in
@@ -123,7 +131,7 @@ module _ (rows : List Row) (ws : List ℕ) (n at : ℕ) (bare dry : Bool) (old :
 
     pub arm-end :
         {mid1 new : List ℕ} {next1 place1 e : ℕ} → ArmAt rows ws n at s vs → count ≤ i → ValuesWritten rows ws next dry mid place mid1 next1 place1 n → Writes dry mid1 place1 (brace-closing bare count) new e
-        → Passed dry old at to (arm-words rows ws s vs) (arm-text bare (stmts-texts s) (tuple (displays vs))) new next1 e
+        → Passed dry old at to (arm-words rows ws s vs) (spaced (stmts-texts s) (after count)) new next1 e
     arm-end {mid1} {new} {next1} {place1} {e} h d t w =
         go (v .rest) (v .counted) (v .token) (v .owes)
       where
@@ -134,8 +142,8 @@ module _ (rows : List Row) (ws : List ℕ) (n at : ℕ) (bare dry : Bool) (old :
         bare-text = ap (λ (l : List (List ℕ)). spaced l (after count)) stmts-none ∙ (unfold spaced in refl)
 
         go : (l : Intermediates) → i + step-count l ≡ count → next + length (intermediates-words number l ++ values) ≡ at + length (arm-words rows ws s vs)
-            → Owes dry old to (arm-text bare (stmts-texts s) (tuple (displays vs))) mid place (spaced (stmts-texts l) (after count))
-            → Passed dry old at to (arm-words rows ws s vs) (arm-text bare (stmts-texts s) (tuple (displays vs))) new next1 e
+            → Owes dry old to (spaced (stmts-texts s) (after count)) mid place (spaced (stmts-texts l) (after count))
+            → Passed dry old at to (arm-words rows ws s vs) (spaced (stmts-texts s) (after count)) new next1 e
         go end c k o =
             let q = t vs (values-here h d) in
             record {

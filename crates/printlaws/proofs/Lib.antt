@@ -5,3 +5,4 @@ pub mod LoopLaws
 pub mod NameLoop
 pub mod ArmLoops
 pub mod LineLoops
+pub mod MarkLaws

@@ -71,20 +71,26 @@ module _ (rows : List Row) (ws : List ℕ) (n at : ℕ) (dry : Bool) (old : List
     pub left : ValuesAt rows ws value-row (length rest) next rest
     pub count : i + length rest ≡ n
     pub token : next + length (each-words number value-row rest) ≡ at + length (each-words number value-row vs)
-    pub owes : Owes dry old to (tuple (displays vs)) mid place (tuple-parts i (displays rest) (tuple-closing n))
+    pub owes : Owes dry old to (tuple-parts 0 (displays vs) (tuple-closing n)) mid place (tuple-parts i (displays rest) (tuple-closing n))
 
-  pub values-begin : {mid : List ℕ} {place : ℕ} → ValuesAt rows ws value-row n at vs → Writes dry old to (tuple-opening n) mid place → ValuesLeft 0 at mid place
-  values-begin h w =
+  pub values-begin : ValuesAt rows ws value-row n at vs → ValuesLeft 0 at old to
+  values-begin h = record {
+    rest = vs;
+    left = record { count = refl; passes = h .passes; fits = h .fits; here = h .here };
+    count = omega (arith, h .count);
+    token = refl;
+    owes = owes-all (tuple-parts 0 (displays vs) (tuple-closing n)) refl;
+  }
+
+  -- with what was written before the loop
+  pub values-whole :
+      {new : List ℕ} {next e : ℕ} (old0 : List ℕ) (to0 : ℕ) → ValuesAt rows ws value-row n at vs → Writes dry old0 to0 (tuple-opening n) old to
+      → Passed dry old at to (each-words number value-row vs) (tuple-parts 0 (displays vs) (tuple-closing n)) new next e → Passed dry old0 at to0 (each-words number value-row vs) (tuple (displays vs)) new next e
+  values-whole old0 to0 h w p =
       let c : length (displays vs) ≡ n = displays-long vs ∙ h .count in
       let e : tuple (displays vs) ≡ tuple-opening n ++ tuple-parts 0 (displays vs) (tuple-closing n) =
       tuple-is (displays vs) ∙ ap (λ (k : ℕ). tuple-opening k ++ tuple-parts 0 (displays vs) (tuple-closing k)) c in
-      record {
-        rest = vs;
-        left = record { count = refl; passes = h .passes; fits = h .fits; here = h .here };
-        count = omega (arith, h .count);
-        token = refl;
-        owes = owes-less (tuple-opening n) (tuple-parts 0 (displays vs) (tuple-closing n)) (owes-all (tuple-opening n ++ tuple-parts 0 (displays vs) (tuple-closing n)) e) w;
-      }
+      record { token = p .token; written = writes-as (tuple-opening n ++ tuple-parts 0 (displays vs) (tuple-closing n)) (tuple (displays vs)) (sym e) (writes-then w (p .written)) }
 
   module _ {i next : ℕ} {mid : List ℕ} {place : ℕ} (v : ValuesLeft i next mid place) where
     pub values-next : i < n → (t : Tree) × TreeAt rows ws (next + 1) t
@@ -107,7 +113,7 @@ module _ (rows : List Row) (ws : List ℕ) (n at : ℕ) (dry : Bool) (old : List
     values-turn {mid1} {mid2} {start} {next2} {place2} h w t = go (v .rest) (v .left) (v .count) (v .token) (v .owes)
       where
         go : (l : List Tree) → ValuesAt rows ws value-row (length l) next l → i + length l ≡ n → next + length (each-words number value-row l) ≡ at + length (each-words number value-row vs)
-            → Owes dry old to (tuple (displays vs)) mid place (tuple-parts i (displays l) (tuple-closing n)) → ValuesLeft (i + 1) next2 mid2 place2
+            → Owes dry old to (tuple-parts 0 (displays vs) (tuple-closing n)) mid place (tuple-parts i (displays l) (tuple-closing n)) → ValuesLeft (i + 1) next2 mid2 place2
         go [] g c k o = absurd (omega arith)
         go (x ∷ l) g c k o =
             let p = t x (value-tree rows ws x l g) in
@@ -125,14 +131,14 @@ module _ (rows : List Row) (ws : List ℕ) (n at : ℕ) (dry : Bool) (old : List
             }
 
     pub values-end :
-        {new : List ℕ} {e : ℕ} → n ≤ i → Writes dry mid place (tuple-closing n) new e → Passed dry old at to (each-words number value-row vs) (tuple (displays vs)) new next e
+        {new : List ℕ} {e : ℕ} → n ≤ i → Writes dry mid place (tuple-closing n) new e → Passed dry old at to (each-words number value-row vs) (tuple-parts 0 (displays vs) (tuple-closing n)) new next e
     values-end {new} {e} h w = go (v .rest) (v .count) (v .token) (v .owes)
       where
         none : displays [] ≡ []
         none = unfold displays in refl
 
         go : (l : List Tree) → i + length l ≡ n → next + length (each-words number value-row l) ≡ at + length (each-words number value-row vs)
-            → Owes dry old to (tuple (displays vs)) mid place (tuple-parts i (displays l) (tuple-closing n)) → Passed dry old at to (each-words number value-row vs) (tuple (displays vs)) new next e
+            → Owes dry old to (tuple-parts 0 (displays vs) (tuple-closing n)) mid place (tuple-parts i (displays l) (tuple-closing n)) → Passed dry old at to (each-words number value-row vs) (tuple-parts 0 (displays vs) (tuple-closing n)) new next e
         go [] c k o = record {
           token = omega (arith, ap length (each-none rows value-row));
           written = owes-as (tuple-parts i (displays []) (tuple-closing n)) (tuple-closing n) (ap (λ (d : List (List ℕ)). tuple-parts i d (tuple-closing n)) none ∙ parts-none i (tuple-closing n)) o new e w;

@@ -16,7 +16,7 @@ use Rattle.cse.specs.Answer.{names-texts, tuple}
 use Rattle.cse.specs.AnswerRows.{names-words, match-names}
 use Rattle.emit.specs.Writing.{Writes, low-bytes}
 use Rattle.emit.specs.Symbols.{symbol-text}
-use Rattle.emit.proofs.WriteLaws.{writes-as}
+use Rattle.emit.proofs.WriteLaws.{writes-then, writes-as}
 use Rattle.emit.proofs.NameLaws.{low-decimal}
 use Rattle.printlaws.specs.Places.{At, NamesAt, Owes}
 use Rattle.printlaws.specs.Pieces.{tuple-opening, comma, tuple-closing, tuple-parts}
@@ -73,21 +73,28 @@ module _ (rows : List Row) (ws : List ℕ) (n at : ℕ) (dry : Bool) (old : List
     pub made : T (match-names rest)
     pub here : At ws (at + i) (names-words (number-in rows) rest)
     pub count : i + length rest ≡ n
-    pub owes : Owes dry old to (tuple (names-texts ns)) mid place (tuple-parts i (names-texts rest) (tuple-closing n))
+    pub owes : Owes dry old to (tuple-parts 0 (names-texts ns) (tuple-closing n)) mid place (tuple-parts i (names-texts rest) (tuple-closing n))
 
-  pub names-begin : {mid : List ℕ} {place : ℕ} → NamesAt rows ws n at ns → Writes dry old to (tuple-opening n) mid place → NamesLeft 0 mid place
-  names-begin h w =
-      let c : length (names-texts ns) ≡ n = texts-long ns ∙ h .count in
-      let e : tuple (names-texts ns) ≡ tuple-opening n ++ tuple-parts 0 (names-texts ns) (tuple-closing n) =
-      tuple-is (names-texts ns) ∙ ap (λ (k : ℕ). tuple-opening k ++ tuple-parts 0 (names-texts ns) (tuple-closing k)) c in
+  pub names-begin : NamesAt rows ws n at ns → NamesLeft 0 old to
+  names-begin h =
       let z : at ≡ at + 0 = omega arith in
       record {
         rest = ns;
         made = h .made;
         here = subst (λ (j : ℕ). At ws j (names-words (number-in rows) ns)) z (h .here);
         count = omega (arith, h .count);
-        owes = owes-less (tuple-opening n) (tuple-parts 0 (names-texts ns) (tuple-closing n)) (owes-all (tuple-opening n ++ tuple-parts 0 (names-texts ns) (tuple-closing n)) e) w;
+        owes = owes-all (tuple-parts 0 (names-texts ns) (tuple-closing n)) refl;
       }
+
+  -- with what was written before the loop
+  pub names-whole :
+      {new : List ℕ} {e : ℕ} (old0 : List ℕ) (to0 : ℕ) → NamesAt rows ws n at ns → Writes dry old0 to0 (tuple-opening n) old to
+      → Writes dry old to (tuple-parts 0 (names-texts ns) (tuple-closing n)) new e → Writes dry old0 to0 (tuple (names-texts ns)) new e
+  names-whole old0 to0 h w p =
+      let c : length (names-texts ns) ≡ n = texts-long ns ∙ h .count in
+      let e : tuple (names-texts ns) ≡ tuple-opening n ++ tuple-parts 0 (names-texts ns) (tuple-closing n) =
+      tuple-is (names-texts ns) ∙ ap (λ (k : ℕ). tuple-opening k ++ tuple-parts 0 (names-texts ns) (tuple-closing k)) c in
+      writes-as (tuple-opening n ++ tuple-parts 0 (names-texts ns) (tuple-closing n)) (tuple (names-texts ns)) (sym e) (writes-then w p)
 
   module _ {i : ℕ} {mid : List ℕ} {place : ℕ} (v : NamesLeft i mid place) where
     pub names-inside : i < n → at + i < length ws
@@ -103,7 +110,7 @@ module _ (rows : List Row) (ws : List ℕ) (n at : ℕ) (dry : Bool) (old : List
     names-turn node {mid1} {mid2} {start} {place2} h w t = go (v .rest) (v .made) (v .here) (v .count) (v .owes)
       where
         go : (l : List Name) → T (match-names l) → At ws (at + i) (names-words (number-in rows) l) → i + length l ≡ n
-            → Owes dry old to (tuple (names-texts ns)) mid place (tuple-parts i (names-texts l) (tuple-closing n)) → NamesLeft (i + 1) mid2 place2
+            → Owes dry old to (tuple-parts 0 (names-texts ns) (tuple-closing n)) mid place (tuple-parts i (names-texts l) (tuple-closing n)) → NamesLeft (i + 1) mid2 place2
         go [] m g c o = absurd (omega arith)
         go (x ∷ l) m g c o =
             let f = name-first rows ws x l m g in
@@ -122,12 +129,12 @@ module _ (rows : List Row) (ws : List ℕ) (n at : ℕ) (dry : Bool) (old : List
               (writes-as (low-bytes (symbol-text node (getD ws (at + i) 0 / 64))) (name-text x) s t));
             }
 
-    pub names-end : {new : List ℕ} {e : ℕ} → n ≤ i → Writes dry mid place (tuple-closing n) new e → Writes dry old to (tuple (names-texts ns)) new e
+    pub names-end : {new : List ℕ} {e : ℕ} → n ≤ i → Writes dry mid place (tuple-closing n) new e → Writes dry old to (tuple-parts 0 (names-texts ns) (tuple-closing n)) new e
     names-end {new} {e} h w = go (v .rest) (v .count) (v .owes)
       where
         none : names-texts [] ≡ []
         none = unfold names-texts in refl
 
-        go : (l : List Name) → i + length l ≡ n → Owes dry old to (tuple (names-texts ns)) mid place (tuple-parts i (names-texts l) (tuple-closing n)) → Writes dry old to (tuple (names-texts ns)) new e
+        go : (l : List Name) → i + length l ≡ n → Owes dry old to (tuple-parts 0 (names-texts ns) (tuple-closing n)) mid place (tuple-parts i (names-texts l) (tuple-closing n)) → Writes dry old to (tuple-parts 0 (names-texts ns) (tuple-closing n)) new e
         go [] c o = owes-as (tuple-parts i (names-texts []) (tuple-closing n)) (tuple-closing n) (ap (λ (d : List (List ℕ)). tuple-parts i d (tuple-closing n)) none ∙ parts-none i (tuple-closing n)) o new e w
         go (x ∷ l) c o = absurd (omega arith)

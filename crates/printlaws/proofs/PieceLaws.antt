@@ -13,7 +13,7 @@ use Rattle.text.specs.Text.{name-text, display}
 use Rattle.cse.specs.Answer.{Intermediate, Intermediates, Arms, Let, Match, end, step, no-arm, arm, names-texts, displays, tuple, arm-text, match-arms, if-sides, stmt-text, stmts-texts, arms-texts}
 use Rattle.cse.specs.Read.{arm-count}
 use Rattle.cse.specs.AnswerRows.{step-count}
-use Rattle.printlaws.specs.Pieces.{tuple-opening, comma, tuple-closing, tuple-parts, brace-opening, brace-closing, spaced, arm-opening, arm-closing, arms-closing, arms-run, let-text, equals, arms-opening, head-text}
+use Rattle.printlaws.specs.Pieces.{tuple-opening, comma, tuple-closing, tuple-parts, brace-opening, brace-closing, spaced, side-opening, side-closing, arm-opening, arm-closing, arms-closing, arms-run, let-text, equals, arms-opening, head-text}
 
 append-nil : (l : List ℕ) → l ++ [] ≡ l
 append-nil [] = refl
@@ -57,7 +57,7 @@ arm-is false (s ∷ l) v = ap (λ (r : List ℕ). bytes "{ " ++ r) (three (joine
 -- ---- the arms of a match
 
 pub two-sides : (d : Bool) (m : ℕ) (s t : List ℕ) → if-sides (s ∷ (t ∷ [])) ≡ arms-run true d m 0 (s ∷ (t ∷ []))
-unfolding if-sides arms-run arm-opening arm-closing arms-closing
+unfolding if-sides arms-run side-opening side-closing arm-opening arm-closing arms-closing
 two-sides d m s t = ap (λ (r : List ℕ). bytes " >= 0 { " ++ r) (three s (bytes " } else { ") t (bytes " };"))
 
 numbered-arm : (i : ℕ) (s r : List ℕ) → bytes " " ++ decimal i ++ bytes " => " ++ s ++ bytes "," ++ r ≡ (bytes " " ++ (decimal i ++ bytes " => ")) ++ (s ++ (bytes "," ++ r))

@@ -49,15 +49,22 @@ spaced (s ∷ l) after = s ++ (32 ∷ spaced l after)
 
 -- ---- m arms, or the two sides of an `if`; where there is a default it is the last arm
 
+unfoldable pub side-opening : ℕ → List ℕ
+side-opening zero = bytes " >= 0 { "
+side-opening (suc i) = bytes " } else { "
+
+unfoldable pub side-closing : ℕ → List ℕ
+side-closing zero = []
+side-closing (suc i) = bytes " };"
+
 unfoldable pub arm-opening : Bool → Bool → ℕ → ℕ → List ℕ
-unfolding decimal
-arm-opening true or-default m zero = bytes " >= 0 { "
-arm-opening true or-default m (suc i) = bytes " } else { "
+unfolding decimal side-opening
+arm-opening true or-default m i = side-opening i
 arm-opening false or-default m i = cond (or-default && eqb (suc i) m) (bytes " _ => ") (bytes " " ++ (decimal i ++ bytes " => "))
 
 unfoldable pub arm-closing : Bool → Bool → ℕ → ℕ → List ℕ
-arm-closing true or-default m zero = []
-arm-closing true or-default m (suc i) = bytes " };"
+unfolding side-closing
+arm-closing true or-default m i = side-closing i
 arm-closing false or-default m i = cond (or-default && eqb (suc i) m) (bytes " };") (bytes ",")
 
 unfoldable pub arms-closing : Bool → Bool → List ℕ

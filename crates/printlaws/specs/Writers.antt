@@ -83,3 +83,30 @@ module _ (rows : List Row) (ws : List ℕ) (dry : Bool) (old : List ℕ) (to : �
 unfoldable pub statement-ahead : List ℕ → Bool
 statement-ahead [] = false
 statement-ahead (w ∷ l) = not (eqb w result-row)
+
+-- ---- some part stands at a place
+
+module _ (rows : List Row) (ws : List ℕ) where
+  abbrev pub SomeTree : ℕ → Type 0
+  SomeTree at = (t : Tree) × TreeAt rows ws at t
+
+  abbrev pub SomeValues : ℕ → ℕ → Type 0
+  SomeValues n at = (vs : List Tree) × ValuesAt rows ws value-row n at vs
+
+  abbrev pub SomeNames : ℕ → ℕ → Type 0
+  SomeNames n at = (ns : List Name) × NamesAt rows ws n at ns
+
+  abbrev pub SomeStmt : ℕ → Type 0
+  SomeStmt at = (s : Intermediate) × StmtAt rows ws at s
+
+  abbrev pub SomeArm : ℕ → ℕ → Type 0
+  SomeArm n at = (s : Intermediates) × (vs : List Tree) × ArmAt rows ws n at s vs
+
+  abbrev pub SomeArms : ℕ → ℕ → ℕ → Type 0
+  SomeArms n m at = (l : Arms) × ArmsAt rows ws n m at l
+
+  abbrev pub SomeResults : ℕ → Type 0
+  SomeResults at = (vs : List Tree) × ResultsAt rows ws at vs
+
+  abbrev pub SomeAnswer : Type 0
+  SomeAnswer = (a : Answer) × AnswerAt rows ws a
