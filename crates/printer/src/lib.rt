@@ -18,6 +18,7 @@ ghost use Rattle.printlaws.specs.Pieces.{tuple-opening, comma, tuple-closing, b
 ghost use Rattle.printlaws.specs.Writers.{TreeWritten, ValuesWritten, NamesWritten, LetWritten, HeadWritten, StmtWritten, ArmWritten, ArmsWritten, ResultsWritten, BindingsWritten, AnswerWritten, statement-ahead, SomeTree, SomeValues, SomeNames, SomeStmt, SomeArm, SomeArms, SomeResults, SomeAnswer};
 ghost use Rattle.printer.specs.Bindings.{is-sign, key-of, binding-of, Readable};
 ghost use Rattle.printer.specs.Printing.{printed};
+use answers::Laid;
 use tokens::Run;
 use writer::Text;
 
@@ -35,6 +36,8 @@ const NAME: u64 = 33;
 
 // A result's row, whole: nothing is said in it but its kind.
 const RESULT: u64 = 36;
+
+const LINE_FEED: u8 = 10;
 
 pub enum Printed {
     Bytes(usize),
@@ -385,7 +388,7 @@ fn bindings(rows: &[u64], words: &[u64], out: &mut [u8], dry: bool) -> Pos
     while statement_next(words, next) {
         let p = statement(rows, words, next, out, dry, end);
         next = p.next;
-        end = emit::put(out, dry, p.to, 10);
+        end = emit::put(out, dry, p.to, LINE_FEED);
     }
     Pos { next, to: end }
 }
@@ -399,7 +402,7 @@ fn results(rows: &[u64], words: &[u64], at: usize, out: &mut [u8], dry: bool, to
     while next < words.len() {
         let p = tree(rows, words, next + 1, out, dry, end);
         next = p.next;
-        end = emit::put(out, dry, p.to, 10);
+        end = emit::put(out, dry, p.to, LINE_FEED);
     }
     emit::place(out, end)
 }
@@ -418,7 +421,7 @@ pub fn print(rows: &[u64], answer: &[u64], out: &mut [u8]) -> Printed
     ensures { λ r. ⌜ (r ≡ printed (print-call (now (rows .entry)) (now (answer .entry)) (length (now (out .entry)))))
         × (now (out .exit) ≡ buffer-after (print-call (now (rows .entry)) (now (answer .entry)) (length (now (out .entry)))) (now (out .entry))) ⌝ }
 {
-    let Laid::Answer = check_answer(rows, answer) else {
+    let Laid::Answer = answers::check_answer(rows, answer) else {
         return Printed::Refused(13);
     };
     let length = write_answer(rows, answer, out, true);
@@ -427,19 +430,3 @@ pub fn print(rows: &[u64], answer: &[u64], out: &mut [u8]) -> Printed
     }
     Printed::Bytes(write_answer(rows, answer, out, false))
 }
-
-// STUB BEGIN
-ghost use Rattle.cse.specs.AnswerRows.{answer-laid-out};
-ghost use Rattle.printer.specs.Said.{laid-answer};
-pub enum Laid {
-    Answer,
-    // 13.
-    Refused,
-}
-
-fn check_answer(rows: &[u64], answer: &[u64]) -> Laid
-    ensures { λ r. ⌜ r ≡ laid-answer (answer-laid-out (rows-in (now (rows .entry))) (now (answer .entry))) ⌝ }
-{
-    Laid::Refused
-}
-// STUB END

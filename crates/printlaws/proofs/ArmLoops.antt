@@ -10,7 +10,7 @@ use lib.Dec.{T}
 use Rattle.tree.specs.Tree.{Tree}
 use Rattle.tree.specs.Rows.{Row}
 use Rattle.tree.specs.Tokens.{word, number-in}
-use Rattle.cse.specs.Answer.{Intermediate, Intermediates, Arms, end, step, no-arm, arm, displays, tuple, arm-text, stmt-text, stmts-texts, arms-texts}
+use Rattle.cse.specs.Answer.{Intermediate, Intermediates, Arms, Let, Match, end, step, no-arm, arm, displays, tuple, arm-text, stmt-text, stmts-texts, arms-texts}
 use Rattle.cse.specs.Read.{arm-count}
 use Rattle.cse.specs.AnswerRows.{arm-row, value-row, step-count, each-words, intermediate-words, intermediates-words, arms-words, intermediates-ok}
 use Rattle.answerlaws.specs.Fitting.{stmts-fitting, numbered-in}
@@ -34,6 +34,11 @@ module _ (rows : List Row) (ws : List ℕ) (n at : ℕ) (bare dry : Bool) (old :
   abbrev number : List ℕ → ℕ
   number = number-in rows
 
+  some-words : (x : Intermediate) → 1 ≤ length (intermediate-words number x)
+  unfolding intermediate-words
+  some-words (Let n e) = omega arith
+  some-words (Match k key ns arms) = omega arith
+
   abbrev values : List ℕ
   values = each-words number value-row vs
 
@@ -47,6 +52,7 @@ module _ (rows : List Row) (ws : List ℕ) (n at : ℕ) (bare dry : Bool) (old :
     pub here : At ws next (intermediates-words number rest ++ values)
     pub counted : i + step-count rest ≡ count
     pub after-row : at < next
+    pub enough : i < next
     pub token : next + length (intermediates-words number rest ++ values) ≡ at + length (arm-words rows ws s vs)
     pub owes : Owes dry old to (spaced (stmts-texts s) (after count)) mid place (spaced (stmts-texts rest) (after count))
 
@@ -66,6 +72,7 @@ module _ (rows : List Row) (ws : List ℕ) (n at : ℕ) (bare dry : Bool) (old :
         here = at-tail (word arm-row (step-count s + length vs)) (intermediates-words number s ++ values) (h .here);
         counted = omega arith;
         after-row = omega arith;
+        enough = omega arith;
         token = omega arith;
         owes = owes-all (spaced (stmts-texts s) (after count)) refl;
       }
@@ -115,6 +122,7 @@ module _ (rows : List Row) (ws : List ℕ) (n at : ℕ) (bare dry : Bool) (old :
               here = subst (λ (j : ℕ). At ws j (intermediates-words number l ++ values)) e (after-stmt rows ws x l values p f g);
               counted = omega (arith, counts x l);
               after-row = omega (arith, v .after-row);
+              enough = omega (arith, v .enough, some-words x);
               token = omega (arith, stmt-length rows ws x l values p f g);
               owes = owes-less (32 ∷ []) more (owes-less (stmt-text x) (32 ∷ more) (owes-as (spaced (stmts-texts (step x l)) (after count)) (stmt-text x ++ (32 ∷ more)) y o) (q .written)) w;
             }
