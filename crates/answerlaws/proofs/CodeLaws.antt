@@ -17,6 +17,7 @@ use Rattle.tree.specs.Passes.{tree-ok}
 use Rattle.tree.specs.Tokens.{word, kind-of, below-of, words-of, run-at}
 use Rattle.tree.proofs.Logic.{and-left, and-right, and-both}
 use Rattle.tree.proofs.KindLaws.{arity-kind}
+use Rattle.tree.proofs.TokenLaws.{words-complete}
 use Rattle.cse.specs.AnswerRows.{match-row, value-row, result-row, arm-row}
 use Rattle.answerlaws.specs.First.{first-word}
 use Rattle.answerlaws.specs.Fronts.{statement-row, match-name-row, no-statement, no-match-name, TreeFront, ValuesFront, StmtFront, StmtsFront, ArmsFront, NamesFront, HeadFront, AnswerRows, Results, Same, Through, Named}
@@ -101,6 +102,10 @@ run-starts ws at n e = go (drop at ws) refl (unfold run-at in e)
     go : (l : List ℕ) → drop at ws ≡ l → words-of l 1 ≡ some n → at < length ws
     go [] q r = absurd (let z : _≡_ {A = ℕ} 0 1 = (unfold words-of in cc) in omega arith)
     go (w ∷ l) q r = omega (arith, ap length q, length-drop at ws)
+
+pub run-within : (ws : List ℕ) (at n : ℕ) → run-at ws at ≡ some n → at + n ≤ length ws
+unfolding run-at
+run-within ws at n e = omega (arith, words-complete (drop at ws) 1 n e .0, length-drop at ws, run-starts ws at n e)
 
 module _ (rows : List Row) (ws : List ℕ) where
   -- ---- `tree`

@@ -99,7 +99,7 @@ module _ (rows : List Row) where
       (p .0, omega (arith, p .0), p .1)
 
   -- a switch has an arm at least
-  arms-some : (k m : ℕ) → T (is-switch k && arity-ok k (suc m)) → 1 ≤ m
+  pub arms-some : (k m : ℕ) → T (is-switch k && arity-ok k (suc m)) → 1 ≤ m
   arms-some k zero h = absurd (go (eqb k 26) (eqb k 27) refl refl)
     where
       unfit : (j : ℕ) → k ≡ j → (T (arity-ok j 1) → ⊥) → ⊥

@@ -8,3 +8,8 @@ pub mod HeadLaws
 pub mod TreeFronts
 pub mod RowFirst
 pub mod CodeLaws
+pub mod SpanWords
+pub mod BoundLaws
+pub mod ScopeLaws
+pub mod OnceLaws
+pub mod WayLaws

@@ -1,5 +1,5 @@
 -- What the functions of this crate answer, by cases: where a part of an answer ends (Fronts), or that none stands there. Assumes nothing.
-use Prim.Native.Nat.{ℕ, _+_, _-_, _≤_}
+use Prim.Native.Nat.{ℕ, _+_, _-_, _≤_, _<_}
 use mathlib.Core.Path.{_≡_}
 use mathlib.Core.Bool.{Bool, true, false, cond}
 use mathlib.Core.List.{List}
@@ -8,12 +8,15 @@ use lib.ListN.{length, getD, drop}
 use Rattle.tree.specs.Rows.{Row, row-const}
 use Rattle.checked.specs.Check.{rows-in}
 use Rattle.answerlaws.specs.Fronts.{NamesFront, HeadFront}
+use Rattle.answerlaws.specs.Seen.{bound-by, Ended, Unended}
 use Rattle.answers.specs.declared.Part.{Part}
 use Rattle.answers.specs.declared.Part.the-variants as one
 use Rattle.answers.specs.declared.Parts.{Parts}
 use Rattle.answers.specs.declared.Parts.the-variants as several
 use Rattle.answers.specs.declared.Opening.{Opening}
 use Rattle.answers.specs.declared.Opening.the-variants as opening
+use Rattle.answers.specs.declared.Step.{Step}
+use Rattle.answers.specs.declared.Step.the-variants as step
 use Rattle.answers.specs.declared.Laid.{Laid}
 use Rattle.answers.specs.declared.Laid.the-variants.{Answer, Refused}
 
@@ -47,6 +50,19 @@ Heads rows ws at opening.Broken = (n m : ℕ) (r : List ℕ) → HeadFront rows 
 abbrev pub Tells : Type 0 → Bool → Type 0
 Tells fact true = fact
 Tells fact false = fact → ⊥
+
+-- ---- references
+
+-- where the span at a place ends, if that is at `by` or before it
+abbrev pub Spans : List ℕ → ℕ → ℕ → Part → Type 0
+Spans ws at by (one.Ends e) = Ended ws at by e
+Spans ws at by one.Broken = Unended ws at by
+
+-- a step on the way from i to a place: what is bound on it is what is bound from a later place on, or it is known
+abbrev pub Ways : List ℕ → ℕ → ℕ → ℕ → Step → Type 0
+Ways ws c i at (step.On j) = (i < j) × (j ≤ at) × (bound-by c 0 (at - i) (drop i ws) ≡ bound-by c 0 (at - j) (drop j ws))
+Ways ws c i at step.Bound = bound-by c 0 (at - i) (drop i ws) ≡ true
+Ways ws c i at step.Unbound = bound-by c 0 (at - i) (drop i ws) ≡ false
 
 unfoldable pub laid-answer : Bool → Laid
 laid-answer true = Answer

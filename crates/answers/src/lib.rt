@@ -9,8 +9,10 @@ ghost use Rattle.tree.specs.Bytes.{eq-bytes, every};
 ghost use Rattle.tree.specs.Kinds.{is-switch, arity-ok};
 ghost use Rattle.checked.specs.Check.{rows-in};
 ghost use Rattle.answerlaws.specs.First.{has-name, none-named, first-row, first-word};
+ghost use Rattle.cse.specs.AnswerRows.{stands-below, answer-laid-out};
+ghost use Rattle.answerlaws.specs.Seen.{names-bind, binds, entered, bound-by, use-ok, seen, occurs, a-binding, once};
 ghost use Rattle.answerlaws.specs.Fronts.{statement-row, TreeFront, ValuesFront, StmtFront, StmtsFront, ArmsFront, AnswerRows, Results};
-ghost use Rattle.answers.specs.Said.{row-at, Says, Counts, Names, Heads, Tells};
+ghost use Rattle.answers.specs.Said.{row-at, Says, Counts, Names, Heads, Tells, Spans, Ways, laid-answer};
 use checked::Checked;
 use checked::tree_ok;
 
@@ -70,6 +72,13 @@ enum Opening {
     Broken,
 }
 
+enum Step {
+    // On to a later place.
+    On(usize),
+    Bound,
+    Unbound,
+}
+
 fn same_bytes(a: &[u64], b: &[u64]) -> bool
     ensures { λ r. ⌜ r ≡ eq-bytes (now (a .entry)) (now (b .entry)) ⌝ }
 {
@@ -97,7 +106,7 @@ fn fields_held(count: u64) -> u64
     }
 }
 
-// Whether a row is a symbol's of this name.
+// Whether a row is a symbol's of that name.
 fn named(rows: &[u64], row: usize, name: &[u64]) -> bool
     requires { ⌜ row < length (now rows) / 35 ⌝ }
     ensures { λ r. ⌜ r ≡ has-name (row-at (now (rows .entry)) row) (now (name .entry)) ⌝ }
@@ -408,4 +417,237 @@ fn shaped(rows: &[u64], words: &[u64]) -> bool
         return false;
     };
     results(rows, words, end)
+}
+
+// How many of the spans after a row stand below it. A span is a row with all that stands below it.
+fn stands_below(w: u64) -> u64
+    ensures { λ r. ⌜ (r ≡ stands-below w) × (r ≤ 1 + w / 64) ⌝ }
+{
+    let row = w % KINDS;
+    if row < 2 {
+        return 0;
+    }
+    if row == NAME {
+        return 0;
+    }
+    if row == LET {
+        return 1;
+    }
+    if row >= VALUE {
+        return 1;
+    }
+    w / KINDS
+}
+
+// Where the span at a place ends, if that is at `by` or before it. `left` spans are still to come, and each is a word at least.
+fn span_end(words: &[u64], at: usize, by: usize) -> Part
+    requires { ⌜ (at ≤ by) × (by ≤ length (now words)) ⌝ }
+    ensures { λ r. ⌜ Spans (now (words .entry)) at by r ⌝ }
+{
+    let mut i = at;
+    let mut left: usize = 1;
+    while left > 0 {
+        if left > by - i {
+            return Part::Broken;
+        }
+        left = left - 1 + stands_below(words[i]) as usize;
+        i += 1;
+    }
+    Part::Ends(i)
+}
+
+// Whether one of the match names at a place has this code.
+fn names_bind(words: &[u64], at: usize, code: u64) -> bool
+    requires { ⌜ at ≤ length (now words) ⌝ }
+    ensures { λ r. ⌜ r ≡ names-bind code (drop at (now (words .entry))) ⌝ }
+{
+    let mut i = at;
+    while i < words.len() {
+        let w = words[i];
+        if w % KINDS != NAME {
+            return false;
+        }
+        if w / KINDS == code {
+            return true;
+        }
+        i += 1;
+    }
+    false
+}
+
+// Whether the statement at a place binds the name of this code: a let its own, a match those after its key.
+fn binds(words: &[u64], at: usize, code: u64) -> bool
+    requires { ⌜ at < length (now words) ⌝ }
+    ensures { λ r. ⌜ r ≡ binds code (getD (now (words .entry)) at 0) (drop (at + 1) (now (words .entry))) ⌝ }
+{
+    let w = words[at];
+    let row = w % KINDS;
+    if row == LET {
+        return w / KINDS == code;
+    }
+    if row < BRANCH {
+        return false;
+    }
+    if row > SELECT_OR {
+        return false;
+    }
+    let Part::Ends(end) = span_end(words, at + 1, words.len()) else {
+        return false;
+    };
+    names_bind(words, end, code)
+}
+
+// Whether statements stand below a row: a match's or an arm's.
+fn is_entered(w: u64) -> bool
+    ensures { λ r. ⌜ r ≡ entered w ⌝ }
+{
+    let row = w % KINDS;
+    if row == ARM {
+        return true;
+    }
+    if row < BRANCH {
+        return false;
+    }
+    row < NAME
+}
+
+// One step on the way from i to a later place: past a span that ends before it, which may bind the name, or below a row that statements stand below.
+fn way(words: &[u64], i: usize, at: usize, code: u64) -> Step
+    requires { ⌜ (i < at) × (at ≤ length (now words)) ⌝ }
+    ensures { λ r. ⌜ Ways (now (words .entry)) code i at r ⌝ }
+{
+    let Part::Ends(end) = span_end(words, i, at) else {
+        if is_entered(words[i]) {
+            return Step::On(i + 1);
+        }
+        return Step::Unbound;
+    };
+    if binds(words, i, code) {
+        Step::Bound
+    } else {
+        Step::On(end)
+    }
+}
+
+// Whether a name is bound on the way to a place: before it, and in a scope that the place is in.
+fn bound_at(words: &[u64], at: usize, code: u64) -> bool
+    requires { ⌜ at ≤ length (now words) ⌝ }
+    ensures { λ r. ⌜ r ≡ bound-by code 0 at (now (words .entry)) ⌝ }
+{
+    let mut i = 0;
+    while i < at {
+        let s = way(words, i, at, code);
+        match s {
+            Step::On(next) => {
+                i = next;
+            }
+            Step::Bound => {
+                return true;
+            }
+            Step::Unbound => {
+                return false;
+            }
+        }
+    }
+    false
+}
+
+// Whether the word at a place, if it is a use of a name, uses one that is bound there.
+fn use_ok(words: &[u64], at: usize) -> bool
+    requires { ⌜ at < length (now words) ⌝ }
+    ensures { λ r. ⌜ r ≡ use-ok (now (words .entry)) at ⌝ }
+{
+    let w = words[at];
+    if w % KINDS != 0 {
+        return true;
+    }
+    let code = w / KINDS;
+    if code % CLASSES == 0 {
+        return true;
+    }
+    bound_at(words, at, code)
+}
+
+fn in_scope(words: &[u64]) -> bool
+    ensures { λ r. ⌜ r ≡ seen (now (words .entry)) 0 (length (now (words .entry))) ⌝ }
+{
+    let mut i = 0;
+    while i < words.len() {
+        if !use_ok(words, i) {
+            return false;
+        }
+        i += 1;
+    }
+    true
+}
+
+fn occurs(words: &[u64], at: usize, w: u64) -> bool
+    requires { ⌜ at ≤ length (now words) ⌝ }
+    ensures { λ r. ⌜ r ≡ occurs w (drop at (now (words .entry))) ⌝ }
+{
+    let mut i = at;
+    while i < words.len() {
+        if words[i] == w {
+            return true;
+        }
+        i += 1;
+    }
+    false
+}
+
+// A let's row, or a match name's.
+fn is_binding(w: u64) -> bool
+    ensures { λ r. ⌜ r ≡ a-binding w ⌝ }
+{
+    let row = w % KINDS;
+    if row == LET {
+        return w / KINDS % CLASSES == LET_NAME;
+    }
+    if row == NAME {
+        return w / KINDS % CLASSES == MATCH_NAME;
+    }
+    false
+}
+
+// Whether the row at a place binds a name that a later row binds too: then the two rows are one word.
+fn repeated(words: &[u64], at: usize) -> bool
+    requires { ⌜ at < length (now words) ⌝ }
+    ensures { λ r. ⌜ r ≡ (a-binding (getD (now (words .entry)) at 0) && occurs (getD (now (words .entry)) at 0) (drop (at + 1) (now (words .entry)))) ⌝ }
+{
+    let w = words[at];
+    if is_binding(w) {
+        return occurs(words, at + 1, w);
+    }
+    false
+}
+
+fn bound_once(words: &[u64]) -> bool
+    ensures { λ r. ⌜ r ≡ once (now (words .entry)) ⌝ }
+{
+    let mut i = 0;
+    while i < words.len() {
+        if repeated(words, i) {
+            return false;
+        }
+        i += 1;
+    }
+    true
+}
+
+// Whether words are the rows of an answer over the symbols of these node rows: each of its parts as extract lays it out, each name bound once, and used only
+// later and in its scope.
+pub fn check_answer(node_rows: &[u64], answer: &[u64]) -> Laid
+    ensures { λ r. ⌜ r ≡ laid-answer (answer-laid-out (rows-in (now («node_rows» .entry))) (now (answer .entry))) ⌝ }
+{
+    if !shaped(node_rows, answer) {
+        return Laid::Refused;
+    }
+    if !bound_once(answer) {
+        return Laid::Refused;
+    }
+    if in_scope(answer) {
+        Laid::Answer
+    } else {
+        Laid::Refused
+    }
 }

@@ -1,30 +1,23 @@
+-- `answers::arms_fit` meets its contract. Assumes nothing.
+use mathlib.Core.Path.{_∙_}
+use Rattle.answerlaws.proofs.CodeLaws.{branch-fit, select-fit, default-fit}
 use borrow.Author.Needs.{needs}
 use Rattle.answers.proofs.arms_fit.Statement.{statement}
 use Rattle.answers.proofs.arms_fit.Tie as tie
-use Rattle.answers.proofs.arms_fit.Reads as reads
-use Rattle.answers.proofs.arms_fit.Lts as lts
-use Rattle.answers.proofs.between.Reads as between-reads
-
--- src/lib.rt:266:9
-returns : tie.Need-returns
-returns c = ?
-
--- src/lib.rt:269:9
-between-requires : tie.Need-between-requires
-between-requires c κs = search needs
-
--- src/lib.rt:269:9
-returns-2 : tie.Need-returns-2
-returns-2 c = ?
-
--- src/lib.rt:271:5
-between-requires-2 : tie.Need-between-requires-2
-between-requires-2 c κs = search needs
-
--- src/lib.rt:261:1
-returns-3 : tie.Need-returns-3
-returns-3 c = ?
 
 pub arms-fit-spec : {M : Type 1} → statement M
 arms-fit-spec =
-    tie.close (tie.spec returns between-requires returns-2 between-requires-2 returns-3)
+    tie.close
+    (tie.spec
+    (λ c.
+    let start = c .before in
+    branch-fit (start .args .row) (start .args .arms) (c .if1 .taken))
+    (λ c κs. search needs)
+    (λ c.
+    let start = c .before .before .before in
+    c .between .ensures ∙ select-fit (start .args .row) (start .args .arms) (c .before .if2 .taken))
+    (λ c κs. search needs)
+    (λ c.
+    let start = c .before .before .before in
+    let at-if1 = c .before .before in
+    c .between2 .ensures ∙ default-fit (start .args .row) (start .args .arms) (start .pre .0) (start .pre .1) (at-if1 .if1 .left) (c .before .if2 .left)))

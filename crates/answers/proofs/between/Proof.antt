@@ -1,15 +1,16 @@
+-- `answers::between` meets its contract. Assumes nothing.
+use Rattle.answerlaws.proofs.CodeLaws.{between-low, between-high}
+use borrow.Author.Needs.{needs}
 use Rattle.answers.proofs.between.Statement.{statement}
 use Rattle.answers.proofs.between.Tie as tie
-use Rattle.answers.proofs.between.Reads as reads
-use Rattle.answers.proofs.between.Lts as lts
-
--- src/lib.rt:255:9
-returns : tie.Need-returns
-returns c = ?
-
--- src/lib.rt:251:1
-returns-2 : tie.Need-returns-2
-returns-2 c = ?
 
 pub between-spec : {M : Type 1} → statement M
-between-spec = tie.close (tie.spec returns returns-2)
+between-spec =
+    tie.close
+    (tie.spec
+    (λ c.
+    let start = c .before in
+    between-low (start .args .n) (start .args .least) (start .args .most) (c .if1 .taken))
+    (λ c.
+    let start = c .before in
+    between-high (start .args .n) (start .args .least) (start .args .most) (c .if1 .left)))

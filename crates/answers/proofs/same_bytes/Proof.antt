@@ -1,57 +1,19 @@
+-- `answers::same_bytes` meets its contract: the bytes are compared from the front. Assumes nothing.
+use Prim.Native.Nat.{_≤_, _-_}
+use mathlib.Core.Path.{_≡_, refl}
+use lib.ListN.{length, drop}
+use native.Mathlib.Omega.{arith}
+use Rattle.tree.specs.Bytes.{eq-bytes}
+use Rattle.answerlaws.proofs.RowFirst.{other-lengths, same-next, same-stop, same-end}
+use borrow.Author.Needs.{needs}
 use Rattle.answers.proofs.same_bytes.Statement.{statement}
 use Rattle.answers.proofs.same_bytes.Tie as tie
-use Rattle.answers.proofs.same_bytes.Reads as reads
-use Rattle.answers.proofs.same_bytes.Lts as lts
 
 abbrev Inv-loop : tie.InvT-loop
-Inv-loop a b k₀ k = ?
+Inv-loop a b k₀ k = (k ≤ length a) × (eq-bytes a b ≡ eq-bytes (drop k a) (drop k b))
 
 abbrev μ-loop : tie.MeasureT-loop
-μ-loop a b k₀ k = ?
-
--- src/lib.rt:77:9
-returns : tie.Need-returns Inv-loop μ-loop
-returns c = ?
-
--- src/lib.rt:80:5
-loop-holds : tie.Need-loop-holds Inv-loop μ-loop
-loop-holds c = ?
-
--- src/lib.rt:81:12
-mul-if2 : tie.Need-mul-if2 Inv-loop μ-loop
-mul-if2 c = ?
-
--- src/lib.rt:81:12
-shared-slice-read-if2 : tie.Need-shared-slice-read-if2 Inv-loop μ-loop
-shared-slice-read-if2 c = ?
-
--- src/lib.rt:81:20
-mul-if2-2 : tie.Need-mul-if2-2 Inv-loop μ-loop
-mul-if2-2 c = ?
-
--- src/lib.rt:81:20
-shared-slice-read-if2-2 : tie.Need-shared-slice-read-if2-2 Inv-loop μ-loop
-shared-slice-read-if2-2 c = ?
-
--- src/lib.rt:82:13
-returns-2 : tie.Need-returns-2 Inv-loop μ-loop
-returns-2 c = ?
-
--- src/lib.rt:84:9
-add-k : tie.Need-add-k Inv-loop μ-loop
-add-k c = ?
-
--- src/lib.rt:80:5
-loop-less : tie.Need-loop-less Inv-loop μ-loop
-loop-less c = ?
-
--- src/lib.rt:80:5
-loop-again : tie.Need-loop-again Inv-loop μ-loop
-loop-again c = ?
-
--- src/lib.rt:73:1
-returns-3 : tie.Need-returns-3 Inv-loop μ-loop
-returns-3 c = ?
+μ-loop a b k₀ k = length a - k
 
 pub same-bytes-spec : {M : Type 1} → statement M
 same-bytes-spec =
@@ -59,14 +21,30 @@ same-bytes-spec =
     (tie.spec
     Inv-loop
     μ-loop
-    returns
-    loop-holds
-    mul-if2
-    shared-slice-read-if2
-    mul-if2-2
-    shared-slice-read-if2-2
-    returns-2
-    add-k
-    loop-less
-    loop-again
-    returns-3)
+    (λ c.
+    let start = c .before in
+    other-lengths (start .args .a .now) (start .args .b .now) (c .if1 .taken))
+    (λ c. (omega arith, refl))
+    (λ c. search needs)
+    (λ c. search needs)
+    (λ c. search needs)
+    (λ c. search needs)
+    (λ c.
+    let start = c .before .before .before .before .before .before in
+    let at-if1 = c .before .before .before .before .before in
+    let at-loop = c .before .before .before .before in
+    let at-loop-test = c .before .before .before in
+    same-stop (start .args .a .now) (start .args .b .now) (at-if1 .if1 .left) (at-loop .loop .k) (at-loop .loop .inv .1) (at-loop-test .loop-test .taken) (c .if2 .taken))
+    (λ c. search needs)
+    (λ c. search needs)
+    (λ c.
+    let at-loop-test = c .before .before .before in
+    let start = c .before .before .before .before .before .before in
+    let at-if1 = c .before .before .before .before .before in
+    let at-loop = c .before .before .before .before in
+    (omega (arith, at-loop-test .loop-test .taken), same-next (start .args .a .now) (start .args .b .now) (at-if1 .if1 .left) (at-loop .loop .k) (at-loop .loop .inv .1) (at-loop-test .loop-test .taken) (c .if2 .left)))
+    (λ c.
+    let start = c .before .before .before in
+    let at-if1 = c .before .before in
+    let at-loop = c .before in
+    same-end (start .args .a .now) (start .args .b .now) (at-if1 .if1 .left) (at-loop .loop .k) (at-loop .loop .inv .1) (c .loop-test .left)))
