@@ -424,8 +424,8 @@ pub fn print(rows: &[u64], answer: &[u64], out: &mut [u8]) -> Printed
     let Laid::Answer = answers::check_answer(rows, answer) else {
         return Printed::Refused(13);
     };
-    let length = write_answer(rows, answer, out, true);
-    if length > out.len() {
+    let size = write_answer(rows, answer, out, true);
+    if size > out.len() {
         return Printed::Refused(14);
     }
     Printed::Bytes(write_answer(rows, answer, out, false))

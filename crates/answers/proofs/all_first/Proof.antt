@@ -5,7 +5,7 @@ use mathlib.Core.Path.{_≡_, refl, sym, _∙_}
 use lib.ListN.{length, drop}
 use borrow.Author.Tests.{not-true, not-false}
 use Rattle.tree.specs.Bytes.{every}
-use Rattle.fields.proofs.Leaves.{every-next, every-stop, every-end}
+use Rattle.names.proofs.Leaves.{every-next, every-stop, every-end}
 use Rattle.checked.specs.Check.{rows-in}
 use Rattle.answerlaws.specs.First.{first-word}
 use borrow.Author.Needs.{needs}

@@ -1,6 +1,6 @@
 -- `answers::named` meets its contract. Assumes nothing.
 use mathlib.Core.Path.{_∙_}
-use Rattle.fields.proofs.Leaves.{back}
+use Rattle.names.proofs.Leaves.{back}
 use Prim.Native.Nat.{_+_, _*_}
 use Rattle.answerlaws.proofs.RowFirst.{named-not, named-no, named-so}
 use borrow.Author.Needs.{needs}

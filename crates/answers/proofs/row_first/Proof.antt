@@ -1,6 +1,6 @@
 -- `answers::row_first` meets its contract. Assumes nothing.
 use mathlib.Core.Path.{_∙_}
-use Rattle.fields.proofs.Leaves.{back}
+use Rattle.names.proofs.Leaves.{back}
 use Prim.Native.Nat.{_+_, _*_}
 use Rattle.answerlaws.proofs.RowFirst.{first-past, first-not, first-no, first-so}
 use borrow.Author.Needs.{needs}

@@ -97,7 +97,7 @@ arm-put-requires : (t : ℕ) → arm-lts.Need-put-requires (put-brace-opening-re
 arm-put-requires t c κs = search needs
 
 arm-add-i : (t : ℕ) → arm-lts.Need-add-i (put-brace-opening-reads.Asked, put-brace-opening-reads.Learnt, statement-below t, statement′.Post, put-reads.Asked, put-reads.Learnt, values-reads.Asked, values-reads.Learnt, put-brace-closing-reads.Asked, put-brace-closing-reads.Learnt) (arm-at t) arm.Post arm-Inv-loop arm-μ-loop
-arm-add-i t c = search needs
+arm-add-i t c = omega (arith, c .before .before .before .before .before .before .before .before .before .loop .inv .1 (c .before .before .before .before .before .before .before .before .before .before .before .before .before .before .before .before .before .before .pre .1 .0) (c .before .before .before .before .before .before .before .before .before .before .before .before .before .before .before .before .before .before .pre .1 .1) (c .before .before .before .before .before .before .before .before .before .before .before .before .before .before .before .before .before .before .pre .1 .2) .enough, stmt-inside (rows-in (c .before .before .before .before .before .before .before .before .before .before .before .before .before .before .before .before .before .before .args .rows .now)) (c .before .before .before .before .before .before .before .before .before .before .before .before .before .before .before .before .before .before .args .words .now) _ (stmts-next (rows-in (c .before .before .before .before .before .before .before .before .before .before .before .before .before .before .before .before .before .before .args .rows .now)) (c .before .before .before .before .before .before .before .before .before .before .before .before .before .before .before .before .before .before .args .words .now) (c .before .before .before .before .before .before .before .before .before .before .before .before .before .before .before .before .before .before .args .bound) (c .before .before .before .before .before .before .before .before .before .before .before .before .before .before .before .before .before .before .args .at) (c .before .before .before .before .before .before .before .before .before .before .before .before .before .before .before .before .before .before .args .bare) (c .before .before .before .before .before .before .before .before .before .before .before .before .before .before .before .before .before .before .args .dry) _ _ (c .before .before .before .before .before .before .before .before .before .before .before .before .before .before .before .before .before .before .pre .1 .0) (c .before .before .before .before .before .before .before .before .before .before .before .before .before .before .before .before .before .before .pre .1 .1) (c .before .before .before .before .before .before .before .before .before .loop .inv .1 (c .before .before .before .before .before .before .before .before .before .before .before .before .before .before .before .before .before .before .pre .1 .0) (c .before .before .before .before .before .before .before .before .before .before .before .before .before .before .before .before .before .before .pre .1 .1) (c .before .before .before .before .before .before .before .before .before .before .before .before .before .before .before .before .before .before .pre .1 .2)) (c .before .before .before .before .before .before .before .before .loop-test .taken) .0) (stmts-next (rows-in (c .before .before .before .before .before .before .before .before .before .before .before .before .before .before .before .before .before .before .args .rows .now)) (c .before .before .before .before .before .before .before .before .before .before .before .before .before .before .before .before .before .before .args .words .now) (c .before .before .before .before .before .before .before .before .before .before .before .before .before .before .before .before .before .before .args .bound) (c .before .before .before .before .before .before .before .before .before .before .before .before .before .before .before .before .before .before .args .at) (c .before .before .before .before .before .before .before .before .before .before .before .before .before .before .before .before .before .before .args .bare) (c .before .before .before .before .before .before .before .before .before .before .before .before .before .before .before .before .before .before .args .dry) _ _ (c .before .before .before .before .before .before .before .before .before .before .before .before .before .before .before .before .before .before .pre .1 .0) (c .before .before .before .before .before .before .before .before .before .before .before .before .before .before .before .before .before .before .pre .1 .1) (c .before .before .before .before .before .before .before .before .before .loop .inv .1 (c .before .before .before .before .before .before .before .before .before .before .before .before .before .before .before .before .before .before .pre .1 .0) (c .before .before .before .before .before .before .before .before .before .before .before .before .before .before .before .before .before .before .pre .1 .1) (c .before .before .before .before .before .before .before .before .before .before .before .before .before .before .before .before .before .before .pre .1 .2)) (c .before .before .before .before .before .before .before .before .loop-test .taken) .1), c .before .before .before .before .before .before .before .before .before .before .before .before .before .before .before .before .before .before .good .1 .0)
 
 arm-loop-less : (t : ℕ) → arm-lts.Need-loop-less (put-brace-opening-reads.Asked, put-brace-opening-reads.Learnt, statement-below t, statement′.Post, put-reads.Asked, put-reads.Learnt, values-reads.Asked, values-reads.Learnt, put-brace-closing-reads.Asked, put-brace-closing-reads.Learnt) (arm-at t) arm.Post arm-Inv-loop arm-μ-loop
 arm-loop-less t c = search needs
