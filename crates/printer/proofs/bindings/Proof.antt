@@ -29,22 +29,22 @@ statement-next-requires : tie.Need-statement-next-requires Inv-loop μ-loop
 statement-next-requires c κs = search needs
 
 statement-requires : tie.Need-statement-requires Inv-loop μ-loop
-statement-requires c κs = bindings-next (rows-in (c .before .before .before .before .before .before .before .args .rows .now)) (c .before .before .before .before .before .before .before .args .words .now) (c .before .before .before .before .before .before .before .args .dry) _ _ (c .before .before .before .before .before .before .before .pre .0) (c .before .before .before .before .before .before .before .pre .1) (c .before .before .before .loop .inv .1 (c .before .before .before .before .before .before .before .pre .0) (c .before .before .before .before .before .before .before .pre .1)) (sym (c .before .before .statement-next .ensures) ∙ ? .taken)
+statement-requires c κs = bindings-next (rows-in (c .before .before .before .before .before .before .before .args .rows .now)) (c .before .before .before .before .before .before .before .args .words .now) (c .before .before .before .before .before .before .before .args .dry) _ _ (c .before .before .before .before .before .before .before .pre .0) (c .before .before .before .before .before .before .before .pre .1) (c .before .before .before .loop .inv .1 (c .before .before .before .before .before .before .before .pre .0) (c .before .before .before .before .before .before .before .pre .1)) (sym (c .before .before .statement-next .ensures) ∙ c .before .if1 .taken)
 
 put-requires : tie.Need-put-requires Inv-loop μ-loop
 put-requires c κs = search needs
 
 loop-less : tie.Need-loop-less Inv-loop μ-loop
-loop-less c = omega (arith, bindings-turn (rows-in (c .before .before .before .before .before .before .before .before .before .before .before .before .before .before .args .rows .now)) (c .before .before .before .before .before .before .before .before .before .before .before .before .before .before .args .words .now) (c .before .before .before .before .before .before .before .before .before .before .before .before .before .before .args .dry) _ _ (c .before .before .before .before .before .before .before .before .before .before .before .before .before .before .pre .0) (c .before .before .before .before .before .before .before .before .before .before .before .before .before .before .pre .1) (c .before .before .before .before .before .before .before .before .before .before .loop .inv .1 (c .before .before .before .before .before .before .before .before .before .before .before .before .before .before .pre .0) (c .before .before .before .before .before .before .before .before .before .before .before .before .before .before .pre .1)) (sym (c .before .before .before .before .before .before .before .before .before .statement-next .ensures) ∙ ? .taken) (c .before .before .before .before .before .before .statement .ensures) (c .before .before .put .ensures) .1, bindings-turn (rows-in (c .before .before .before .before .before .before .before .before .before .before .before .before .before .before .args .rows .now)) (c .before .before .before .before .before .before .before .before .before .before .before .before .before .before .args .words .now) (c .before .before .before .before .before .before .before .before .before .before .before .before .before .before .args .dry) _ _ (c .before .before .before .before .before .before .before .before .before .before .before .before .before .before .pre .0) (c .before .before .before .before .before .before .before .before .before .before .before .before .before .before .pre .1) (c .before .before .before .before .before .before .before .before .before .before .loop .inv .1 (c .before .before .before .before .before .before .before .before .before .before .before .before .before .before .pre .0) (c .before .before .before .before .before .before .before .before .before .before .before .before .before .before .pre .1)) (sym (c .before .before .before .before .before .before .before .before .before .statement-next .ensures) ∙ ? .taken) (c .before .before .before .before .before .before .statement .ensures) (c .before .before .put .ensures) .2)
+loop-less c = omega (arith, bindings-turn (rows-in (c .before .before .before .before .before .before .before .before .before .before .before .before .before .before .args .rows .now)) (c .before .before .before .before .before .before .before .before .before .before .before .before .before .before .args .words .now) (c .before .before .before .before .before .before .before .before .before .before .before .before .before .before .args .dry) _ _ (c .before .before .before .before .before .before .before .before .before .before .before .before .before .before .pre .0) (c .before .before .before .before .before .before .before .before .before .before .before .before .before .before .pre .1) (c .before .before .before .before .before .before .before .before .before .before .loop .inv .1 (c .before .before .before .before .before .before .before .before .before .before .before .before .before .before .pre .0) (c .before .before .before .before .before .before .before .before .before .before .before .before .before .before .pre .1)) (sym (c .before .before .before .before .before .before .before .before .before .statement-next .ensures) ∙ c .before .before .before .before .before .before .before .before .if1 .taken) (c .before .before .before .before .before .before .statement .ensures) (c .before .before .put .ensures) .1, bindings-turn (rows-in (c .before .before .before .before .before .before .before .before .before .before .before .before .before .before .args .rows .now)) (c .before .before .before .before .before .before .before .before .before .before .before .before .before .before .args .words .now) (c .before .before .before .before .before .before .before .before .before .before .before .before .before .before .args .dry) _ _ (c .before .before .before .before .before .before .before .before .before .before .before .before .before .before .pre .0) (c .before .before .before .before .before .before .before .before .before .before .before .before .before .before .pre .1) (c .before .before .before .before .before .before .before .before .before .before .loop .inv .1 (c .before .before .before .before .before .before .before .before .before .before .before .before .before .before .pre .0) (c .before .before .before .before .before .before .before .before .before .before .before .before .before .before .pre .1)) (sym (c .before .before .before .before .before .before .before .before .before .statement-next .ensures) ∙ c .before .before .before .before .before .before .before .before .if1 .taken) (c .before .before .before .before .before .before .statement .ensures) (c .before .before .put .ensures) .2)
 
 loop-again : tie.Need-loop-again Inv-loop μ-loop
-loop-again c = (c .before .before .put .kept .0 ∙ (c .before .before .before .before .before .before .statement .kept .1 .1 .1 .0 ∙ c .before .before .before .before .before .before .before .before .before .before .loop .inv .0), λ a h. bindings-turn (rows-in (c .before .before .before .before .before .before .before .before .before .before .before .before .before .before .args .rows .now)) (c .before .before .before .before .before .before .before .before .before .before .before .before .before .before .args .words .now) (c .before .before .before .before .before .before .before .before .before .before .before .before .before .before .args .dry) _ _ a h (c .before .before .before .before .before .before .before .before .before .before .loop .inv .1 a h) (sym (c .before .before .before .before .before .before .before .before .before .statement-next .ensures) ∙ ? .taken) (c .before .before .before .before .before .before .statement .ensures) (c .before .before .put .ensures) .0)
+loop-again c = (c .before .before .put .kept .0 ∙ (c .before .before .before .before .before .before .statement .kept .1 .1 .1 .0 ∙ c .before .before .before .before .before .before .before .before .before .before .loop .inv .0), λ a h. bindings-turn (rows-in (c .before .before .before .before .before .before .before .before .before .before .before .before .before .before .args .rows .now)) (c .before .before .before .before .before .before .before .before .before .before .before .before .before .before .args .words .now) (c .before .before .before .before .before .before .before .before .before .before .before .before .before .before .args .dry) _ _ a h (c .before .before .before .before .before .before .before .before .before .before .loop .inv .1 a h) (sym (c .before .before .before .before .before .before .before .before .before .statement-next .ensures) ∙ c .before .before .before .before .before .before .before .before .if1 .taken) (c .before .before .before .before .before .before .statement .ensures) (c .before .before .put .ensures) .0)
 
 same-length : tie.Need-same-length Inv-loop μ-loop
 same-length c = c .before .before .loop .inv .0
 
 returns : tie.Need-returns Inv-loop μ-loop
-returns c = λ a h. bindings-end (rows-in (c .before .before .before .before .before .before .args .rows .now)) (c .before .before .before .before .before .before .args .words .now) (c .before .before .before .before .before .before .args .dry) _ _ a h (c .before .before .loop .inv .1 a h) (sym (c .before .statement-next .ensures) ∙ ? .left)
+returns c = λ a h. bindings-end (rows-in (c .before .before .before .before .before .before .args .rows .now)) (c .before .before .before .before .before .before .args .words .now) (c .before .before .before .before .before .before .args .dry) _ _ a h (c .before .before .loop .inv .1 a h) (sym (c .before .statement-next .ensures) ∙ c .if1 .left)
 
 pub bindings-spec : {M : Type 1} → statement M
 bindings-spec =
