@@ -206,6 +206,7 @@ fn tree(rows: &[u64], words: &[u64], at: usize, out: &mut [u8], dry: bool, to: u
     ensures { λ r. ⌜ TreeWritten (rows-in (now (rows .entry))) (now (words .entry)) at dry (now (out .entry)) to (now (out .exit)) (r .next) (r .to) ⌝ }
 {
     let Text::Ends(next, end) = writer::write_tree(rows, words, at, out, dry, to) else {
+        // Not met: a tree stands here.
         return Pos { next: at, to };
     };
     Pos { next, to: end }
@@ -290,6 +291,7 @@ fn read_binding(words: &[u64], at: usize) -> Binding
         return Binding::Let(w / KINDS, key);
     }
     let Run::Ends(first) = tokens::end_of(words, key) else {
+        // Not met: where a match stands its key does.
         return Binding::Let(w / KINDS, key);
     };
     let bound = names_end(words, first) - first;
