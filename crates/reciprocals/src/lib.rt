@@ -1,0 +1,1 @@
+// No code: that settled trees are the parts of what reciprocals make stands in proofs/.
