@@ -1,0 +1,16 @@
+pub mod Renaming
+pub mod Choosing
+pub mod Rewriting
+pub mod Extraction
+pub mod Reading
+pub mod RowNames
+pub mod BestPlace
+pub mod Answers
+pub mod Ordering
+pub mod Fusing
+pub mod Scopes
+pub mod Calls
+pub mod Arms
+pub mod UsesAt
+pub mod ByText
+pub mod RoundsOn

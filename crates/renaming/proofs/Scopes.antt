@@ -1,0 +1,137 @@
+-- `cse_scope`, `cse` and `cse_scoped` under other names of the list's symbols: the same answer, renamed, where texts are those of the renamed trees. Assumes
+-- nothing.
+use Prim.Native.Nat.{ℕ, zero, suc, _-_}
+use mathlib.Core.Path.{_≡_, refl, sym, _∙_, ap, ap₂, subst}
+use mathlib.Core.Bool.{Bool, true, false}
+use mathlib.Core.List.{List, [], _∷_, map}
+use lib.ListN.{length, length-map}
+use lib.Dec.{T, leb}
+use Rattle.tree.specs.Outcome.{Outcome, ok, refused, by, _>>=_}
+use Rattle.tree.specs.Tree.{Tree}
+use Rattle.tree.specs.Rows.{occurrences}
+use Rattle.cse.specs.Extract.{State, extract-all, reciprocals, roots}
+use Rattle.cse.specs.Answer.{Intermediate, Answer, block}
+use Rattle.cse.specs.Order.{topo-sort-intermediates}
+use Rattle.cse.specs.Scope.{Group, Work, Scoped, collect-switches, groups-from, fuse-groups, fuse-all, unfused, finish, cse-scope, area-rows, as-answer, answer}
+use Rattle.cse.proofs.Outcomes.{Good}
+use Rattle.renaming.specs.Shown.{extract-all-by, reciprocals-by, cse-scope-by, answer-by}
+use Rattle.renaming.proofs.Renaming.{Renaming, renamed, Known-all, occurrences-renamed}
+use Rattle.renaming.proofs.Rewriting.{Agree, agree-ok, then-agree}
+use Rattle.renaming.proofs.Extraction.{Every, shown, renamed-binding, renamed-state, Known-state, roots-renamed, roots-known, extract-all-renamed, reciprocals-renamed, reciprocals-known}
+use Rattle.renaming.proofs.Answers.{renamed-stmt, Known-stmt, renamed-answer, Known-answer, block-renamed, block-known}
+use Rattle.renaming.proofs.Ordering.{topo-sort-renamed}
+use Rattle.renaming.proofs.Fusing.{renamed-group, Known-group, groups-renamed, groups-known, collect-renamed, collect-known, renamed-work, Known-work, renamed-scoped, Known-scoped, fuse-groups-renamed, unfused-renamed, unfused-known}
+
+module _ (R : Renaming) where
+  finish-renamed : (w : Work) → Known-work R w → Agree (Known-scoped R) (renamed-scoped R) (finish w) (finish (renamed-work R w))
+  unfolding finish
+  finish-renamed w h =
+      let put : List Intermediate → Scoped = λ l. record { inters = l; results = w .results; next = w .next; extracted = w .extracted } in
+      then-agree (Every (Known-stmt R)) (map (renamed-stmt R)) (Known-scoped R) (renamed-scoped R) (topo-sort-intermediates (w .inters))
+      (topo-sort-intermediates (map (renamed-stmt R) (w .inters))) (topo-sort-renamed R (w .inters) (h .1)) (λ l. ok (put l))
+      (λ l. ok (record { inters = l; results = map (renamed R) (w .results); next = w .next; extracted = w .extracted }))
+      (λ l z. agree-ok (Known-scoped R) (renamed-scoped R) (put l) (z, h .0))
+
+  -- bindings and switches of a state whose extraction is done
+  module _
+      (scope sense : ℕ → List Tree → Outcome Scoped)
+      (same : (n : ℕ) (l : List Tree) → Known-all R l → Agree (Known-scoped R) (renamed-scoped R) (scope n l) (sense n (map (renamed R) l)))
+    where
+      pub fuse-all-renamed : (x : ℕ) (s : State) → Known-state R s → Agree (Known-work R) (renamed-work R) (fuse-all scope x s) (fuse-all sense x (renamed-state R s))
+      unfolding fuse-all
+      fuse-all-renamed x s h =
+          let k = roots-known R s h in
+          let ss = collect-switches (roots s) in
+          let gs = groups-from [] ss in
+          let e : groups-from [] (collect-switches (roots (renamed-state R s))) ≡ map (renamed-group R) gs =
+          ap (λ (l : List Tree). groups-from [] (collect-switches l)) (roots-renamed R s)
+          ∙ ap (groups-from []) (collect-renamed R (roots s) k)
+          ∙ groups-renamed R [] ss tt (collect-known R (roots s) k) in
+          let whole : fuse-all sense x (renamed-state R s) ≡ fuse-groups sense (map (renamed-group R) gs) (renamed-work R (unfused x s)) =
+          ap₂ (fuse-groups sense) e (unfused-renamed R x s) in
+          subst (λ (u : Outcome Work). Agree (Known-work R) (renamed-work R) (fuse-all scope x s) u) (sym whole)
+          (fuse-groups-renamed R scope sense same gs (unfused x s) (groups-known R [] ss tt (collect-known R (roots s) k)) (unfused-known R x s h))
+
+  -- the count of bindings is the same
+  flat-step :
+      (s : State) → Known-state R s
+      → Agree (Known-scoped R) (renamed-scoped R) (finish (unfused (length (s .lets)) (reciprocals-by (shown R) false s)))
+      (finish (unfused (length (map (renamed-binding R) (s .lets))) (reciprocals false (renamed-state R s))))
+  flat-step s h =
+      let t = reciprocals-by (shown R) false s in
+      let x = length (s .lets) in
+      let e : unfused (length (map (renamed-binding R) (s .lets))) (reciprocals false (renamed-state R s)) ≡ renamed-work R (unfused x t) =
+      ap₂ unfused (length-map (s .lets) (renamed-binding R)) (reciprocals-renamed R false s h) ∙ unfused-renamed R x t in
+      subst (λ (w : Work). Agree (Known-scoped R) (renamed-scoped R) (finish (unfused x t)) (finish w)) (sym e)
+      (finish-renamed (unfused x t) (unfused-known R x t (reciprocals-known R false s h)))
+
+  scoped-step :
+      (scope sense : ℕ → List Tree → Outcome Scoped)
+      → ((n : ℕ) (l : List Tree) → Known-all R l → Agree (Known-scoped R) (renamed-scoped R) (scope n l) (sense n (map (renamed R) l)))
+      → (s : State) → Known-state R s
+      → Agree (Known-scoped R) (renamed-scoped R) (fuse-all scope (length (s .lets)) (reciprocals-by (shown R) true s) >>= λ w. finish w)
+      (fuse-all sense (length (map (renamed-binding R) (s .lets))) (reciprocals true (renamed-state R s)) >>= λ w. finish w)
+  scoped-step scope sense same s h =
+      let t = reciprocals-by (shown R) true s in
+      let x = length (s .lets) in
+      let e : fuse-all sense (length (map (renamed-binding R) (s .lets))) (reciprocals true (renamed-state R s)) ≡ fuse-all sense x (renamed-state R t) =
+      ap₂ (fuse-all sense) (length-map (s .lets) (renamed-binding R)) (reciprocals-renamed R true s h) in
+      subst (λ (u : Outcome Work). Agree (Known-scoped R) (renamed-scoped R) (fuse-all scope x t >>= λ w. finish w) (u >>= λ w. finish w)) (sym e)
+      (then-agree (Known-work R) (renamed-work R) (Known-scoped R) (renamed-scoped R) (fuse-all scope x t) (fuse-all sense x (renamed-state R t))
+      (fuse-all-renamed scope sense same x t (reciprocals-known R true s h)) (λ w. finish w) (λ w. finish w) (λ w z. finish-renamed w z))
+
+  refused-agrees : Agree (Known-scoped R) (renamed-scoped R) (refused (by 23)) (refused (by 23))
+  unfolding Good
+  refused-agrees = (tt, refl)
+
+  room-step :
+      (b : Bool) (p q : Outcome Scoped) → Agree (Known-scoped R) (renamed-scoped R) p q
+      → Agree (Known-scoped R) (renamed-scoped R) (elim b [ true ↦ p | false ↦ refused (by 23) ]) (elim b [ true ↦ q | false ↦ refused (by 23) ])
+  room-step true p q h = h
+  room-step false p q h = refused-agrees
+
+  pub cse-scope-renamed :
+      (fuel room : ℕ) (scoped : Bool) (next : ℕ) (es : List Tree) → Known-all R es
+      → Agree (Known-scoped R) (renamed-scoped R) (cse-scope-by (shown R) fuel room scoped next es) (cse-scope fuel room scoped next (map (renamed R) es))
+  unfolding cse-scope cse-scope-by
+  cse-scope-renamed zero room scoped next es h = refused-agrees
+  cse-scope-renamed (suc fuel) room false next es h =
+      then-agree (Known-state R) (renamed-state R) (Known-scoped R) (renamed-scoped R) (extract-all-by (shown R) false next es) (extract-all false next (map (renamed R) es))
+      (extract-all-renamed R false next es h) (λ s. finish (unfused (length (s .lets)) (reciprocals-by (shown R) false s)))
+      (λ s. finish (unfused (length (s .lets)) (reciprocals false s))) (λ s z. flat-step s z)
+  cse-scope-renamed (suc fuel) room true next es h =
+      let o = occurrences es in
+      let scope : ℕ → List Tree → Outcome Scoped = λ n l. cse-scope-by (shown R) fuel (room - o) true n l in
+      let sense : ℕ → ℕ → List Tree → Outcome Scoped = λ o n l. cse-scope fuel (room - o) true n l in
+      let from : ℕ → Outcome Scoped = λ o.
+      elim (leb o room) as (λ _. Outcome Scoped) [
+        | true ↦ (extract-all true next (map (renamed R) es) >>= λ s. fuse-all (sense o) (length (s .lets)) (reciprocals true s) >>= λ w. finish w)
+        | false ↦ refused (by 23)
+      ] in
+      subst
+      (λ (m : ℕ). Agree (Known-scoped R) (renamed-scoped R) (cse-scope-by (shown R) (suc fuel) room true next es) (from m)) (sym (occurrences-renamed R es))
+      (room-step (leb o room)
+      (extract-all-by (shown R) true next es >>= λ s. fuse-all scope (length (s .lets)) (reciprocals-by (shown R) true s) >>= λ w. finish w)
+      (extract-all true next (map (renamed R) es) >>= λ s. fuse-all (sense o) (length (s .lets)) (reciprocals true s) >>= λ w. finish w)
+      (then-agree (Known-state R) (renamed-state R) (Known-scoped R) (renamed-scoped R) (extract-all-by (shown R) true next es) (extract-all true next (map (renamed R) es))
+      (extract-all-renamed R true next es h) (λ s. fuse-all scope (length (s .lets)) (reciprocals-by (shown R) true s) >>= λ w. finish w)
+      (λ s. fuse-all (sense o) (length (s .lets)) (reciprocals true s) >>= λ w. finish w)
+      (λ s z. scoped-step scope (sense o) (λ n l k. cse-scope-renamed fuel (room - o) true n l k) s z)))
+
+  as-answer-known : (a : Scoped) → Known-scoped R a → Known-answer R (as-answer a)
+  unfolding as-answer
+  as-answer-known a h = (block-known R (a .inters) (h .0), h .1)
+
+  as-answer-renamed : (a : Scoped) → as-answer (renamed-scoped R a) ≡ renamed-answer R (as-answer a)
+  unfolding as-answer
+  as-answer-renamed a = ap (λ s. record { inters = s; results = map (renamed R) (a .results); extracted = a .extracted }) (block-renamed R (a .inters))
+
+  -- both forms
+  pub answer-renamed :
+      (scoped : Bool) (es : List Tree) → Known-all R es → Agree (Known-answer R) (renamed-answer R) (answer-by (shown R) scoped es) (answer scoped (map (renamed R) es))
+  unfolding answer answer-by
+  answer-renamed scoped es h =
+      then-agree (Known-scoped R) (renamed-scoped R) (Known-answer R) (renamed-answer R) (cse-scope-by (shown R) (suc area-rows) area-rows scoped 0 es)
+      (cse-scope (suc area-rows) area-rows scoped 0 (map (renamed R) es)) (cse-scope-renamed (suc area-rows) area-rows scoped 0 es h) (λ a. ok (as-answer a))
+      (λ a. ok (as-answer a))
+      (λ a z. (agree-ok (Known-answer R) (renamed-answer R) (as-answer a) (as-answer-known a z) .0, ap ok (as-answer-renamed a)))

@@ -1,0 +1,4 @@
+pub mod Shown
+pub mod Names
+pub mod Places
+pub mod Rounds
