@@ -160,6 +160,7 @@ module _ (ws : List ℕ) (c : Complete ws) (p : ℕ) (h : p < length ws) where
             let y = no-run (p + 1) (run-at ws (p + 1)) b in
             absurd (let z : _≡_ {A = ℕ} 0 1 = cc in omega arith))
       ] refl
+
       go : (j : ℕ) (d : Bool) → leb 26 (kind-of (getD ws p 0)) ≡ d → in-arm-of ws p j ≡ false
       go j true q =
           is-arm ws p j (leb-true 26 (kind-of (getD ws p 0)) q)

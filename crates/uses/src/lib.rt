@@ -1,11 +1,12 @@
 // How often a tree stands among words of trees, and which places are outside arms (01, "Uses"). Equal trees are equal runs of words, and a run that begins with
 // the words of a whole tree begins with that tree: so uses are counted by comparing words.
 ghost use mathlib.Core.Path.{_≡_};
-ghost use mathlib.Core.Bool.{true};
+ghost use mathlib.Core.Bool.{true, _&&_};
 ghost use Prim.Native.Nat.{_≤_, _<_};
 ghost use lib.ListN.{length};
 ghost use Rattle.tree.specs.Tree.{eq-tree};
 ghost use Rattle.tree.specs.Facts.{size};
+ghost use Rattle.tree.specs.Tokens.{flag};
 ghost use Rattle.renaming.specs.Places.{numbered-at, equal-places};
 ghost use Rattle.uses.specs.Marks.{Complete, is-marked, Cleared, Ones, Arms, Marking, not-in-arms};
 ghost use Rattle.uses.specs.Answers.{uses-answer, marked-answer, mark-answer};
@@ -51,6 +52,12 @@ fn equal_at(tokens: &[u64], at: usize, n: usize, i: usize) -> bool
     true
 }
 
+fn one_if(b: bool) -> usize
+    ensures { λ r. ⌜ r ≡ flag b ⌝ }
+{
+    if b { 1 } else { 0 }
+}
+
 // How many places have the tree at `at`.
 fn count_equal(tokens: &[u64], at: usize, n: usize) -> usize
     requires { ⌜ Complete (now tokens) ⌝ }
@@ -61,15 +68,26 @@ fn count_equal(tokens: &[u64], at: usize, n: usize) -> usize
     let mut count: usize = 0;
     let mut i = 0;
     while i < tokens.len() {
-        if equal_at(tokens, at, n, i) {
-            count += 1;
-        }
+        count += one_if(equal_at(tokens, at, n, i));
         i += 1;
     }
     count
 }
 
-// How many marked places have it. A place past the marks isn't marked.
+// Whether the tree at i is the one at `at` and i is marked.
+fn marked_equal_at(tokens: &[u64], marks: &[u64], at: usize, n: usize, i: usize) -> bool
+    requires { ⌜ Complete (now tokens) ⌝ }
+    requires { ⌜ (at < length (now tokens)) × (i < length (now tokens)) × (i < length (now marks)) ⌝ }
+    requires { ⌜ n ≡ size (numbered-at (now tokens) at) ⌝ }
+    ensures { λ r. ⌜ r ≡ (is-marked (now (marks .entry)) i && eq-tree (numbered-at (now (tokens .entry)) i) (numbered-at (now (tokens .entry)) at)) ⌝ }
+{
+    if marks[i] == 0 {
+        return false;
+    }
+    equal_at(tokens, at, n, i)
+}
+
+// How many marked places have it.
 fn count_equal_marked(tokens: &[u64], marks: &[u64], at: usize, n: usize) -> usize
     requires { ⌜ Complete (now tokens) ⌝ }
     requires { ⌜ (at < length (now tokens)) × (length (now tokens) ≤ length (now marks)) ⌝ }
@@ -79,11 +97,7 @@ fn count_equal_marked(tokens: &[u64], marks: &[u64], at: usize, n: usize) -> usi
     let mut count: usize = 0;
     let mut i = 0;
     while i < tokens.len() {
-        if marks[i] != 0 {
-            if equal_at(tokens, at, n, i) {
-                count += 1;
-            }
-        }
+        count += one_if(marked_equal_at(tokens, marks, at, n, i));
         i += 1;
     }
     count
@@ -196,6 +210,7 @@ pub fn mark_outside(tokens: &[u64], scoped: bool, marks: &mut [u64]) -> Marked
     mark_all(marks, tokens.len());
     if scoped {
         clear_arms(tokens, marks);
+        return Marked::Done;
     }
     Marked::Done
 }

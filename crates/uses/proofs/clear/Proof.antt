@@ -1,45 +1,17 @@
+-- `uses::clear` meets its contract. Assumes nothing.
+use Prim.Native.Nat.{_-_, _≤_}
+use native.Mathlib.Omega.{arith}
+use lib.ListN.{length, length-set}
+use Rattle.uses.proofs.Marking.{Clearing, clearing-starts, clearing-turns, clearing-ends}
+use borrow.Author.Needs.{needs}
 use Rattle.uses.proofs.clear.Statement.{statement}
 use Rattle.uses.proofs.clear.Tie as tie
-use Rattle.uses.proofs.clear.Reads as reads
-use Rattle.uses.proofs.clear.Lts as lts
 
 abbrev Inv-loop : tie.InvT-loop
-Inv-loop marks₀ from to i₀ marks i = ?
+Inv-loop marks₀ from to i₀ marks i = Clearing marks₀ from to i marks
 
 abbrev μ-loop : tie.MeasureT-loop
-μ-loop marks₀ from to i₀ marks i = ?
-
--- src/lib.rt:147:5
-loop-holds : tie.Need-loop-holds Inv-loop μ-loop
-loop-holds c = ?
-
--- src/lib.rt:148:9
-mul-marks : tie.Need-mul-marks Inv-loop μ-loop
-mul-marks c = ?
-
--- src/lib.rt:148:9
-slice-write-marks : tie.Need-slice-write-marks Inv-loop μ-loop
-slice-write-marks c = ?
-
--- src/lib.rt:149:9
-add-i : tie.Need-add-i Inv-loop μ-loop
-add-i c = ?
-
--- src/lib.rt:147:5
-loop-less : tie.Need-loop-less Inv-loop μ-loop
-loop-less c = ?
-
--- src/lib.rt:147:5
-loop-again : tie.Need-loop-again Inv-loop μ-loop
-loop-again c = ?
-
--- src/lib.rt:142:1
-same-length : tie.Need-same-length Inv-loop μ-loop
-same-length c = ?
-
--- src/lib.rt:142:1
-returns : tie.Need-returns Inv-loop μ-loop
-returns c = ?
+μ-loop marks₀ from to i₀ marks i = to - i
 
 pub clear-spec : {M : Type 1} → statement M
 clear-spec =
@@ -47,11 +19,11 @@ clear-spec =
     (tie.spec
     Inv-loop
     μ-loop
-    loop-holds
-    mul-marks
-    slice-write-marks
-    add-i
-    loop-less
-    loop-again
-    same-length
-    returns)
+    (λ c. clearing-starts (c .args .marks .now) (c .args .from) (c .args .to))
+    (λ c. omega (arith, c .before .loop .inv .done .long, c .before .before .good .0, c .before .before .pre))
+    (λ c. omega (arith, c .before .loop .inv .done .long, c .loop-test .taken, c .before .before .pre))
+    (λ c. omega (arith, c .loop-test .taken))
+    (λ c. omega (arith, c .loop-test .taken))
+    (λ c. clearing-turns (c .before .loop .inv) (c .loop-test .taken) (omega (arith, c .before .loop .inv .done .long, c .loop-test .taken, c .before .before .pre)))
+    (λ c. c .before .loop .inv .done .long)
+    (λ c. clearing-ends (c .before .loop .inv) (omega (arith, c .loop-test .left))))

@@ -1,69 +1,19 @@
+-- `uses::equal_at` meets its contract. The first k words of the runs agree. Assumes nothing.
+use Prim.Native.Nat.{ℕ, _+_, _-_, _≤_, _<_}
+use native.Mathlib.Omega.{arith}
+use mathlib.Core.Path.{_≡_}
+use borrow.Author.Count.{below-more}
+use lib.ListN.{length, getD}
+use Rattle.uses.proofs.Runs.{at-within, too-short, word-differs, words-agree}
+use borrow.Author.Needs.{needs}
 use Rattle.uses.proofs.equal_at.Statement.{statement}
 use Rattle.uses.proofs.equal_at.Tie as tie
-use Rattle.uses.proofs.equal_at.Reads as reads
-use Rattle.uses.proofs.equal_at.Lts as lts
 
 abbrev Inv-loop : tie.InvT-loop
-Inv-loop tokens at n i k₀ k = ?
+Inv-loop tokens at n i k₀ k = (k ≤ n) × ((m : ℕ) → m < k → getD tokens (i + m) 0 ≡ getD tokens (at + m) 0)
 
 abbrev μ-loop : tie.MeasureT-loop
-μ-loop tokens at n i k₀ k = ?
-
--- src/lib.rt:41:8
-sub-if1 : tie.Need-sub-if1 Inv-loop μ-loop
-sub-if1 c = ?
-
--- src/lib.rt:42:9
-returns : tie.Need-returns Inv-loop μ-loop
-returns c = ?
-
--- src/lib.rt:45:5
-loop-holds : tie.Need-loop-holds Inv-loop μ-loop
-loop-holds c = ?
-
--- src/lib.rt:46:19
-add-if2 : tie.Need-add-if2 Inv-loop μ-loop
-add-if2 c = ?
-
--- src/lib.rt:46:12
-mul-if2 : tie.Need-mul-if2 Inv-loop μ-loop
-mul-if2 c = ?
-
--- src/lib.rt:46:12
-shared-slice-read-if2 : tie.Need-shared-slice-read-if2 Inv-loop μ-loop
-shared-slice-read-if2 c = ?
-
--- src/lib.rt:46:36
-add-if2-2 : tie.Need-add-if2-2 Inv-loop μ-loop
-add-if2-2 c = ?
-
--- src/lib.rt:46:29
-mul-if2-2 : tie.Need-mul-if2-2 Inv-loop μ-loop
-mul-if2-2 c = ?
-
--- src/lib.rt:46:29
-shared-slice-read-if2-2 : tie.Need-shared-slice-read-if2-2 Inv-loop μ-loop
-shared-slice-read-if2-2 c = ?
-
--- src/lib.rt:47:13
-returns-2 : tie.Need-returns-2 Inv-loop μ-loop
-returns-2 c = ?
-
--- src/lib.rt:49:9
-add-k : tie.Need-add-k Inv-loop μ-loop
-add-k c = ?
-
--- src/lib.rt:45:5
-loop-less : tie.Need-loop-less Inv-loop μ-loop
-loop-less c = ?
-
--- src/lib.rt:45:5
-loop-again : tie.Need-loop-again Inv-loop μ-loop
-loop-again c = ?
-
--- src/lib.rt:35:1
-returns-3 : tie.Need-returns-3 Inv-loop μ-loop
-returns-3 c = ?
+μ-loop tokens at n i k₀ k = n - k
 
 pub equal-at-spec : {M : Type 1} → statement M
 equal-at-spec =
@@ -71,17 +21,17 @@ equal-at-spec =
     (tie.spec
     Inv-loop
     μ-loop
-    sub-if1
-    returns
-    loop-holds
-    add-if2
-    mul-if2
-    shared-slice-read-if2
-    add-if2-2
-    mul-if2-2
-    shared-slice-read-if2-2
-    returns-2
-    add-k
-    loop-less
-    loop-again
-    returns-3)
+    (λ c. search needs)
+    (λ c. let a = c .before .args in let p = c .before .pre in too-short (a .tokens .now) (p .0) (a .at) (a .n) (a .i) (p .1 .0 .0) (p .1 .0 .1) (p .1 .1) (c .if1 .taken))
+    (λ c. (omega arith, λ m h. absurd (omega arith)))
+    (λ c. let a = c .before .before .before .args in omega (arith, c .before .before .before .good .0))
+    (λ c. let a = c .before .before .before .args in omega (arith, c .before .before .before .good .0))
+    (λ c. omega (arith, c .before .before .before .if1 .left, c .before .loop-test .taken))
+    (λ c. let a = c .before .before .before .before .args in let p = c .before .before .before .before .pre in omega (arith, c .before .before .before .before .good .0, at-within (a .tokens .now) (p .0) (a .at) (a .n) (a .i) (p .1 .0 .0) (p .1 .0 .1) (p .1 .1), c .before .loop-test .taken))
+    (λ c. let a = c .before .before .before .before .args in let p = c .before .before .before .before .pre in omega (arith, c .before .before .before .before .good .0, at-within (a .tokens .now) (p .0) (a .at) (a .n) (a .i) (p .1 .0 .0) (p .1 .0 .1) (p .1 .1), c .before .loop-test .taken))
+    (λ c. let a = c .before .before .before .before .before .args in let p = c .before .before .before .before .before .pre in omega (arith, at-within (a .tokens .now) (p .0) (a .at) (a .n) (a .i) (p .1 .0 .0) (p .1 .0 .1) (p .1 .1), c .before .before .loop-test .taken))
+    (λ c. let a = c .before .before .before .before .before .before .args in let p = c .before .before .before .before .before .before .pre in word-differs (a .tokens .now) (p .0) (a .at) (a .n) (a .i) (p .1 .0 .0) (p .1 .0 .1) (p .1 .1) (c .before .before .before .before .loop .k) (c .before .before .before .loop-test .taken) (c .if2 .taken))
+    (λ c. search needs)
+    (λ c. search needs)
+    (λ c. (omega (arith, c .before .before .before .loop-test .taken), below-more _ _ (c .before .before .before .before .loop .inv .1) (c .if2 .left)))
+    (λ c. let a = c .before .before .before .args in let p = c .before .before .before .pre in words-agree (a .tokens .now) (p .0) (a .at) (a .n) (a .i) (p .1 .0 .0) (p .1 .0 .1) (p .1 .1) (omega (arith, c .before .before .if1 .left)) (λ m h. c .before .loop .inv .1 m (omega (arith, c .loop-test .left)))))

@@ -1,45 +1,18 @@
+-- `uses::mark_all` meets its contract. Assumes nothing.
+use Prim.Native.Nat.{_-_, _≤_}
+use native.Mathlib.Omega.{arith}
+use lib.ListN.{length, length-set}
+use Rattle.uses.specs.Marks.{Ones}
+use Rattle.uses.proofs.Marking.{ones-start, ones-turn, ones-end}
+use borrow.Author.Needs.{needs}
 use Rattle.uses.proofs.mark_all.Statement.{statement}
 use Rattle.uses.proofs.mark_all.Tie as tie
-use Rattle.uses.proofs.mark_all.Reads as reads
-use Rattle.uses.proofs.mark_all.Lts as lts
 
 abbrev Inv-loop : tie.InvT-loop
-Inv-loop marks₀ n i₀ marks i = ?
+Inv-loop marks₀ n i₀ marks i = (i ≤ n) × Ones marks₀ i marks
 
 abbrev μ-loop : tie.MeasureT-loop
-μ-loop marks₀ n i₀ marks i = ?
-
--- src/lib.rt:135:5
-loop-holds : tie.Need-loop-holds Inv-loop μ-loop
-loop-holds c = ?
-
--- src/lib.rt:136:9
-mul-marks : tie.Need-mul-marks Inv-loop μ-loop
-mul-marks c = ?
-
--- src/lib.rt:136:9
-slice-write-marks : tie.Need-slice-write-marks Inv-loop μ-loop
-slice-write-marks c = ?
-
--- src/lib.rt:137:9
-add-i : tie.Need-add-i Inv-loop μ-loop
-add-i c = ?
-
--- src/lib.rt:135:5
-loop-less : tie.Need-loop-less Inv-loop μ-loop
-loop-less c = ?
-
--- src/lib.rt:135:5
-loop-again : tie.Need-loop-again Inv-loop μ-loop
-loop-again c = ?
-
--- src/lib.rt:130:1
-same-length : tie.Need-same-length Inv-loop μ-loop
-same-length c = ?
-
--- src/lib.rt:130:1
-returns : tie.Need-returns Inv-loop μ-loop
-returns c = ?
+μ-loop marks₀ n i₀ marks i = n - i
 
 pub mark-all-spec : {M : Type 1} → statement M
 mark-all-spec =
@@ -47,11 +20,11 @@ mark-all-spec =
     (tie.spec
     Inv-loop
     μ-loop
-    loop-holds
-    mul-marks
-    slice-write-marks
-    add-i
-    loop-less
-    loop-again
-    same-length
-    returns)
+    (λ c. (omega arith, ones-start (c .args .marks .now)))
+    (λ c. omega (arith, c .before .loop .inv .1 .long, c .before .before .good .0, c .before .before .pre))
+    (λ c. omega (arith, c .before .loop .inv .1 .long, c .loop-test .taken, c .before .before .pre))
+    (λ c. omega (arith, c .loop-test .taken))
+    (λ c. omega (arith, c .loop-test .taken))
+    (λ c. (omega (arith, c .loop-test .taken), ones-turn (c .before .loop .inv .1) (omega (arith, c .before .loop .inv .1 .long, c .loop-test .taken, c .before .before .pre))))
+    (λ c. c .before .loop .inv .1 .long)
+    (λ c. ones-end (c .before .loop .inv .1) (c .before .loop .inv .0) (omega (arith, c .loop-test .left))))
