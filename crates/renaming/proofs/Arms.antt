@@ -221,12 +221,9 @@ module _ (w : ℕ) (ws : List ℕ) where
       (ap (λ (n : ℕ). ltb (suc j) n) z ∙ leb·suc-suc (suc j) (sizes (take (takes w) rs))))
 
   plain : (m : List Bool) → m ≡ true ∷ all-marks rs → ((j : ℕ) → in-arm-of (w ∷ ws) 0 (suc j) ≡ false) → Marked m
-  plain m e h = (
-    ap (λ (m : List Bool). getD m 0 true) e,
-    λ j.
-        ap (λ (m : List Bool). getD m (suc j) true) e
-        ∙ sym (ap (λ (b : Bool). getD (all-marks rs) j true && not b) (h j) ∙ and-true (getD (all-marks rs) j true)),
-  )
+  plain m e h = (ap (λ (m : List Bool). getD m 0 true) e, λ j.
+    ap (λ (m : List Bool). getD m (suc j) true) e
+    ∙ sym (ap (λ (b : Bool). getD (all-marks rs) j true && not b) (h j) ∙ and-true (getD (all-marks rs) j true)))
 
   low-kind : kind-of w ≤ 1 → (j : ℕ) → in-arm-of (w ∷ ws) 0 (suc j) ≡ false
   low-kind h j =
@@ -244,20 +241,17 @@ module _ (w : ℕ) (ws : List ℕ) where
   switch-marked [] us e m d h =
       plain m (d ∙ ap (λ (l : List Tree). true ∷ all-marks l) e)
       (λ j. h j ∙ ap (λ (b : Bool). leb (size (getD rs 0 (Op 0 nil))) j && b) (lt-leb (suc j) 0 (omega arith)) ∙ and-false (leb (size (getD rs 0 (Op 0 nil))) j))
-  switch-marked (t ∷ ts) us e m d h = (
-    ap (λ (m : List Bool). getD m 0 true) d,
-    λ j.
-        let first : getD rs 0 (Op 0 nil) ≡ t = ap (λ (l : List Tree). getD l 0 (Op 0 nil)) (sym e) in
-        let n = nodes-forest ts ∙ sym (all-marks-length ts) in
-        let sa : length (marks t) ≡ size t = marks-length t ∙ nodes-length t in
-        let sb : length (marks t) + length (all-marks ts) ≡ size t + sizes ts = ap₂ _+_ sa (all-marks-length ts) in
-        let whole : marks t ++ (all-marks ts ++ all-marks us) ≡ all-marks rs = ap (λ (x : List Bool). marks t ++ x) (sym (all-marks-append ts us)) ∙ ap all-marks e in
-        ap (λ (m : List Bool). getD m (suc j) true) d
-        ∙ ap (λ (x : List Bool). getD x j true) (append-assoc (marks t) (marks-inside (nodes-of (forest ts))) (all-marks us))
-        ∙ run-made (marks t) (all-marks ts) (all-marks us) (nodes-of (forest ts)) j n
-        ∙ ap₂ (λ (x : List Bool) (b : Bool). getD x j true && not b) whole
-        (ap₂ (λ (x y : ℕ). leb x j && ltb j y) (sa ∙ ap size (sym first)) sb ∙ sym (h j)),
-  )
+  switch-marked (t ∷ ts) us e m d h = (ap (λ (m : List Bool). getD m 0 true) d, λ j.
+    let first : getD rs 0 (Op 0 nil) ≡ t = ap (λ (l : List Tree). getD l 0 (Op 0 nil)) (sym e) in
+    let n = nodes-forest ts ∙ sym (all-marks-length ts) in
+    let sa : length (marks t) ≡ size t = marks-length t ∙ nodes-length t in
+    let sb : length (marks t) + length (all-marks ts) ≡ size t + sizes ts = ap₂ _+_ sa (all-marks-length ts) in
+    let whole : marks t ++ (all-marks ts ++ all-marks us) ≡ all-marks rs = ap (λ (x : List Bool). marks t ++ x) (sym (all-marks-append ts us)) ∙ ap all-marks e in
+    ap (λ (m : List Bool). getD m (suc j) true) d
+    ∙ ap (λ (x : List Bool). getD x j true) (append-assoc (marks t) (marks-inside (nodes-of (forest ts))) (all-marks us))
+    ∙ run-made (marks t) (all-marks ts) (all-marks us) (nodes-of (forest ts)) j n
+    ∙ ap₂ (λ (x : List Bool) (b : Bool). getD x j true && not b) whole
+    (ap₂ (λ (x y : ℕ). leb x j && ltb j y) (sa ∙ ap size (sym first)) sb ∙ sym (h j)))
 
   operation-step :
       (b : Bool) → is-switch (kind-of w) ≡ b → (m : List Bool)

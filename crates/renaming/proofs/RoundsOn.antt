@@ -124,10 +124,10 @@ extract-parts target first a b =
     then-same (λ x. Unit {0}) (each g a) (λ x. each (λ c. replace-bound target (xname n) c) (by-number first b) >>= λ ls. done x ls)
     (λ x. each g b >>= λ y. ok (with-bound first x (y ++ (target ∷ [])))) (no-matter (each g a))
     (λ x u.
-    ap (λ (o : Outcome (List Binding)). o >>= λ ls. done x ls) (bound-each target n first b)
-    ∙ then-then (each g b) (λ y. ok (by-number first y)) (λ ls. done x ls)
-    ∙ then-same (λ (y : List Tree). length y ≡ length b) (each g b) (λ y. done x (by-number first y)) (λ y. ok (with-bound first x (y ++ (target ∷ [])))) (each-length g b)
-    (λ y l. let z : first + length y ≡ n = omega arith in ap ok (one-bound first n x y target z)))
+      ap (λ (o : Outcome (List Binding)). o >>= λ ls. done x ls) (bound-each target n first b)
+      ∙ then-then (each g b) (λ y. ok (by-number first y)) (λ ls. done x ls)
+      ∙ then-same (λ (y : List Tree). length y ≡ length b) (each g b) (λ y. done x (by-number first y)) (λ y. ok (with-bound first x (y ++ (target ∷ [])))) (each-length g b)
+      (λ y l. let z : first + length y ≡ n = omega arith in ap ok (one-bound first n x y target z)))
   where
     no-matter : {A : Type 0} (o : Outcome A) → Good (λ a. Unit {0}) o
     no-matter (ok a) = (unfold Good in tt)

@@ -68,7 +68,7 @@ module _ (rows ws : List ℕ) (at : ℕ) (S : Stands rows ws at) (h : 1 < kind-a
   begin p = record {
     few = omega arith;
     token = omega (arith, no-sizes);
-    written = writes-as [] (operands-text (kind-at ws at) 0 []) (sym (no-operands (kind-at ws at))) (writes-none (omega (arith, p .ends, writes-length p)));
+    written = writes-as [] (operands-text (kind-at ws at) 0 []) (sym (no-operands (kind-at ws at))) (writes-none (omega (arith, p .ends, writes-length p)))
   }
 
   -- the next operand
@@ -87,7 +87,7 @@ module _ (rows ws : List ℕ) (at : ℕ) (S : Stands rows ws at) (h : 1 < kind-a
     pub stands : Stands rows ws next
     stands = record {
       run = runs;
-      good = subst (λ (t : Tree). T (tree-ok t)) (sym is) (ok-at (under rows ws at) i (Op 0 nil) (and-right (operands-ok (kind-at ws at) (length (under rows ws at))) (trees-ok (under rows ws at)) tested) (omega (arith, many)));
+      good = subst (λ (t : Tree). T (tree-ok t)) (sym is) (ok-at (under rows ws at) i (Op 0 nil) (and-right (operands-ok (kind-at ws at) (length (under rows ws at))) (trees-ok (under rows ws at)) tested) (omega (arith, many)))
     }
 
     pub later : at < next
@@ -116,7 +116,7 @@ module _ (rows ws : List ℕ) (at : ℕ) (S : Stands rows ws at) (h : 1 < kind-a
           token = omega (arith, P .token, W .token, ap size is, ap sizes taken, sizes-append ts (t ∷ []), one-size t);
           written =
               writes-as (operands-text k 0 (map part ts) ++ operand-text k i (part t)) (operands-text k 0 (map part (take (i + 1) (under rows ws at)))) (sym texts)
-              (writes-then (W .written) (operand-written k i next (tree-here rows ws next) t is B P));
+              (writes-then (W .written) (operand-written k i next (tree-here rows ws next) t is B P))
         }
 
   -- after the last
@@ -135,5 +135,5 @@ module _ (rows ws : List ℕ) (at : ℕ) (S : Stands rows ws at) (h : 1 < kind-a
         token = omega (arith, W .token, ap sizes all, here-size rows ws at S);
         written =
             writes-as (opening k ++ (operands-text k 0 (map part (take i ts)) ++ closing k)) (display (tree-here rows ws at))
-            (ap (λ (l : List Tree). opening k ++ (operands-text k 0 (map part l) ++ closing k)) all ∙ sym whole) (writes-then O (writes-then (W .written) C));
+            (ap (λ (l : List Tree). opening k ++ (operands-text k 0 (map part l) ++ closing k)) all ∙ sym whole) (writes-then O (writes-then (W .written) C))
       }

@@ -179,7 +179,7 @@ module _ (rows ws : List ℕ) (at : ℕ) (S : Stands rows ws at) where
         let ok : T (symbol-ok n) = subst T (ap tree-ok is ∙ ok-symbol n) (S .good) in
         record {
           token = omega (arith, leaf-size (omega arith));
-          written = writes-as (low-bytes (name-text n)) (display (tree-here rows ws at)) (low-symbol n ok ∙ sym (ap display is ∙ display-symbol n)) p;
+          written = writes-as (low-bytes (name-text n)) (display (tree-here rows ws at)) (low-symbol n ok ∙ sym (ap display is ∙ display-symbol n)) p
         }
 
     pub constant-done : kind-of w ≡ 1 → Writes dry old to (integer (constant-at (below-of w))) new e → Passes dry old at to (tree-here rows ws at) (display (tree-here rows ws at)) new (at + 1) e
@@ -187,7 +187,7 @@ module _ (rows ws : List ℕ) (at : ℕ) (S : Stands rows ws at) where
         let is = here-is ∙ constant-tree (names rows) w kids h in
         record {
           token = omega (arith, leaf-size (omega arith));
-          written = writes-as (integer (constant-at (below-of w))) (display (tree-here rows ws at)) (sym (ap display is ∙ display-constant (constant-at (below-of w)))) p;
+          written = writes-as (integer (constant-at (below-of w))) (display (tree-here rows ws at)) (sym (ap display is ∙ display-constant (constant-at (below-of w)))) p
         }
 
 -- ---- a child's brackets

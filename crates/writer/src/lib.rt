@@ -202,16 +202,7 @@ fn expression(rows: &[u64], tokens: &[u64], at: usize, out: &mut [u8], dry: bool
 }
 
 // The child writer: operand `index` of an operation of kind `parent`.
-fn child(
-    rows: &[u64],
-    tokens: &[u64],
-    at: usize,
-    out: &mut [u8],
-    dry: bool,
-    to: usize,
-    parent: u64,
-    index: u64,
-) -> Pos
+fn child(rows: &[u64], tokens: &[u64], at: usize, out: &mut [u8], dry: bool, to: usize, parent: u64, index: u64) -> Pos
     requires { ⌜ Stands (now rows) (now tokens) at ⌝ }
     ensures { λ r. ⌜ Passes dry (now (out .entry)) at to (tree-here (now (rows .entry)) (now (tokens .entry)) at)
         (bracketed (brackets parent index (part (tree-here (now (rows .entry)) (now (tokens .entry)) at) .prec)) (display (tree-here (now (rows .entry)) (now (tokens .entry)) at)))
@@ -223,24 +214,14 @@ fn child(
         let open = emit::put(out, dry, to, b'(');
         let inner = expression(rows, tokens, at, out, dry, open);
         let e = emit::put(out, dry, inner.to, b')');
-        return Pos {
-            next: inner.next,
-            to: e,
-        };
+        return Pos { next: inner.next, to: e };
     }
     expression(rows, tokens, at, out, dry, to)
 }
 
 // The text of the tree at `at`, written from `to` on; Broken, and nothing written, where its words aren't all there or it isn't a tree of an answer. The node
 // rows have the names of the list's symbols. Where `dry` nothing is written and the places are the same.
-pub fn write_tree(
-    rows: &[u64],
-    tokens: &[u64],
-    at: usize,
-    out: &mut [u8],
-    dry: bool,
-    to: usize,
-) -> Text
+pub fn write_tree(rows: &[u64], tokens: &[u64], at: usize, out: &mut [u8], dry: bool, to: usize) -> Text
     ensures { λ r. ⌜ (r ≡ write-answer (now (rows .entry)) (now (tokens .entry)) at dry (now (out .entry)) to .answer)
         × (now (out .exit) ≡ write-answer (now (rows .entry)) (now (tokens .entry)) at dry (now (out .entry)) to .bytes) ⌝ }
 {
