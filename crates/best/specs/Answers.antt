@@ -1,4 +1,4 @@
--- What `best` answers (01, "Extraction"). Assumes nothing.
+-- What `best_place` answers (01, "Extraction"). Assumes nothing.
 use Prim.Native.Nat.{ℕ, _*_}
 use mathlib.Core.Bool.{Bool, true, false, _&&_}
 use mathlib.Core.Option.{Option, none, some}

@@ -196,7 +196,7 @@ fn has_room(words: usize, facts: usize, marks: usize, text: usize) -> bool
 }
 
 // The place of the best candidate among the trees that the words are. The facts, the marks and the text are worked in; what is left there is free.
-pub fn best(rows: &[u64], tokens: &[u64], scoped: bool, facts: &mut [u64], marks: &mut [u64], text: &mut [u8]) -> Best
+pub fn best_place(rows: &[u64], tokens: &[u64], scoped: bool, facts: &mut [u64], marks: &mut [u64], text: &mut [u8]) -> Best
     ensures { λ r. ⌜ r ≡ best-answer (now (rows .entry)) (now (tokens .entry)) scoped (length (now (facts .entry))) (length (now (marks .entry))) (length (now (text .entry))) ⌝ }
 {
     if !has_room(tokens.len(), facts.len(), marks.len(), text.len()) {
