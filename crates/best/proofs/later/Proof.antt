@@ -56,25 +56,25 @@ same-length : tie.Need-same-length
 same-length c = search needs
 
 returns-2 : tie.Need-returns-2
-returns-2 c = let rows = c .before .before .before .before .before .before .before .before .before .before .before .before .before .args .rows .now in let w = c .before .before .before .before .before .before .before .before .before .before .before .before .before .args .tokens .now in let p = c .before .before .before .before .before .before .before .before .before .before .before .before .before .args .place in let i = c .before .before .before .before .before .before .before .before .before .before .before .before .before .args .i in let hp = c .before .before .before .before .before .before .before .before .before .before .before .before .before .pre .1 .0 .0 in let hi = c .before .before .before .before .before .before .before .before .before .before .before .before .before .pre .1 .0 .1 in let f = c .before .before .before .before .before .before .before .before .before .before .before .before .before .pre .1 .1 .0 in is-later rows w p i _ _ (f .depth-at p hp) (f .depth-at i hi) _ (c .before .before .before .before .before .before .before .before .before .before .before .before .before .pre .0) (c .before .before .before .before .before .before .before .before .before .before .before .before .before .pre .1 .1 .1) (λ j. c .before .before .before .before .before .before .before .before .before .before .before .shared-slice-known2 .given j) hp hi (c .before .before .before .before .before .before .if1 .left) (sym (c .enum-told .given .1) ∙ c .before .before .before .before .before-at .ensures)
+returns-2 c = let rows = c .before .before .before .before .before .before .before .before .before .before .before .before .before .args .rows .now in let w = c .before .before .before .before .before .before .before .before .before .before .before .before .before .args .tokens .now in let p = c .before .before .before .before .before .before .before .before .before .before .before .before .before .args .place in let i = c .before .before .before .before .before .before .before .before .before .before .before .before .before .args .i in let hp = c .before .before .before .before .before .before .before .before .before .before .before .before .before .pre .1 .0 .0 in let hi = c .before .before .before .before .before .before .before .before .before .before .before .before .before .pre .1 .0 .1 in let f = c .before .before .before .before .before .before .before .before .before .before .before .before .before .pre .1 .1 .0 in is-later rows w p i _ _ (f .depth-at p hp) (f .depth-at i hi) _ (c .before .before .before .before .before .before .before .before .before .before .before .before .before .pre .0) (c .before .before .before .before .before .before .before .before .before .before .before .before .before .pre .1 .1 .1) (λ j. omega (arith, c .before .before .before .before .before .before .before .before .before .before .before .shared-slice-known2 .given j)) hp hi (c .before .before .before .before .before .before .if1 .left) (sym (c .enum-told .given .1) ∙ c .before .before .before .before .before-at .ensures)
 
 same-length-2 : tie.Need-same-length-2
 same-length-2 c = search needs
 
 returns-3 : tie.Need-returns-3
-returns-3 c = let rows = c .before .before .before .before .before .before .before .before .before .before .before .before .before .args .rows .now in let w = c .before .before .before .before .before .before .before .before .before .before .before .before .before .args .tokens .now in let p = c .before .before .before .before .before .before .before .before .before .before .before .before .before .args .place in let i = c .before .before .before .before .before .before .before .before .before .before .before .before .before .args .i in let hp = c .before .before .before .before .before .before .before .before .before .before .before .before .before .pre .1 .0 .0 in let hi = c .before .before .before .before .before .before .before .before .before .before .before .before .before .pre .1 .0 .1 in let f = c .before .before .before .before .before .before .before .before .before .before .before .before .before .pre .1 .1 .0 in not-later rows w p i _ _ (f .depth-at p hp) (f .depth-at i hi) _ (c .before .before .before .before .before .before .before .before .before .before .before .before .before .pre .0) (c .before .before .before .before .before .before .before .before .before .before .before .before .before .pre .1 .1 .1) (λ j. c .before .before .before .before .before .before .before .before .before .before .before .shared-slice-known2 .given j) hp hi (c .before .before .before .before .before .before .if1 .left) (sym (c .enum-told2 .given .1) ∙ c .before .before .before .before .before-at .ensures)
+returns-3 c = let rows = c .before .before .before .before .before .before .before .before .before .before .before .before .before .args .rows .now in let w = c .before .before .before .before .before .before .before .before .before .before .before .before .before .args .tokens .now in let p = c .before .before .before .before .before .before .before .before .before .before .before .before .before .args .place in let i = c .before .before .before .before .before .before .before .before .before .before .before .before .before .args .i in let hp = c .before .before .before .before .before .before .before .before .before .before .before .before .before .pre .1 .0 .0 in let hi = c .before .before .before .before .before .before .before .before .before .before .before .before .before .pre .1 .0 .1 in let f = c .before .before .before .before .before .before .before .before .before .before .before .before .before .pre .1 .1 .0 in not-later rows w p i _ _ (f .depth-at p hp) (f .depth-at i hi) _ (c .before .before .before .before .before .before .before .before .before .before .before .before .before .pre .0) (c .before .before .before .before .before .before .before .before .before .before .before .before .before .pre .1 .1 .1) (λ j. omega (arith, c .before .before .before .before .before .before .before .before .before .before .before .shared-slice-known2 .given j)) hp hi (c .before .before .before .before .before .before .if1 .left) (sym (c .enum-told2 .given .1) ∙ c .before .before .before .before .before-at .ensures)
 
 same-length-3 : tie.Need-same-length-3
 same-length-3 c = search needs
 
 returns-4 : tie.Need-returns-4
-returns-4 c = let rows = c .before .before .before .before .before .before .before .before .before .before .before .before .before .args .rows .now in let w = c .before .before .before .before .before .before .before .before .before .before .before .before .before .args .tokens .now in let p = c .before .before .before .before .before .before .before .before .before .before .before .before .before .args .place in let i = c .before .before .before .before .before .before .before .before .before .before .before .before .before .args .i in let hp = c .before .before .before .before .before .before .before .before .before .before .before .before .before .pre .1 .0 .0 in let hi = c .before .before .before .before .before .before .before .before .before .before .before .before .before .pre .1 .0 .1 in let f = c .before .before .before .before .before .before .before .before .before .before .before .before .before .pre .1 .1 .0 in absurd (no-broken rows w p i _ _ (f .depth-at p hp) (f .depth-at i hi) _ (c .before .before .before .before .before .before .before .before .before .before .before .before .before .pre .0) (c .before .before .before .before .before .before .before .before .before .before .before .before .before .pre .1 .1 .1) (λ j. c .before .before .before .before .before .before .before .before .before .before .before .shared-slice-known2 .given j) hp hi (c .before .before .before .before .before .before .if1 .left) (sym (c .enum-told3 .given .1) ∙ c .before .before .before .before .before-at .ensures))
+returns-4 c = let rows = c .before .before .before .before .before .before .before .before .before .before .before .before .before .args .rows .now in let w = c .before .before .before .before .before .before .before .before .before .before .before .before .before .args .tokens .now in let p = c .before .before .before .before .before .before .before .before .before .before .before .before .before .args .place in let i = c .before .before .before .before .before .before .before .before .before .before .before .before .before .args .i in let hp = c .before .before .before .before .before .before .before .before .before .before .before .before .before .pre .1 .0 .0 in let hi = c .before .before .before .before .before .before .before .before .before .before .before .before .before .pre .1 .0 .1 in let f = c .before .before .before .before .before .before .before .before .before .before .before .before .before .pre .1 .1 .0 in absurd (no-broken rows w p i _ _ (f .depth-at p hp) (f .depth-at i hi) _ (c .before .before .before .before .before .before .before .before .before .before .before .before .before .pre .0) (c .before .before .before .before .before .before .before .before .before .before .before .before .before .pre .1 .1 .1) (λ j. omega (arith, c .before .before .before .before .before .before .before .before .before .before .before .shared-slice-known2 .given j)) hp hi (c .before .before .before .before .before .before .if1 .left) (sym (c .enum-told3 .given .1) ∙ c .before .before .before .before .before-at .ensures))
 
 same-length-4 : tie.Need-same-length-4
 same-length-4 c = search needs
 
 returns-5 : tie.Need-returns-5
-returns-5 c = let rows = c .before .before .before .before .before .before .before .before .before .before .before .before .before .args .rows .now in let w = c .before .before .before .before .before .before .before .before .before .before .before .before .before .args .tokens .now in let p = c .before .before .before .before .before .before .before .before .before .before .before .before .before .args .place in let i = c .before .before .before .before .before .before .before .before .before .before .before .before .before .args .i in let hp = c .before .before .before .before .before .before .before .before .before .before .before .before .before .pre .1 .0 .0 in let hi = c .before .before .before .before .before .before .before .before .before .before .before .before .before .pre .1 .0 .1 in let f = c .before .before .before .before .before .before .before .before .before .before .before .before .before .pre .1 .1 .0 in absurd (no-short rows w p i _ _ (f .depth-at p hp) (f .depth-at i hi) _ (c .before .before .before .before .before .before .before .before .before .before .before .before .before .pre .0) (c .before .before .before .before .before .before .before .before .before .before .before .before .before .pre .1 .1 .1) (λ j. c .before .before .before .before .before .before .before .before .before .before .before .shared-slice-known2 .given j) hp hi (c .before .before .before .before .before .before .if1 .left) (sym (c .enum-told4 .given .1) ∙ c .before .before .before .before .before-at .ensures))
+returns-5 c = let rows = c .before .before .before .before .before .before .before .before .before .before .before .before .before .args .rows .now in let w = c .before .before .before .before .before .before .before .before .before .before .before .before .before .args .tokens .now in let p = c .before .before .before .before .before .before .before .before .before .before .before .before .before .args .place in let i = c .before .before .before .before .before .before .before .before .before .before .before .before .before .args .i in let hp = c .before .before .before .before .before .before .before .before .before .before .before .before .before .pre .1 .0 .0 in let hi = c .before .before .before .before .before .before .before .before .before .before .before .before .before .pre .1 .0 .1 in let f = c .before .before .before .before .before .before .before .before .before .before .before .before .before .pre .1 .1 .0 in absurd (no-short rows w p i _ _ (f .depth-at p hp) (f .depth-at i hi) _ (c .before .before .before .before .before .before .before .before .before .before .before .before .before .pre .0) (c .before .before .before .before .before .before .before .before .before .before .before .before .before .pre .1 .1 .1) (λ j. omega (arith, c .before .before .before .before .before .before .before .before .before .before .before .shared-slice-known2 .given j)) hp hi (c .before .before .before .before .before .before .if1 .left) (sym (c .enum-told4 .given .1) ∙ c .before .before .before .before .before-at .ensures))
 
 pub later-spec : {M : Type 1} → statement M
 later-spec =

@@ -66,7 +66,7 @@ sub-result : tie.Need-sub-result
 sub-result c = omega (arith, c .before .before .if3 .left)
 
 mul-result : tie.Need-mul-result
-mul-result c = let w = c .before .before .before .before .before .before .before .before .before .before .before .before .before .before .args .tokens .now in let scoped = c .before .before .before .before .before .before .before .before .before .before .before .before .before .before .args .scoped in let i = c .before .before .before .before .before .before .before .before .before .before .before .before .before .before .args .i in let h = c .before .before .before .before .before .before .before .before .before .before .before .before .before .before .pre .1 .0 .0 in let f = c .before .before .before .before .before .before .before .before .before .before .before .before .before .before .pre .1 .1 .0 in let u = uses-told w (c .before .before .before .before .before .before .before .before .before .before .before .before .before .before .pre .0) i h (c .before .before .before .before .uses .given .0 .0) (sym (c .before .before .before .before .uses .given .1) ∙ c .before .before .before .before .before .before .count-uses .ensures) in omega (arith, small-product (c .before .before .before .before .uses .given .0 .0 - 1) (getD (c .before .before .before .before .before .before .before .before .before .before .before .before .before .args .facts .now) (5 * i + 1) 0) (omega (arith, u, uses-few w (c .before .before .before .before .before .before .before .before .before .before .before .before .before .before .pre .0) i h, c .before .before .before .before .before .before .before .before .before .before .before .before .before .before .pre .1 .0 .1)) (omega (arith, f .cost-at i h, cost-few w (c .before .before .before .before .before .before .before .before .before .before .before .before .before .before .pre .0) i h, c .before .before .before .before .before .before .before .before .before .before .before .before .before .before .pre .1 .0 .1)))
+mul-result c = let w = c .before .before .before .before .before .before .before .before .before .before .before .before .before .before .args .tokens .now in let scoped = c .before .before .before .before .before .before .before .before .before .before .before .before .before .before .args .scoped in let i = c .before .before .before .before .before .before .before .before .before .before .before .before .before .before .args .i in let h = c .before .before .before .before .before .before .before .before .before .before .before .before .before .before .pre .1 .0 .0 in let f = c .before .before .before .before .before .before .before .before .before .before .before .before .before .before .pre .1 .1 .0 in let u = uses-told w (c .before .before .before .before .before .before .before .before .before .before .before .before .before .before .pre .0) i h (c .before .before .before .before .uses .given .0 .0) (sym (c .before .before .before .before .uses .given .1) ∙ c .before .before .before .before .before .before .count-uses .ensures) in omega (arith, small-product (c .before .before .before .before .uses .given .0 .0 - 1) (getD (c .before .before .before .before .before .before .before .before .before .before .before .before .before .before .args .facts .now) (5 * i + 1) 0) (omega (arith, u, uses-few w (c .before .before .before .before .before .before .before .before .before .before .before .before .before .before .pre .0) i h, c .before .before .before .before .before .before .before .before .before .before .before .before .before .before .pre .1 .0 .1)) (omega (arith, f .cost-at i h, cost-few w (c .before .before .before .before .before .before .before .before .before .before .before .before .before .before .pre .0) i h, c .before .before .before .before .before .before .before .before .before .before .before .before .before .before .pre .1 .0 .1)))
 
 returns-6 : tie.Need-returns-6
 returns-6 c = let w = c .before .before .before .before .before .before .before .before .before .before .before .before .before .before .args .tokens .now in let scoped = c .before .before .before .before .before .before .before .before .before .before .before .before .before .before .args .scoped in let i = c .before .before .before .before .before .before .before .before .before .before .before .before .before .before .args .i in let h = c .before .before .before .before .before .before .before .before .before .before .before .before .before .before .pre .1 .0 .0 in let f = c .before .before .before .before .before .before .before .before .before .before .before .before .before .before .pre .1 .1 .0 in let u = uses-told w (c .before .before .before .before .before .before .before .before .before .before .before .before .before .before .pre .0) i h (c .before .before .before .before .uses .given .0 .0) (sym (c .before .before .before .before .uses .given .1) ∙ c .before .before .before .before .before .before .count-uses .ensures) in saved w scoped i _ _ (c .before .before .before .before .uses .given .0 .0) (f .cost-at i h) (omega (arith, c .before .before .before .before .before .before .before .before .before .if1 .left)) (f .symbol-at i h) (omega (arith, c .before .before .before .before .before .before .before .if2 .left)) u (omega (arith, c .before .before .if3 .left)) (sym (not-false _ (c .if4 .left)) ∙ c .before .used-outside .ensures)
