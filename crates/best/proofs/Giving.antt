@@ -15,12 +15,14 @@ use Rattle.tree.proofs.Logic.{and-left, and-right}
 use Rattle.tree.proofs.TokenLaws.{trees-length}
 use Rattle.checked.specs.Check.{rows-in, word-ok}
 use Rattle.measure.specs.Measurement.{measured-by, measure-answer}
-use Rattle.measure.specs.declared.Measured.the-variants as measure
 use Rattle.measure.proofs.Places.{fact-is}
 use Rattle.measure.proofs.Filling.{all-facts-length}
 use Rattle.uses.specs.Marks.{Complete, is-marked, marks-of, Marking}
 use Rattle.uses.specs.Answers.{marked-by, mark-answer}
-use Rattle.uses.specs.declared.Marked.the-variants as marked
+use Rattle.uses.proofs.Runs.{how-many}
+use Rattle.uses.proofs.Marking.{marks-length, mark-at}
+use Rattle.tokens.specs.Answers.{count-answer}
+use Rattle.tokens.specs.declared.Trees.the-variants as trees
 use Rattle.renaming.specs.Places.{numbered-at, outside-at, best-place}
 use Rattle.best.specs.Leading.{HasFacts, HasMarks, Writable, leader-of, Leads}
 use Rattle.best.specs.Answers.{has-room, best-of, best-answer}
@@ -107,19 +109,59 @@ module _ (rows ws : List ℕ) (scoped : Bool) (f m t : ℕ) where
         ap (best-of true (some 0) true) (sym (ap (λ (b : Bool). mathlib.Core.Bool.cond b none (some p)) (ne-eqb s 0 z)) ∙ k .best)
         ∙ given (has-room (length ws) f m t) (trees-in ws) (every (word-ok (rows-in rows)) ws) (best-place ws (name-in (rows-in rows)) scoped) e c q
 
--- ---- what `measure` leaves
+-- ---- what `count_trees`, `measure` and `mark_outside` tell and leave
 
-measured : (ws old : List ℕ) → 5 * length ws ≤ length old → measure-answer ws old ≡ measured-by false (facts-of-words ws) (5 * length ws) old
-unfolding measure-answer
-measured ws old h = rw (le-ltb (length old) (5 * length ws) h)
+none-counted : (o : Option ℕ) → trees.Broken ≡ count-answer o → o ≡ none
+unfolding count-answer
+none-counted none e = refl
+none-counted (some n) e = absurd (let z : _≡_ {A = ℕ} 0 1 = cc in omega arith)
 
-module _ (ws old new : List ℕ) (h : 5 * length ws ≤ length old) where
-  pub not-measured : (measure.Done ≡ measure-answer ws old .answer → ⊥) → trees-in ws ≡ none
-  not-measured n = go (trees-in ws) refl
-    where
-      go : (o : Option ℕ) → trees-in ws ≡ o → trees-in ws ≡ none
-      go none e = e
-      go (some k) e = absurd (n (sym (done k e)))
-        where
-          done : (k : ℕ) → trees-in ws ≡ some k → measure-answer ws old .answer ≡ measure.Done
-          done k e = ?
+pub no-trees : (ws : List ℕ) → trees.Broken ≡ count-answer (trees-in ws) → trees-in ws ≡ none
+no-trees ws e = none-counted (trees-in ws) e
+
+facts-some : (ws : List ℕ) (n : ℕ) → trees-in ws ≡ some n → facts-of-words ws ≡ some (all-facts (trees-at numbered ws))
+unfolding facts-of-words
+facts-some ws n e = rw (e, facts-of-words)
+
+module _ (ws old new : List ℕ) (h : 5 * length ws ≤ length old) (c : Complete ws) (e : new ≡ measure-answer ws old .facts) where
+  facts-are : new ≡ all-facts (trees-at numbered ws) ++ drop (5 * length ws) old
+  unfolding measure-answer
+  facts-are = let m = how-many (trees-in ws) c in e ∙ rw (le-ltb (length old) (5 * length ws) h, facts-some ws (m .0) (m .1))
+
+  fact-at : (i k : ℕ) → i < length ws → k < 5 → getD new (5 * i + k) 0 ≡ getD (facts (numbered-at ws i)) k 0
+  unfolding numbered-at
+  fact-at i k g l = ap (λ (x : List ℕ). getD x (5 * i + k) 0) facts-are ∙ fact-is ws (drop (5 * length ws) old) i k g l
+
+  pub facts-left : HasFacts ws new
+  unfolding facts
+  facts-left =
+      record {
+        long = omega (arith, ap length facts-are, length-append (all-facts (trees-at numbered ws)) (drop (5 * length ws) old), length-drop (5 * length ws) old, all-facts-length (trees-at numbered ws), trees-length numbered ws);
+        cost-at = λ i g. fact-at i 1 g (omega arith);
+        depth-at = λ i g. fact-at i 2 g (omega arith);
+        symbol-at = λ i g. fact-at i 4 g (omega arith);
+      }
+
+flag-back : (b : Bool) → leb 1 (flag b) ≡ b
+unfolding flag
+flag-back true = refl
+flag-back false = refl
+
+module _ (ws : List ℕ) (scoped : Bool) (old new : List ℕ) (h : length ws ≤ length old) (c : Complete ws) (e : new ≡ mark-answer ws scoped old .marks) where
+  marks-are : new ≡ marks-of (outside-at ws scoped) 0 (length ws) ++ drop (length ws) old
+  unfolding mark-answer
+  marks-are = let m = how-many (trees-in ws) c in e ∙ rw (le-ltb (length old) (length ws) h, m .1)
+
+  pub marks-left : HasMarks ws scoped new
+  unfolding is-marked
+  marks-left =
+      let test = outside-at ws scoped in
+      let l = marks-of test 0 (length ws) in
+      let n = marks-length test 0 (length ws) in
+      record {
+        long = omega (arith, ap length marks-are, length-append l (drop (length ws) old), n);
+        marked = λ j g.
+            let z : 0 + j ≡ j = omega arith in
+            ap (leb 1) (ap (λ (x : List ℕ). getD x j 0) marks-are ∙ (List·getD-append l (drop (length ws) old) 0 j (omega (arith, n)) ∙ (mark-at test 0 (length ws) j g ∙ ap (λ (k : ℕ). flag (test k)) z)))
+            ∙ flag-back (test j);
+      }

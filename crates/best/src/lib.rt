@@ -13,11 +13,11 @@ ghost use Rattle.best.specs.Leading.{HasFacts, HasMarks, Writable, Lead,
 ghost use Rattle.best.specs.Answers.{has-room, best-answer};
 use checked::Checked;
 use checked::tree_ok;
-use measure::Measured;
 use measure::measure;
 use textorder::TextOrder;
 use textorder::before_at;
-use uses::Marked;
+use tokens::Trees;
+use tokens::count_trees;
 use uses::Uses;
 use uses::count_marked;
 use uses::count_uses;
@@ -202,12 +202,11 @@ pub fn best_place(rows: &[u64], tokens: &[u64], scoped: bool, facts: &mut [u64],
     if !has_room(tokens.len(), facts.len(), marks.len(), text.len()) {
         return Best::NoRoom;
     }
-    let Measured::Done = measure(tokens, facts) else {
+    let Trees::Count(_) = count_trees(tokens) else {
         return Best::Broken;
     };
-    let Marked::Done = mark_outside(tokens, scoped, marks) else {
-        return Best::Broken;
-    };
+    measure(tokens, facts);
+    mark_outside(tokens, scoped, marks);
     if !words_pass(rows, tokens) {
         return Best::Broken;
     }

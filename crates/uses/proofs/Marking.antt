@@ -238,12 +238,12 @@ marking-ends {ws} {old} {new} {p} k g h = let z : p ≡ length ws = omega arith 
 
 -- ---- the marks as a list
 
-marks-length : (test : ℕ → Bool) (i n : ℕ) → length (marks-of test i n) ≡ n
+pub marks-length : (test : ℕ → Bool) (i n : ℕ) → length (marks-of test i n) ≡ n
 unfolding marks-of
 marks-length test i zero = refl
 marks-length test i (suc n) = ap suc (marks-length test (suc i) n)
 
-mark-at : (test : ℕ → Bool) (i n j : ℕ) → j < n → getD (marks-of test i n) j 0 ≡ flag (test (i + j))
+pub mark-at : (test : ℕ → Bool) (i n j : ℕ) → j < n → getD (marks-of test i n) j 0 ≡ flag (test (i + j))
 unfolding marks-of
 mark-at test i zero j h = absurd (omega arith)
 mark-at test i (suc n) zero h = let z : i ≡ i + 0 = omega arith in ap (λ (k : ℕ). flag (test k)) z
