@@ -112,7 +112,14 @@ fn savings_of(tokens: &[u64], scoped: bool, facts: &[u64], marks: &[u64], i: usi
 }
 
 // Of two places that save as much: whether the second is deeper, or as deep with a later text.
-fn later(rows: &[u64], tokens: &[u64], facts: &[u64], text: &mut [u8], place: usize, i: usize) -> bool
+fn later(
+    rows: &[u64],
+    tokens: &[u64],
+    facts: &[u64],
+    text: &mut [u8],
+    place: usize,
+    i: usize,
+) -> bool
     requires { ⌜ Complete (now tokens) ⌝ }
     requires { ⌜ (place < length (now tokens)) × (i < length (now tokens)) ⌝ }
     requires { ⌜ HasFacts (now tokens) (now facts) ⌝ }
@@ -136,7 +143,16 @@ fn later(rows: &[u64], tokens: &[u64], facts: &[u64], text: &mut [u8], place: us
 }
 
 // The leader after the place i was met.
-fn met(rows: &[u64], tokens: &[u64], scoped: bool, facts: &[u64], marks: &[u64], text: &mut [u8], leader: Leader, i: usize) -> Leader
+fn met(
+    rows: &[u64],
+    tokens: &[u64],
+    scoped: bool,
+    facts: &[u64],
+    marks: &[u64],
+    text: &mut [u8],
+    leader: Leader,
+    i: usize,
+) -> Leader
     requires { ⌜ Complete (now tokens) ⌝ }
     requires { ⌜ (i < length (now tokens)) × (length (now tokens) ≤ 1000000) ⌝ }
     requires { ⌜ HasFacts (now tokens) (now facts) ⌝ }
@@ -162,7 +178,14 @@ fn met(rows: &[u64], tokens: &[u64], scoped: bool, facts: &[u64], marks: &[u64],
 }
 
 // The leader after every place.
-fn search(rows: &[u64], tokens: &[u64], scoped: bool, facts: &[u64], marks: &[u64], text: &mut [u8]) -> Leader
+fn search(
+    rows: &[u64],
+    tokens: &[u64],
+    scoped: bool,
+    facts: &[u64],
+    marks: &[u64],
+    text: &mut [u8],
+) -> Leader
     requires { ⌜ Complete (now tokens) ⌝ }
     requires { ⌜ length (now tokens) ≤ 1000000 ⌝ }
     requires { ⌜ HasFacts (now tokens) (now facts) ⌝ }
@@ -170,7 +193,10 @@ fn search(rows: &[u64], tokens: &[u64], scoped: bool, facts: &[u64], marks: &[u6
     requires { ⌜ Writable (now rows) (now tokens) (length (now text)) ⌝ }
     ensures { λ r. ⌜ Leads (now (rows .entry)) (now (tokens .entry)) scoped (r .place) (r .savings) ⌝ }
 {
-    let mut leader = Leader { place: 0, savings: 0 };
+    let mut leader = Leader {
+        place: 0,
+        savings: 0,
+    };
     let mut i = 0;
     while i < tokens.len() {
         leader = met(rows, tokens, scoped, facts, marks, text, leader, i);
@@ -196,7 +222,14 @@ fn has_room(words: usize, facts: usize, marks: usize, text: usize) -> bool
 }
 
 // The place of the best candidate among the trees that the words are. The facts, the marks and the text are worked in; what is left there is free.
-pub fn best_place(rows: &[u64], tokens: &[u64], scoped: bool, facts: &mut [u64], marks: &mut [u64], text: &mut [u8]) -> Best
+pub fn best_place(
+    rows: &[u64],
+    tokens: &[u64],
+    scoped: bool,
+    facts: &mut [u64],
+    marks: &mut [u64],
+    text: &mut [u8],
+) -> Best
     ensures { λ r. ⌜ r ≡ best-answer (now (rows .entry)) (now (tokens .entry)) scoped (length (now (facts .entry))) (length (now (marks .entry))) (length (now (text .entry))) ⌝ }
 {
     if !has_room(tokens.len(), facts.len(), marks.len(), text.len()) {
@@ -212,5 +245,9 @@ pub fn best_place(rows: &[u64], tokens: &[u64], scoped: bool, facts: &mut [u64],
     }
     let leader = search(rows, tokens, scoped, facts, marks, text);
     let place = leader.place;
-    if leader.savings == 0 { Best::Nothing } else { Best::At(place) }
+    if leader.savings == 0 {
+        Best::Nothing
+    } else {
+        Best::At(place)
+    }
 }
