@@ -95,9 +95,6 @@ module _ (ws : List ℕ) (c : Complete ws) (i : ℕ) (h : i < length ws) where
   uses-there e = let m = how-many (trees-in ws) c in count-there (trees-in ws) (ltb i (length ws)) (uses-at ws i) (m .0) (m .1) (lt-ltb i (length ws) h) e
 
   module _ (scoped : Bool) (marks : List ℕ) (k : HasMarks ws scoped marks) where
-    outside : Bool
-    outside = leb 1 (equal-places ws (outside-at ws scoped) i (length ws))
-
     both : (ltb i (length ws) && leb (length ws) (length marks)) ≡ true
     both = rw (lt-ltb i (length ws) h, le-leb (length ws) (length marks) (k .long))
 
@@ -206,9 +203,6 @@ never-short true e = let z : _≡_ {A = ℕ} 0 1 = cc in omega arith
 never-short false e = let z : _≡_ {A = ℕ} 0 1 = cc in omega arith
 
 module _ (rows ws : List ℕ) (i j a b : ℕ) (ea : a ≡ depth (numbered-at ws i)) (eb : b ≡ depth (numbered-at ws j)) where
-  text-first : Bool
-  text-first = before (text-at ws (name-in (rows-in rows)) i) (text-at ws (name-in (rows-in rows)) j)
-
   pub depth-decides : (a ≡ b → ⊥) → ltb a b ≡ later-at rows ws i j
   unfolding later-at
   depth-decides n =
