@@ -12,7 +12,7 @@ use lib.Seq.{getD-drop}
 use lib.Dec.{T, eqb, leb, ltb, leb→le, ltb→lt, lt→ltb}
 use Rattle.tree.specs.Bytes.{bytes, decimal, integer, every}
 use Rattle.tree.specs.Tree.{Name, input, xname, mname, Tree, Forest, Sym, Const, Op, nil, _◂_, fold, folds, forest}
-use Rattle.tree.specs.Kinds.{Kind, kinds, kind-at, printed-name, Neg, Add, Sub, Mul, Div, Pow}
+use Rattle.tree.specs.Kinds.{Kind, kinds, kind-at, printed-name, Neg, Div, Pow}
 use Rattle.tree.specs.Facts.{total, size}
 use Rattle.tree.specs.Symbol.{is-name, is-letter, is-digit, is-made}
 use Rattle.tree.specs.Passes.{of-paper, operands-ok, symbol-ok, all-of, tree-ok}
