@@ -1,0 +1,4 @@
+pub mod Dividing
+pub mod Searching
+pub mod Turning
+pub mod Chaining

@@ -1,0 +1,65 @@
+-- `outside::copy` meets its contract: the first i words are copied. Assumes nothing.
+use Prim.Native.Nat.{_≤_, _-_}
+use mathlib.Core.Path.{_≡_, refl}
+use mathlib.Core.List.{_++_}
+use native.Mathlib.Omega.{arith}
+use lib.ListN.{length, take, drop}
+use Rattle.outside.proofs.Copying.{copy-long, copy-turn, copy-ends}
+use borrow.Author.Needs.{needs}
+use Rattle.outside.proofs.copy.Statement.{statement}
+use Rattle.outside.proofs.copy.Tie as tie
+use Rattle.outside.proofs.copy.Reads as reads
+use Rattle.outside.proofs.copy.Lts as lts
+
+abbrev Inv-loop : tie.InvT-loop
+Inv-loop s out₀ i₀ out i = (i ≤ length s) × (out ≡ take i s ++ drop i out₀)
+
+abbrev μ-loop : tie.MeasureT-loop
+μ-loop s out₀ i₀ out i = length s - i
+
+loop-holds : tie.Need-loop-holds Inv-loop μ-loop
+loop-holds c = (omega arith, refl)
+
+mul-out : tie.Need-mul-out Inv-loop μ-loop
+mul-out c = search needs
+
+shared-slice-read-out : tie.Need-shared-slice-read-out Inv-loop μ-loop
+shared-slice-read-out c = search needs
+
+mul-out-2 : tie.Need-mul-out-2 Inv-loop μ-loop
+mul-out-2 c = search needs
+
+slice-write-out : tie.Need-slice-write-out Inv-loop μ-loop
+slice-write-out c = omega (arith, copy-long (c .before .before .before .args .s .now) (c .before .before .before .args .out .now) (c .before .before .loop .out) (c .before .before .loop .i) (c .before .before .before .pre) (c .before .before .loop .inv .0) (c .before .before .loop .inv .1), c .before .before .before .pre)
+
+add-i : tie.Need-add-i Inv-loop μ-loop
+add-i c = search needs
+
+loop-less : tie.Need-loop-less Inv-loop μ-loop
+loop-less c = search needs
+
+loop-again : tie.Need-loop-again Inv-loop μ-loop
+loop-again c = (omega arith, copy-turn (c .before .before .before .args .s .now) (c .before .before .before .args .out .now) (c .before .before .loop .out) (c .before .before .loop .i) (c .before .before .before .pre) (c .before .loop-test .taken) (c .before .before .loop .inv .1))
+
+same-length : tie.Need-same-length Inv-loop μ-loop
+same-length c = copy-long (c .before .before .args .s .now) (c .before .before .args .out .now) (c .before .loop .out) (c .before .loop .i) (c .before .before .pre) (c .before .loop .inv .0) (c .before .loop .inv .1)
+
+returns : tie.Need-returns Inv-loop μ-loop
+returns c = copy-ends (c .before .before .args .s .now) (c .before .before .args .out .now) (c .before .loop .out) (c .before .loop .i) (c .before .loop .inv .0) (c .loop-test .left) (c .before .loop .inv .1)
+
+pub copy-spec : {M : Type 1} → statement M
+copy-spec =
+    tie.close
+    (tie.spec
+    Inv-loop
+    μ-loop
+    loop-holds
+    mul-out
+    shared-slice-read-out
+    mul-out-2
+    slice-write-out
+    add-i
+    loop-less
+    loop-again
+    same-length
+    returns)
