@@ -132,6 +132,13 @@ module _ (rows : List Row) (ws : List ℕ) (scoped : Bool) (at name : ℕ) (h : 
       pub room : (n : ℕ) → q ≡ replaced.Words n → n + (end - at) ≤ length ws
       room n w = let d = wrote n w in omega (arith, d .count, fewer (d .new) (d .is), length-append (d .new) part, part-long)
 
+      -- what the run is appended in
+      pub put-room : (n : ℕ) → q ≡ replaced.Words n → length ws ≤ length old → n + length part ≤ length mid
+      put-room n w lw =
+          let d = wrote n w in
+          let fit = room n w in
+          omega (arith, ap length (d .words), length-append (d .new) (drop n old), length-drop n old, d .count, fit, part-long)
+
       pub done : (n : ℕ) → q ≡ replaced.Words n → length ws ≤ length old → (out : List ℕ) → Put mid n part out → Extracts ws at name old (replaced.Words (n + (end - at))) out
       done n w lw out two =
           let d = wrote n w in

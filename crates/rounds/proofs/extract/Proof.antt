@@ -4,7 +4,7 @@ use mathlib.Core.Path.{refl, sym, _∙_}
 use lib.ListN.{length}
 use borrow.Author.Needs.{needs}
 use Rattle.checked.specs.Check.{rows-in}
-use Rattle.rounds.proofs.Extracting.{not-broken, within, part-long, room, done, refuses, no-broken, no-room}
+use Rattle.rounds.proofs.Extracting.{not-broken, within, put-room, room, done, refuses, no-broken, no-room}
 use Rattle.rounds.proofs.extract.Statement.{statement}
 use Rattle.rounds.proofs.extract.Tie as tie
 use Rattle.rounds.proofs.extract.Reads as reads
@@ -26,13 +26,13 @@ returns : tie.Need-returns
 returns c = let a = c .before .before .before .before .before .before .args in not-broken (rows-in (a .rows .now)) (a .tokens .now) (a .scoped) (a .at) (a .name) (c .before .before .before .before .before .before .pre .0) (sym (c .enum-told .given .1) ∙ c .before .before .end-of .ensures)
 
 mul-word : tie.Need-mul-word
-mul-word c = omega (arith, c .before .before .before .before .before .before .before .pre .1 .1 .0)
+mul-word c = omega (arith, c .before .before .before .before .before .before .before .pre .1 .1)
 
 add-word : tie.Need-add-word
-add-word c = omega (arith, c .before .before .before .before .before .before .before .pre .1 .1 .0)
+add-word c = omega (arith, c .before .before .before .before .before .before .before .pre .1 .1)
 
 mul-word-2 : tie.Need-mul-word-2
-mul-word-2 c = omega (arith, c .before .before .before .before .before .before .before .pre .1 .1 .0)
+mul-word-2 c = omega (arith, c .before .before .before .before .before .before .before .pre .1 .1)
 
 mul-replace : tie.Need-mul-replace
 mul-replace c = let a = c .before .before .before .before .before .before .before .args in let w = within (rows-in (a .rows .now)) (a .tokens .now) (a .scoped) (a .at) (a .name) (c .before .before .before .before .before .before .before .pre .0) (c .before .end .given .0 .0) (sym (c .before .end .given .1) ∙ c .before .before .before .end-of .ensures) in omega (arith, w, c .before .before .before .before .before .before .before .pre .1 .0)
@@ -68,7 +68,7 @@ part-put-end : tie.Need-part-put-end
 part-put-end c = let a = c .before .before .before .before .before .before .before .before .before .before .before .before .before .before .before .before .before .args in let w = within (rows-in (a .rows .now)) (a .tokens .now) (a .scoped) (a .at) (a .name) (c .before .before .before .before .before .before .before .before .before .before .before .before .before .before .before .before .before .pre .0) (c .before .before .before .before .before .before .before .before .before .before .before .end .given .0 .0) (sym (c .before .before .before .before .before .before .before .before .before .before .before .end .given .1) ∙ c .before .before .before .before .before .before .before .before .before .before .before .before .before .end-of .ensures) in w .1
 
 put-requires : tie.Need-put-requires
-put-requires c κs = ?
+put-requires c κs = let a = c .before .before .before .before .before .before .before .before .before .before .before .before .before .before .before .before .before .before .before .args in put-room (rows-in (a .rows .now)) (a .tokens .now) (a .scoped) (a .at) (a .name) (c .before .before .before .before .before .before .before .before .before .before .before .before .before .before .before .before .before .before .before .pre .0) (c .before .before .before .before .before .before .before .before .before .before .before .before .before .end .given .0 .0) (sym (c .before .before .before .before .before .before .before .before .before .before .before .before .before .end .given .1) ∙ c .before .before .before .before .before .before .before .before .before .before .before .before .before .before .before .end-of .ensures) (c .before .before .before .before .before .before .before .before .replace .result) _ _ _ (c .before .before .before .before .before .before .before .before .replace .ensures) (c .before .before .before .replaced .given .0 .0) (c .before .before .before .replaced .given .1) (c .before .before .before .before .before .before .before .before .before .before .before .before .before .before .before .before .before .before .before .pre .1 .2)
 
 sub-t26 : tie.Need-sub-t26
 sub-t26 c = let a = c .before .before .before .before .before .before .before .before .before .before .before .before .before .before .before .before .before .before .before .before .before .before .args in let w = within (rows-in (a .rows .now)) (a .tokens .now) (a .scoped) (a .at) (a .name) (c .before .before .before .before .before .before .before .before .before .before .before .before .before .before .before .before .before .before .before .before .before .before .pre .0) (c .before .before .before .before .before .before .before .before .before .before .before .before .before .before .before .before .end .given .0 .0) (sym (c .before .before .before .before .before .before .before .before .before .before .before .before .before .before .before .before .end .given .1) ∙ c .before .before .before .before .before .before .before .before .before .before .before .before .before .before .before .before .before .before .end-of .ensures) in w .0
@@ -89,7 +89,7 @@ same-length : tie.Need-same-length
 same-length c = search needs
 
 returns-2 : tie.Need-returns-2
-returns-2 c = let a = c .before .before .before .before .before .before .before .before .before .before .before .before .before .before .before .before .before .before .before .before .before .before .args in done (rows-in (a .rows .now)) (a .tokens .now) (a .scoped) (a .at) (a .name) (c .before .before .before .before .before .before .before .before .before .before .before .before .before .before .before .before .before .before .before .before .before .before .pre .0) (c .before .before .before .before .before .before .before .before .before .before .before .before .before .before .before .before .end .given .0 .0) (sym (c .before .before .before .before .before .before .before .before .before .before .before .before .before .before .before .before .end .given .1) ∙ c .before .before .before .before .before .before .before .before .before .before .before .before .before .before .before .before .before .before .end-of .ensures) (c .before .before .before .before .before .before .before .before .before .before .before .replace .result) _ _ _ (c .before .before .before .before .before .before .before .before .before .before .before .replace .ensures) (c .before .before .before .before .before .before .replaced .given .0 .0) (c .before .before .before .before .before .before .replaced .given .1) (c .before .before .before .before .before .before .before .before .before .before .before .before .before .before .before .before .before .before .before .before .before .before .pre .1 .1 .1) _ (c .before .before .put .ensures)
+returns-2 c = let a = c .before .before .before .before .before .before .before .before .before .before .before .before .before .before .before .before .before .before .before .before .before .before .args in done (rows-in (a .rows .now)) (a .tokens .now) (a .scoped) (a .at) (a .name) (c .before .before .before .before .before .before .before .before .before .before .before .before .before .before .before .before .before .before .before .before .before .before .pre .0) (c .before .before .before .before .before .before .before .before .before .before .before .before .before .before .before .before .end .given .0 .0) (sym (c .before .before .before .before .before .before .before .before .before .before .before .before .before .before .before .before .end .given .1) ∙ c .before .before .before .before .before .before .before .before .before .before .before .before .before .before .before .before .before .before .end-of .ensures) (c .before .before .before .before .before .before .before .before .before .before .before .replace .result) _ _ _ (c .before .before .before .before .before .before .before .before .before .before .before .replace .ensures) (c .before .before .before .before .before .before .replaced .given .0 .0) (c .before .before .before .before .before .before .replaced .given .1) (c .before .before .before .before .before .before .before .before .before .before .before .before .before .before .before .before .before .before .before .before .before .before .pre .1 .2) _ (c .before .before .put .ensures)
 
 same-length-2 : tie.Need-same-length-2
 same-length-2 c = search needs
@@ -107,7 +107,7 @@ same-length-4 : tie.Need-same-length-4
 same-length-4 c = search needs
 
 returns-5 : tie.Need-returns-5
-returns-5 c = let a = c .before .before .before .before .before .before .before .before .before .before .before .before .before .before .before .before .args in no-room (rows-in (a .rows .now)) (a .tokens .now) (a .scoped) (a .at) (a .name) (c .before .before .before .before .before .before .before .before .before .before .before .before .before .before .before .before .pre .0) (c .before .before .before .before .before .before .before .before .before .before .end .given .0 .0) (sym (c .before .before .before .before .before .before .before .before .before .before .end .given .1) ∙ c .before .before .before .before .before .before .before .before .before .before .before .before .end-of .ensures) (c .before .before .before .before .before .replace .result) _ _ 2048 (c .before .before .before .before .before .replace .ensures) (c .enum-told4 .given .1) refl (c .before .before .before .before .before .before .before .before .before .before .before .before .before .before .before .before .pre .1 .0) (c .before .before .before .before .before .before .before .before .before .before .before .before .before .before .before .before .pre .1 .1 .1)
+returns-5 c = let a = c .before .before .before .before .before .before .before .before .before .before .before .before .before .before .before .before .args in no-room (rows-in (a .rows .now)) (a .tokens .now) (a .scoped) (a .at) (a .name) (c .before .before .before .before .before .before .before .before .before .before .before .before .before .before .before .before .pre .0) (c .before .before .before .before .before .before .before .before .before .before .end .given .0 .0) (sym (c .before .before .before .before .before .before .before .before .before .before .end .given .1) ∙ c .before .before .before .before .before .before .before .before .before .before .before .before .end-of .ensures) (c .before .before .before .before .before .replace .result) _ _ 2048 (c .before .before .before .before .before .replace .ensures) (c .enum-told4 .given .1) refl (c .before .before .before .before .before .before .before .before .before .before .before .before .before .before .before .before .pre .1 .0) (c .before .before .before .before .before .before .before .before .before .before .before .before .before .before .before .before .pre .1 .2)
 
 pub extract-spec : {M : Type 1} → statement M
 extract-spec =

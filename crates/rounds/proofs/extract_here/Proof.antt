@@ -22,13 +22,13 @@ slice-aggregate-extract-2 : tie.Need-slice-aggregate-extract-2
 slice-aggregate-extract-2 c = search needs
 
 extract-requires : tie.Need-extract-requires
-extract-requires c κs = let a = c .before .before .before .before .args in let l = length-take-le (a .len) (a .tokens .now) (c .before .before .before .before .pre .1 .0) in (c .before .before .before .before .pre .0, (omega (arith, l, c .before .before .before .before .pre .1 .1 .0), c .before .before .before .before .pre .1 .1 .1, omega (arith, l, c .before .before .before .before .pre .1 .1 .0)))
+extract-requires c κs = let a = c .before .before .before .before .args in let l = length-take-le (a .len) (a .tokens .now) (c .before .before .before .before .pre .1 .0) in (c .before .before .before .before .pre .0, (omega (arith, l, c .before .before .before .before .pre .1 .1), c .before .before .before .before .pre .1 .2, omega (arith, l, c .before .before .before .before .pre .1 .1)))
 
 enum-known-made : tie.Need-enum-known-made
 enum-known-made c = search needs
 
 array-share-prefix-out : tie.Need-array-share-prefix-out
-array-share-prefix-out c = let a = c .before .before .before .before .before .before .before .before .before .args in let m = made-most (a .tokens .now) (a .len) (a .at) (a .name) (c .before .before .before .before .before .before .before .before .before .pre .1 .0) _ _ (c .before .before .before .before .extract .result) (c .before .before .before .before .extract .ensures) (c .before .made .given .0 .0) (c .before .made .given .1) in omega (arith, m, c .before .before .before .before .before .before .before .before .before .pre .1 .1 .0)
+array-share-prefix-out c = let a = c .before .before .before .before .before .before .before .before .before .args in let m = made-most (a .tokens .now) (a .len) (a .at) (a .name) (c .before .before .before .before .before .before .before .before .before .pre .1 .0) _ _ (c .before .before .before .before .extract .result) (c .before .before .before .before .extract .ensures) (c .before .made .given .0 .0) (c .before .made .given .1) in omega (arith, m, c .before .before .before .before .before .before .before .before .before .pre .1 .1)
 
 slice-aggregate-put : tie.Need-slice-aggregate-put
 slice-aggregate-put c = let a = c .before .before .before .before .before .before .before .before .before .before .args in made-long (a .tokens .now) (a .len) (a .at) (a .name) (c .before .before .before .before .before .before .before .before .before .before .pre .1 .0) _ _ (c .before .before .before .before .before .extract .result) (c .before .before .before .before .before .extract .ensures) (c .before .before .made .given .0 .0) (c .before .before .made .given .1)
