@@ -160,7 +160,10 @@ module _ (rows : List Row) (old : List ℕ) (len : ℕ) (scoped : Bool) (first t
     the-same s g r q out now a b h =
         subst (λ (l : List ℕ). After s g tokens words made q l) (a .1 ∙ sym (b .1)) (subst (λ (x : Round). After s g tokens words made x out) (a .0 ∙ sym (b .0)) h)
 
-    module _ (q : Round) (now : List ℕ) (is : Round-is q now) where
+    module _ (q : Round) (now : List ℕ) (lent : ℕ) (as-lent : lent ≡ text) (given : Is rows tokens words scoped (first + made) lent q now) where
+      is : Round-is q now
+      is = subst (λ (t : ℕ). Is rows tokens words scoped (first + made) t q now) as-lent given
+
       turned-none : (g : Bool) → short ≡ true → State true g tokens words made → After true g tokens words made q now
       unfolding rounds-by
       turned-none g e (a, b, c) =
