@@ -1,6 +1,5 @@
 -- Chains of steps put together. Assumes nothing.
-use Prim.Native.Nat.{ℕ, zero, suc}
-use mathlib.Core.Path.{_≡_, refl, sym, _∙_, ap, ap₂, subst}
+use mathlib.Core.Path.{_≡_, refl, ap}
 use mathlib.Core.List.{List, [], _∷_, _++_}
 use Rattle.tree.specs.Outcome.{Outcome, ok, refused, _>>=_, each}
 

@@ -1,19 +1,18 @@
 -- `replace` is the closed form, for trees with as many operands as their kinds have, a target with a symbol, and a name that it doesn't hold. Assumes nothing.
-use Prim.Native.Nat.{ℕ, zero, suc, _+_, _≤_}
+use Prim.Native.Nat.{ℕ, zero, suc, _≤_}
 use mathlib.Core.Path.{_≡_, refl, sym, _∙_, ap, ap₂, subst}
 use mathlib.Core.Bool.{Bool, true, false, not, _&&_}
 use mathlib.Core.Logic.{_⊎_, inl, inr}
 use mathlib.Core.Option.{Option, none, some}
 use mathlib.Core.List.{List, [], _∷_, _++_, append-assoc, append-nil}
 use native.Mathlib.Omega.{arith}
-use lib.IntN.{ℤ}
 use lib.Dec.{T, eqb, eqb→eq}
 use lib.ListN.{length}
 use lib.Ieee.{Float}
-use Rattle.tree.specs.Outcome.{Outcome, ok, refused, _>>=_, each}
+use Rattle.tree.specs.Outcome.{Outcome, ok, _>>=_, each}
 use Rattle.tree.specs.Tree.{Name, Tree, Forest, Sym, Const, Op, nil, _◂_, folds, eq-tree, eq-name}
 use Rattle.tree.specs.Kinds.{Neg, Mul, arity-ok}
-use Rattle.tree.specs.Facts.{count, nodes, has-symbol, some-of}
+use Rattle.tree.specs.Facts.{count, has-symbol, some-of}
 use Rattle.tree.proofs.Formed.{operand-count, well-formed, well-formed-each}
 use Rattle.tree.proofs.TreeLaws.{eq-tree-sound, eq-tree-refl, eq-name-refl}
 use Rattle.tree.proofs.Logic.{and-left, and-right}

@@ -14,20 +14,20 @@ use lib.Ieee as Ieee
 use lib.Ieee.{Float}
 use Rattle.tree.specs.Outcome.{Outcome, ok, refused, _>>=_, each}
 use Rattle.tree.specs.Tree.{Name, Tree, Forest, Sym, Const, Op, nil, _◂_, eq-tree, eq-int}
-use Rattle.tree.specs.Kinds.{Neg, Mul, arity-ok}
+use Rattle.tree.specs.Kinds.{Neg, Mul}
 use Rattle.tree.specs.Facts.{size, count}
-use Rattle.tree.proofs.Formed.{operand-count, well-formed, well-formed-each}
+use Rattle.tree.proofs.Formed.{well-formed}
 use Rattle.tree.proofs.TreeLaws.{eq-tree-sound, eq-tree-refl, eq-int-sound}
-use Rattle.tree.proofs.Logic.{and-left, and-right, and-both}
+use Rattle.tree.proofs.Logic.{and-left, and-both}
 use Rattle.tree.proofs.Tests.{is-true}
-use Rattle.rewrite.specs.Rewrite.{Factors, one, flatten-mul-factors, flatten-operands, times, negated, constant-of, nested-product, with-coefficient, built, build-mul-from-factors, remove-first, remove-each, is-mul, match-factors, each-operand, replace-within, replace}
+use Rattle.rewrite.specs.Rewrite.{Factors, one, flatten-mul-factors, times, constant-of, nested-product, with-coefficient, built, build-mul-from-factors, remove-first, remove-each, is-mul, match-factors, each-operand, replace-within, replace}
 use Rattle.rewrite.proofs.Measure.{count-cons, one-self}
 use Rattle.rewrite.proofs.Counts.{count-append}
 use Rattle.rewrite.proofs.Factors.{All, Factor, factors-of, built-factors}
 use Rattle.closed.specs.Closed.{Taken, once-more, take-out, taken, named, by-factors, rebuilt}
 use Rattle.closed.proofs.Chain.{chain, chain-end, chain-same, each-append}
 use Rattle.closed.proofs.Unit.{Small, one-small, accepted-small}
-use Rattle.closed.proofs.Taken.{joined, none-before, each-names, Absent, absent-all, rest-of}
+use Rattle.closed.proofs.Taken.{joined, none-before, each-names, absent-all, rest-of}
 use Rattle.closed.proofs.Steps.{at-operation, at-op}
 use Rattle.closed.proofs.Spine.{append-all, each-all, Alone, alone-factor, names-alone, headed, built-coefficient, built-mul, factors-alone}
 

@@ -1,22 +1,22 @@
 -- The factors of a well-formed tree are each their own only factor, with coefficient 1; a product built from such has its coefficient exactly. Assumes nothing.
 use Prim.Native.Nat.{ℕ, zero, suc}
 use mathlib.Core.Path.{_≡_, refl, sym, _∙_, ap, ap₂, subst}
-use mathlib.Core.Bool.{Bool, true, false, _&&_}
+use mathlib.Core.Bool.{Bool, true, false}
 use mathlib.Core.List.{List, [], _∷_, _++_}
 use native.Mathlib.Omega.{arith}
 use lib.IntN.{ℤ, pos, negsuc}
 use lib.Dec.{T, eqb}
 use lib.Ieee as Ieee
-use lib.Ieee.{Float, binary64}
-use Rattle.tree.specs.Outcome.{Outcome, ok}
+use lib.Ieee.{binary64}
+use Rattle.tree.specs.Outcome.{ok}
 use Rattle.tree.specs.Tree.{Name, Tree, Forest, Sym, Const, Op, nil, _◂_, eq-int}
 use Rattle.tree.specs.Kinds.{Neg, Mul, arity-ok}
 use Rattle.tree.proofs.Formed.{operand-count, well-formed, well-formed-each}
 use Rattle.tree.proofs.TreeLaws.{eq-int-sound}
 use Rattle.tree.proofs.Logic.{and-left, and-right}
-use Rattle.rewrite.specs.Rewrite.{Factors, one, flatten-mul-factors, flatten-operands, flatten-after, times, negated, nested-product, with-coefficient, built, constant-of, is-mul}
+use Rattle.rewrite.specs.Rewrite.{Factors, one, flatten-mul-factors, flatten-operands, flatten-after, times, negated, nested-product, with-coefficient, built, constant-of}
 use Rattle.rewrite.proofs.Factors.{All, Factor, factors-of}
-use Rattle.closed.proofs.Unit.{Small, one-small, small-accepted, times-one, one-times-one, one-accepted}
+use Rattle.closed.proofs.Unit.{Small, small-accepted, times-one, one-times-one, one-accepted}
 use Rattle.closed.specs.Closed.{named}
 
 pub append-all : (P : Tree → Type 0) (s t : List Tree) → All P s → All P t → All P (s ++ t)

@@ -1,5 +1,5 @@
 -- What `replace` does at a node, in terms of `replace` itself: the bound on its calls is out of sight. Assumes nothing.
-use Prim.Native.Nat.{ℕ, zero, suc, _+_, _*_, _≤_}
+use Prim.Native.Nat.{ℕ, suc, _*_, _≤_}
 use mathlib.Core.Path.{_≡_, refl, sym, _∙_, ap, ap₂, subst}
 use mathlib.Core.Bool.{Bool, true, false}
 use mathlib.Core.Option.{Option, none, some}
@@ -9,7 +9,7 @@ use lib.IntN.{ℤ}
 use lib.Dec.{T, eqb}
 use lib.ListN.{length}
 use Rattle.tree.specs.Outcome.{Outcome, ok, refused, _>>=_}
-use Rattle.tree.specs.Tree.{Name, Tree, Forest, Sym, Const, Op, nil, _◂_, eq-tree}
+use Rattle.tree.specs.Tree.{Name, Tree, Forest, Sym, Op, nil, _◂_, eq-tree}
 use Rattle.tree.specs.Kinds.{Mul, arity-ok}
 use Rattle.tree.specs.Facts.{size, count}
 use Rattle.tree.proofs.Formed.{operand-count, well-formed, well-formed-each}

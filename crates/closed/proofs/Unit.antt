@@ -2,11 +2,10 @@
 use Prim.Native.Nat.{ℕ, zero, suc, _*_, _/_, _%_, _^_, _≤_, _<_}
 use mathlib.Core.Path.{_≡_, refl, sym, _∙_, ap, ap₂, subst}
 use mathlib.Core.Bool.{Bool, true, false, _&&_}
-use mathlib.Core.List.{List, [], _∷_}
 use native.Mathlib.Nat.{mul-one, mul-div-cancel, mul-mod-left, zero-lt-suc}
 use native.Mathlib.Omega.{arith}
 use lib.IntN.{ℤ, pos, negsuc}
-use lib.Dec.{T, eqb, ltb, ltb→lt, lt→ltb, eqb-refl, lit≤}
+use lib.Dec.{T, eqb, ltb, ltb→lt, lt→ltb, lit≤}
 use lib.Ieee as Ieee
 use lib.Ieee.{Float, nan, inf, fin, binary64, up, down, unlike, round}
 use lib.Ieee.Exact.{HasValue}
@@ -14,9 +13,7 @@ use lib.Ieee.Back.{round-whole}
 use lib.Ieee.Scale.{round-same}
 use lib.Ieee.Fits.{down-pos}
 use Rattle.tree.specs.Outcome.{Refusal, Outcome, ok, refused, by}
-use Rattle.tree.specs.Tree.{Tree, Forest, Sym, Const, Op, nil, _◂_, eq-int}
-use Rattle.tree.specs.Kinds.{Neg, Mul}
-use Rattle.tree.proofs.Logic.{and-left, and-right, and-both}
+use Rattle.tree.proofs.Logic.{and-right}
 use Rattle.tree.proofs.Tests.{is-true}
 use Rattle.rewrite.specs.Rewrite.{one, constant-of, whole-number}
 

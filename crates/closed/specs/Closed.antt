@@ -2,7 +2,7 @@
 -- as the target was taken out (01, "Rewriting"). By recursion on trees alone. Assumes nothing.
 use Prim.Native.Nat.{ℕ, zero, suc}
 use mathlib.Core.Bool.{Bool, true, false, _&&_}
-use mathlib.Core.Option.{Option, none, some}
+use mathlib.Core.Option.{none, some}
 use mathlib.Core.List.{List, [], _∷_, _++_}
 use lib.Dec.{eqb}
 use lib.ListN.{length}
@@ -11,7 +11,7 @@ use lib.Ieee.{Float}
 use Rattle.tree.specs.Outcome.{Outcome, ok, _>>=_, each}
 use Rattle.tree.specs.Tree.{Name, Tree, Forest, Sym, Const, Op, nil, _◂_, eq-tree}
 use Rattle.tree.specs.Kinds.{Neg, Mul}
-use Rattle.rewrite.specs.Rewrite.{Factors, one, flatten-mul-factors, flatten-operands, constant-of, built, remove-each, is-mul}
+use Rattle.rewrite.specs.Rewrite.{one, flatten-mul-factors, flatten-operands, constant-of, built, remove-each, is-mul}
 
 -- ---- factors taken out again and again
 

@@ -1,23 +1,21 @@
 -- Factors as runs, found from the left: what a word is passed for, where the next factor stands, where its run ends. Assumes nothing.
 use Prim.Native.Nat.{ℕ, zero, suc, _+_, _-_, _≤_, _<_}
 use native.Mathlib.Omega.{arith}
-use mathlib.Core.Path.{_≡_, refl, sym, _∙_, ap, ap₂, subst}
-use mathlib.Core.Bool.{Bool, true, false, _||_}
+use mathlib.Core.Path.{_≡_, refl, sym, _∙_, ap, ap₂}
+use mathlib.Core.Bool.{Bool, true, false}
 use mathlib.Core.Option.{Option, none, some}
 use mathlib.Core.List.{List, [], _∷_}
-use borrow.Author.Tests.{eq-eqb, ne-eqb, eqb-true, eqb-false}
+use borrow.Author.Tests.{eq-eqb, ne-eqb}
 use lib.ListN.{length, getD, take, drop, length-drop, drop-of-length-le}
 use lib.Seq.{drop-cons, drop-drop, take-nil}
 use lib.Dec.{eqb}
 use Rattle.tree.specs.Bytes.{eq-bytes}
-use Rattle.tree.specs.Kinds.{Neg, Mul}
-use Rattle.tree.specs.Tokens.{kind-of, takes, words-of, run-at}
-use Rattle.tree.proofs.TokenLaws.{Words, words-tail, words-complete}
+use Rattle.tree.specs.Tokens.{kind-of, words-of, run-at}
+use Rattle.tree.proofs.TokenLaws.{words-tail, words-complete}
 use Rattle.tokens.specs.Answers.{end-answer}
 use Rattle.tokens.specs.declared.Run.the-variants as run
 use Rattle.words.specs.Words.{begins-with}
 use Rattle.matching.specs.Matching.{is-passed, first-run, run-end, runs-after, factor-runs}
-use Rattle.matching.specs.Answers.{Seeks}
 
 -- ---- words passed through
 

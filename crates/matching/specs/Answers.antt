@@ -1,11 +1,11 @@
 -- What the functions of this crate answer and leave. Assumes nothing.
-use Prim.Native.Nat.{ℕ, _+_, _*_, _≤_, _<_}
+use Prim.Native.Nat.{ℕ, _*_, _≤_, _<_}
 use mathlib.Core.Path.{_≡_}
 use mathlib.Core.Bool.{false}
 use mathlib.Core.Option.{Option, none, some}
 use mathlib.Core.List.{List}
 use lib.ListN.{length, getD, take, drop}
-use Rattle.matching.specs.Matching.{is-passed, factor-runs, remove-runs, PlacesTaken, take-out-places}
+use Rattle.matching.specs.Matching.{is-passed, factor-runs, PlacesTaken, take-out-places}
 use Rattle.matching.specs.declared.Removed.{Removed}
 use Rattle.matching.specs.declared.Removed.the-variants as removed
 use Rattle.matching.specs.declared.Taken.{Taken}

@@ -6,7 +6,7 @@ use mathlib.Core.List.{List, [], _∷_}
 use lib.ListN.{length, take, drop}
 use lib.Dec.{eqb}
 use Rattle.tree.specs.Kinds.{Neg, Mul}
-use Rattle.tree.specs.Tokens.{kind-of, words-of, run-at}
+use Rattle.tree.specs.Tokens.{kind-of, words-of}
 use Rattle.words.specs.Words.{begins-with}
 
 -- ---- the factors of a product, as `flatten_mul_factors` passes through its words

@@ -1,20 +1,19 @@
 -- What is answered for the first tree, from what the callees answer. Assumes nothing.
 use Prim.Native.Nat.{ℕ, zero, suc, _+_, _-_, _*_, _≤_, _<_}
 use native.Mathlib.Omega.{arith}
-use mathlib.Core.Path.{_≡_, refl, sym, _∙_, ap, ap₂, subst}
+use mathlib.Core.Path.{_≡_, refl, sym, _∙_, ap, subst}
 use mathlib.Core.Bool.{Bool, true, false, _&&_}
-use mathlib.Core.Option.{Option, none, some}
+use mathlib.Core.Option.{some}
 use mathlib.Core.List.{List, [], _∷_}
 use borrow.Author.Tests.{eq-eqb, ne-eqb}
 use lib.ListN.{length, getD, take}
 use lib.Dec.{T, eqb}
 use lib.Ieee as Ieee
 use lib.Ieee.{Float}
-use Rattle.tree.specs.Tree.{Tree, Forest, Sym, Const, Op, nil, forest}
-use Rattle.tree.specs.Kinds.{Mul}
+use Rattle.tree.specs.Tree.{Tree}
 use Rattle.tree.specs.Facts.{size}
 use Rattle.tree.specs.Tokens.{kind-of, takes, numbered, read, trees-in, run-at, tree-of-word}
-use Rattle.tree.proofs.TokenLaws.{Word, a-symbol, a-constant, an-operation, word-is, symbol-tree, constant-tree, operation-tree, made, tree-at, words-complete}
+use Rattle.tree.proofs.TokenLaws.{Word, a-symbol, a-constant, an-operation, word-is, symbol-tree, constant-tree, operation-tree, tree-at, words-complete}
 use Rattle.tokens.specs.Answers.{end-answer}
 use Rattle.tokens.specs.declared.Run.the-variants as run
 use Rattle.rewrite.specs.Rewrite.{one, flatten-mul-factors, is-mul, constant-of}
@@ -32,7 +31,7 @@ use Rattle.matching.specs.Answers.{Takes}
 use Rattle.matching.specs.declared.Taken.{Taken}
 use Rattle.matching.specs.declared.Taken.the-variants as taken
 use Rattle.replacing.specs.Deciding.{Trees, Target, StaysAt, RefusedAt, Match, ProductFirst}
-use Rattle.replacing.proofs.Deciding.{Product-at, product-at, plain-turn, none-taken, refused-there, match-there}
+use Rattle.replacing.proofs.Deciding.{Product-at, product-at, none-taken, refused-there, match-there}
 use Rattle.replace.specs.Answers.{FlatFirst}
 
 -- ---- the target

@@ -1,14 +1,14 @@
 -- Words written at a place: a word again and again, and what stands before the factors of a product. Assumes nothing.
-use Prim.Native.Nat.{ℕ, zero, suc, _+_, _-_, _*_, _≤_, _<_}
+use Prim.Native.Nat.{ℕ, _+_, _*_, _≤_, _<_}
 use native.Mathlib.Omega.{arith}
 use mathlib.Core.Path.{_≡_, refl, sym, _∙_, ap, ap₂, subst}
 use mathlib.Core.Bool.{Bool, true, false}
-use mathlib.Core.List.{List, [], _∷_, _++_, append-assoc, append-nil}
+use mathlib.Core.List.{List, [], _∷_, _++_, append-assoc}
 use borrow.Author.Tests.{eq-eqb, ne-eqb}
-use lib.ListN.{length, getD, take, drop, set, length-set, length-append, take-append-drop}
-use lib.Seq.{set-split, drop-set-lt}
+use lib.ListN.{length, take, drop, set, length-set, length-append, take-append-drop}
+use lib.Seq.{drop-set-lt}
 use lib.Dec.{eqb}
-use Rattle.words.proofs.Scanning.{Put, put-one, put-long, put-more}
+use Rattle.words.proofs.Scanning.{Put, put-one, put-more}
 use Rattle.replacing.specs.Replacing.{repeated, coefficient-words, head-words}
 use Rattle.replacing.proofs.Products.{repeated-long, repeated-more}
 
@@ -52,8 +52,7 @@ module _ (code signs : ℕ) (old : List ℕ) where
   headed : (c : List ℕ) (n : ℕ) (out : List ℕ) → coefficient-words code ≡ c → n ≡ length c + signs → out ≡ c ++ (repeated signs 133 ++ drop n old) → Headed n out
   unfolding head-words
   headed c n out e f g =
-      let l : length (coefficient-words code ++ repeated signs 133) ≡ n = length-append (coefficient-words code) (repeated signs 133) ∙ omega (arith, ap length e, repeated-long signs 133) in
-      (
+      let l : length (coefficient-words code ++ repeated signs 133) ≡ n = length-append (coefficient-words code) (repeated signs 133) ∙ omega (arith, ap length e, repeated-long signs 133) in (
         sym l,
         g ∙ ap (λ (x : List ℕ). x ++ (repeated signs 133 ++ drop n old)) (sym e) ∙ sym (append-assoc (coefficient-words code) (repeated signs 133) (drop n old))
             ∙ ap (λ (k : ℕ). (coefficient-words code ++ repeated signs 133) ++ drop k old) (sym l),

@@ -4,18 +4,15 @@
 ghost use mathlib.Core.Path.{_≡_};
 ghost use mathlib.Core.List.{_++_};
 ghost use Prim.Native.Nat.{_+_, _-_, _*_, _^_, _≤_, _<_};
-ghost use mathlib.Core.Bool.{_&&_};
+ghost use mathlib.Core.Bool.{true};
 ghost use mathlib.Core.Option.{some};
 ghost use lib.ListN.{length, take, drop};
 ghost use Rattle.tree.specs.Tokens.{trees-in};
 ghost use Rattle.words.specs.Words.{tree-of};
 ghost use Rattle.closed.specs.Closed.{by-factors};
-ghost use Rattle.replacing.specs.Replacing.{repeated, head-words};
+ghost use Rattle.replacing.specs.Replacing.{replaceable, repeated, head-words};
 ghost use Rattle.replacing.specs.Deciding.{Trees, Target, Match, ProductFirst, rewritten-words, product-out};
-ghost use Rattle.replace.specs.Answers.{FlatFirst, Decides, Writes};
-use tokens::Run;
-use tokens::end_of;
-use words::starts_with;
+ghost use Rattle.replace.specs.Answers.{FlatFirst, Decides, Writes, Answers, scratch-short, short-of-room};
 use coefficient::Constant;
 use coefficient::constant_of;
 use coefficient::is_one;
@@ -23,6 +20,12 @@ use factors::Flattened;
 use factors::flatten_mul_factors;
 use matching::Taken;
 use matching::take_out;
+use replaceable::may_replace;
+use tokens::Run;
+use tokens::end_of;
+use words::Request;
+use words::check;
+use words::starts_with;
 
 // A word is kind + KINDS * below.
 const KINDS: u64 = 64;
@@ -53,6 +56,17 @@ enum Decision {
     Refused,
 }
 
+pub enum Replaced {
+    // How many words were written.
+    Words(usize),
+    // Refusal 10: the coefficient of a product to be rebuilt is no constant. The trees are written as they were.
+    Refused,
+    // The words aren't trees that may be rewritten, the target isn't one tree with a symbol, or the name isn't a new symbol's word.
+    Broken,
+    // Fewer words of `out` than there are tokens, fewer than twice as many of `places`, or fewer than the target has.
+    NoRoom,
+}
+
 enum Step {
     // How many words were written.
     Wrote(usize),
@@ -79,7 +93,14 @@ fn is_sought(target: &[u64], places: &mut [u64]) -> bool
 }
 
 // Decides on a product whose factors' places are known.
-fn decide_factors(tokens: &[u64], target: &[u64], name: u64, coefficient: f64, count: usize, places: &mut [u64]) -> Decision
+fn decide_factors(
+    tokens: &[u64],
+    target: &[u64],
+    name: u64,
+    coefficient: f64,
+    count: usize,
+    places: &mut [u64],
+) -> Decision
     requires { ⌜ ProductFirst (now tokens) (now target) name ⌝ }
     requires { ⌜ FlatFirst (now tokens) coefficient count (now places) ⌝ }
     requires { ⌜ 2 * length (now tokens) ≤ length (now places) ⌝ }
@@ -168,7 +189,18 @@ fn write_head(code: u64, signs: usize, out: &mut [u64]) -> usize
 }
 
 // Writes the first tree, a product with matches.
-fn rewrite_product(tokens: &[u64], target: &[u64], name: u64, sought: bool, left: usize, copies: usize, code: u64, long: usize, places: &mut [u64], out: &mut [u64]) -> Step
+fn rewrite_product(
+    tokens: &[u64],
+    target: &[u64],
+    name: u64,
+    sought: bool,
+    left: usize,
+    copies: usize,
+    code: u64,
+    long: usize,
+    places: &mut [u64],
+    out: &mut [u64],
+) -> Step
     requires { ⌜ Trees (now tokens) × Target (now target) name × (sought ≡ by-factors (tree-of (now target))) ⌝ }
     requires { ⌜ Match (now target) name (now tokens) (now places) left copies code long ⌝ }
     requires { ⌜ (2 * long ≤ length (now places)) × (long ≤ length (now out)) ⌝ }
@@ -181,7 +213,14 @@ fn rewrite_product(tokens: &[u64], target: &[u64], name: u64, sought: bool, left
         let Run::Ends(end) = end_of(tokens, at) else {
             return Step::Refused;
         };
-        let Step::Wrote(n) = rewrite(&tokens[at..end], target, name, sought, &mut places[left..], &mut out[o..]) else {
+        let Step::Wrote(n) = rewrite(
+            &tokens[at..end],
+            target,
+            name,
+            sought,
+            &mut places[left..],
+            &mut out[o..],
+        ) else {
             return Step::Refused;
         };
         o += n;
@@ -192,7 +231,14 @@ fn rewrite_product(tokens: &[u64], target: &[u64], name: u64, sought: bool, left
 }
 
 // Rewrites the words from the left.
-fn rewrite(tokens: &[u64], target: &[u64], name: u64, sought: bool, places: &mut [u64], out: &mut [u64]) -> Step
+fn rewrite(
+    tokens: &[u64],
+    target: &[u64],
+    name: u64,
+    sought: bool,
+    places: &mut [u64],
+    out: &mut [u64],
+) -> Step
     requires { ⌜ Trees (now tokens) × Target (now target) name × (sought ≡ by-factors (tree-of (now target))) ⌝ }
     requires { ⌜ (2 * length (now tokens) ≤ length (now places)) × (length (now tokens) ≤ length (now out)) ⌝ }
     ensures { λ r. ⌜ Writes (rewritten-words (now (target .entry)) name (now (tokens .entry))) (length (now (tokens .entry))) (now (out .entry)) r (now (out .exit)) ⌝ }
@@ -213,7 +259,18 @@ fn rewrite(tokens: &[u64], target: &[u64], name: u64, sought: bool, places: &mut
                 o += 1;
             }
             Decision::Matched(left, copies, code, long) => {
-                let Step::Wrote(n) = rewrite_product(&tokens[i..], target, name, sought, left, copies, code, long, places, &mut out[o..]) else {
+                let Step::Wrote(n) = rewrite_product(
+                    &tokens[i..],
+                    target,
+                    name,
+                    sought,
+                    left,
+                    copies,
+                    code,
+                    long,
+                    places,
+                    &mut out[o..],
+                ) else {
                     return Step::Refused;
                 };
                 i += long;
@@ -225,4 +282,67 @@ fn rewrite(tokens: &[u64], target: &[u64], name: u64, sought: bool, places: &mut
         }
     }
     Step::Wrote(o)
+}
+
+// Writes the trees as they were.
+fn put_back(tokens: &[u64], out: &mut [u64])
+    requires { ⌜ length (now tokens) ≤ length (now out) ⌝ }
+    ensures { λ _. ⌜ now (out .exit) ≡ now (tokens .entry) ++ drop (length (now (tokens .entry))) (now (out .entry)) ⌝ }
+{
+    let mut k = 0;
+    while k < tokens.len() {
+        out[k] = tokens[k];
+        k += 1;
+    }
+}
+
+// Rewrites trees that may be rewritten, where there is room for them.
+fn replace_trees(
+    tokens: &[u64],
+    target: &[u64],
+    name: u64,
+    places: &mut [u64],
+    out: &mut [u64],
+) -> Replaced
+    requires { ⌜ Trees (now tokens) × Target (now target) name × (length (now tokens) ≤ length (now out)) ⌝ }
+    ensures { λ r. ⌜ Answers (now (tokens .entry)) (now (target .entry)) name true (scratch-short (now (tokens .entry)) (now (target .entry)) (length (now (places .entry)))) (now (out .entry)) r (now (out .exit)) ⌝ }
+{
+    if places.len() / 2 < tokens.len() {
+        return Replaced::NoRoom;
+    }
+    if places.len() < target.len() {
+        return Replaced::NoRoom;
+    }
+    let sought = is_sought(target, places);
+    let step = rewrite(tokens, target, name, sought, places, out);
+    match step {
+        Step::Wrote(n) => Replaced::Words(n),
+        Step::Refused => {
+            put_back(tokens, out);
+            Replaced::Refused
+        }
+    }
+}
+
+// Each node equal to the target becomes the name, and so do the target's factors in a product, as often as they are all there.
+pub fn replace(
+    tokens: &[u64],
+    target: &[u64],
+    name: u64,
+    places: &mut [u64],
+    out: &mut [u64],
+) -> Replaced
+    ensures { λ r. ⌜ Answers (now (tokens .entry)) (now (target .entry)) name (replaceable (now (tokens .entry)) (now (target .entry)) name)
+        (short-of-room (now (tokens .entry)) (now (target .entry)) (length (now (places .entry))) (length (now (out .entry)))) (now (out .entry)) r (now (out .exit)) ⌝ }
+{
+    if may_replace(tokens, target, name) {
+        let request = check(tokens, target, name, out.len());
+        match request {
+            Request::Sound => replace_trees(tokens, target, name, places, out),
+            Request::Broken => Replaced::Broken,
+            Request::NoRoom => Replaced::NoRoom,
+        }
+    } else {
+        Replaced::Broken
+    }
 }

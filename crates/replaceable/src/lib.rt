@@ -39,6 +39,9 @@ fn is_formed(w: u64) -> bool
     if kind == SELECT_OR {
         return operands_fit(SELECT, true, w / KINDS);
     }
+    if SELECT_OR < kind {
+        return false;
+    }
     operands_fit(kind, false, w / KINDS)
 }
 
@@ -48,8 +51,7 @@ fn are_formed(tokens: &[u64]) -> bool
     let mut i = tokens.len();
     while i > 0 {
         i -= 1;
-        if is_formed(tokens[i]) {
-        } else {
+        if is_formed(tokens[i]) {} else {
             return false;
         }
     }

@@ -3,17 +3,16 @@ use Prim.Native.Nat.{ℕ, zero, suc, _+_, _-_, _*_, _/_, _%_, _^_, _≤_, _<_}
 use native.Mathlib.Omega.{arith}
 use mathlib.Core.Path.{_≡_, refl, sym, _∙_, ap, ap₂, subst}
 use mathlib.Core.Bool.{Bool, true, false}
-use mathlib.Core.Option.{Option, none, some}
-use mathlib.Core.List.{List, [], _∷_, _++_, append-nil, map}
-use borrow.Author.Tests.{ne-eqb, eq-eqb, eqb-true}
+use mathlib.Core.Option.{some}
+use mathlib.Core.List.{List, [], _∷_, _++_}
+use borrow.Author.Tests.{eqb-true}
 use lib.ListN.{length, getD, take, drop, length-append}
 use lib.Seq.{length-take-le, getD-take}
 use lib.Dec.{T, eqb, lit≤}
 use lib.IntN.{ℤ, pos, negsuc}
 use lib.Ieee.{Float}
-use Rattle.tree.specs.Bytes.{every}
 use Rattle.tree.specs.Outcome.{Refusal, Outcome, ok, refused, _>>=_, each}
-use Rattle.tree.specs.Tree.{Name, Tree, Forest, Sym, Const, Op, nil, _◂_, forest, eq-tree}
+use Rattle.tree.specs.Tree.{Tree, Forest, Sym, Const, Op, nil, forest, eq-tree}
 use Rattle.tree.specs.Kinds.{Mul}
 use Rattle.tree.specs.Facts.{size}
 use Rattle.tree.specs.Rows.{occurrences}
@@ -41,11 +40,11 @@ use Rattle.closed.proofs.Steps.{at-operation, at-op}
 use Rattle.closed.proofs.Products.{at-symbol, at-constant, at-other, at-unmatched, no-match, at-product}
 use Rattle.matching.specs.Matching.{factor-runs, take-out-places}
 use Rattle.matching.specs.Answers.{TakenAs}
-use Rattle.replacing.specs.Replacing.{replaced-words, formed-word, repeated, head-words}
-use Rattle.replacing.specs.Deciding.{Trees, Target, Within, rewritten, rewritten-words, StaysAt, RefusedAt, Match}
+use Rattle.replacing.specs.Replacing.{repeated, head-words}
+use Rattle.replacing.specs.Deciding.{Trees, Target, rewritten, rewritten-words, StaysAt, RefusedAt, Match}
 use Rattle.replacing.proofs.Turns.{words-formed, each-long, each-forest, target-out, Stays, word-out}
 use Rattle.replacing.proofs.Runs.{target-runs, Agree, taken-agree}
-use Rattle.replacing.proofs.Products.{product-words, repeated-long, named-long, rest-size, built-size}
+use Rattle.replacing.proofs.Products.{product-words, repeated-long, rest-size, built-size}
 
 module _ (part : List ℕ) (name : ℕ) (t : Target part name) where
   abbrev rep : Tree → Outcome Tree

@@ -4,3 +4,5 @@ pub mod Products
 pub mod Deciding
 pub mod Targets
 pub mod Scanning
+pub mod Factoring
+pub mod Examples

@@ -1,31 +1,29 @@
 -- A rebuilt product as words, and the room that it takes. Assumes nothing.
-use Prim.Native.Nat.{ℕ, zero, suc, _+_, _-_, _*_, _≤_, _<_}
+use Prim.Native.Nat.{ℕ, zero, suc, _+_, _*_, _≤_, _<_}
 use native.Mathlib.Omega.{arith}
 use native.Mathlib.Nat.{mul-zero, mul-suc}
-use mathlib.Core.Path.{_≡_, refl, sym, _∙_, ap, ap₂, subst}
+use mathlib.Core.Path.{_≡_, refl, sym, _∙_, ap, ap₂}
 use mathlib.Core.Bool.{Bool, true, false}
 use mathlib.Core.Option.{Option, none, some}
 use mathlib.Core.List.{List, [], _∷_, _++_, append-assoc, append-nil}
 use borrow.Author.Tests.{eqb-true, eqb-false, ne-eqb, eq-eqb}
-use lib.ListN.{length, getD, take, drop, length-append}
+use lib.ListN.{length, length-append}
 use lib.Dec.{T, eqb}
 use lib.IntN.{ℤ, pos, negsuc}
-use lib.Ieee.{Float}
-use Rattle.tree.specs.Outcome.{Outcome, ok, refused, _>>=_, each}
+use Rattle.tree.specs.Outcome.{ok, each}
 use Rattle.tree.specs.Tree.{Name, Tree, Forest, Sym, Const, Op, nil, _◂_, eq-tree, eq-int}
 use Rattle.tree.specs.Kinds.{Neg, Mul}
 use Rattle.tree.specs.Facts.{size}
-use Rattle.tree.specs.Tokens.{constant-code, kind-of, tokens, all-tokens}
+use Rattle.tree.specs.Tokens.{constant-code, tokens, all-tokens}
 use Rattle.tree.proofs.Formed.{well-formed}
-use Rattle.tree.proofs.TreeLaws.{eq-tree-sound, eq-int-sound}
-use Rattle.tree.proofs.TokenCode.{tokens-length, all-tokens-append, all-tokens-cons}
-use Rattle.rewrite.specs.Rewrite.{flatten-mul-factors, flatten-operands, constant-of, nested-product, with-coefficient, built, remove-first, remove-each}
-use Rattle.rewrite.proofs.Measure.{sum-of, sum-each, sum-append, sizes, size-op, size-up, by-size, least-size}
+use Rattle.tree.proofs.TreeLaws.{eq-tree-sound}
+use Rattle.tree.proofs.TokenCode.{all-tokens-append, all-tokens-cons}
+use Rattle.rewrite.specs.Rewrite.{flatten-mul-factors, constant-of, nested-product, with-coefficient, built, remove-first, remove-each}
+use Rattle.rewrite.proofs.Measure.{sum-of, sum-each, sum-append, sizes, size-op, by-size, least-size}
 use Rattle.rewrite.proofs.Factors.{factors-of, factors-cases, sum-factors}
 use Rattle.rewrite.proofs.Products.{spread, spread-up, factors-bound, built-of}
 use Rattle.rewrite.proofs.Coefficient.{exactly}
-use Rattle.words.specs.Words.{number, name-of}
-use Rattle.words.proofs.Rewriting.{name-written}
+use Rattle.words.specs.Words.{number}
 use Rattle.closed.specs.Closed.{Taken, once-more, take-out, taken, named}
 use Rattle.closed.proofs.Spine.{headed}
 use Rattle.replacing.specs.Replacing.{repeated, coefficient-words, head-words}

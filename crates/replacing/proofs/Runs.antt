@@ -1,24 +1,23 @@
 -- The runs that stand for a target's factors, and the places that stand for a product's: taking out runs is taking out factors. Assumes nothing.
-use Prim.Native.Nat.{ℕ, zero, suc, _+_, _-_, _/_, _%_, _≤_, _<_}
+use Prim.Native.Nat.{ℕ, zero, suc, _-_, _/_, _%_, _≤_, _<_}
 use native.Mathlib.Omega.{arith}
 use mathlib.Core.Path.{_≡_, refl, sym, _∙_, ap, ap₂, subst}
 use mathlib.Core.Bool.{Bool, true, false, _||_}
 use mathlib.Core.Option.{Option, none, some}
-use mathlib.Core.List.{List, [], _∷_, _++_, append-assoc, append-nil, map}
-use borrow.Author.Tests.{eqb-true, eqb-false}
+use mathlib.Core.List.{List, [], _∷_, _++_, append-assoc, append-nil}
+use borrow.Author.Tests.{eqb-true}
 use lib.ListN.{length, getD, take, drop, take-append-drop, length-drop}
-use lib.Seq.{length-take-le, drop-cons}
-use lib.Dec.{T, eqb}
+use lib.Seq.{drop-cons}
+use lib.Dec.{eqb}
 use lib.IntN.{ℤ}
-use Rattle.tree.specs.Tree.{Name, Tree, Forest, Sym, Const, Op, nil, _◂_, forest, eq-tree}
+use Rattle.tree.specs.Tree.{Name, Tree, Forest, Sym, Const, Op, nil, forest, eq-tree}
 use Rattle.tree.specs.Kinds.{Neg, Mul}
-use Rattle.tree.specs.Facts.{size}
-use Rattle.tree.specs.Tokens.{kind-of, below-of, name-by, constant-at, takes, tree-of-word, numbered, read, trees-in, trees-at, words-of, run-at}
-use Rattle.tree.proofs.TokenLaws.{Word, a-symbol, a-constant, an-operation, word-is, symbol-tree, constant-tree, operation-tree, made, read-cons, Takes, complete-tail, complete-end, complete-length, words-sizes, sizes, tree-at, leaf-takes, Words, words-tail}
+use Rattle.tree.specs.Tokens.{kind-of, below-of, name-by, constant-at, takes, tree-of-word, numbered, read, trees-in, words-of}
+use Rattle.tree.proofs.TokenLaws.{Word, a-symbol, a-constant, an-operation, word-is, symbol-tree, constant-tree, operation-tree, made, read-cons, Takes, complete-tail, complete-end, complete-length, tree-at, leaf-takes, words-tail}
 use Rattle.rewrite.specs.Rewrite.{Factors, one, flatten-mul-factors, flatten-operands, flatten-after, times, negated, remove-first, remove-each}
 use Rattle.rewrite.proofs.Factors.{factors-of}
 use Rattle.words.specs.Words.{tree-of, begins-with}
-use Rattle.words.proofs.Rewriting.{Segment, segment, begins-tree, first-tree, whole-there}
+use Rattle.words.proofs.Rewriting.{segment, begins-tree, whole-there}
 use Rattle.factors.specs.Places.{tree, at-places}
 use Rattle.factors.proofs.PlaceLaws.{Each}
 use Rattle.closed.specs.Closed.{Taken, take-out, once-more as tree-once-more}
@@ -167,8 +166,7 @@ runs-most (suc most) (w ∷ ws) n h e = go (is-passed w) refl (λ us m a b. runs
         let d : drop (y .0 - 1) ws ≡ drop (y .0) (w ∷ ws) = shifted (y .0) up in
         subst (Runs (take (first-run (w ∷ ws)) (w ∷ ws) ∷ runs-after (first-run (w ∷ ws) - 1) ws))
         (sym (read-is ∙ ap (λ (l : List Tree). l ++ factors-all (drop (takes w) rs)) (word-alone w (take (takes w) rs) p)))
-        (subst (λ (k : ℕ). Runs (take k (w ∷ ws) ∷ runs-after (k - 1) ws) (made numbered w rs ∷ factors-all (drop (takes w) rs))) (sym f)
-        (
+        (subst (λ (k : ℕ). Runs (take k (w ∷ ws) ∷ runs-after (k - 1) ws) (made numbered w rs ∷ factors-all (drop (takes w) rs))) (sym f) (
           s .whole,
           ap (λ (l : List Tree). getD l 0 (Op 0 nil)) (s .first ∙ ap (take 1) (read-cons numbered w ws)),
           subst (λ (l : List (List ℕ)). Runs l (factors-all (drop (takes w) rs))) (sym (skipped (y .0 - 1) ws))

@@ -1,38 +1,33 @@
 -- A scan that rewrites trees from the left into a lent slice, and one that rewrites the factors left of a product. Assumes nothing.
-use Prim.Native.Nat.{ℕ, zero, suc, _+_, _-_, _*_, _≤_, _<_}
+use Prim.Native.Nat.{ℕ, zero, suc, _+_, _-_, _≤_, _<_}
 use native.Mathlib.Omega.{arith}
 use mathlib.Core.Path.{_≡_, refl, sym, _∙_, ap, ap₂, subst}
-use mathlib.Core.Bool.{Bool, true, false, _&&_}
-use mathlib.Core.Option.{Option, none, some}
+use mathlib.Core.Bool.{Bool, true}
+use mathlib.Core.Option.{some}
 use mathlib.Core.List.{List, [], _∷_, _++_, append-assoc, append-nil}
 use borrow.Rule.Slice.PartMut.{putMid}
-use lib.ListN.{length, getD, take, drop, set, length-append, length-take, length-drop, length-set, take-append-drop, drop-of-length-le}
-use lib.Seq.{length-take-le, take-at, drop-at, drop-drop, take-all, take-suc, getD-drop, drop-nil, getD-take}
+use lib.ListN.{length, getD, take, drop, set, length-append, length-take, length-drop, drop-of-length-le}
+use lib.Seq.{length-take-le, take-at, drop-at, drop-drop, take-all, getD-drop}
 use lib.Dec.{T}
-use Rattle.tree.specs.Bytes.{every, eq-bytes}
-use Rattle.tree.specs.Outcome.{Refusal, Outcome, ok, refused, _>>=_, each}
+use Rattle.tree.specs.Bytes.{every}
+use Rattle.tree.specs.Outcome.{Refusal, Outcome, ok, refused, _>>=_}
 use Rattle.tree.specs.Tree.{Tree, Op, nil}
-use Rattle.tree.specs.Facts.{size}
-use Rattle.tree.specs.Rows.{occurrences}
-use Rattle.tree.specs.Tokens.{numbered, read, tokens, all-tokens, trees-in, words-of, run-at}
+use Rattle.tree.specs.Tokens.{numbered, read, tokens, words-of, run-at}
 use Rattle.tree.proofs.Logic.{and-left, and-right, and-both}
 use Rattle.tree.proofs.TreeLaws.{eq-bytes-sound}
-use Rattle.tree.proofs.FactLaws.{size-one}
-use Rattle.tree.proofs.TokenLaws.{complete-end, tree-at, made, read-cons}
-use Rattle.tree.proofs.TokenCode.{all-tokens-append, all-tokens-cons, tokens-length}
+use Rattle.tree.proofs.TokenLaws.{complete-end}
+use Rattle.tree.proofs.TokenCode.{tokens-length}
 use Rattle.rewrite.proofs.Measure.{by-size, least-size}
 use Rattle.rewrite.proofs.Shrinks.{replace-shrinks}
 use Rattle.words.specs.Words.{number, tree-of, name-of, begins-with}
-use Rattle.words.proofs.Rewriting.{Segment, segment}
-use Rattle.words.proofs.Scanning.{Put, put-one, put-long, put-more, put-lent}
-use Rattle.factors.specs.Places.{tree, at-places}
+use Rattle.words.proofs.Rewriting.{segment}
+use Rattle.words.proofs.Scanning.{Put, put-one, put-long, put-lent}
+use Rattle.factors.specs.Places.{tree}
 use Rattle.closed.proofs.Chain.{chain, chain-end, chain-same}
-use Rattle.replacing.specs.Replacing.{formed-word, repeated, head-words}
-use Rattle.replacing.specs.Deciding.{Trees, Target, Within, rewritten, rewritten-words, StaysAt, RefusedAt, Match, product-out, Wrote, Left}
+use Rattle.replacing.specs.Replacing.{formed-word}
+use Rattle.replacing.specs.Deciding.{Trees, Target, rewritten, rewritten-words, StaysAt, RefusedAt, Match, product-out, Wrote, Left}
 use Rattle.replacing.proofs.Turns.{first-out, replaced-none}
 use Rattle.replacing.proofs.Deciding.{equal-turn, head-formed}
-use Rattle.replacing.proofs.Targets.{fewer-words}
-use Rattle.replacing.proofs.Products.{repeated-long}
 
 -- ---- parts of formed and complete words
 

@@ -1,18 +1,17 @@
 -- What the tests of a target's words say of its tree, and that no more words are written than read. Assumes nothing.
-use Prim.Native.Nat.{ℕ, zero, suc, _+_, _-_, _/_, _%_, _≤_, _<_}
+use Prim.Native.Nat.{ℕ, _+_, _/_, _%_, _≤_, _<_}
 use native.Mathlib.Omega.{arith}
-use mathlib.Core.Path.{_≡_, refl, sym, _∙_, ap, ap₂, subst}
-use mathlib.Core.Bool.{Bool, true, false, not, _&&_, _||_}
+use mathlib.Core.Path.{_≡_, refl, sym, _∙_, ap, subst}
+use mathlib.Core.Bool.{Bool, true, false, not, _||_}
 use mathlib.Core.Logic.{_⊎_, inl, inr}
-use mathlib.Core.Option.{Option, none, some}
+use mathlib.Core.Option.{some}
 use mathlib.Core.List.{List, [], _∷_, _++_}
-use borrow.Author.Tests.{eqb-true, eqb-false, ne-eqb}
 use lib.ListN.{length, getD, take, drop, take-append-drop}
 use lib.Dec.{T, eqb, eqb→eq, eqb-refl}
 use lib.IntN.{ℤ}
 use Rattle.tree.specs.Bytes.{every}
 use Rattle.tree.specs.Outcome.{Outcome, ok, refused, _>>=_, each}
-use Rattle.tree.specs.Tree.{Name, Tree, Forest, Sym, Const, Op, nil, _◂_, forest, folds, eq-name}
+use Rattle.tree.specs.Tree.{Name, Tree, Forest, Sym, Const, Op, nil, forest, folds, eq-name}
 use Rattle.tree.specs.Facts.{size, total, has-symbol, some-of}
 use Rattle.tree.specs.Rows.{occurrences}
 use Rattle.tree.specs.Tokens.{kind-of, below-of, constant-at, name-by, takes, tree-of-word, numbered, read, tokens, all-tokens, trees-in}
@@ -22,7 +21,7 @@ use Rattle.tree.proofs.TreeLaws.{eq-name-sound}
 use Rattle.tree.proofs.TokenLaws.{Word, a-symbol, a-constant, an-operation, word-is, leaf-takes, symbol-tree, constant-tree, operation-tree, made, read-cons, read-size, sizes, complete-length}
 use Rattle.tree.proofs.TokenCode.{all-tokens-length}
 use Rattle.rewrite.specs.Rewrite.{replace}
-use Rattle.rewrite.proofs.Names.{holds, holds-each, holds-all, holds-append, holds-left, holds-right}
+use Rattle.rewrite.proofs.Names.{holds, holds-each, holds-all, holds-left, holds-right}
 use Rattle.rewrite.proofs.Counts.{well-formed-all}
 use Rattle.rewrite.proofs.Measure.{by-size, least-size}
 use Rattle.rewrite.proofs.Shrinks.{replace-shrinks}
@@ -30,7 +29,7 @@ use Rattle.rewrite.proofs.DivisorCount.{or-cases, or-left}
 use Rattle.words.specs.Words.{number, tree-of, name-of}
 use Rattle.words.proofs.Rewriting.{name-written}
 use Rattle.closed.proofs.Equal.{other-than, factor-there, factor-new}
-use Rattle.replacing.specs.Replacing.{replaced-words, formed-word, has-symbol-word, lacks}
+use Rattle.replacing.specs.Replacing.{replaced-words, has-symbol-word, lacks}
 use Rattle.replacing.specs.Deciding.{Trees, Target}
 use Rattle.replacing.proofs.Turns.{words-formed}
 

@@ -1,26 +1,26 @@
 -- The words of rewritten trees, a node at a time: the target, a node that stays with its operands rewritten, or any other first tree. Assumes nothing.
-use Prim.Native.Nat.{ℕ, zero, suc, _+_, _-_, _≤_, _<_}
+use Prim.Native.Nat.{ℕ, zero, suc}
 use native.Mathlib.Omega.{arith}
-use mathlib.Core.Path.{_≡_, refl, sym, _∙_, ap, ap₂, subst}
-use mathlib.Core.Bool.{Bool, true, false, _&&_, _||_}
-use mathlib.Core.Option.{Option, none, some}
-use mathlib.Core.List.{List, [], _∷_, _++_, append-assoc, append-nil}
-use lib.ListN.{length, getD, take, drop, length-take, take-append-drop}
+use mathlib.Core.Path.{_≡_, refl, sym, _∙_, ap, subst}
+use mathlib.Core.Bool.{Bool, true, false, _||_}
+use mathlib.Core.Option.{some}
+use mathlib.Core.List.{List, [], _∷_, _++_}
+use lib.ListN.{length, take, drop, take-append-drop}
 use lib.Seq.{length-take-le}
-use lib.Dec.{T, eqb, leb, leb→le}
+use lib.Dec.{T, leb, leb→le}
 use Rattle.tree.specs.Bytes.{every}
 use Rattle.tree.specs.Outcome.{Outcome, ok, refused, _>>=_, each}
-use Rattle.tree.specs.Tree.{Name, Tree, Forest, Sym, Const, Op, nil, _◂_, forest, eq-tree}
+use Rattle.tree.specs.Tree.{Name, Tree, Forest, Sym, _◂_, forest}
 use Rattle.tree.specs.Kinds.{arity-ok}
 use Rattle.tree.specs.Tokens.{kind-of, below-of, takes, tree-of-word, numbered, read, tokens, all-tokens, trees-in}
 use Rattle.tree.proofs.Formed.{operand-count, well-formed, well-formed-each}
 use Rattle.tree.proofs.Logic.{and-left, and-right, and-both}
-use Rattle.tree.proofs.TokenLaws.{Word, a-symbol, a-constant, an-operation, word-is, leaf-takes, operation-takes, symbol-tree, constant-tree, operation-tree, made, read-cons, Takes, complete-tail, complete-length}
+use Rattle.tree.proofs.TokenLaws.{Word, a-symbol, a-constant, an-operation, word-is, operation-takes, symbol-tree, constant-tree, operation-tree, made, read-cons, complete-tail, complete-length}
 use Rattle.tree.proofs.TokenCode.{all-tokens-append, all-tokens-cons}
 use Rattle.rewrite.specs.Rewrite.{each-operand, replace}
 use Rattle.rewrite.proofs.Counts.{well-formed-all}
-use Rattle.words.specs.Words.{number, tree-of, name-of, begins-with}
-use Rattle.words.proofs.Rewriting.{node-written, name-written, after-tree}
+use Rattle.words.specs.Words.{number, name-of}
+use Rattle.words.proofs.Rewriting.{node-written, name-written}
 use Rattle.replacing.specs.Replacing.{replaced-words, formed-word}
 
 -- ---- trees formed as 01 has them
@@ -84,7 +84,7 @@ words-formed (w ∷ ws) n e h =
 -- ---- steps at each of some trees
 
 module _ (g : Tree → Outcome Tree) where
-  each-both : (l m : List Tree) → each g (l ++ m) ≡ (each g l >>= λ a. each g m >>= λ b. ok (a ++ b))
+  pub each-both : (l m : List Tree) → each g (l ++ m) ≡ (each g l >>= λ a. each g m >>= λ b. ok (a ++ b))
   unfolding each
   each-both [] m = go (each g m)
     where

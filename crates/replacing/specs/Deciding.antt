@@ -1,14 +1,14 @@
 -- What is decided at the first of some trees, and what a product with matches is rewritten from. Assumes nothing.
 use Prim.Native.Nat.{ℕ, _+_, _-_, _^_, _≤_, _<_}
 use mathlib.Core.Path.{_≡_}
-use mathlib.Core.Bool.{Bool, true, false}
+use mathlib.Core.Bool.{true, false}
 use mathlib.Core.Option.{some}
 use mathlib.Core.List.{List, _∷_, _++_}
 use lib.ListN.{length, getD, take, drop}
 use lib.Dec.{T}
 use Rattle.tree.specs.Bytes.{every}
 use Rattle.tree.specs.Outcome.{Refusal, Outcome, ok, refused, _>>=_, each}
-use Rattle.tree.specs.Tree.{Name, Tree, Sym}
+use Rattle.tree.specs.Tree.{Tree, Sym}
 use Rattle.tree.specs.Facts.{size, count as count-of}
 use Rattle.tree.specs.Rows.{occurrences}
 use Rattle.tree.specs.Tokens.{kind-of, tokens, all-tokens, trees-in, run-at}

@@ -4,7 +4,7 @@ use mathlib.Core.Bool.{Bool, true, false, not, _&&_, _||_}
 use mathlib.Core.List.{List, [], _∷_, _++_}
 use lib.Dec.{eqb, leb}
 use Rattle.tree.specs.Bytes.{every}
-use Rattle.tree.specs.Outcome.{Outcome, ok, refused, _>>=_, each}
+use Rattle.tree.specs.Outcome.{Outcome, ok, _>>=_, each}
 use Rattle.tree.specs.Kinds.{arity-ok}
 use Rattle.tree.specs.Tree.{Name, Tree}
 use Rattle.tree.specs.Tokens.{kind-of, below-of, numbered, read, all-tokens}

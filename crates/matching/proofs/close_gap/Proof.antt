@@ -2,7 +2,6 @@
 use native.Mathlib.Omega.{arith}
 use Prim.Native.Nat.{_-_, _≤_}
 use mathlib.Core.Path.{_≡_, subst}
-use lib.ListN.{length}
 use Rattle.matching.proofs.Places.{Moved, moved-none, moved-more, moved-all, moved-rest}
 use borrow.Author.Needs.{needs}
 use Rattle.matching.proofs.close_gap.Statement.{statement}

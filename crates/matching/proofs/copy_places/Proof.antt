@@ -1,5 +1,4 @@
 -- `matching::copy_places` meets its contract. Assumes nothing.
-use native.Mathlib.Omega.{arith}
 use Prim.Native.Nat.{_+_, _-_, _≤_}
 use mathlib.Core.Logic.{_⊎_}
 use lib.ListN.{length}

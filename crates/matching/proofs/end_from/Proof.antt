@@ -1,13 +1,10 @@
 -- `matching::end_from` meets its contract. Assumes nothing.
 use native.Mathlib.Omega.{arith}
-use mathlib.Core.Path.{_≡_, sym, _∙_}
+use mathlib.Core.Path.{sym, _∙_}
 use Rattle.matching.proofs.Runs.{end-within, end-found, end-broken}
 use borrow.Author.Needs.{needs}
 use Rattle.matching.proofs.end_from.Statement.{statement}
 use Rattle.matching.proofs.end_from.Tie as tie
-use Rattle.matching.proofs.end_from.Reads as reads
-use Rattle.matching.proofs.end_from.Lts as lts
-use Rattle.tokens.proofs.end_of.Reads as end-of-reads
 
 end-of-requires : tie.Need-end-of-requires
 end-of-requires c κs = search needs

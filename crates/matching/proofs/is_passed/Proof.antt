@@ -1,11 +1,8 @@
 -- `matching::is_passed` meets its contract. Assumes nothing.
 use mathlib.Core.Path.{refl}
 use Rattle.matching.proofs.Runs.{passes-mul, passes-neg, passes-rest}
-use borrow.Author.Needs.{needs}
 use Rattle.matching.proofs.is_passed.Statement.{statement}
 use Rattle.matching.proofs.is_passed.Tie as tie
-use Rattle.matching.proofs.is_passed.Reads as reads
-use Rattle.matching.proofs.is_passed.Lts as lts
 
 returns : tie.Need-returns
 returns c = passes-mul (c .before .args .w) (c .if1 .taken)

@@ -1,6 +1,5 @@
 -- `matching::stands_at` meets its contract. Assumes nothing.
-use native.Mathlib.Omega.{arith}
-use mathlib.Core.Path.{_≡_, sym, _∙_, ap}
+use mathlib.Core.Path.{_∙_, ap}
 use Rattle.words.specs.Words.{begins-with}
 use Rattle.words.proofs.Scanning.{rest-is}
 use Rattle.matching.proofs.Runs.{stands-past}

@@ -1,8 +1,8 @@
 -- `matching::take_out` meets its contract. Assumes nothing.
 use native.Mathlib.Omega.{arith}
-use mathlib.Core.Path.{_≡_, refl, sym, ap, _∙_, subst}
+use mathlib.Core.Path.{refl}
 use mathlib.Core.Logic.{inl, inr}
-use Prim.Native.Nat.{ℕ, _≤_, _-_, _+_, _<_}
+use Prim.Native.Nat.{_-_}
 use Rattle.matching.proofs.Removing.{Taking, taking-starts, keeps, turns, stops, ends}
 use borrow.Author.Needs.{needs}
 use Rattle.matching.proofs.take_out.Statement.{statement}

@@ -1,15 +1,10 @@
 -- `replace::decide` meets its contract. Assumes nothing.
-use native.Mathlib.Omega.{arith}
-use mathlib.Core.Path.{_≡_, refl, sym, _∙_}
+use mathlib.Core.Path.{sym}
 use Rattle.replacing.proofs.Deciding.{plain-turn}
 use Rattle.replace.proofs.Deciding.{first-product}
 use borrow.Author.Needs.{needs}
 use Rattle.replace.proofs.decide.Statement.{statement}
 use Rattle.replace.proofs.decide.Tie as tie
-use Rattle.replace.proofs.decide.Reads as reads
-use Rattle.replace.proofs.decide.Lts as lts
-use Rattle.replace.proofs.decide_product.Reads as decide-product-reads
-use Rattle.words.proofs.starts_with.Reads as starts-with-reads
 
 starts-with-requires : tie.Need-starts-with-requires
 starts-with-requires c κs = search needs

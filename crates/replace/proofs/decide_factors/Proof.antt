@@ -1,15 +1,9 @@
 -- `replace::decide_factors` meets its contract. Assumes nothing.
-use native.Mathlib.Omega.{arith}
-use mathlib.Core.Path.{_≡_, sym, _∙_}
+use mathlib.Core.Path.{sym, _∙_}
 use Rattle.replace.proofs.Deciding.{taken-full, taken-none, taken-refused, never-ends, taken-matched}
 use borrow.Author.Needs.{needs}
 use Rattle.replace.proofs.decide_factors.Statement.{statement}
 use Rattle.replace.proofs.decide_factors.Tie as tie
-use Rattle.replace.proofs.decide_factors.Reads as reads
-use Rattle.replace.proofs.decide_factors.Lts as lts
-use Rattle.coefficient.proofs.constant_of.Reads as constant-of-reads
-use Rattle.matching.proofs.take_out.Reads as take-out-reads
-use Rattle.tokens.proofs.end_of.Reads as end-of-reads
 
 take-out-requires : tie.Need-take-out-requires
 take-out-requires c κs = search needs

@@ -1,14 +1,10 @@
 -- `replace::decide_product` meets its contract. Assumes nothing.
 use native.Mathlib.Omega.{arith}
-use mathlib.Core.Path.{_≡_, refl, sym, _∙_}
+use mathlib.Core.Path.{sym, _∙_}
 use Rattle.replace.proofs.Deciding.{never-broken, never-full, flat-first}
 use borrow.Author.Needs.{needs}
 use Rattle.replace.proofs.decide_product.Statement.{statement}
 use Rattle.replace.proofs.decide_product.Tie as tie
-use Rattle.replace.proofs.decide_product.Reads as reads
-use Rattle.replace.proofs.decide_product.Lts as lts
-use Rattle.factors.proofs.flatten_mul_factors.Reads as flatten-mul-factors-reads
-use Rattle.replace.proofs.decide_factors.Reads as decide-factors-reads
 
 flatten-mul-factors-requires : tie.Need-flatten-mul-factors-requires
 flatten-mul-factors-requires c κs = search needs

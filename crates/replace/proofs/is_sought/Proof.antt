@@ -1,14 +1,9 @@
 -- `replace::is_sought` meets its contract. Assumes nothing.
-use native.Mathlib.Omega.{arith}
-use mathlib.Core.Path.{_≡_, sym, _∙_}
+use mathlib.Core.Path.{sym, _∙_}
 use Rattle.replace.proofs.Deciding.{some-words, not-sought, sought-by, never-broken, never-full}
 use borrow.Author.Needs.{needs}
 use Rattle.replace.proofs.is_sought.Statement.{statement}
 use Rattle.replace.proofs.is_sought.Tie as tie
-use Rattle.replace.proofs.is_sought.Reads as reads
-use Rattle.replace.proofs.is_sought.Lts as lts
-use Rattle.coefficient.proofs.is_one.Reads as is-one-reads
-use Rattle.factors.proofs.flatten_mul_factors.Reads as flatten-mul-factors-reads
 
 shared-slice-read-if1 : tie.Need-shared-slice-read-if1
 shared-slice-read-if1 c = some-words (c .before .before .before .args .target .now) (c .before .before .before .pre .0)

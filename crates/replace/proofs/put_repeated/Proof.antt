@@ -2,11 +2,8 @@
 use native.Mathlib.Omega.{arith}
 use Prim.Native.Nat.{_-_}
 use Rattle.replace.proofs.Writing.{Repeating, repeat-starts, repeat-turns, repeat-ends}
-use borrow.Author.Needs.{needs}
 use Rattle.replace.proofs.put_repeated.Statement.{statement}
 use Rattle.replace.proofs.put_repeated.Tie as tie
-use Rattle.replace.proofs.put_repeated.Reads as reads
-use Rattle.replace.proofs.put_repeated.Lts as lts
 
 abbrev Inv-loop : tie.InvT-loop
 Inv-loop w n at out₀ k₀ out k = Repeating out₀ w n at out k

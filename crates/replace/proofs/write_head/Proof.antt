@@ -1,14 +1,11 @@
 -- `replace::write_head` meets its contract. Assumes nothing.
 use native.Mathlib.Omega.{arith}
-use mathlib.Core.Path.{_≡_, refl, sym, _∙_}
+use mathlib.Core.Path.{refl, _∙_}
 use lib.ListN.{length-set}
 use Rattle.replace.proofs.Writing.{head-one, head-minus, head-other, room-one, room-minus, room-other}
 use borrow.Author.Needs.{needs}
 use Rattle.replace.proofs.write_head.Statement.{statement}
 use Rattle.replace.proofs.write_head.Tie as tie
-use Rattle.replace.proofs.write_head.Reads as reads
-use Rattle.replace.proofs.write_head.Lts as lts
-use Rattle.replace.proofs.put_repeated.Reads as put-repeated-reads
 
 put-repeated-requires : tie.Need-put-repeated-requires
 put-repeated-requires c κs = let a = c .before .before .before .args in omega (arith, room-one (a .code) (a .signs) (a .out .now) (c .before .if1 .taken), c .before .before .before .pre .1)
