@@ -12,7 +12,6 @@ use Rattle.tree.specs.Bytes.{every}
 use Rattle.tree.specs.Outcome.{Outcome, ok, refused, _>>=_, each}
 use Rattle.tree.specs.Tree.{Name, xname, Tree, Forest, Sym, Const, Op, nil, _◂_, folds}
 use Rattle.tree.specs.Facts.{total, operations, all-operations, size, has-symbol}
-use Rattle.tree.specs.Passes.{trees-ok}
 use Rattle.tree.specs.Rows.{Row}
 use Rattle.tree.specs.Tokens.{read, numbered, name-in, trees-in, trees-at, run-at, tokens, all-tokens, kind-of}
 use Rattle.tree.proofs.Logic.{and-left, and-right, and-both}
@@ -25,6 +24,7 @@ use Rattle.rewrite.proofs.Names.{holds-all}
 use Rattle.cse.specs.Extract.{is-candidate}
 use Rattle.cse.proofs.Outcomes.{Good, then-good, good-ok, good-at}
 use Rattle.cse.proofs.RoundsCount.{made-before, candidate-facts}
+use Rattle.checked.specs.Check.{word-ok}
 use Rattle.words.specs.Words.{tree-of, name-of, some-trees, one-tree, sound}
 use Rattle.replacing.specs.Replacing.{replaced-words, formed-word, has-symbol-word, lacks, replaceable}
 use Rattle.renaming.specs.Places.{numbered-at, best-place}
@@ -37,7 +37,7 @@ use Rattle.renaming.proofs.WordForms.{extract-words-form, place-words}
 use Rattle.renaming.proofs.WordSteps.{Turn, Next, one-turn, words-size}
 use Rattle.kept.specs.Sound.{name-word, numbered-below, extractable}
 use Rattle.kept.proofs.Passing.{all-taken, extract-on-taken}
-use Rattle.kept.proofs.Words.{name-ok, trees-taken, made-ok, all-taken-formed, taken-at, formed-words, kind-zero, word-names, names-below, run-apart, symbol-words}
+use Rattle.kept.proofs.Words.{name-ok, words-taken, made-ok, all-taken-formed, taken-at, formed-words, kind-zero, word-names, names-below, run-apart, symbol-words}
 
 -- ---- words that may be extracted from
 
@@ -55,21 +55,21 @@ some-there (some m) h = (m, refl)
 pub ready-of : (rows : List Row) (n : ℕ) (ws : List ℕ) → T (extractable rows n ws) → Ready rows n ws
 unfolding extractable
 ready-of rows n ws h =
-    let c = some-there (trees-in ws) (and-left (some-trees (trees-in ws)) (trees-ok (read (name-in rows) ws) && every (numbered-below n) ws) h) in
-    let g = and-right (some-trees (trees-in ws)) (trees-ok (read (name-in rows) ws) && every (numbered-below n) ws) h in
+    let c = some-there (trees-in ws) (and-left (some-trees (trees-in ws)) (every (word-ok rows) ws && every (numbered-below n) ws) h) in
+    let g = and-right (some-trees (trees-in ws)) (every (word-ok rows) ws && every (numbered-below n) ws) h in
     record {
       trees = c .0;
       complete = c .1;
-      taken = subst T (trees-taken rows ws) (and-left (trees-ok (read (name-in rows) ws)) (every (numbered-below n) ws) g);
-      below = and-right (trees-ok (read (name-in rows) ws)) (every (numbered-below n) ws) g;
+      taken = subst T (words-taken rows ws (c .0) (c .1)) (and-left (every (word-ok rows) ws) (every (numbered-below n) ws) g);
+      below = and-right (every (word-ok rows) ws) (every (numbered-below n) ws) g;
     }
 
 pub ready-so : (rows : List Row) (n : ℕ) (ws : List ℕ) → Ready rows n ws → T (extractable rows n ws)
 unfolding extractable some-trees
 ready-so rows n ws r =
-    and-both (some-trees (trees-in ws)) (trees-ok (read (name-in rows) ws) && every (numbered-below n) ws)
+    and-both (some-trees (trees-in ws)) (every (word-ok rows) ws && every (numbered-below n) ws)
     (subst (λ (o : Option ℕ). T (some-trees o)) (sym (r .complete)) tt)
-    (and-both (trees-ok (read (name-in rows) ws)) (every (numbered-below n) ws) (subst T (sym (trees-taken rows ws)) (r .taken)) (r .below))
+    (and-both (every (word-ok rows) ws) (every (numbered-below n) ws) (subst T (sym (words-taken rows ws (r .trees) (r .complete))) (r .taken)) (r .below))
 
 -- ---- operations are words
 

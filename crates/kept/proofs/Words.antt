@@ -6,7 +6,7 @@ use mathlib.Core.Path.{_≡_, refl, sym, _∙_, ap, ap₂, subst}
 use mathlib.Core.Bool.{Bool, true, false, not, _&&_, _||_, cond}
 use mathlib.Core.Logic.{_⊎_, inl, inr}
 use mathlib.Core.Option.{some}
-use mathlib.Core.List.{List, [], _∷_, _++_, map}
+use mathlib.Core.List.{List, [], _∷_, _++_}
 use borrow.Author.Tests.{eq-eqb, ne-eqb}
 use lib.ListN.{length, getD, take, drop, take-append-drop}
 use lib.Seq.{length-take-le}
@@ -17,12 +17,12 @@ use Rattle.tree.specs.Symbol.{is-name}
 use Rattle.tree.specs.Tree.{Name, input, xname, mname, Tree, Forest, Sym, Const, Op, nil, _◂_, forest, operands, folds}
 use Rattle.tree.specs.Facts.{has-symbol, some-of, nodes, nodes-of, all-nodes}
 use Rattle.tree.specs.Rows.{Row}
-use Rattle.tree.specs.Passes.{all-of, symbol-ok, of-paper, operands-ok, tree-ok, trees-ok}
+use Rattle.tree.specs.Passes.{symbol-ok, operands-ok}
 use Rattle.tree.specs.Tokens.{kind-of, below-of, takes, name-by, name-in, numbered, read, trees-at, trees-in, tree-of-word, tokens, tokens-of, name-code}
 use Rattle.tree.proofs.Formed.{operand-count, well-formed, well-formed-each}
 use Rattle.tree.proofs.Logic.{and-left, and-right, and-both}
 use Rattle.tree.proofs.TokenLaws.{Word, a-symbol, a-constant, an-operation, word-is, leaf-takes, operation-takes, symbol-tree, constant-tree, operation-tree, made, read-cons, complete-tail, complete-length, places-are-nodes, trees-length}
-use Rattle.tree.proofs.TokenCode.{renamed-name, renamed as renamed-by, renamed-each as renamed-each-by, unnumbered}
+use Rattle.tree.proofs.TokenCode.{unnumbered}
 use Rattle.tree.proofs.Tests.{eq→eqb}
 use Rattle.rewrite.proofs.DivisorCount.{or-cases}
 use Rattle.rewrite.proofs.Names.{holds, holds-each, holds-all}
@@ -31,7 +31,8 @@ use Rattle.cse.proofs.RoundsCount.{made-before}
 use Rattle.words.specs.Words.{name-of}
 use Rattle.replacing.specs.Replacing.{formed-word, has-symbol-word, lacks}
 use Rattle.renaming.specs.Places.{numbered-at}
-use Rattle.renaming.proofs.RowNames.{words-renamed}
+use Rattle.checked.specs.Check.{word-ok}
+use Rattle.checked.proofs.RunLaws.{symbol-word, constant-word, operation-word}
 use Rattle.kept.specs.Sound.{name-word, numbered-below}
 use Rattle.kept.proofs.Passing.{taken, taken-each, all-taken}
 
@@ -45,6 +46,11 @@ and-assoc false b c = refl
 
 -- ---- trees that print takes, with numbers for names
 
+count-forest : (l : List Tree) → operand-count (forest l) ≡ length l
+unfolding operand-count forest
+count-forest [] = refl
+count-forest (t ∷ l) = ap suc (count-forest l)
+
 module _ (rows : List Row) where
   unfoldable pub name-ok : Name → Bool
   unfolding is-name
@@ -52,45 +58,66 @@ module _ (rows : List Row) where
   name-ok (xname n) = true
   name-ok (mname n) = true
 
-  abbrev renamed : Tree → Tree
-  renamed = renamed-by unnumbered (name-in rows)
+  class-ok : (c i : ℕ) → name-ok (name-by numbered c i) ≡ symbol-ok (name-by (name-in rows) c i)
+  unfolding name-ok symbol-ok name-by
+  class-ok zero i = refl
+  class-ok (suc zero) i = refl
+  class-ok (suc (suc c)) i = refl
 
-  abbrev renamed-each : Forest → Forest
-  renamed-each = renamed-each-by unnumbered (name-in rows)
+  taken-cons : (t : Tree) (l : List Tree) → all-taken name-ok (t ∷ l) ≡ (taken name-ok t && all-taken name-ok l)
+  unfolding all-taken
+  taken-cons t l = refl
 
-  abbrev tests : Forest → List Bool
-  tests f = folds symbol-ok of-paper (λ k l. operands-ok k (length l) && all-of l) f
+  taken-both : (a b : List Tree) → all-taken name-ok (a ++ b) ≡ (all-taken name-ok a && all-taken name-ok b)
+  unfolding all-taken
+  taken-both [] b = refl
+  taken-both (t ∷ a) b = rw (taken-both a b) (sym (and-assoc (taken name-ok t) (all-taken name-ok a) (all-taken name-ok b)))
 
-  name-is : (n : Name) → symbol-ok (renamed-name unnumbered (name-in rows) n) ≡ name-ok n
-  unfolding symbol-ok name-ok renamed-name
-  name-is (input s) = refl
-  name-is (xname n) = refl
-  name-is (mname n) = refl
+  taken-forest : (l : List Tree) → taken-each name-ok (forest l) ≡ all-taken name-ok l
+  unfolding all-taken taken forest
+  taken-forest [] = refl
+  taken-forest (t ∷ l) = ap (λ (b : Bool). taken name-ok t && b) (taken-forest l)
 
-  count-is : (f : Forest) → length (tests (renamed-each f)) ≡ operand-count f
-  unfolding renamed-by operand-count folds
-  count-is nil = refl
-  count-is (t ◂ f) = ap suc (count-is f)
+  taken-none : all-taken name-ok [] ≡ true
+  unfolding all-taken
+  taken-none = refl
 
-  mutual
-    unfolding tree-ok taken renamed-by all-of folds
+  made-taken : (w : ℕ) (ts : List Tree) → takes w ≤ length ts → taken name-ok (made numbered w ts) ≡ (word-ok rows w && all-taken name-ok (take (takes w) ts))
+  unfolding taken
+  made-taken w ts h = go (word-is w)
+    where
+      leaf : kind-of w ≤ 1 → (word-ok rows w && all-taken name-ok (take (takes w) ts)) ≡ word-ok rows w
+      leaf k = rw (leaf-takes w k, taken-none) (and-true (word-ok rows w))
 
-    tree-is : (t : Tree) → tree-ok (renamed t) ≡ taken name-ok t
-    tree-is (Sym n) = name-is n
-    tree-is (Const c) = refl
-    tree-is (Op k f) = ap₂ (λ (n : ℕ) (b : Bool). operands-ok k n && b) (count-is f) (each-is f)
+      go : Word w → taken name-ok (made numbered w ts) ≡ (word-ok rows w && all-taken name-ok (take (takes w) ts))
+      go (a-symbol k) = rw (leaf (omega arith), symbol-word rows w k, symbol-tree numbered w (take (takes w) ts) k) (class-ok (below-of w % 3) (below-of w / 3))
+      go (a-constant k) = rw (leaf (omega arith), constant-word rows w k, constant-tree numbered w (take (takes w) ts) k)
+      go (an-operation k) =
+          let c : operand-count (forest (take (takes w) ts)) ≡ below-of w = count-forest (take (takes w) ts) ∙ length-take-le (takes w) ts h ∙ operation-takes w k in
+          rw (operation-word rows w (λ e. omega arith) (λ e. omega arith), operation-tree numbered w (take (takes w) ts) k)
+          (ap₂ (λ (n : ℕ) (b : Bool). operands-ok (kind-of w) n && b) c (taken-forest (take (takes w) ts)))
 
-    each-is : (f : Forest) → all-of (tests (renamed-each f)) ≡ taken-each name-ok f
-    each-is nil = refl
-    each-is (t ◂ f) = ap₂ _&&_ (tree-is t) (each-is f)
+  no-words : all-taken name-ok (read numbered []) ≡ true
+  unfolding read
+  no-words = taken-none
 
-  all-is : (l : List Tree) → trees-ok (map renamed l) ≡ all-taken name-ok l
-  unfolding trees-ok all-taken
-  all-is [] = refl
-  all-is (t ∷ l) = ap₂ _&&_ (tree-is t) (all-is l)
-
-  pub trees-taken : (ws : List ℕ) → trees-ok (read (name-in rows) ws) ≡ all-taken name-ok (read numbered ws)
-  trees-taken ws = ap trees-ok (words-renamed rows ws) ∙ all-is (read numbered ws)
+  -- words that are tested one by one are those of such trees
+  pub words-taken : (ws : List ℕ) (n : ℕ) → trees-in ws ≡ some n → every (word-ok rows) ws ≡ all-taken name-ok (read numbered ws)
+  unfolding every
+  words-taken [] n e = sym no-words
+  words-taken (w ∷ ws) n e =
+      let t = complete-tail w ws n e in
+      let rs = read numbered ws in
+      let l = complete-length numbered ws (t .trees) (t .are) in
+      let a = take (takes w) rs in
+      let b = drop (takes w) rs in
+      let both : (all-taken name-ok a && all-taken name-ok b) ≡ every (word-ok rows) ws =
+      sym (taken-both a b) ∙ ap (all-taken name-ok) (take-append-drop (takes w) rs) ∙ sym (words-taken ws (t .trees) (t .are)) in
+      sym
+      (ap (all-taken name-ok) (read-cons numbered w ws) ∙ taken-cons (made numbered w rs) b
+      ∙ ap (λ (c : Bool). c && all-taken name-ok b) (made-taken w rs (omega (arith, l, t .enough)))
+      ∙ and-assoc (word-ok rows w) (all-taken name-ok a) (all-taken name-ok b)
+      ∙ ap (λ (c : Bool). word-ok rows w && c) both)
 
   pub made-ok : (n : ℕ) → T (name-ok (xname n))
   unfolding name-ok
@@ -184,11 +211,6 @@ unfolding well-formed-all well-formed forest
 forest-formed [] h = tt
 forest-formed (t ∷ l) h =
     and-both (well-formed t) (well-formed-all l) (and-left (well-formed t) (well-formed-each (forest l)) h) (forest-formed l (and-right (well-formed t) (well-formed-each (forest l)) h))
-
-count-forest : (l : List Tree) → operand-count (forest l) ≡ length l
-unfolding operand-count forest
-count-forest [] = refl
-count-forest (t ∷ l) = ap suc (count-forest l)
 
 or-left : (b c : Bool) → T b → T (b || c)
 or-left true c h = tt

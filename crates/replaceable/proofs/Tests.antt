@@ -12,7 +12,7 @@ use Rattle.tree.specs.Bytes.{every}
 use Rattle.tree.specs.Kinds.{arity-ok, kind-at}
 use Rattle.tree.specs.Tokens.{kind-of, below-of}
 use Rattle.tree.proofs.KindLaws.{arity-kind}
-use Rattle.fields.specs.Counts.{kind-number}
+use Rattle.kinds.specs.Numbers.{kind-number}
 use Rattle.replacing.specs.Replacing.{formed-word, has-symbol-word, lacks}
 
 -- ---- from the right

@@ -3,7 +3,7 @@ ghost use mathlib.Core.Path.{_≡_};
 ghost use mathlib.Core.Bool.{_&&_};
 ghost use Rattle.tree.specs.Bytes.{every};
 ghost use Rattle.tree.specs.Kinds.{arity-ok};
-ghost use Rattle.fields.specs.Counts.{kind-number};
+ghost use Rattle.kinds.specs.Numbers.{kind-number};
 ghost use Rattle.replacing.specs.Replacing.{formed-word, has-symbol-word, lacks};
 
 // A word is kind + KINDS * below.
@@ -21,7 +21,7 @@ const SELECT_OR: u64 = 28;
 fn operands_fit(kind: u64, default: bool, n: u64) -> bool
     ensures { λ r. ⌜ r ≡ arity-ok (kind-number kind default) n ⌝ }
 {
-    let counts = fields::operand_counts(kind, default);
+    let counts = kinds::operand_counts(kind, default);
     if n < counts.fewest {
         return false;
     }

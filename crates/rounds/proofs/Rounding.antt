@@ -10,8 +10,8 @@ use lib.Dec.{T, ltb, lt→ltb}
 use Rattle.tree.specs.Bytes.{every}
 use Rattle.tree.specs.Outcome.{Refusal, Outcome, ok, refused}
 use Rattle.tree.specs.Rows.{Row}
-use Rattle.tree.specs.Passes.{trees-ok}
-use Rattle.tree.specs.Tokens.{name-in, read, trees-in}
+use Rattle.checked.specs.Check.{word-ok}
+use Rattle.tree.specs.Tokens.{name-in, trees-in}
 use Rattle.tree.proofs.Tests.{is-true}
 use Rattle.words.specs.Words.{some-trees}
 use Rattle.replacing.specs.Deciding.{Wrote}
@@ -37,7 +37,7 @@ or-second false b h = h
 good-both : (rows : List Row) (name : ℕ) (ws : List ℕ) (g b : Bool) → trees-good rows ws ≡ g → every (numbered-below name) ws ≡ b → extractable rows name ws ≡ (g && b)
 unfolding extractable
 good-both rows name ws g b e f =
-    sym (assoc (some-trees (trees-in ws)) (trees-ok (read (name-in rows) ws)) (every (numbered-below name) ws)) ∙ ap₂ _&&_ e f
+    sym (assoc (some-trees (trees-in ws)) (every (word-ok rows) ws) (every (numbered-below name) ws)) ∙ ap₂ _&&_ e f
   where
     assoc : (x y z : Bool) → ((x && y) && z) ≡ (x && (y && z))
     assoc true y z = refl

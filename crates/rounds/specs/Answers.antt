@@ -8,23 +8,24 @@ use lib.ListN.{length, take, drop}
 use lib.Dec.{T, ltb}
 use Rattle.tree.specs.Outcome.{Refusal, Outcome, ok, refused}
 use Rattle.tree.specs.Rows.{Row}
-use Rattle.tree.specs.Passes.{trees-ok}
-use Rattle.tree.specs.Tokens.{name-in, read, trees-in}
+use Rattle.tree.specs.Bytes.{every}
+use Rattle.checked.specs.Check.{word-ok}
+use Rattle.tree.specs.Tokens.{name-in, trees-in}
 use Rattle.words.specs.Words.{some-trees}
 use Rattle.renaming.specs.Places.{numbered-at, best-place}
 use Rattle.renaming.specs.Rounds.{extract-words}
 use Rattle.kept.specs.Sound.{extractable}
 use Rattle.rounds.specs.declared.Best.{Best}
 use Rattle.rounds.specs.declared.Best.the-variants as best
-use Rattle.rounds.specs.declared.Replaced.{Replaced}
-use Rattle.rounds.specs.declared.Replaced.the-variants as replaced
+use Rattle.replace.specs.declared.Replaced.{Replaced}
+use Rattle.replace.specs.declared.Replaced.the-variants as replaced
 use Rattle.replacing.specs.Deciding.{Wrote}
 use Rattle.rounds.specs.declared.Round.{Round}
 use Rattle.rounds.specs.declared.Round.the-variants as round
 
 -- the words may be extracted from as far as their trees go
 abbrev pub trees-good : List Row → List ℕ → Bool
-trees-good rows ws = some-trees (trees-in ws) && trees-ok (read (name-in rows) ws)
+trees-good rows ws = some-trees (trees-in ws) && every (word-ok rows) ws
 
 -- what `best_place` answers where there is room
 abbrev pub Finds : List Row → List ℕ → Bool → Best → Type 0

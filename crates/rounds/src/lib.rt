@@ -10,9 +10,11 @@ ghost use Rattle.tree.specs.Bytes.{every};
 ghost use Rattle.tree.specs.Tokens.{name-in};
 ghost use Rattle.checked.specs.Check.{rows-in};
 ghost use Rattle.kept.specs.Sound.{numbered-below};
-ghost use Rattle.rounds.specs.Stub.{best-answer, Replaces};
+ghost use Rattle.rounds.specs.Stub.{best-answer};
 ghost use Rattle.rounds.specs.Answers.{Finds, Chosen, Extracts, Turns, round-answer};
 ghost use Rattle.rounds.specs.Rounds.{rounds-answer, Leaves-words};
+use replace::Replaced;
+use replace::replace;
 use tokens::Run;
 use tokens::end_of;
 
@@ -44,22 +46,9 @@ pub enum Best {
 }
 
 fn best_place(rows: &[u64], tokens: &[u64], scoped: bool, facts: &mut [u64], marks: &mut [u64], text: &mut [u8]) -> Best
-    ensures { λ r. ⌜ r ≡ best-answer (rows-in (now (rows .entry))) (now (tokens .entry)) scoped (length (now (facts .entry))) (length (now (marks .entry))) (length (now (text .entry))) ⌝ }
+    ensures { λ r. ⌜ r ≡ best-answer (now (rows .entry)) (now (tokens .entry)) scoped (length (now (facts .entry))) (length (now (marks .entry))) (length (now (text .entry))) ⌝ }
 {
     Best::Broken
-}
-
-pub enum Replaced {
-    Words(usize),
-    Refused,
-    Broken,
-    NoRoom,
-}
-
-fn replace(tokens: &[u64], target: &[u64], name: u64, places: &mut [u64], out: &mut [u64]) -> Replaced
-    ensures { λ r. ⌜ Replaces (now (tokens .entry)) (now (target .entry)) name (length (now (places .entry))) (now (out .entry)) r (now (out .exit)) ⌝ }
-{
-    Replaced::Broken
 }
 
 // STUB-END

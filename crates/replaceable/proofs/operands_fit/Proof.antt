@@ -1,6 +1,6 @@
 -- `replaceable::operands_fit` meets its contract. Assumes nothing.
 use borrow.Author.Tests.{lt-leb, le-leb}
-use Rattle.fields.specs.Counts.{kind-number}
+use Rattle.kinds.specs.Numbers.{kind-number}
 use Rattle.replaceable.proofs.Tests.{arity-by}
 use borrow.Author.Needs.{needs}
 use Rattle.replaceable.proofs.operands_fit.Statement.{statement}
