@@ -31,10 +31,10 @@ use Rattle.kept.specs.Sound.{name-word}
 use Rattle.kept.proofs.Steps.{Ready, ready-of, inside, part-run, may-replace, extracted-are, stepped}
 use Rattle.kept.proofs.Looping.{number-first}
 use Rattle.replace.specs.Answers.{Replacement, replaced-by, replacement, scratch-short, short-of-room, Answers}
-use Rattle.rounds.specs.Stub.{has-room, best-of, best-answer}
+use Rattle.best.specs.Answers.{has-room, best-of, best-answer}
 use Rattle.rounds.specs.Answers.{Finds, Chosen, Extracts, Turns}
-use Rattle.rounds.specs.declared.Best.{Best}
-use Rattle.rounds.specs.declared.Best.the-variants as best
+use Rattle.best.specs.declared.Best.{Best}
+use Rattle.best.specs.declared.Best.the-variants as best
 use Rattle.replace.specs.declared.Replaced.{Replaced}
 use Rattle.replace.specs.declared.Replaced.the-variants as replaced
 use Rattle.rounds.specs.declared.Round.the-variants as round

@@ -19,8 +19,8 @@ use Rattle.renaming.specs.Places.{numbered-at, best-place}
 use Rattle.renaming.specs.Rounds.{extract-words}
 use Rattle.kept.specs.Sound.{numbered-below, extractable}
 use Rattle.rounds.specs.Answers.{trees-good, Finds, Chosen, Turns, Turned, round-short, round-outcome, round-by, round-answer}
-use Rattle.rounds.specs.declared.Best.{Best}
-use Rattle.rounds.specs.declared.Best.the-variants as best
+use Rattle.best.specs.declared.Best.{Best}
+use Rattle.best.specs.declared.Best.the-variants as best
 use Rattle.rounds.specs.declared.Round.{Round}
 use Rattle.rounds.specs.declared.Round.the-variants as round
 use Rattle.rounds.proofs.Extracting.{not-less, or-false}

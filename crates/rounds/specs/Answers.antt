@@ -15,8 +15,8 @@ use Rattle.words.specs.Words.{some-trees}
 use Rattle.renaming.specs.Places.{numbered-at, best-place}
 use Rattle.renaming.specs.Rounds.{extract-words}
 use Rattle.kept.specs.Sound.{extractable}
-use Rattle.rounds.specs.declared.Best.{Best}
-use Rattle.rounds.specs.declared.Best.the-variants as best
+use Rattle.best.specs.declared.Best.{Best}
+use Rattle.best.specs.declared.Best.the-variants as best
 use Rattle.replace.specs.declared.Replaced.{Replaced}
 use Rattle.replace.specs.declared.Replaced.the-variants as replaced
 use Rattle.replacing.specs.Deciding.{Wrote}

@@ -10,9 +10,10 @@ ghost use Rattle.tree.specs.Bytes.{every};
 ghost use Rattle.tree.specs.Tokens.{name-in};
 ghost use Rattle.checked.specs.Check.{rows-in};
 ghost use Rattle.kept.specs.Sound.{numbered-below};
-ghost use Rattle.rounds.specs.Stub.{best-answer};
 ghost use Rattle.rounds.specs.Answers.{Finds, Chosen, Extracts, Turns, round-answer};
 ghost use Rattle.rounds.specs.Rounds.{rounds-answer, Leaves-words};
+use best::Best;
+use best::best_place;
 use replace::Replaced;
 use replace::replace;
 use tokens::Run;
@@ -37,21 +38,6 @@ const LARGEST_NAME: u64 = 1099511627776;
 // Rounds are fewer than words, so that names from here on stay below.
 const LARGEST_FIRST: u64 = 549755813888;
 
-// STUB-BEGIN
-pub enum Best {
-    At(usize),
-    Nothing,
-    Broken,
-    NoRoom,
-}
-
-fn best_place(rows: &[u64], tokens: &[u64], scoped: bool, facts: &mut [u64], marks: &mut [u64], text: &mut [u8]) -> Best
-    ensures { λ r. ⌜ r ≡ best-answer (now (rows .entry)) (now (tokens .entry)) scoped (length (now (facts .entry))) (length (now (marks .entry))) (length (now (text .entry))) ⌝ }
-{
-    Best::Broken
-}
-
-// STUB-END
 pub enum Round {
     // How many words there are now.
     Next(usize),

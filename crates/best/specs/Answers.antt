@@ -1,4 +1,4 @@
--- The answer of `best_place` (stub). Assumes nothing.
+-- What `best_place` answers (01, "Extraction"). Assumes nothing.
 use Prim.Native.Nat.{ℕ, _*_}
 use mathlib.Core.Bool.{Bool, true, false, _&&_}
 use mathlib.Core.Option.{Option, none, some}
@@ -9,12 +9,14 @@ use Rattle.tree.specs.Bytes.{every}
 use Rattle.tree.specs.Tokens.{trees-in, name-in}
 use Rattle.checked.specs.Check.{rows-in, word-ok}
 use Rattle.renaming.specs.Places.{best-place}
-use Rattle.rounds.specs.declared.Best.{Best}
-use Rattle.rounds.specs.declared.Best.the-variants.{At, Nothing, Broken, NoRoom}
+use Rattle.best.specs.declared.Best.{Best}
+use Rattle.best.specs.declared.Best.the-variants.{At, Nothing, Broken, NoRoom}
 
+-- at most a million words, with five words of facts, a mark and 128 bytes of text for each
 unfoldable pub has-room : ℕ → ℕ → ℕ → ℕ → Bool
 has-room words facts marks text = leb words 1000000 && (leb (5 * words) facts && (leb words marks && leb (128 * words) text))
 
+-- from the room, the number of trees, whether each word is one that print takes, and the best place
 unfoldable pub best-of : Bool → Option ℕ → Bool → Option ℕ → Best
 best-of false trees pass found = NoRoom
 best-of true none pass found = Broken

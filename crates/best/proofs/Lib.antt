@@ -1,0 +1,4 @@
+pub mod Passing
+pub mod Leaders
+pub mod Giving
+pub mod Definition

@@ -1,0 +1,4 @@
+pub mod WriteLaws
+pub mod TextLaws
+pub mod NameLaws
+pub mod KindNames

@@ -1,0 +1,29 @@
+-- `uses::clear_arms` meets its contract. Assumes nothing.
+use Prim.Native.Nat.{_-_, _≤_}
+use native.Mathlib.Omega.{arith}
+use lib.ListN.{length}
+use Rattle.uses.specs.Marks.{Marking, not-in-arms}
+use Rattle.uses.proofs.Marking.{marking-starts, marking-turns, marking-ends}
+use borrow.Author.Needs.{needs}
+use Rattle.uses.proofs.clear_arms.Statement.{statement}
+use Rattle.uses.proofs.clear_arms.Tie as tie
+
+abbrev Inv-loop : tie.InvT-loop
+Inv-loop tokens marks₀ p₀ marks p = (p ≤ length tokens) × Marking tokens (not-in-arms tokens p) marks₀ marks
+
+abbrev μ-loop : tie.MeasureT-loop
+μ-loop tokens marks₀ p₀ marks p = length tokens - p
+
+pub clear-arms-spec : {M : Type 1} → statement M
+clear-arms-spec =
+    tie.close
+    (tie.spec
+    Inv-loop
+    μ-loop
+    (λ c. (omega arith, marking-starts (c .before .before .args .tokens .now) (c .before .before .args .marks .now) (c .before .before .pre .1 .0)))
+    (λ c κs. (c .before .before .before .before .before .pre .0, (c .before .loop-test .taken, omega (arith, c .before .before .loop .inv .1 .long, c .before .before .before .before .before .pre .1 .1))))
+    (λ c. omega (arith, c .before .before .before .before .loop-test .taken))
+    (λ c. omega (arith, c .before .before .before .before .loop-test .taken))
+    (λ c. (omega (arith, c .before .before .before .before .loop-test .taken), marking-turns (c .before .before .before .before .before .before .before .before .pre .0) (c .before .before .before .before .loop-test .taken) (c .before .before .before .before .before .loop .inv .1) (c .before .before .clear-arms-of .ensures)))
+    (λ c. c .before .loop .inv .1 .long)
+    (λ c. marking-ends (c .before .loop .inv .1) (c .before .loop .inv .0) (c .loop-test .left)))

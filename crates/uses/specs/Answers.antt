@@ -1,0 +1,44 @@
+-- The answers of this crate by cases (01, "Uses"), for words none of which lacks an operand. Assumes nothing.
+use Prim.Native.Nat.{ℕ}
+use mathlib.Core.Bool.{Bool, true, false, _&&_, _||_, not}
+use mathlib.Core.Option.{Option, none, some}
+use mathlib.Core.List.{List, _++_}
+use lib.ListN.{length, drop}
+use lib.Dec.{leb, ltb}
+use Rattle.tree.specs.Tokens.{trees-in}
+use Rattle.renaming.specs.Places.{uses-at, equal-places, outside-at}
+use Rattle.uses.specs.Marks.{is-marked, marks-of}
+use Rattle.uses.specs.declared.Uses.{Uses}
+use Rattle.uses.specs.declared.Uses.the-variants as uses
+use Rattle.uses.specs.declared.Marked.{Marked}
+use Rattle.uses.specs.declared.Marked.the-variants as marked
+
+-- a count, where the words are complete and a place passes
+unfoldable pub counted-by : Option ℕ → Bool → ℕ → Uses
+counted-by none ok n = uses.Broken
+counted-by (some k) false n = uses.Broken
+counted-by (some k) true n = uses.Count n
+
+unfoldable pub uses-answer : List ℕ → ℕ → Uses
+unfolding counted-by trees-in uses-at
+uses-answer ws at = counted-by (trees-in ws) (ltb at (length ws)) (uses-at ws at)
+
+unfoldable pub marked-answer : List ℕ → List ℕ → ℕ → Uses
+unfolding counted-by trees-in equal-places is-marked
+marked-answer ws marks at =
+    counted-by (trees-in ws) (ltb at (length ws) && leb (length ws) (length marks)) (equal-places ws (is-marked marks) at (length ws))
+
+pub record Marks : Type 0 where
+  pub answer : Marked
+  pub marks : List ℕ
+
+-- the marks of the places in front of what stood after as many words, or nothing written
+unfoldable pub marked-by : Bool → Option ℕ → List ℕ → ℕ → List ℕ → Marks
+marked-by true found new n old = record { answer = marked.NoRoom; marks = old }
+marked-by false none new n old = record { answer = marked.Broken; marks = old }
+marked-by false (some k) new n old = record { answer = marked.Done; marks = new ++ drop n old }
+
+unfoldable pub mark-answer : List ℕ → Bool → List ℕ → Marks
+unfolding marked-by trees-in marks-of outside-at
+mark-answer ws scoped old =
+    marked-by (ltb (length old) (length ws)) (trees-in ws) (marks-of (outside-at ws scoped) 0 (length ws)) (length ws) old
