@@ -232,10 +232,9 @@ made-formed w l e h = go (word-is w)
     go (a-constant k) = (leaf (omega arith), λ n. absurd (omega arith))
     go (an-operation k) =
         let c : operand-count (forest l) ≡ below-of w = count-forest l ∙ e ∙ operation-takes w k in
-        let g : T (arity-ok (kind-of w) (operand-count (forest l)) && well-formed-each (forest l)) = unfold well-formed in subst (λ (t : Tree). T (well-formed t)) (operation-tree numbered w l k) h in
-        (
+        let g : T (arity-ok (kind-of w) (operand-count (forest l)) && well-formed-each (forest l)) = unfold well-formed in subst (λ (t : Tree). T (well-formed t)) (operation-tree numbered w l k) h in (
           or-right (leb (kind-of w) 1) (arity-ok (kind-of w) (below-of w))
-          (subst (λ (n : ℕ). T (arity-ok (kind-of w) n)) c (and-left (arity-ok (kind-of w) (operand-count (forest l))) (well-formed-each (forest l)) g)),
+              (subst (λ (n : ℕ). T (arity-ok (kind-of w) n)) c (and-left (arity-ok (kind-of w) (operand-count (forest l))) (well-formed-each (forest l)) g)),
           λ n. forest-formed l (and-right (arity-ok (kind-of w) (operand-count (forest l))) (well-formed-each (forest l)) g),
         )
 

@@ -232,8 +232,7 @@ module _ (rows : List Row) (old : List ℕ) (len : ℕ) (scoped : Bool) (first t
             ap (λ (j : ℕ). drop j out) (sym split) ∙ sym (drop-drop (len - n) n out) ∙ ap (drop (len - n)) after ∙ drop-drop (len - n) n tokens ∙ ap (λ (j : ℕ). drop j tokens) split ∙ rest in
             let whole : length out ≡ length old = omega (arith, length-append vs (drop n tokens), length-drop n tokens, long, short-now, B .there) in
             let few : suc made ≤ 1024 = omega (arith, going-most rows scoped k first ws vs (suc made) g, start-long, B .few-words) in
-            the-same false true (round.Next n) q out now (is-next rows tokens words scoped (first + made) text room p vs fine f z) is
-            (
+            the-same false true (round.Next n) q out now (is-next rows tokens words scoped (first + made) text room p vs fine f z) is (
               (subst (λ (l : List ℕ). Going rows scoped k first ws l (suc made)) (sym front) g, short-now, past),
               subst (λ (l : List ℕ). suc (operations-in l) ≤ operations-in here) (sym front) less,
               few,

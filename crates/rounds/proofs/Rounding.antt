@@ -59,7 +59,7 @@ module _ (rows : List Row) (old : List ℕ) (len : ℕ) (scoped : Bool) (name te
   by-tests : (s g : Bool) (o : Option ℕ) → short ≡ s → extractable rows name ws ≡ g → best-place ws (name-in rows) scoped ≡ o → round-answer rows old len scoped name text ≡ round-by s g o extraction old
   unfolding round-answer
   by-tests s g o a b c = ap (λ (x : Bool). round-by x (extractable rows name ws) (best-place ws (name-in rows) scoped) extraction old) a
-    ∙ ap₂ (λ (x : Bool) (y : Option ℕ). round-by s x y extraction old) b c
+      ∙ ap₂ (λ (x : Bool) (y : Option ℕ). round-by s x y extraction old) b c
 
   both : (t : Turned) → round-answer rows old len scoped name text ≡ t → Is (t .answer) (t .words)
   both t e = (ap (λ (t : Turned). t .answer) (sym e), ap (λ (t : Turned). t .words) (sym e))

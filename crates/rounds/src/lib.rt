@@ -108,7 +108,14 @@ fn find_best(rows: &[u64], tokens: &[u64], scoped: bool, text: &mut [u8]) -> Bes
 }
 
 // The words with the tree at a place replaced by a name, and that tree after them.
-fn extract(rows: &[u64], tokens: &[u64], scoped: bool, at: usize, name: u64, out: &mut [u64]) -> Replaced
+fn extract(
+    rows: &[u64],
+    tokens: &[u64],
+    scoped: bool,
+    at: usize,
+    name: u64,
+    out: &mut [u64],
+) -> Replaced
     requires { ⌜ Chosen (rows-in (now rows)) (now tokens) scoped at name ⌝ }
     requires { ⌜ (length (now tokens) ≤ 1024) × (name ≤ 1099511627776) × (length (now tokens) ≤ length (now out)) ⌝ }
     ensures { λ r. ⌜ Extracts (now (tokens .entry)) at name (now (out .entry)) r (now (out .exit)) ⌝ }
@@ -131,7 +138,14 @@ fn extract(rows: &[u64], tokens: &[u64], scoped: bool, at: usize, name: u64, out
 }
 
 // The same in the place of the words.
-fn extract_here(rows: &[u64], tokens: &mut [u64], len: usize, scoped: bool, at: usize, name: u64) -> Round
+fn extract_here(
+    rows: &[u64],
+    tokens: &mut [u64],
+    len: usize,
+    scoped: bool,
+    at: usize,
+    name: u64,
+) -> Round
     requires { ⌜ Chosen (rows-in (now rows)) (take len (now tokens)) scoped at name ⌝ }
     requires { ⌜ (len ≤ length (now tokens)) × (len ≤ 1024) × (name ≤ 1099511627776) ⌝ }
     ensures { λ r. ⌜ Turns (now (tokens .entry)) len at name r (now (tokens .exit)) ⌝ }
@@ -150,7 +164,14 @@ fn extract_here(rows: &[u64], tokens: &mut [u64], len: usize, scoped: bool, at: 
 }
 
 // One round on the first `len` words, whose trees are results and bindings by number; `name` is the next number. Unless the answer is Next, no word changes.
-pub fn one_round(rows: &[u64], tokens: &mut [u64], len: usize, scoped: bool, name: u64, text: &mut [u8]) -> Round
+pub fn one_round(
+    rows: &[u64],
+    tokens: &mut [u64],
+    len: usize,
+    scoped: bool,
+    name: u64,
+    text: &mut [u8],
+) -> Round
     ensures { λ r. ⌜ (r ≡ round-answer (rows-in (now (rows .entry))) (now (tokens .entry)) len scoped name (length (now (text .entry))) .answer)
         × (now (tokens .exit) ≡ round-answer (rows-in (now (rows .entry))) (now (tokens .entry)) len scoped name (length (now (text .entry))) .words) ⌝ }
 {
@@ -186,7 +207,14 @@ pub fn one_round(rows: &[u64], tokens: &mut [u64], len: usize, scoped: bool, nam
 }
 
 // Rounds on the first `len` words, all of whose trees are results, until no candidate is left; `first` is the first number. What stands past them never changes.
-pub fn extract_all(rows: &[u64], tokens: &mut [u64], len: usize, scoped: bool, first: u64, text: &mut [u8]) -> Rounds
+pub fn extract_all(
+    rows: &[u64],
+    tokens: &mut [u64],
+    len: usize,
+    scoped: bool,
+    first: u64,
+    text: &mut [u8],
+) -> Rounds
     ensures { λ r. ⌜ (r ≡ rounds-answer (rows-in (now (rows .entry))) (now (tokens .entry)) len scoped first (length (now (text .entry))))
         × Leaves-words (rows-in (now (rows .entry))) (now (tokens .entry)) len scoped first (length (now (text .entry))) (now (tokens .exit)) ⌝ }
 {

@@ -7,11 +7,6 @@ use Rattle.checked.specs.Check.{rows-in}
 use Rattle.rounds.proofs.Extracting.{not-broken, within, put-room, room, done, refuses, no-broken, no-room}
 use Rattle.rounds.proofs.extract.Statement.{statement}
 use Rattle.rounds.proofs.extract.Tie as tie
-use Rattle.rounds.proofs.extract.Reads as reads
-use Rattle.rounds.proofs.extract.Lts as lts
-use Rattle.rounds.proofs.put.Reads as put-reads
-use Rattle.replace.proofs.replace.Reads as replace-reads
-use Rattle.tokens.proofs.end_of.Reads as end-of-reads
 
 end-of-requires : tie.Need-end-of-requires
 end-of-requires c κs = search needs

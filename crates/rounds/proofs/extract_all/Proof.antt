@@ -9,9 +9,6 @@ use Rattle.checked.specs.Check.{rows-in}
 use Rattle.rounds.proofs.Ending.{Loop, first-large, loop-starts, turn-next, turn-last, turn-refused, turn-broken, turn-room}
 use Rattle.rounds.proofs.extract_all.Statement.{statement}
 use Rattle.rounds.proofs.extract_all.Tie as tie
-use Rattle.rounds.proofs.extract_all.Reads as reads
-use Rattle.rounds.proofs.extract_all.Lts as lts
-use Rattle.rounds.proofs.one_round.Reads as one-round-reads
 
 abbrev Inv-loop : tie.InvT-loop
 Inv-loop rows tokens₀ len scoped first text₀ words₀ made₀ tokens text words made = Loop (rows-in rows) tokens₀ len scoped first (length text₀) tokens words made × (length text ≡ length text₀)

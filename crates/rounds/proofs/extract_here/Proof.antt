@@ -7,10 +7,6 @@ use borrow.Author.Needs.{needs}
 use Rattle.rounds.proofs.Extracting.{made-most, made-long, turned, turn-refused, turn-not-broken, turn-room}
 use Rattle.rounds.proofs.extract_here.Statement.{statement}
 use Rattle.rounds.proofs.extract_here.Tie as tie
-use Rattle.rounds.proofs.extract_here.Reads as reads
-use Rattle.rounds.proofs.extract_here.Lts as lts
-use Rattle.rounds.proofs.extract.Reads as extract-reads
-use Rattle.rounds.proofs.put.Reads as put-reads
 
 slice-reshare-prefix-extract : tie.Need-slice-reshare-prefix-extract
 slice-reshare-prefix-extract c = search needs

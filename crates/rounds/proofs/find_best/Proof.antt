@@ -5,9 +5,6 @@ use Rattle.rounds.proofs.Extracting.{found}
 use borrow.Author.Needs.{needs}
 use Rattle.rounds.proofs.find_best.Statement.{statement}
 use Rattle.rounds.proofs.find_best.Tie as tie
-use Rattle.rounds.proofs.find_best.Reads as reads
-use Rattle.rounds.proofs.find_best.Lts as lts
-use Rattle.best.proofs.best_place.Reads as best-place-reads
 
 slice-aggregate-best-place : tie.Need-slice-aggregate-best-place
 slice-aggregate-best-place c = search needs

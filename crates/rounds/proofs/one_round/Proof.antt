@@ -8,11 +8,6 @@ use Rattle.checked.specs.Check.{rows-in}
 use Rattle.rounds.proofs.Rounding.{too-many, too-few, too-large, too-short, fits, found-broken, found-room, found-last, last-above, place-above, chosen, place-done}
 use Rattle.rounds.proofs.one_round.Statement.{statement}
 use Rattle.rounds.proofs.one_round.Tie as tie
-use Rattle.rounds.proofs.one_round.Reads as reads
-use Rattle.rounds.proofs.one_round.Lts as lts
-use Rattle.rounds.proofs.are_below.Reads as are-below-reads
-use Rattle.rounds.proofs.extract_here.Reads as extract-here-reads
-use Rattle.rounds.proofs.find_best.Reads as find-best-reads
 
 returns : tie.Need-returns
 returns c = let a = c .before .before .before .before .args in too-many (rows-in (a .rows .now)) (a .tokens .now) (a .len) (a .scoped) (a .name) (length (a .text .now)) (c .if1 .taken)
