@@ -1,0 +1,5 @@
+pub mod Putting
+pub mod Testing
+pub mod Extracting
+pub mod Rounding
+pub mod Ending

@@ -1,0 +1,247 @@
+// The rounds of extraction on words of trees (01, "Extraction"). In a round the tree at the best place gets the next name, which stands for it in all the trees,
+// and is the last of them itself; rounds go on until no candidate is left. Local arrays hold what is worked out beside the words: the facts and marks of the places, the places of factors, and the words written.
+ghost use mathlib.Core.Path.{_≡_};
+ghost use mathlib.Core.Bool.{Bool};
+ghost use mathlib.Core.List.{_++_};
+ghost use mathlib.Core.Option.{some};
+ghost use Prim.Native.Nat.{_+_, _≤_};
+ghost use lib.ListN.{length, take, drop};
+ghost use Rattle.tree.specs.Bytes.{every};
+ghost use Rattle.tree.specs.Tokens.{name-in};
+ghost use Rattle.checked.specs.Check.{rows-in};
+ghost use Rattle.kept.specs.Sound.{numbered-below};
+ghost use Rattle.rounds.specs.Answers.{Finds, Chosen, Extracts, Turns, round-answer};
+ghost use Rattle.rounds.specs.Rounds.{rounds-answer, Leaves-words};
+use best::Best;
+use best::best_place;
+use replace::Replaced;
+use replace::replace;
+use tokens::Run;
+use tokens::end_of;
+
+// A word is kind + KINDS * below; a symbol's below is class + CLASSES * number, and the class of `__xN` is MADE.
+const KINDS: u64 = 64;
+
+const SYM: u64 = 0;
+
+const CLASSES: u64 = 3;
+
+const MADE: u64 = 1;
+
+const MOST_WORDS: usize = 1024;
+
+const TEXT_BYTES: usize = 131072;
+
+// Far below what a word can hold.
+const LARGEST_NAME: u64 = 1099511627776;
+
+// Rounds are fewer than words, so that names from here on stay below.
+const LARGEST_FIRST: u64 = 549755813888;
+
+pub enum Round {
+    // How many words there are now.
+    Next(usize),
+    // No candidate is left.
+    Last,
+    // A rebuilt coefficient is no constant: 10.
+    Refused,
+    // A word lacks operands, a tree isn't one that print takes, or a name isn't below the next.
+    Broken,
+    // More words than the arrays hold or than there are, too little text, or a name too large.
+    NoRoom,
+}
+
+pub enum Rounds {
+    // How many words there are now, and how many bindings were made.
+    Done(usize, usize),
+    Refused,
+    Broken,
+    NoRoom,
+}
+
+// Writes words from a place on.
+fn put(words: &[u64], at: usize, out: &mut [u64])
+    requires { ⌜ at + length (now words) ≤ length (now out) ⌝ }
+    ensures { λ _. ⌜ now (out .exit) ≡ take at (now (out .entry)) ++ (now (words .entry) ++ drop (at + length (now (words .entry))) (now (out .entry))) ⌝ }
+{
+    let mut k = 0;
+    while k < words.len() {
+        out[at + k] = words[k];
+        k += 1;
+    }
+}
+
+// Whether a word's number, if it is that of a name made by extraction, is below the next.
+fn is_below(w: u64, name: u64) -> bool
+    ensures { λ r. ⌜ r ≡ numbered-below name w ⌝ }
+{
+    if w % KINDS != SYM {
+        return true;
+    }
+    if w / KINDS % CLASSES != MADE {
+        return true;
+    }
+    w / KINDS / CLASSES < name
+}
+
+fn are_below(tokens: &[u64], name: u64) -> bool
+    ensures { λ r. ⌜ r ≡ every (numbered-below name) (now (tokens .entry)) ⌝ }
+{
+    let mut i = 0;
+    while i < tokens.len() {
+        if !is_below(tokens[i], name) {
+            return false;
+        }
+        i += 1;
+    }
+    true
+}
+
+// The best place among words that the arrays hold.
+fn find_best(rows: &[u64], tokens: &[u64], scoped: bool, text: &mut [u8]) -> Best
+    requires { ⌜ (length (now tokens) ≤ 1024) × (131072 ≤ length (now text)) ⌝ }
+    ensures { λ r. ⌜ Finds (rows-in (now (rows .entry))) (now (tokens .entry)) scoped r ⌝ }
+{
+    let mut facts = [0u64; 5120];
+    let mut marks = [0u64; 1024];
+    best_place(rows, tokens, scoped, &mut facts, &mut marks, text)
+}
+
+// The words with the tree at a place replaced by a name, and that tree after them.
+fn extract(
+    rows: &[u64],
+    tokens: &[u64],
+    scoped: bool,
+    at: usize,
+    name: u64,
+    out: &mut [u64],
+) -> Replaced
+    requires { ⌜ Chosen (rows-in (now rows)) (now tokens) scoped at name ⌝ }
+    requires { ⌜ (length (now tokens) ≤ 1024) × (name ≤ 1099511627776) × (length (now tokens) ≤ length (now out)) ⌝ }
+    ensures { λ r. ⌜ Extracts (now (tokens .entry)) at name (now (out .entry)) r (now (out .exit)) ⌝ }
+{
+    let mut places = [0u64; 2048];
+    let Run::Ends(end) = end_of(tokens, at) else {
+        return Replaced::Broken;
+    };
+    let word = KINDS * (MADE + CLASSES * name);
+    let replaced = replace(tokens, &tokens[at..end], word, &mut places, out);
+    match replaced {
+        Replaced::Words(n) => {
+            put(&tokens[at..end], n, out);
+            Replaced::Words(n + (end - at))
+        }
+        Replaced::Refused => Replaced::Refused,
+        Replaced::Broken => Replaced::Broken,
+        Replaced::NoRoom => Replaced::NoRoom,
+    }
+}
+
+// The same in the place of the words.
+fn extract_here(
+    rows: &[u64],
+    tokens: &mut [u64],
+    len: usize,
+    scoped: bool,
+    at: usize,
+    name: u64,
+) -> Round
+    requires { ⌜ Chosen (rows-in (now rows)) (take len (now tokens)) scoped at name ⌝ }
+    requires { ⌜ (len ≤ length (now tokens)) × (len ≤ 1024) × (name ≤ 1099511627776) ⌝ }
+    ensures { λ r. ⌜ Turns (now (tokens .entry)) len at name r (now (tokens .exit)) ⌝ }
+{
+    let mut out = [0u64; 1024];
+    let made = extract(rows, &tokens[..len], scoped, at, name, &mut out);
+    match made {
+        Replaced::Words(n) => {
+            put(&out[..n], 0, tokens);
+            Round::Next(n)
+        }
+        Replaced::Refused => Round::Refused,
+        Replaced::Broken => Round::Broken,
+        Replaced::NoRoom => Round::NoRoom,
+    }
+}
+
+// One round on the first `len` words, whose trees are results and bindings by number; `name` is the next number. Unless the answer is Next, no word changes.
+pub fn one_round(
+    rows: &[u64],
+    tokens: &mut [u64],
+    len: usize,
+    scoped: bool,
+    name: u64,
+    text: &mut [u8],
+) -> Round
+    ensures { λ r. ⌜ (r ≡ round-answer (rows-in (now (rows .entry))) (now (tokens .entry)) len scoped name (length (now (text .entry))) .answer)
+        × (now (tokens .exit) ≡ round-answer (rows-in (now (rows .entry))) (now (tokens .entry)) len scoped name (length (now (text .entry))) .words) ⌝ }
+{
+    if len > MOST_WORDS {
+        return Round::NoRoom;
+    }
+    if len > tokens.len() {
+        return Round::NoRoom;
+    }
+    if name > LARGEST_NAME {
+        return Round::NoRoom;
+    }
+    if text.len() < TEXT_BYTES {
+        return Round::NoRoom;
+    }
+    let found = find_best(rows, &tokens[..len], scoped, text);
+    match found {
+        Best::At(at) => {
+            if are_below(&tokens[..len], name) {
+                return extract_here(rows, tokens, len, scoped, at, name);
+            }
+            Round::Broken
+        }
+        Best::Nothing => {
+            if are_below(&tokens[..len], name) {
+                return Round::Last;
+            }
+            Round::Broken
+        }
+        Best::Broken => Round::Broken,
+        Best::NoRoom => Round::NoRoom,
+    }
+}
+
+// Rounds on the first `len` words, all of whose trees are results, until no candidate is left; `first` is the first number. What stands past them never changes.
+pub fn extract_all(
+    rows: &[u64],
+    tokens: &mut [u64],
+    len: usize,
+    scoped: bool,
+    first: u64,
+    text: &mut [u8],
+) -> Rounds
+    ensures { λ r. ⌜ (r ≡ rounds-answer (rows-in (now (rows .entry))) (now (tokens .entry)) len scoped first (length (now (text .entry))))
+        × Leaves-words (rows-in (now (rows .entry))) (now (tokens .entry)) len scoped first (length (now (text .entry))) (now (tokens .exit)) ⌝ }
+{
+    if first > LARGEST_FIRST {
+        return Rounds::NoRoom;
+    }
+    let mut words = len;
+    let mut made: usize = 0;
+    loop {
+        let turned = one_round(rows, tokens, words, scoped, first + made as u64, text);
+        match turned {
+            Round::Next(n) => {
+                words = n;
+                made += 1;
+            }
+            Round::Last => {
+                return Rounds::Done(words, made);
+            }
+            Round::Refused => {
+                return Rounds::Refused;
+            }
+            Round::Broken => {
+                return Rounds::Broken;
+            }
+            Round::NoRoom => {
+                return Rounds::NoRoom;
+            }
+        }
+    }
+}
