@@ -226,8 +226,8 @@ pub fn extract_all(
     loop {
         let turned = one_round(rows, tokens, words, scoped, first + made as u64, text);
         match turned {
-            Round::Next(n) => {
-                words = n;
+            Round::Next(now) => {
+                words = now;
                 made += 1;
             }
             Round::Last => {
