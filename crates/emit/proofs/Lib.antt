@@ -1,0 +1,5 @@
+pub mod WriteLaws
+pub mod Fitting
+pub mod TextLaws
+pub mod NameLaws
+pub mod KindNames

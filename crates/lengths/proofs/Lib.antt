@@ -1,0 +1,4 @@
+pub mod Leaves
+pub mod Operations
+pub mod Whole
+pub mod Callers

@@ -1,0 +1,1 @@
+// No code: how long the text of an expression can be.

@@ -1,0 +1,4 @@
+pub mod PlaceLaws
+pub mod OperandLaws
+pub mod NodeLaws
+pub mod LoopLaws
