@@ -22,8 +22,6 @@ fill-spec =
     (λ c. search needs)
     (λ c. search needs)
     (λ c. search needs)
-    (λ c. search needs)
-    (λ c. search needs)
     (λ c. omega (arith, c .before .loop .inv .1))
     (λ c. (omega (arith, c .before .loop .inv .1), length-set (c .before .loop .out) (c .before .loop .i) _ ∙ c .before .loop .inv .1))
     (λ c. search needs)
