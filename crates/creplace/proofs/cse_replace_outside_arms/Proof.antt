@@ -8,7 +8,7 @@ pub cse-replace-outside-arms-spec : {M : Type 1} → statement M
 cse-replace-outside-arms-spec =
     tie.close
     (tie.spec
-    (λ c. no-room _ (c .before .before .before .before .before .args .out .now) (c .before .before .before .before .before .args .answer .now) (c .if1 .taken))
+    (λ c. no-room _ _ _ (c .before .before .before .before .before .args .out .now) (c .before .before .before .before .before .args .answer .now) (c .if1 .taken))
     (λ c κs. search needs)
     (λ c κs. search needs)
     (λ c. search needs)

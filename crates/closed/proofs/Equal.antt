@@ -1,0 +1,324 @@
+-- `replace` is the closed form, for trees with as many operands as their kinds have, a target with a symbol, and a name that it doesn't hold. Assumes nothing.
+use Prim.Native.Nat.{ℕ, zero, suc, _+_, _≤_}
+use mathlib.Core.Path.{_≡_, refl, sym, _∙_, ap, ap₂, subst}
+use mathlib.Core.Bool.{Bool, true, false, not, _&&_}
+use mathlib.Core.Logic.{_⊎_, inl, inr}
+use mathlib.Core.Option.{Option, none, some}
+use mathlib.Core.List.{List, [], _∷_, _++_, append-assoc, append-nil}
+use native.Mathlib.Omega.{arith}
+use lib.IntN.{ℤ}
+use lib.Dec.{T, eqb, eqb→eq}
+use lib.ListN.{length}
+use lib.Ieee.{Float}
+use Rattle.tree.specs.Outcome.{Outcome, ok, refused, _>>=_, each}
+use Rattle.tree.specs.Tree.{Name, Tree, Forest, Sym, Const, Op, nil, _◂_, folds, eq-tree, eq-name}
+use Rattle.tree.specs.Kinds.{Neg, Mul, arity-ok}
+use Rattle.tree.specs.Facts.{count, nodes, has-symbol, some-of}
+use Rattle.tree.proofs.Formed.{operand-count, well-formed, well-formed-each}
+use Rattle.tree.proofs.TreeLaws.{eq-tree-sound, eq-tree-refl, eq-name-refl}
+use Rattle.tree.proofs.Logic.{and-left, and-right}
+use Rattle.rewrite.specs.Rewrite.{Factors, one, flatten-mul-factors, flatten-operands, flatten-after, times, negated, constant-of, built, remove-each, match-factors, each-operand, replace}
+use Rattle.rewrite.proofs.Measure.{sum-of, sum-each, length-sum, count-sum, one-of}
+use Rattle.rewrite.proofs.Factors.{All, factors-of, factors-cases, sum-factors}
+use Rattle.rewrite.proofs.DivisorCount.{or-cases}
+use Rattle.rewrite.proofs.Names.{holds, holds-each}
+use Rattle.rewrite.proofs.Counts.{one-none}
+use Rattle.closed.specs.Closed.{Taken, once-more, take-out, taken, named, by-factors, rebuilt, Rewriting, becomes-in, closed, closed-each, rewritings, rewritings-of}
+use Rattle.closed.proofs.Taken.{rest-of}
+use Rattle.closed.proofs.Spine.{each-all}
+use Rattle.closed.proofs.Steps.{at-operation, at-op}
+use Rattle.closed.proofs.Products.{at-symbol, at-constant, at-other, at-unmatched, no-match, at-product}
+
+-- ---- what is left was there
+
+pub taken-all : (P : Tree → Type 0) (most : ℕ) (ts l : List Tree) → All P l → All P (take-out most ts l .rest)
+unfolding take-out once-more
+taken-all P zero ts l a = a
+taken-all P (suc most) ts l a = go (λ s. taken-all P most ts s) (remove-each ts l) refl
+  where
+    go : ((s : List Tree) → All P s → All P (take-out most ts s .rest)) → (o : Option (List Tree)) → remove-each ts l ≡ o
+        → All P ((elim o as (λ _. Taken) [ none ↦ record { rest = l; copies = 0 } | some s ↦ once-more (take-out most ts s) ]) .rest)
+    go i none q = a
+    go i (some s) q = i s (rest-of P ts l s q .0 a)
+
+-- ---- what a factor becomes
+
+abbrev In : Tree → List Rewriting → Type 0
+In t [] = ⊥
+In t (p ∷ l) = (p .factor ≡ t) ⊎ In t l
+
+abbrev names-of : List Rewriting → List Tree
+names-of [] = []
+names-of (p ∷ l) = p .factor ∷ names-of l
+
+all-in : (l : List Rewriting) → All (λ t. In t l) (names-of l)
+all-in [] = tt
+all-in (p ∷ l) = (inl refl, each-all (λ t. In t l) (λ t. In t (p ∷ l)) (λ t h. inr h) (names-of l) (all-in l))
+
+-- each rewriting is g's
+abbrev Right : (Tree → Outcome Tree) → List Rewriting → Type 0
+Right g [] = Unit {0}
+Right g (p ∷ l) = (p .becomes ≡ g (p .factor)) × Right g l
+
+right-append : (g : Tree → Outcome Tree) (l m : List Rewriting) → Right g l → Right g m → Right g (l ++ m)
+right-append g [] m a b = b
+right-append g (p ∷ l) m a b = (a .0, right-append g l m (a .1) b)
+
+becomes-right : (g : Tree → Outcome Tree) (l : List Rewriting) → Right g l → (t : Tree) → In t l → becomes-in l t ≡ g t
+unfolding becomes-in
+becomes-right g [] a t h = absurd h
+becomes-right g (p ∷ l) a t h = go (eq-tree (p .factor) t) refl h (becomes-right g l (a .1) t)
+  where
+    later : In t (p ∷ l) → (p .factor ≡ t → ⊥) → In t l
+    later (inl q) f = absurd (f q)
+    later (inr h) f = h
+
+    go : (b : Bool) → eq-tree (p .factor) t ≡ b → In t (p ∷ l) → (In t l → becomes-in l t ≡ g t)
+        → _≡_ {A = Outcome Tree} (elim b [ true ↦ p .becomes | false ↦ becomes-in l t ]) (g t)
+    go true q h i = a .0 ∙ ap g (eq-tree-sound (p .factor) t (subst T (sym q) tt))
+    go false q h i = i (later h (λ e. subst T (ap (eq-tree (p .factor)) e ∙ q) (eq-tree-refl (p .factor))))
+
+each-same : (g h : Tree → Outcome Tree) (l : List Tree) → All (λ t. g t ≡ h t) l → each g l ≡ each h l
+unfolding each
+each-same g h [] a = refl
+each-same g h (t ∷ l) a = ap₂ (λ (o : Outcome Tree) (p : Outcome (List Tree)). o >>= λ u. p >>= λ r. ok (u ∷ r)) (a .0) (each-same g h l (a .1))
+
+rebuilt-same :
+    (n : Name) (g h : Tree → Outcome Tree) (x : Float) (rest : List Tree) (copies : ℕ) (o p : Outcome Tree) → All (λ t. g t ≡ h t) rest → o ≡ p
+    → rebuilt n g x rest copies o ≡ rebuilt n h x rest copies p
+unfolding rebuilt
+rebuilt-same n g h x rest zero o p a e = e
+rebuilt-same n g h x rest (suc k) o p a e =
+    ap (λ (q : Outcome (List Tree)). constant-of x >>= λ c. q >>= λ l. ok (built c (l ++ named n (suc k)))) (each-same g h rest a)
+
+-- ---- the factors that the closed form lists
+
+module _ (target : Tree) (n : Name) where
+  abbrev rs : Tree → List Rewriting
+  rs = rewritings target n
+
+  abbrev rs-of : Forest → List Rewriting
+  rs-of = rewritings-of target n
+
+  names-append : (l m : List Rewriting) → names-of (l ++ m) ≡ names-of l ++ names-of m
+  names-append [] m = refl
+  names-append (p ∷ l) m = ap (λ (x : List Tree). p .factor ∷ x) (names-append l m)
+
+  names-node :
+      (k : ℕ) (f : Forest) (b d : Bool) (o : Outcome Tree) → names-of (rs-of f) ≡ flatten-operands f .factors
+      → names-of (elim b as (λ _. List Rewriting) [ true ↦ rs-of f | false ↦ elim d [ true ↦ rs-of f | false ↦ record { factor = Op k f; becomes = o } ∷ [] ] ])
+      ≡ (elim b as (λ _. Factors) [ true ↦ flatten-operands f | false ↦ elim d [ true ↦ negated (flatten-operands f) | false ↦ record { coefficient = one; factors = Op k f ∷ [] } ] ]) .factors
+  unfolding negated
+  names-node k f true d o h = h
+  names-node k f false true o h = h
+  names-node k f false false o h = refl
+
+  mutual
+    unfolding closed flatten-mul-factors times
+
+    names-tree : (t : Tree) → names-of (rs t) ≡ factors-of t
+    names-tree (Sym s) = refl
+    names-tree (Const c) = refl
+    names-tree (Op k f) = names-node k f (eqb k Mul) (eqb k Neg) _ (names-operands f)
+
+    names-operands : (f : Forest) → names-of (rs-of f) ≡ flatten-operands f .factors
+    names-operands nil = refl
+    names-operands (t ◂ f) =
+        names-append (rs t) (rs-of f) ∙ ap (λ (l : List Tree). l ++ names-of (rs-of f)) (names-tree t) ∙ sym (names-after f (flatten-mul-factors t))
+
+    names-after : (f : Forest) (p : Factors) → flatten-after f p .factors ≡ p .factors ++ names-of (rs-of f)
+    names-after nil p = sym (append-nil (p .factors))
+    names-after (t ◂ f) p =
+        names-after f (times p (flatten-mul-factors t))
+        ∙ append-assoc (p .factors) (factors-of t) (names-of (rs-of f))
+        ∙ ap (λ (l : List Tree). p .factors ++ l) (ap (λ (l : List Tree). l ++ names-of (rs-of f)) (sym (names-tree t)) ∙ sym (names-append (rs t) (rs-of f)))
+
+-- ---- a node, where its operands are known
+
+unequal : (b c : Bool) → (b && c) ≡ false → (b ≡ false) ⊎ (c ≡ false)
+unequal true c e = inr e
+unequal false c e = inl refl
+
+both-true : (b c : Bool) → (b && c) ≡ true → T b × T c
+both-true true true e = (tt, tt)
+both-true true false e = (let z : _≡_ {A = ℕ} 0 1 = cc in absurd (omega arith))
+both-true false c e = (let z : _≡_ {A = ℕ} 0 1 = cc in absurd (omega arith))
+
+module _ (target : Tree) (n : Name) (some-factor : 1 ≤ length (factors-of target)) (new : count (Sym n) (factors-of target) ≡ 0) where
+  abbrev rep : Tree → Outcome Tree
+  rep = replace target n
+
+  abbrev ts : List Tree
+  ts = factors-of target
+
+  node-target : (k : ℕ) (f : Forest) → T (well-formed (Op k f)) → eq-tree (Op k f) target ≡ true → rep (Op k f) ≡ ok (Sym n)
+  node-target k f w e =
+      at-op target n some-factor new k f w ∙ ap (λ (b : Bool). at-operation target n rep k f b (eqb k Mul) (match-factors target n (Op k f))) e
+
+  abbrev product-form : Forest → Outcome Tree → Outcome Tree
+  product-form f o =
+      (let q = taken ts (flatten-operands f .factors) in
+      rebuilt n (becomes-in (rs-of target n f)) (flatten-operands f .coefficient) (q .rest) (q .copies) o)
+
+  product-is :
+      (f : Forest) → T (well-formed (Op Mul f)) → eq-tree (Op Mul f) target ≡ false → T (by-factors target) → Right rep (rs-of target n f)
+      → rep (Op Mul f) ≡ product-form f (each-operand rep f >>= λ g. ok (Op Mul g))
+  unfolding flatten-mul-factors taken
+  product-is f w e p r =
+      at-product target n some-factor new p f w e
+      ∙ rebuilt-same n rep (becomes-in (rs-of target n f)) (flatten-operands f .coefficient) (taken ts (flatten-operands f .factors) .rest) (taken ts (flatten-operands f .factors) .copies)
+      (each-operand rep f >>= λ g. ok (Op Mul g)) (each-operand rep f >>= λ g. ok (Op Mul g))
+      (taken-all (λ t. rep t ≡ becomes-in (rs-of target n f) t) (length (flatten-operands f .factors)) ts (flatten-operands f .factors)
+      (subst (All (λ t. rep t ≡ becomes-in (rs-of target n f) t)) (names-operands target n f)
+      (each-all (λ t. In t (rs-of target n f)) (λ t. rep t ≡ becomes-in (rs-of target n f) t) (λ t h. sym (becomes-right rep (rs-of target n f) r t h)) (names-of (rs-of target n f))
+      (all-in (rs-of target n f)))))
+      refl
+
+  node-is :
+      (k : ℕ) (f : Forest) → T (well-formed (Op k f)) → each-operand rep f ≡ closed-each target n f → Right rep (rs-of target n f) → rep (Op k f) ≡ closed target n (Op k f)
+  unfolding closed
+  node-is k f w i r = go (eq-tree (Op k f) target) refl (eqb k Mul && by-factors target) refl
+    where
+      below : (each-operand rep f >>= λ g. ok (Op k g)) ≡ (closed-each target n f >>= λ g. ok (Op k g))
+      below = ap (λ (o : Outcome Forest). o >>= λ g. ok (Op k g)) i
+
+      plain : eq-tree (Op k f) target ≡ false → (eqb k Mul ≡ false) ⊎ (by-factors target ≡ false) → rep (Op k f) ≡ (closed-each target n f >>= λ g. ok (Op k g))
+      plain e (inl q) = at-other target n some-factor new k f w e q ∙ below
+      plain e (inr q) = at-unmatched target n some-factor new k f w e (no-match target n some-factor new q (Op k f)) ∙ below
+
+      go : (b : Bool) → eq-tree (Op k f) target ≡ b → (d : Bool) → (eqb k Mul && by-factors target) ≡ d
+          → _≡_ {A = Outcome Tree} (rep (Op k f))
+          (elim b [
+            | true ↦ ok (Sym n)
+            | false ↦ elim d [
+              | true ↦ product-form f (closed-each target n f >>= λ g. ok (Op k g))
+              | false ↦ (closed-each target n f >>= λ g. ok (Op k g))
+            ]
+          ])
+      go true e d q = node-target k f w e
+      go false e false q = plain e (unequal (eqb k Mul) (by-factors target) q)
+      go false e true q =
+          let t = both-true (eqb k Mul) (by-factors target) q in
+          let m = eqb→eq k Mul (t .0) in
+          subst (λ (j : ℕ). T (well-formed (Op j f)) → eq-tree (Op j f) target ≡ false → rep (Op j f) ≡ product-form f (each-operand rep f >>= λ g. ok (Op j g))) (sym m)
+          (λ v h. product-is f v h (t .1) r) w e
+          ∙ ap (product-form f) below
+
+  -- a factor that is an operation is no product
+  factor-is :
+      (k : ℕ) (f : Forest) → T (well-formed (Op k f)) → each-operand rep f ≡ closed-each target n f → eqb k Mul ≡ false
+      → elim (eq-tree (Op k f) target) as (λ _. Outcome Tree) [ true ↦ ok (Sym n) | false ↦ (closed-each target n f >>= λ g. ok (Op k g)) ] ≡ rep (Op k f)
+  factor-is k f w i q = go (eq-tree (Op k f) target) refl
+    where
+      go : (b : Bool) → eq-tree (Op k f) target ≡ b
+          → _≡_ {A = Outcome Tree} (elim b [ true ↦ ok (Sym n) | false ↦ (closed-each target n f >>= λ g. ok (Op k g)) ]) (rep (Op k f))
+      go true e = sym (node-target k f w e)
+      go false e = sym (at-other target n some-factor new k f w e q ∙ ap (λ (o : Outcome Forest). o >>= λ g. ok (Op k g)) i)
+
+  right-node :
+      (k : ℕ) (f : Forest) → T (well-formed (Op k f)) → each-operand rep f ≡ closed-each target n f → Right rep (rs-of target n f) → Right rep (rs target n (Op k f))
+  unfolding closed
+  right-node k f w i r = go (eqb k Mul) refl (eqb k Neg)
+    where
+      go : (b : Bool) → eqb k Mul ≡ b → (d : Bool)
+          → Right rep
+          (elim b [
+            | true ↦ rs-of target n f
+            | false ↦ elim d [
+              | true ↦ rs-of target n f
+              | false ↦ record {
+                factor = Op k f;
+                becomes = elim (eq-tree (Op k f) target) [ true ↦ ok (Sym n) | false ↦ (closed-each target n f >>= λ g. ok (Op k g)) ];
+              }
+                  ∷ []
+            ]
+          ])
+      go true q d = r
+      go false q true = r
+      go false q false = (factor-is k f w i q, tt)
+
+  mutual
+    unfolding closed each-operand well-formed
+
+    pub tree-is : (e : Tree) → T (well-formed e) → rep e ≡ closed target n e
+    tree-is (Sym s) w = at-symbol target n s
+    tree-is (Const c) w = at-constant target n c
+    tree-is (Op k f) w =
+        let v = and-right (arity-ok k (operand-count f)) (well-formed-each f) w in
+        node-is k f w (operands-are f v) (right-operands f v)
+
+    operands-are : (f : Forest) → T (well-formed-each f) → each-operand rep f ≡ closed-each target n f
+    operands-are nil w = refl
+    operands-are (t ◂ f) w =
+        ap₂ (λ (a : Outcome Tree) (b : Outcome Forest). a >>= λ u. b >>= λ r. ok (u ◂ r)) (tree-is t (and-left (well-formed t) (well-formed-each f) w))
+        (operands-are f (and-right (well-formed t) (well-formed-each f) w))
+
+    right-tree : (e : Tree) → T (well-formed e) → Right rep (rs target n e)
+    right-tree (Sym s) w = (sym (at-symbol target n s), tt)
+    right-tree (Const c) w = tt
+    right-tree (Op k f) w =
+        let v = and-right (arity-ok k (operand-count f)) (well-formed-each f) w in
+        right-node k f w (operands-are f v) (right-operands f v)
+
+    right-operands : (f : Forest) → T (well-formed-each f) → Right rep (rs-of target n f)
+    right-operands nil w = tt
+    right-operands (t ◂ f) w =
+        right-append rep (rs target n t) (rs-of target n f) (right-tree t (and-left (well-formed t) (well-formed-each f) w))
+        (right-operands f (and-right (well-formed t) (well-formed-each f) w))
+
+-- ---- a target with a symbol has a factor, and one that doesn't hold the name has it as no factor
+
+mutual
+  unfolding has-symbol flatten-mul-factors sum-each sum-of
+
+  pub symbol-factor : (t : Tree) → T (has-symbol t) → 1 ≤ sum-of (λ u. 1) (factors-of t)
+  symbol-factor (Sym n) h = omega arith
+  symbol-factor (Const c) h = absurd h
+  symbol-factor (Op k f) h = factors-cases (λ l. 1 ≤ sum-of (λ u. 1) l) k f (let p = symbol-factors f h in let q = sum-factors (λ t. 1) f in omega arith) (λ e. omega arith)
+
+  symbol-factors : (f : Forest) → T (some-of (folds (λ n. true) (λ c. false) (λ k tests. some-of tests) f)) → 1 ≤ sum-each (λ t. sum-of (λ u. 1) (factors-of t)) f
+  symbol-factors nil h = absurd h
+  symbol-factors (t ◂ f) h =
+      elim (or-cases (has-symbol t) (some-of (folds (λ n. true) (λ c. false) (λ k tests. some-of tests) f)) h) [
+        | inl a ↦ (let p = symbol-factor t a in omega arith)
+        | inr b ↦ (let p = symbol-factors f b in omega arith)
+      ]
+
+-- every name but n
+abbrev pub other-than : Name → Name → Bool
+other-than n m = not (eq-name m n)
+
+module _ (n : Name) where
+  name-other : (s : Name) → T (other-than n s) → one-of (Sym s) (Sym n) ≡ 0
+  name-other s h = one-none (Sym s) (Sym n) (λ e. go (eq-name s n) h (let q : s ≡ n = cc in subst (λ (m : Name). T (eq-name m n)) (sym q) (eq-name-refl n)))
+    where
+      go : (b : Bool) → T (not b) → T b → ⊥
+      go true g h = g
+      go false g h = h
+
+  mutual
+    unfolding holds flatten-mul-factors sum-each sum-of
+
+    new-factor : (t : Tree) → T (holds (other-than n) t) → sum-of (λ y. one-of y (Sym n)) (factors-of t) ≡ 0
+    new-factor (Sym s) h = (let a = name-other s h in omega arith)
+    new-factor (Const c) h = refl
+    new-factor (Op k f) h =
+        factors-cases (λ l. sum-of (λ y. one-of y (Sym n)) l ≡ 0) k f (let a = sum-factors (λ y. one-of y (Sym n)) f in let b = new-factors f h in omega arith)
+        (λ e. (let a = one-none (Op k f) (Sym n) (λ e. (let z : _≡_ {A = ℕ} 0 1 = cc in omega arith)) in omega arith))
+
+    new-factors : (f : Forest) → T (holds-each (other-than n) f) → sum-each (λ t. sum-of (λ y. one-of y (Sym n)) (factors-of t)) f ≡ 0
+    new-factors nil h = refl
+    new-factors (t ◂ f) h =
+        (let a = new-factor t (and-left (holds (other-than n) t) (holds-each (other-than n) f) h) in
+        let b = new-factors f (and-right (holds (other-than n) t) (holds-each (other-than n) f) h) in
+        omega arith)
+
+pub factor-there : (target : Tree) → T (has-symbol target) → 1 ≤ length (factors-of target)
+factor-there target h = (let a = symbol-factor target h in let b = length-sum (factors-of target) in omega arith)
+
+pub factor-new : (target : Tree) (n : Name) → T (holds (other-than n) target) → count (Sym n) (factors-of target) ≡ 0
+factor-new target n h = count-sum (Sym n) (factors-of target) ∙ new-factor n target h
+
+-- the law
+pub replace-closed : (target : Tree) (n : Name) → T (has-symbol target) → T (holds (other-than n) target) → (e : Tree) → T (well-formed e) → replace target n e ≡ closed target n e
+replace-closed target n h k e w = tree-is target n (factor-there target h) (factor-new target n k) e w

@@ -1,0 +1,427 @@
+-- A product with the target's factors in it, rewritten: what is left of the factors, each rewritten by itself, then the name as often as the target was
+-- taken out. Assumes nothing.
+use Prim.Native.Nat.{ℕ, zero, suc, _+_, _≤_}
+use mathlib.Core.Path.{_≡_, refl, sym, _∙_, ap, ap₂, subst}
+use mathlib.Core.Bool.{Bool, true, false, _&&_}
+use mathlib.Core.Option.{Option, none, some}
+use mathlib.Core.List.{List, [], _∷_, _++_, append-assoc}
+use native.Mathlib.Omega.{arith}
+use native.Mathlib.Nat.{zero-add, add-zero}
+use lib.IntN.{ℤ, pos, negsuc}
+use lib.Dec.{T, eqb}
+use lib.ListN.{length}
+use lib.Ieee as Ieee
+use lib.Ieee.{Float}
+use Rattle.tree.specs.Outcome.{Outcome, ok, refused, _>>=_, each}
+use Rattle.tree.specs.Tree.{Name, Tree, Forest, Sym, Const, Op, nil, _◂_, eq-tree, eq-int}
+use Rattle.tree.specs.Kinds.{Neg, Mul, arity-ok}
+use Rattle.tree.specs.Facts.{size, count}
+use Rattle.tree.proofs.Formed.{operand-count, well-formed, well-formed-each}
+use Rattle.tree.proofs.TreeLaws.{eq-tree-sound, eq-tree-refl, eq-int-sound}
+use Rattle.tree.proofs.Logic.{and-left, and-right, and-both}
+use Rattle.tree.proofs.Tests.{is-true}
+use Rattle.rewrite.specs.Rewrite.{Factors, one, flatten-mul-factors, flatten-operands, times, negated, constant-of, nested-product, with-coefficient, built, build-mul-from-factors, remove-first, remove-each, is-mul, match-factors, each-operand, replace-within, replace}
+use Rattle.rewrite.proofs.Measure.{count-cons, one-self}
+use Rattle.rewrite.proofs.Counts.{count-append}
+use Rattle.rewrite.proofs.Factors.{All, Factor, factors-of, built-factors}
+use Rattle.closed.specs.Closed.{Taken, once-more, take-out, taken, named, by-factors, rebuilt}
+use Rattle.closed.proofs.Chain.{chain, chain-end, chain-same, each-append}
+use Rattle.closed.proofs.Unit.{Small, one-small, accepted-small}
+use Rattle.closed.proofs.Taken.{joined, none-before, each-names, Absent, absent-all, rest-of}
+use Rattle.closed.proofs.Steps.{at-operation, at-op}
+use Rattle.closed.proofs.Spine.{append-all, each-all, Alone, alone-factor, names-alone, headed, built-coefficient, built-mul, factors-alone}
+
+-- ---- tests
+
+not-true : (b : Bool) → (T b → ⊥) → b ≡ false
+not-true true f = absurd (f tt)
+not-true false f = refl
+
+pub leaf-sym : (s : Name) (target : Tree) → T (is-mul target) → eq-tree (Sym s) target ≡ false
+unfolding eq-tree is-mul
+leaf-sym s (Sym b) m = absurd m
+leaf-sym s (Const d) m = absurd m
+leaf-sym s (Op l g) m = refl
+
+pub leaf-const : (c : ℤ) (target : Tree) → T (is-mul target) → eq-tree (Const c) target ≡ false
+unfolding eq-tree is-mul
+leaf-const c (Sym b) m = absurd m
+leaf-const c (Const d) m = absurd m
+leaf-const c (Op l g) m = refl
+
+-- a product's factors are all there in themselves
+self-first : (t : Tree) (l : List Tree) → remove-first t (t ∷ l) ≡ some l
+unfolding remove-first
+self-first t l = ap (λ (b : Bool). elim b as (λ _. Option (List Tree)) [ true ↦ some l | false ↦ elim (remove-first t l) [ none ↦ none | some r ↦ some (t ∷ r) ] ]) (is-true (eq-tree t t) (eq-tree-refl t))
+
+pub self-each : (ts : List Tree) → remove-each ts ts ≡ some []
+unfolding remove-each
+self-each [] = refl
+self-each (t ∷ ts) = ap (λ (o : Option (List Tree)). elim o as (λ _. Option (List Tree)) [ none ↦ none | some r ↦ remove-each ts r ]) (self-first t ts) ∙ self-each ts
+
+pub none-empty : (ts : List Tree) → 1 ≤ length ts → remove-each ts [] ≡ none
+unfolding remove-each remove-first
+none-empty [] h = absurd (omega arith)
+none-empty (t ∷ ts) h = refl
+
+pub empty-list : {A : Type 0} (l : List A) → length l ≤ 0 → l ≡ []
+empty-list [] h = refl
+empty-list (a ∷ l) h = absurd (omega arith)
+
+-- ---- the name k times
+
+names-more : (n : Name) (k : ℕ) → named n k ++ (Sym n ∷ []) ≡ named n (suc k)
+unfolding named
+names-more n zero = refl
+names-more n (suc k) = ap (λ (l : List Tree). Sym n ∷ l) (names-more n k)
+
+names-count : (n : Name) (k : ℕ) → 1 ≤ count (Sym n) (named n (suc k))
+unfolding named
+names-count n k = (let a = count-cons (Sym n) (Sym n) (named n k) in let b = one-self (Sym n) in omega arith)
+
+-- ---- leaves
+
+pub at-symbol : (target : Tree) (n s : Name) → replace target n (Sym s) ≡ elim (eq-tree (Sym s) target) [ true ↦ ok (Sym n) | false ↦ ok (Sym s) ]
+unfolding replace replace-within size
+at-symbol target n s = refl
+
+pub at-constant : (target : Tree) (n : Name) (c : ℤ) → replace target n (Const c) ≡ elim (eq-tree (Const c) target) [ true ↦ ok (Sym n) | false ↦ ok (Const c) ]
+unfolding replace replace-within size
+at-constant target n c = refl
+
+module _ (target : Tree) (n : Name) (some-factor : 1 ≤ length (factors-of target)) (new : count (Sym n) (factors-of target) ≡ 0) where
+  abbrev rep : Tree → Outcome Tree
+  rep = replace target n
+
+  abbrev ts : List Tree
+  ts = factors-of target
+
+  -- ---- nodes that are not the target
+
+  -- one that is no product
+  pub at-other :
+      (k : ℕ) (f : Forest) → T (well-formed (Op k f)) → eq-tree (Op k f) target ≡ false → eqb k Mul ≡ false → rep (Op k f) ≡ (each-operand rep f >>= λ h. ok (Op k h))
+  at-other k f w e q =
+      at-op target n some-factor new k f w
+      ∙ ap₂ (λ (b d : Bool). at-operation target n rep k f b d (match-factors target n (Op k f))) e q
+
+  -- one where the target is not matched by its factors
+  pub at-unmatched :
+      (k : ℕ) (f : Forest) → T (well-formed (Op k f)) → eq-tree (Op k f) target ≡ false → match-factors target n (Op k f) ≡ none
+      → rep (Op k f) ≡ (each-operand rep f >>= λ h. ok (Op k h))
+  at-unmatched k f w e q =
+      at-op target n some-factor new k f w
+      ∙ ap₂ (λ (b : Bool) (o : Option Factors). at-operation target n rep k f b (eqb k Mul) o) e q
+      ∙ go (eqb k Mul)
+    where
+      go : (d : Bool) → at-operation target n rep k f false d none ≡ (each-operand rep f >>= λ h. ok (Op k h))
+      go true = refl
+      go false = refl
+
+  pub no-match : by-factors target ≡ false → (e : Tree) → match-factors target n e ≡ none
+  unfolding match-factors by-factors
+  no-match p e =
+      ap
+      (λ (b : Bool). elim b as (λ _. Option Factors) [
+        | true ↦ elim (remove-each (flatten-mul-factors target .factors) (flatten-mul-factors e .factors)) [
+          | none ↦ none
+          | some r ↦ some (record { coefficient = flatten-mul-factors e .coefficient; factors = r ++ (Sym n ∷ []) })
+        ]
+        | false ↦ none
+      ])
+      p
+
+  module _ (product : T (by-factors target)) where
+    is-product : T (is-mul target)
+    unfolding by-factors
+    is-product = and-left (is-mul target) _ product
+
+    abbrev matched-by : Tree → Option (List Tree) → Option Factors
+    matched-by e o = elim o [ none ↦ none | some r ↦ some (record { coefficient = flatten-mul-factors e .coefficient; factors = r ++ (Sym n ∷ []) }) ]
+
+    match-is : (e : Tree) → match-factors target n e ≡ matched-by e (remove-each ts (factors-of e))
+    unfolding match-factors by-factors
+    match-is e = ap (λ (b : Bool). elim b as (λ _. Option Factors) [ true ↦ matched-by e (remove-each ts (factors-of e)) | false ↦ none ]) (is-true (is-mul target && Ieee.eq (flatten-mul-factors target .coefficient) one) product)
+
+    -- the target has itself in it
+    not-target : (e : Tree) → remove-each ts (factors-of e) ≡ none → eq-tree e target ≡ false
+    not-target e q =
+        not-true (eq-tree e target)
+        (λ t.
+        (let u = eq-tree-sound e target t in
+        let v : remove-each ts (factors-of e) ≡ some [] = ap (λ (x : Tree). remove-each ts (factors-of x)) u ∙ self-each ts in
+        let z : _≡_ {A = ℕ} 0 1 = cc in
+        omega arith))
+
+    -- and holds no new name
+    other-than : (e : Tree) → 1 ≤ count (Sym n) (factors-of e) → eq-tree e target ≡ false
+    other-than e q =
+        not-true (eq-tree e target) (λ t. (let u = ap (λ (x : Tree). count (Sym n) (factors-of x)) (eq-tree-sound e target t) in omega arith))
+
+    pub without-match : (k : ℕ) (f : Forest) → T (well-formed (Op k f)) → remove-each ts (factors-of (Op k f)) ≡ none → rep (Op k f) ≡ (each-operand rep f >>= λ h. ok (Op k h))
+    without-match k f w q = at-unmatched k f w (not-target (Op k f) q) (match-is (Op k f) ∙ ap (matched-by (Op k f)) q)
+
+    -- a match: the product is built, and rewritten again
+    pub with-match :
+        (f : Forest) (r : List Tree) → T (well-formed (Op Mul f)) → eq-tree (Op Mul f) target ≡ false → remove-each ts (factors-of (Op Mul f)) ≡ some r
+        → rep (Op Mul f) ≡ (constant-of (flatten-mul-factors (Op Mul f) .coefficient) >>= λ c. rep (built c (r ++ (Sym n ∷ []))))
+    unfolding build-mul-from-factors
+    with-match f r w e q =
+        at-op target n some-factor new Mul f w
+        ∙ ap₂ (λ (b : Bool) (o : Option Factors). at-operation target n rep Mul f b true o) e (match-is (Op Mul f) ∙ ap (matched-by (Op Mul f)) q)
+        ∙ chain (constant-of (flatten-mul-factors (Op Mul f) .coefficient)) (λ c. ok (built c (r ++ (Sym n ∷ [])))) rep
+
+    again :
+        (e : Tree) (g : Forest) (r : List Tree) (c : ℤ) → e ≡ Op Mul g → T (well-formed e) → 1 ≤ count (Sym n) (factors-of e) → remove-each ts (factors-of e) ≡ some r
+        → constant-of (flatten-mul-factors e .coefficient) ≡ ok c → rep e ≡ rep (built c (r ++ (Sym n ∷ [])))
+    again e g r c q w h m z =
+        ap rep q
+        ∙ with-match g r (subst (λ (t : Tree). T (well-formed t)) q w) (ap (λ (t : Tree). eq-tree t target) (sym q) ∙ other-than e h)
+        (ap (λ (t : Tree). remove-each ts (factors-of t)) (sym q) ∙ m)
+        ∙ ap (λ (o : Outcome ℤ). o >>= λ c. rep (built c (r ++ (Sym n ∷ [])))) (ap (λ (t : Tree). constant-of (flatten-mul-factors t .coefficient)) (sym q) ∙ z)
+
+    -- ---- a product without a match
+
+    two-factors : (t f : Tree) → Alone f → factors-of (Op Mul (t ◂ f ◂ nil)) ≡ factors-of t ++ (f ∷ [])
+    unfolding flatten-mul-factors times
+    two-factors t f a = ap (λ (p : Factors). factors-of t ++ p .factors) (a .1)
+
+    two-formed : (t f : Tree) → T (well-formed t) → T (well-formed f) → T (well-formed (Op Mul (t ◂ f ◂ nil)))
+    unfolding well-formed
+    two-formed t f g h = and-both (well-formed t) (well-formed f && true) g (and-both (well-formed f) true h tt)
+
+    shuffle :
+        (a b : Outcome Tree) (o : Outcome (List Tree))
+        → (((a >>= λ u. (b >>= λ v. ok nil >>= λ r. ok (v ◂ r)) >>= λ r. ok (u ◂ r)) >>= λ h. ok (Op Mul h)) >>= λ w. o >>= λ r. ok (nested-product w r))
+        ≡ (a >>= λ u. (b >>= λ v. o >>= λ r. ok (v ∷ r)) >>= λ r. ok (nested-product u r))
+    unfolding nested-product
+    shuffle (ok u) (ok v) (ok r) = refl
+    shuffle (ok u) (ok v) (refused i) = refl
+    shuffle (ok u) (refused i) o = refl
+    shuffle (refused i) b o = refl
+
+    nested-plain :
+        (t : Tree) (l : List Tree) → T (well-formed t) → All Alone l → remove-each ts (factors-of t ++ l) ≡ none
+        → rep (nested-product t l) ≡ (rep t >>= λ u. each rep l >>= λ r. ok (nested-product u r))
+    unfolding nested-product each each-operand
+    nested-plain t [] w a q = sym (chain-end (rep t))
+    nested-plain t (f ∷ l) w a q =
+        let all : remove-each ts (factors-of (Op Mul (t ◂ f ◂ nil)) ++ l) ≡ none =
+        ap (λ (m : List Tree). remove-each ts (m ++ l)) (two-factors t f (a .0)) ∙ ap (remove-each ts) (append-assoc (factors-of t) (f ∷ []) l) ∙ q in
+        nested-plain (Op Mul (t ◂ f ◂ nil)) l (two-formed t f w (a .0 .0)) (a .1) all
+        ∙ ap (λ (o : Outcome Tree). o >>= λ w. each rep l >>= λ r. ok (nested-product w r))
+        (without-match Mul (t ◂ f ◂ nil) (two-formed t f w (a .0 .0)) (none-before ts (factors-of (Op Mul (t ◂ f ◂ nil))) l all))
+        ∙ shuffle (rep t) (rep f) (each rep l)
+
+    not-minus : (f : Forest) → eq-tree (Op Neg f) target ≡ false
+    not-minus f =
+        not-true (eq-tree (Op Neg f) target)
+        (λ t. (unfold is-mul in subst (λ (x : Tree). T (is-mul x)) (sym (eq-tree-sound (Op Neg f) target t)) is-product))
+
+    one-operand : (k : ℕ) (o : Outcome Tree) → ((o >>= λ u. ok nil >>= λ r. ok (u ◂ r)) >>= λ h. ok (Op k h)) ≡ (o >>= λ u. ok (Op k (u ◂ nil)))
+    one-operand k (ok u) = refl
+    one-operand k (refused i) = refl
+
+    minus-plain : (t : Tree) → T (well-formed t) → rep (Op Neg (t ◂ nil)) ≡ (rep t >>= λ u. ok (Op Neg (u ◂ nil)))
+    unfolding each-operand well-formed
+    minus-plain t w = at-other Neg (t ◂ nil) (and-both (well-formed t) true w tt) (not-minus (t ◂ nil)) refl ∙ one-operand Neg (rep t)
+
+    constant-stays : (c : ℤ) → rep (Const c) ≡ ok (Const c)
+    constant-stays c =
+        at-constant target n c ∙ ap (λ (b : Bool). elim b as (λ _. Outcome Tree) [ true ↦ ok (Sym n) | false ↦ ok (Const c) ]) (leaf-const c target is-product)
+
+    name-stays : rep (Sym n) ≡ ok (Sym n)
+    name-stays = at-symbol target n n ∙ ap (λ (b : Bool). elim b as (λ _. Outcome Tree) [ true ↦ ok (Sym n) | false ↦ ok (Sym n) ]) (leaf-sym n target is-product)
+
+    headed-plain :
+        (c : ℤ) (b d : Bool) (t : Tree) → T (well-formed t) → remove-each ts (factors-of t) ≡ none → rep (headed b d c t) ≡ (rep t >>= λ u. ok (headed b d c u))
+    headed-plain c true d t w q = sym (chain-end (rep t))
+    headed-plain c false true t w q = minus-plain t w
+    headed-plain c false false t w q =
+        without-match Mul (Const c ◂ t ◂ nil) (two-formed (Const c) t (unfold well-formed in tt) w) (ap (remove-each ts) (factors-const t) ∙ q)
+        ∙ ap (λ (o : Outcome Forest). o >>= λ h. ok (Op Mul h)) (operands-two t)
+        ∙ ap (λ (o : Outcome Tree). (o >>= λ u. (rep t >>= λ v. ok nil >>= λ r. ok (v ◂ r)) >>= λ r. ok (u ◂ r)) >>= λ h. ok (Op Mul h)) (constant-stays c)
+        ∙ go (rep t)
+      where
+        factors-const : (t : Tree) → factors-of (Op Mul (Const c ◂ t ◂ nil)) ≡ factors-of t
+        factors-const t = (unfold flatten-mul-factors times in refl)
+
+        operands-two : (t : Tree) → each-operand rep (Const c ◂ t ◂ nil) ≡ (rep (Const c) >>= λ u. (rep t >>= λ v. ok nil >>= λ r. ok (v ◂ r)) >>= λ r. ok (u ◂ r))
+        operands-two t = (unfold each-operand in refl)
+
+        go : (o : Outcome Tree) → (((o >>= λ v. ok nil >>= λ r. ok (v ◂ r)) >>= λ r. ok (Const c ◂ r)) >>= λ h. ok (Op Mul h)) ≡ (o >>= λ u. ok (Op Mul (Const c ◂ u ◂ nil)))
+        go (ok u) = refl
+        go (refused i) = refl
+
+    nested-factors : (t : Tree) (l : List Tree) → All Alone (t ∷ l) → (factors-of (nested-product t l) ≡ t ∷ l) × T (well-formed (nested-product t l))
+    nested-factors t l a =
+        subst (λ (x : Tree). (factors-of x ≡ t ∷ l) × T (well-formed x)) plain-built (built-factors (pos 1) (t ∷ l) (each-all Alone Factor alone-factor (t ∷ l) a))
+      where
+        plain-built : built (pos 1) (t ∷ l) ≡ nested-product t l
+        plain-built = (unfold built with-coefficient eq-int in refl)
+
+    gathered :
+        (c : ℤ) (a : Outcome Tree) (o : Outcome (List Tree))
+        → ((a >>= λ u. o >>= λ r. ok (nested-product u r)) >>= λ w. ok (headed (eq-int c (pos 1)) (eq-int c (negsuc 0)) c w))
+        ≡ ((a >>= λ u. o >>= λ r. ok (u ∷ r)) >>= λ r. ok (built c r))
+    unfolding built with-coefficient
+    gathered c (ok u) (ok r) = refl
+    gathered c (ok u) (refused i) = refl
+    gathered c (refused i) o = refl
+
+    -- each factor is rewritten by itself
+    plain : (c : ℤ) (l : List Tree) → All Alone l → 1 ≤ length l → remove-each ts l ≡ none → rep (built c l) ≡ (each rep l >>= λ r. ok (built c r))
+    plain c [] a h q = absurd (omega arith)
+    plain c (t ∷ l) a h q =
+        opened
+        ∙ headed-plain c (eq-int c (pos 1)) (eq-int c (negsuc 0)) (nested-product t l) (nested-factors t l a .1) (ap (remove-each ts) (nested-factors t l a .0) ∙ q)
+        ∙ ap (λ (o : Outcome Tree). o >>= λ w. ok (headed (eq-int c (pos 1)) (eq-int c (negsuc 0)) c w))
+        (nested-plain t l (a .0 .0) (a .1) (ap (λ (p : Factors). remove-each ts (p .factors ++ l)) (a .0 .1) ∙ q))
+        ∙ gathered c (rep t) (each rep l)
+        ∙ closed-up
+      where
+        opened : rep (built c (t ∷ l)) ≡ rep (headed (eq-int c (pos 1)) (eq-int c (negsuc 0)) c (nested-product t l))
+        opened = (unfold built with-coefficient in refl)
+
+        closed-up : ((rep t >>= λ u. each rep l >>= λ r. ok (u ∷ r)) >>= λ r. ok (built c r)) ≡ (each rep (t ∷ l) >>= λ r. ok (built c r))
+        closed-up = (unfold each in refl)
+
+    -- ---- a product with names at its end
+
+    names-stay : (k : ℕ) → each rep (named n k) ≡ ok (named n k)
+    unfolding each named
+    names-stay zero = refl
+    names-stay (suc k) = ap₂ (λ (a : Outcome Tree) (o : Outcome (List Tree)). a >>= λ u. o >>= λ r. ok (u ∷ r)) name-stays (names-stay k)
+
+    longer : (r : List Tree) (k : ℕ) → 1 ≤ length (r ++ named n (suc k))
+    unfolding named
+    longer [] k = omega arith
+    longer (t ∷ r) k = omega arith
+
+    plain-names :
+        (c : ℤ) (r : List Tree) (k : ℕ) → All Alone r → remove-each ts r ≡ none
+        → rep (built c (r ++ named n (suc k))) ≡ (each rep r >>= λ l. ok (built c (l ++ named n (suc k))))
+    plain-names c r k a q =
+        plain c (r ++ named n (suc k)) (append-all Alone r (named n (suc k)) a (names-alone n (suc k))) (longer r k)
+        (each-names ts r n (suc k) (absent-all n ts new) ∙ ap (λ (o : Option (List Tree)). joined o (named n (suc k))) q)
+        ∙ ap (λ (o : Outcome (List Tree)). o >>= λ l. ok (built c l)) (each-append rep r (named n (suc k)) (names-stay (suc k)))
+        ∙ chain (each rep r) (λ l. ok (l ++ named n (suc k))) (λ l. ok (built c l))
+
+    names-product : (c : ℤ) (r : List Tree) (k : ℕ) → 1 ≤ length r → eq-int c (negsuc 0) ≡ false → (g : Forest) × (built c (r ++ named n (suc k)) ≡ Op Mul g)
+    unfolding named
+    names-product c [] k h m = absurd (omega arith)
+    names-product c (t ∷ []) k h m = built-mul c t (Sym n) (named n k) m
+    names-product c (t ∷ (f ∷ r)) k h m = built-mul c t f (r ++ named n (suc k)) m
+
+    names-coefficient :
+        (c : ℤ) (l : List Tree) → 1 ≤ length l → Small c → eq-int c (negsuc 0) ≡ false → All Alone l → constant-of (flatten-mul-factors (built c l) .coefficient) ≡ ok c
+    names-coefficient c [] h s m a = absurd (omega arith)
+    names-coefficient c (t ∷ l) h s m a = built-coefficient c t l s m a
+
+    once :
+        (c : ℤ) (r s : List Tree) (k : ℕ) → Small c → eq-int c (negsuc 0) ≡ false → All Alone r → remove-each ts r ≡ some s
+        → rep (built c (r ++ named n (suc k))) ≡ rep (built c (s ++ named n (suc (suc k))))
+    once c r s k h m a q =
+        let l = r ++ named n (suc k) in
+        let al : All Alone l = append-all Alone r (named n (suc k)) a (names-alone n (suc k)) in
+        let bf = built-factors c l (each-all Alone Factor alone-factor l al) in
+        let p = names-product c r k (let x = rest-of Alone ts r s q .1 in omega arith) m in
+        again (built c l) (p .0) (s ++ named n (suc k)) c (p .1) (bf .1)
+        (let x = ap (count (Sym n)) (bf .0) in let y = count-append (Sym n) r (named n (suc k)) in let z = names-count n k in omega arith)
+        (ap (remove-each ts) (bf .0) ∙ each-names ts r n (suc k) (absent-all n ts new) ∙ ap (λ (o : Option (List Tree)). joined o (named n (suc k))) q)
+        (names-coefficient c l (longer r k) h m al)
+        ∙ ap (λ (x : List Tree). rep (built c x)) (append-assoc s (named n (suc k)) (Sym n ∷ []) ∙ ap (λ (x : List Tree). s ++ x) (names-more n (suc k)))
+
+    plain-ends :
+        (c : ℤ) (r : List Tree) (k : ℕ) → All Alone r → remove-each ts r ≡ none
+        → rep (built c (r ++ named n (suc k))) ≡ (each rep r >>= λ l. ok (built c (l ++ named n (suc (0 + k)))))
+    plain-ends c r k a q =
+        plain-names c r k a q ∙ ap (λ (j : ℕ). each rep r >>= λ l. ok (built c (l ++ named n (suc j)))) (sym (zero-add k))
+
+    -- again and again, the coefficient not being -1
+    ends :
+        (most : ℕ) (c : ℤ) (r : List Tree) (k : ℕ) → Small c → eq-int c (negsuc 0) ≡ false → All Alone r → length r ≤ most
+        → rep (built c (r ++ named n (suc k))) ≡ (each rep (take-out most ts r .rest) >>= λ l. ok (built c (l ++ named n (suc (take-out most ts r .copies + k)))))
+    unfolding take-out once-more
+    ends zero c r k h m a b = plain-ends c r k a (ap (remove-each ts) (empty-list r b) ∙ none-empty ts some-factor)
+    ends (suc most) c r k h m a b = go (λ s x y. ends most c s (suc k) h m x y) (remove-each ts r) refl
+      where
+        go : ((s : List Tree) → All Alone s → length s ≤ most
+            → rep (built c (s ++ named n (suc (suc k)))) ≡ (each rep (take-out most ts s .rest) >>= λ l. ok (built c (l ++ named n (suc (take-out most ts s .copies + suc k))))))
+            → (o : Option (List Tree)) → remove-each ts r ≡ o
+            → let q : Taken = elim o [ none ↦ record { rest = r; copies = 0 } | some s ↦ once-more (take-out most ts s) ] in
+            rep (built c (r ++ named n (suc k))) ≡ (each rep (q .rest) >>= λ l. ok (built c (l ++ named n (suc (q .copies + k)))))
+        go i none q = plain-ends c r k a q
+        go i (some s) q =
+            let x = rest-of Alone ts r s q in
+            once c r s k h m a q ∙ i s (x .0 a) (let y = x .1 in omega arith)
+            ∙ ap (λ (j : ℕ). each rep (take-out most ts s .rest) >>= λ l. ok (built c (l ++ named n (suc j)))) (omega arith)
+
+    minus-built : (l : List Tree) → 1 ≤ length l → built (negsuc 0) l ≡ Op Neg (built (pos 1) l ◂ nil)
+    unfolding built with-coefficient eq-int
+    minus-built [] h = absurd (omega arith)
+    minus-built (t ∷ l) h = refl
+
+    minus-ends :
+        (most : ℕ) (r : List Tree) (k : ℕ) → All Alone r → length r ≤ most
+        → rep (built (negsuc 0) (r ++ named n (suc k)))
+        ≡ (each rep (take-out most ts r .rest) >>= λ l. ok (built (negsuc 0) (l ++ named n (suc (take-out most ts r .copies + k)))))
+    minus-ends most r k a b =
+        let l = r ++ named n (suc k) in
+        let j = take-out most ts r .copies + k in
+        ap rep (minus-built l (longer r k))
+        ∙ minus-plain (built (pos 1) l)
+        (built-factors (pos 1) l (each-all Alone Factor alone-factor l (append-all Alone r (named n (suc k)) a (names-alone n (suc k)))) .1)
+        ∙ ap (λ (o : Outcome Tree). o >>= λ u. ok (Op Neg (u ◂ nil))) (ends most (pos 1) r k one-small (unfold eq-int in refl) a b)
+        ∙ chain (each rep (take-out most ts r .rest)) (λ l. ok (built (pos 1) (l ++ named n (suc j)))) (λ u. ok (Op Neg (u ◂ nil)))
+        ∙ chain-same (each rep (take-out most ts r .rest)) (λ l. ok (Op Neg (built (pos 1) (l ++ named n (suc j)) ◂ nil))) (λ l. ok (built (negsuc 0) (l ++ named n (suc j))))
+        (λ l e. ap ok (sym (minus-built (l ++ named n (suc j)) (longer l j))))
+
+    all-ends :
+        (most : ℕ) (c : ℤ) (r : List Tree) (k : ℕ) → Small c → All Alone r → length r ≤ most
+        → rep (built c (r ++ named n (suc k))) ≡ (each rep (take-out most ts r .rest) >>= λ l. ok (built c (l ++ named n (suc (take-out most ts r .copies + k)))))
+    all-ends most c r k h a b = go (eq-int c (negsuc 0)) refl
+      where
+        go : (d : Bool) → eq-int c (negsuc 0) ≡ d
+            → rep (built c (r ++ named n (suc k))) ≡ (each rep (take-out most ts r .rest) >>= λ l. ok (built c (l ++ named n (suc (take-out most ts r .copies + k)))))
+        go true q =
+            subst
+            (λ (z : ℤ). rep (built z (r ++ named n (suc k))) ≡ (each rep (take-out most ts r .rest) >>= λ l. ok (built z (l ++ named n (suc (take-out most ts r .copies + k))))))
+            (sym (eq-int-sound c (negsuc 0) (subst T (sym q) tt))) (minus-ends most r k a b)
+        go false q = ends most c r k h q a b
+
+    -- ---- a product, whichever it is
+
+    module _ (f : Forest) (w : T (well-formed (Op Mul f))) (e : eq-tree (Op Mul f) target ≡ false) where
+      abbrev otherwise : Outcome Tree
+      otherwise = each-operand rep f >>= λ h. ok (Op Mul h)
+
+      abbrev coefficient : Float
+      coefficient = flatten-mul-factors (Op Mul f) .coefficient
+
+      abbrev rebuilt-from : Taken → Outcome Tree
+      rebuilt-from q = rebuilt n rep coefficient (q .rest) (q .copies) otherwise
+
+      at-most : (most : ℕ) → length (factors-of (Op Mul f)) ≤ most → rep (Op Mul f) ≡ rebuilt-from (take-out most ts (factors-of (Op Mul f)))
+      unfolding take-out once-more rebuilt
+      at-most zero b = without-match Mul f w (ap (remove-each ts) (empty-list (factors-of (Op Mul f)) b) ∙ none-empty ts some-factor)
+      at-most (suc most) b = go (remove-each ts (factors-of (Op Mul f))) refl
+        where
+          go : (o : Option (List Tree)) → remove-each ts (factors-of (Op Mul f)) ≡ o
+              → rep (Op Mul f) ≡ rebuilt-from (elim o [ none ↦ record { rest = factors-of (Op Mul f); copies = 0 } | some s ↦ once-more (take-out most ts s) ])
+          go none q = without-match Mul f w q
+          go (some s) q =
+              let x = rest-of Alone ts (factors-of (Op Mul f)) s q in
+              with-match f s w e q
+              ∙ chain-same (constant-of coefficient) (λ c. rep (built c (s ++ (Sym n ∷ []))))
+              (λ c. each rep (take-out most ts s .rest) >>= λ l. ok (built c (l ++ named n (suc (take-out most ts s .copies)))))
+              (λ c z. ap (λ (m : List Tree). rep (built c (s ++ m))) (one-name) ∙ all-ends most c s 0 (accepted-small coefficient c z) (x .0 (factors-alone (Op Mul f) w)) (let y = x .1 in omega arith)
+              ∙ ap (λ (j : ℕ). each rep (take-out most ts s .rest) >>= λ l. ok (built c (l ++ named n (suc j)))) (add-zero (take-out most ts s .copies)))
+            where
+              one-name : Sym n ∷ [] ≡ named n 1
+              one-name = (unfold named in refl)
+
+      -- rebuilt once
+      pub at-product : rep (Op Mul f) ≡ rebuilt-from (taken ts (factors-of (Op Mul f)))
+      unfolding taken
+      at-product = at-most (length (factors-of (Op Mul f))) (omega arith)

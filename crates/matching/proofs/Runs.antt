@@ -1,0 +1,119 @@
+-- Factors as runs, found from the left: what a word is passed for, where the next factor stands, where its run ends. Assumes nothing.
+use Prim.Native.Nat.{ℕ, zero, suc, _+_, _-_, _≤_, _<_}
+use native.Mathlib.Omega.{arith}
+use mathlib.Core.Path.{_≡_, refl, sym, _∙_, ap, ap₂, subst}
+use mathlib.Core.Bool.{Bool, true, false, _||_}
+use mathlib.Core.Option.{Option, none, some}
+use mathlib.Core.List.{List, [], _∷_}
+use borrow.Author.Tests.{eq-eqb, ne-eqb, eqb-true, eqb-false}
+use lib.ListN.{length, getD, take, drop, length-drop, drop-of-length-le}
+use lib.Seq.{drop-cons, drop-drop, take-nil}
+use lib.Dec.{eqb}
+use Rattle.tree.specs.Bytes.{eq-bytes}
+use Rattle.tree.specs.Kinds.{Neg, Mul}
+use Rattle.tree.specs.Tokens.{kind-of, takes, words-of, run-at}
+use Rattle.tree.proofs.TokenLaws.{Words, words-tail, words-complete}
+use Rattle.tokens.specs.Answers.{end-answer}
+use Rattle.tokens.specs.declared.Run.the-variants as run
+use Rattle.words.specs.Words.{begins-with}
+use Rattle.matching.specs.Matching.{is-passed, first-run, run-end, runs-after, factor-runs}
+use Rattle.matching.specs.Answers.{Seeks}
+
+-- ---- words passed through
+
+pub passes-mul : (w : ℕ) → kind-of w ≡ 5 → true ≡ is-passed w
+unfolding is-passed
+passes-mul w e = rw (eq-eqb (kind-of w) 5 e)
+
+pub passes-neg : (w : ℕ) → (kind-of w ≡ 5 → ⊥) → kind-of w ≡ 2 → true ≡ is-passed w
+unfolding is-passed
+passes-neg w n e = rw (ne-eqb (kind-of w) 5 n, eq-eqb (kind-of w) 2 e)
+
+pub passes-rest : (w : ℕ) → (kind-of w ≡ 5 → ⊥) → (kind-of w ≡ 2 → ⊥) → (b : Bool) → b ≡ eqb (kind-of w) 1 → b ≡ is-passed w
+unfolding is-passed
+passes-rest w n m b e = e ∙ rw (ne-eqb (kind-of w) 5 n, ne-eqb (kind-of w) 2 m)
+
+-- ---- the next factor
+
+abbrev tried : ℕ → List ℕ → Bool → List (List ℕ)
+tried w ws b = elim b [ true ↦ runs-after 0 ws | false ↦ take (first-run (w ∷ ws)) (w ∷ ws) ∷ runs-after (first-run (w ∷ ws) - 1) ws ]
+
+head-runs : (part : List ℕ) (q : ℕ) → q < length part → factor-runs (drop q part) ≡ tried (getD part q 0) (drop (suc q) part) (is-passed (getD part q 0))
+unfolding factor-runs
+head-runs part q h = ap (runs-after 0) (drop-cons part q 0 h) ∙ (unfold runs-after in refl)
+
+pub passed-on : (part : List ℕ) (q : ℕ) → q < length part → is-passed (getD part q 0) ≡ true → factor-runs (drop q part) ≡ factor-runs (drop (q + 1) part)
+unfolding factor-runs
+passed-on part q h e =
+    let z : suc q ≡ q + 1 = omega arith in
+    head-runs part q h ∙ ap (tried (getD part q 0) (drop (suc q) part)) e ∙ ap (λ (k : ℕ). runs-after 0 (drop k part)) z
+
+pub skipped : (skip : ℕ) (ws : List ℕ) → runs-after skip ws ≡ runs-after 0 (drop skip ws)
+unfolding runs-after
+skipped zero ws = refl
+skipped (suc skip) [] = refl
+skipped (suc skip) (w ∷ ws) = skipped skip ws
+
+-- ---- where a run ends
+
+pub first-within : (ws : List ℕ) → 0 < length ws → (0 < first-run ws) × (first-run ws ≤ length ws)
+unfolding first-run
+first-within [] h = absurd (omega arith)
+first-within (w ∷ ws) h = go (words-of (w ∷ ws) 1) refl
+  where
+    go : (o : Option ℕ) → words-of (w ∷ ws) 1 ≡ o → (0 < elim o [ none ↦ length (w ∷ ws) | some n ↦ n ]) × (elim o [ none ↦ length (w ∷ ws) | some n ↦ n ] ≤ length (w ∷ ws))
+    go none e = (omega arith, omega arith)
+    go (some n) e = (omega (arith, words-tail w ws 0 n e .one-more), words-complete (w ∷ ws) 1 n e .0)
+
+pub end-within : (part : List ℕ) (q : ℕ) → q < length part → (q < run-end part q) × (run-end part q ≤ length part)
+unfolding run-end
+end-within part q h = (let f = first-within (drop q part) (omega (arith, length-drop q part)) in (omega (arith, f .0), omega (arith, f .1, length-drop q part)))
+
+pub end-found : (part : List ℕ) (q e : ℕ) → run.Ends e ≡ end-answer q (run-at part q) → e ≡ run-end part q
+unfolding run-end first-run run-at end-answer
+end-found part q e p = go (words-of (drop q part) 1) p
+  where
+    go : (o : Option ℕ) → run.Ends e ≡ end-answer q o → e ≡ q + elim o as (λ _. ℕ) [ none ↦ length (drop q part) | some n ↦ n ]
+    go none p = absurd (let z : _≡_ {A = ℕ} 0 1 = cc in omega arith)
+    go (some n) p = cc
+
+pub end-broken : (part : List ℕ) (q : ℕ) → q < length part → run.Broken ≡ end-answer q (run-at part q) → length part ≡ run-end part q
+unfolding run-end first-run run-at end-answer
+end-broken part q h p = go (words-of (drop q part) 1) p
+  where
+    go : (o : Option ℕ) → run.Broken ≡ end-answer q o → length part ≡ q + elim o as (λ _. ℕ) [ none ↦ length (drop q part) | some n ↦ n ]
+    go none p = omega (arith, length-drop q part)
+    go (some n) p = absurd (let z : _≡_ {A = ℕ} 0 1 = cc in omega arith)
+
+-- a factor and those after it
+pub factor-here :
+    (part : List ℕ) (q : ℕ) → q < length part → is-passed (getD part q 0) ≡ false
+    → factor-runs (drop q part) ≡ take (run-end part q - q) (drop q part) ∷ factor-runs (drop (run-end part q) part)
+unfolding factor-runs run-end
+factor-here part q h e =
+    let d = drop-cons part q 0 h in
+    let n = first-run (drop q part) in
+    let f = first-within (drop q part) (omega (arith, length-drop q part)) in
+    let a : first-run (getD part q 0 ∷ drop (suc q) part) ≡ n = ap first-run (sym d) in
+    let x : q + n - q ≡ n = omega arith in
+    let y : suc q + (n - 1) ≡ q + n = omega (arith, f .0) in
+    head-runs part q h ∙ ap (tried (getD part q 0) (drop (suc q) part)) e
+    ∙ ap₂ (λ (l : List ℕ) (r : List (List ℕ)). l ∷ r) (ap₂ (λ (k : ℕ) (l : List ℕ). take k l) (a ∙ sym x) (sym d))
+    (ap (λ (k : ℕ). runs-after (k - 1) (drop (suc q) part)) a ∙ skipped (n - 1) (drop (suc q) part)
+    ∙ ap (runs-after 0) (drop-drop (n - 1) (suc q) part ∙ ap (λ (k : ℕ). drop k part) y))
+
+pub no-more : (part : List ℕ) (q : ℕ) → length part ≤ q → factor-runs (drop q part) ≡ []
+unfolding factor-runs runs-after
+no-more part q h = ap (runs-after 0) (drop-of-length-le part h)
+
+-- ---- a place past the end
+
+pub stands-past : (ws run : List ℕ) (p : ℕ) → length ws < p → eqb (length run) 0 ≡ begins-with (drop p ws) run
+unfolding begins-with
+stands-past ws run p h =
+    let past : length ws ≤ p = omega arith in
+    go run ∙ ap (λ (l : List ℕ). eq-bytes l run) (sym (take-nil (length run))) ∙ ap (λ (l : List ℕ). eq-bytes (take (length run) l) run) (sym (drop-of-length-le ws past))
+  where
+    go : (r : List ℕ) → eqb (length r) 0 ≡ eq-bytes [] r
+    go [] = (unfold eq-bytes in refl)
+    go (x ∷ r) = (unfold eq-bytes in ne-eqb (suc (length r)) 0 (λ e. omega arith))

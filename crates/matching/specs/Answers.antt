@@ -1,0 +1,32 @@
+-- What the functions of this crate answer and leave. Assumes nothing.
+use Prim.Native.Nat.{ℕ, _+_, _*_, _≤_, _<_}
+use mathlib.Core.Path.{_≡_}
+use mathlib.Core.Bool.{false}
+use mathlib.Core.Option.{Option, none, some}
+use mathlib.Core.List.{List}
+use lib.ListN.{length, getD, take, drop}
+use Rattle.matching.specs.Matching.{is-passed, factor-runs, remove-runs, PlacesTaken, take-out-places}
+use Rattle.matching.specs.declared.Removed.{Removed}
+use Rattle.matching.specs.declared.Removed.the-variants as removed
+use Rattle.matching.specs.declared.Taken.{Taken}
+use Rattle.matching.specs.declared.Taken.the-variants as taken
+
+-- the next factor's place is q, or the end
+pub record Seeks (part : List ℕ) (from q : ℕ) : Type 0 where
+  pub after : from ≤ q
+  pub within : q ≤ length part
+  pub runs : factor-runs (drop from part) ≡ factor-runs (drop q part)
+  pub starts : q < length part → is-passed (getD part q 0) ≡ false
+
+-- what is left stands in front
+abbrev pub Removes : Option (List ℕ) → List ℕ → Removed → Type 0
+Removes o new (removed.Left n) = (o ≡ some (take n new)) × (n ≤ length new)
+Removes o new removed.Missing = o ≡ none
+
+-- the places left stand in front
+abbrev pub TakenAs : PlacesTaken → List ℕ → ℕ → ℕ → Type 0
+TakenAs q new left copies = (take left new ≡ q .rest) × (left ≤ length new) × (copies ≡ q .copies)
+
+abbrev pub Takes : List ℕ → List ℕ → List ℕ → ℕ → List ℕ → Taken → Type 0
+Takes ws part old count new (taken.Out left copies) = (2 * count ≤ length old) × TakenAs (take-out-places count ws (factor-runs part) (take count old)) new left copies
+Takes ws part old count new taken.NoRoom = (length old < 2 * count) × (new ≡ old)

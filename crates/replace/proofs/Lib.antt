@@ -1,0 +1,4 @@
+pub mod Writing
+pub mod Deciding
+pub mod Rewriting
+pub mod Ends

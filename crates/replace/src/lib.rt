@@ -1,0 +1,348 @@
+// `replace` of the source (01, "Rewriting"), on words of trees, from one slice to another: an equal node becomes the new symbol, and in a Mul the target's
+// factors do, as often as they are all there. Such a product is written once: its coefficient, its signs, the factors left, each rewritten by itself, and the
+// symbols.
+ghost use mathlib.Core.Path.{_≡_};
+ghost use mathlib.Core.List.{_++_};
+ghost use Prim.Native.Nat.{_+_, _-_, _*_, _^_, _≤_, _<_};
+ghost use mathlib.Core.Bool.{true};
+ghost use mathlib.Core.Option.{some};
+ghost use lib.ListN.{length, take, drop};
+ghost use Rattle.tree.specs.Tokens.{trees-in};
+ghost use Rattle.words.specs.Words.{tree-of};
+ghost use Rattle.closed.specs.Closed.{by-factors};
+ghost use Rattle.replacing.specs.Replacing.{replaceable, repeated, head-words};
+ghost use Rattle.replacing.specs.Deciding.{Trees, Target, Match, ProductFirst, rewritten-words, product-out};
+ghost use Rattle.replace.specs.Answers.{FlatFirst, Decides, Writes, Answers, scratch-short, short-of-room};
+use coefficient::Constant;
+use coefficient::constant_of;
+use coefficient::is_one;
+use factors::Flattened;
+use factors::flatten_mul_factors;
+use matching::Taken;
+use matching::take_out;
+use replaceable::may_replace;
+use tokens::Run;
+use tokens::end_of;
+use words::Request;
+use words::check;
+use words::starts_with;
+
+// A word is kind + KINDS * below.
+const KINDS: u64 = 64;
+
+const CONST: u64 = 1;
+
+const MUL: u64 = 5;
+
+// The words of a Neg and of a Mul.
+const MINUS: u64 = 66;
+
+const PRODUCT: u64 = 133;
+
+// The codes of the constants 1 and -1.
+const ONE: u64 = 2;
+
+const MINUS_ONE: u64 = 1;
+
+// What becomes of the first of some trees.
+enum Decision {
+    // It is the target.
+    Equal,
+    // Its word stays.
+    Stays,
+    // It is a product with matches: how many factors are left, how often the target was taken out, the coefficient's code, and how many words it is.
+    Matched(usize, usize, u64, usize),
+    // It is a product with matches whose coefficient is no constant.
+    Refused,
+}
+
+pub enum Replaced {
+    // How many words were written.
+    Words(usize),
+    // Refusal 10: the coefficient of a product to be rebuilt is no constant. The trees are written as they were.
+    Refused,
+    // The words aren't trees that may be rewritten, the target isn't one tree with a symbol, or the name isn't a new symbol's word.
+    Broken,
+    // Fewer words of `out` than there are tokens, fewer than twice as many of `places`, or fewer than the target has.
+    NoRoom,
+}
+
+enum Step {
+    // How many words were written.
+    Wrote(usize),
+    Refused,
+}
+
+// Whether the target is sought by its factors: a Mul with coefficient 1.
+fn is_sought(target: &[u64], places: &mut [u64]) -> bool
+    requires { ⌜ (trees-in (now target) ≡ some 1) × (length (now target) ≤ length (now places)) ⌝ }
+    ensures { λ r. ⌜ r ≡ by-factors (tree-of (now (target .entry))) ⌝ }
+{
+    if target[0] % KINDS != MUL {
+        return false;
+    }
+    let flat = flatten_mul_factors(target, 0, places);
+    match flat {
+        Flattened::Of(p) => {
+            let coefficient = p.coefficient;
+            is_one(coefficient)
+        }
+        Flattened::Broken => false,
+        Flattened::NoRoom => false,
+    }
+}
+
+// Decides on a product whose factors' places are known.
+fn decide_factors(
+    tokens: &[u64],
+    target: &[u64],
+    name: u64,
+    coefficient: f64,
+    count: usize,
+    places: &mut [u64],
+) -> Decision
+    requires { ⌜ ProductFirst (now tokens) (now target) name ⌝ }
+    requires { ⌜ FlatFirst (now tokens) coefficient count (now places) ⌝ }
+    requires { ⌜ 2 * length (now tokens) ≤ length (now places) ⌝ }
+    ensures { λ r. ⌜ Decides (now (target .entry)) name (now (tokens .entry)) (now (places .exit)) r ⌝ }
+{
+    let Taken::Out(left, copies) = take_out(tokens, target, places, count) else {
+        return Decision::Refused;
+    };
+    if copies == 0 {
+        return Decision::Stays;
+    }
+    let Constant::Is(code) = constant_of(coefficient) else {
+        return Decision::Refused;
+    };
+    let Run::Ends(end) = end_of(tokens, 0) else {
+        return Decision::Refused;
+    };
+    Decision::Matched(left, copies, code, end)
+}
+
+// Decides on a product that isn't the target.
+fn decide_product(tokens: &[u64], target: &[u64], name: u64, places: &mut [u64]) -> Decision
+    requires { ⌜ ProductFirst (now tokens) (now target) name ⌝ }
+    requires { ⌜ 2 * length (now tokens) ≤ length (now places) ⌝ }
+    ensures { λ r. ⌜ Decides (now (target .entry)) name (now (tokens .entry)) (now (places .exit)) r ⌝ }
+{
+    let flat = flatten_mul_factors(tokens, 0, places);
+    match flat {
+        Flattened::Of(p) => {
+            let coefficient = p.coefficient;
+            let count = p.count;
+            decide_factors(tokens, target, name, coefficient, count, places)
+        }
+        Flattened::Broken => Decision::Refused,
+        Flattened::NoRoom => Decision::Refused,
+    }
+}
+
+// Decides on the first tree.
+fn decide(tokens: &[u64], target: &[u64], name: u64, sought: bool, places: &mut [u64]) -> Decision
+    requires { ⌜ (0 < length (now tokens)) × Trees (now tokens) × Target (now target) name ⌝ }
+    requires { ⌜ (sought ≡ by-factors (tree-of (now target))) × (2 * length (now tokens) ≤ length (now places)) ⌝ }
+    ensures { λ r. ⌜ Decides (now (target .entry)) name (now (tokens .entry)) (now (places .exit)) r ⌝ }
+{
+    if starts_with(tokens, target) {
+        return Decision::Equal;
+    }
+    if sought {
+        if tokens[0] % KINDS == MUL {
+            return decide_product(tokens, target, name, places);
+        }
+    }
+    Decision::Stays
+}
+
+// Writes a word n times from a place on.
+fn put_repeated(w: u64, n: usize, at: usize, out: &mut [u64])
+    requires { ⌜ at + n ≤ length (now out) ⌝ }
+    ensures { λ _. ⌜ now (out .exit) ≡ take at (now (out .entry)) ++ (repeated n w ++ drop (at + n) (now (out .entry))) ⌝ }
+{
+    let mut k = 0;
+    while k < n {
+        out[at + k] = w;
+        k += 1;
+    }
+}
+
+// Writes what stands before the factors of a product: its coefficient and its signs.
+fn write_head(code: u64, signs: usize, out: &mut [u64]) -> usize
+    requires { ⌜ (code < 2 ^ 51) × (length (head-words code signs) ≤ length (now out)) ⌝ }
+    ensures { λ r. ⌜ (r ≡ length (head-words code signs)) × (now (out .exit) ≡ head-words code signs ++ drop (length (head-words code signs)) (now (out .entry))) ⌝ }
+{
+    if code == ONE {
+        put_repeated(PRODUCT, signs, 0, out);
+        return signs;
+    }
+    if code == MINUS_ONE {
+        out[0] = MINUS;
+        put_repeated(PRODUCT, signs, 1, out);
+        return 1 + signs;
+    }
+    out[0] = PRODUCT;
+    out[1] = CONST + KINDS * code;
+    put_repeated(PRODUCT, signs, 2, out);
+    2 + signs
+}
+
+// Writes the first tree, a product with matches.
+fn rewrite_product(
+    tokens: &[u64],
+    target: &[u64],
+    name: u64,
+    sought: bool,
+    left: usize,
+    copies: usize,
+    code: u64,
+    long: usize,
+    places: &mut [u64],
+    out: &mut [u64],
+) -> Step
+    requires { ⌜ Trees (now tokens) × Target (now target) name × (sought ≡ by-factors (tree-of (now target))) ⌝ }
+    requires { ⌜ Match (now target) name (now tokens) (now places) left copies code long ⌝ }
+    requires { ⌜ (2 * long ≤ length (now places)) × (long ≤ length (now out)) ⌝ }
+    ensures { λ r. ⌜ Writes (product-out (now (target .entry)) name (now (tokens .entry))) long (now (out .entry)) r (now (out .exit)) ⌝ }
+{
+    let mut o = write_head(code, left + copies - 1, out);
+    let mut j = 0;
+    while j < left {
+        let at = places[j] as usize;
+        let Run::Ends(end) = end_of(tokens, at) else {
+            return Step::Refused;
+        };
+        let Step::Wrote(n) = rewrite(
+            &tokens[at..end],
+            target,
+            name,
+            sought,
+            &mut places[left..],
+            &mut out[o..],
+        ) else {
+            return Step::Refused;
+        };
+        o += n;
+        j += 1;
+    }
+    put_repeated(name, copies, o, out);
+    Step::Wrote(o + copies)
+}
+
+// Rewrites the words from the left.
+fn rewrite(
+    tokens: &[u64],
+    target: &[u64],
+    name: u64,
+    sought: bool,
+    places: &mut [u64],
+    out: &mut [u64],
+) -> Step
+    requires { ⌜ Trees (now tokens) × Target (now target) name × (sought ≡ by-factors (tree-of (now target))) ⌝ }
+    requires { ⌜ (2 * length (now tokens) ≤ length (now places)) × (length (now tokens) ≤ length (now out)) ⌝ }
+    ensures { λ r. ⌜ Writes (rewritten-words (now (target .entry)) name (now (tokens .entry))) (length (now (tokens .entry))) (now (out .entry)) r (now (out .exit)) ⌝ }
+{
+    let mut i = 0;
+    let mut o = 0;
+    while i < tokens.len() {
+        let found = decide(&tokens[i..], target, name, sought, places);
+        match found {
+            Decision::Equal => {
+                out[o] = name;
+                i += target.len();
+                o += 1;
+            }
+            Decision::Stays => {
+                out[o] = tokens[i];
+                i += 1;
+                o += 1;
+            }
+            Decision::Matched(left, copies, code, long) => {
+                let Step::Wrote(n) = rewrite_product(
+                    &tokens[i..],
+                    target,
+                    name,
+                    sought,
+                    left,
+                    copies,
+                    code,
+                    long,
+                    places,
+                    &mut out[o..],
+                ) else {
+                    return Step::Refused;
+                };
+                i += long;
+                o += n;
+            }
+            Decision::Refused => {
+                return Step::Refused;
+            }
+        }
+    }
+    Step::Wrote(o)
+}
+
+// Writes the trees as they were.
+fn put_back(tokens: &[u64], out: &mut [u64])
+    requires { ⌜ length (now tokens) ≤ length (now out) ⌝ }
+    ensures { λ _. ⌜ now (out .exit) ≡ now (tokens .entry) ++ drop (length (now (tokens .entry))) (now (out .entry)) ⌝ }
+{
+    let mut k = 0;
+    while k < tokens.len() {
+        out[k] = tokens[k];
+        k += 1;
+    }
+}
+
+// Rewrites trees that may be rewritten, where there is room for them.
+fn replace_trees(
+    tokens: &[u64],
+    target: &[u64],
+    name: u64,
+    places: &mut [u64],
+    out: &mut [u64],
+) -> Replaced
+    requires { ⌜ Trees (now tokens) × Target (now target) name × (length (now tokens) ≤ length (now out)) ⌝ }
+    ensures { λ r. ⌜ Answers (now (tokens .entry)) (now (target .entry)) name true (scratch-short (now (tokens .entry)) (now (target .entry)) (length (now (places .entry)))) (now (out .entry)) r (now (out .exit)) ⌝ }
+{
+    if places.len() / 2 < tokens.len() {
+        return Replaced::NoRoom;
+    }
+    if places.len() < target.len() {
+        return Replaced::NoRoom;
+    }
+    let sought = is_sought(target, places);
+    let step = rewrite(tokens, target, name, sought, places, out);
+    match step {
+        Step::Wrote(n) => Replaced::Words(n),
+        Step::Refused => {
+            put_back(tokens, out);
+            Replaced::Refused
+        }
+    }
+}
+
+// Each node equal to the target becomes the name, and so do the target's factors in a product, as often as they are all there.
+pub fn replace(
+    tokens: &[u64],
+    target: &[u64],
+    name: u64,
+    places: &mut [u64],
+    out: &mut [u64],
+) -> Replaced
+    ensures { λ r. ⌜ Answers (now (tokens .entry)) (now (target .entry)) name (replaceable (now (tokens .entry)) (now (target .entry)) name)
+        (short-of-room (now (tokens .entry)) (now (target .entry)) (length (now (places .entry))) (length (now (out .entry)))) (now (out .entry)) r (now (out .exit)) ⌝ }
+{
+    if may_replace(tokens, target, name) {
+        let request = check(tokens, target, name, out.len());
+        match request {
+            Request::Sound => replace_trees(tokens, target, name, places, out),
+            Request::Broken => Replaced::Broken,
+            Request::NoRoom => Replaced::NoRoom,
+        }
+    } else {
+        Replaced::Broken
+    }
+}

@@ -1,0 +1,96 @@
+// Whether words are trees that `replace` may rewrite: each operation has as many operands as its kind, the target has a symbol, and the new name is none of its.
+ghost use mathlib.Core.Path.{_≡_};
+ghost use mathlib.Core.Bool.{_&&_};
+ghost use Rattle.tree.specs.Bytes.{every};
+ghost use Rattle.tree.specs.Kinds.{arity-ok};
+ghost use Rattle.kinds.specs.Numbers.{kind-number};
+ghost use Rattle.replacing.specs.Replacing.{formed-word, has-symbol-word, lacks};
+
+// A word is kind + KINDS * below.
+const KINDS: u64 = 64;
+
+const SYM: u64 = 0;
+
+const CONST: u64 = 1;
+
+const SELECT: u64 = 27;
+
+const SELECT_OR: u64 = 28;
+
+// Whether a kind may have n operands.
+fn operands_fit(kind: u64, default: bool, n: u64) -> bool
+    ensures { λ r. ⌜ r ≡ arity-ok (kind-number kind default) n ⌝ }
+{
+    let counts = kinds::operand_counts(kind, default);
+    if n < counts.fewest {
+        return false;
+    }
+    n <= counts.most
+}
+
+// Whether a word is a leaf's, or an operation's with as many operands as its kind has.
+fn is_formed(w: u64) -> bool
+    ensures { λ r. ⌜ r ≡ formed-word w ⌝ }
+{
+    let kind = w % KINDS;
+    if kind <= CONST {
+        return true;
+    }
+    if kind == SELECT_OR {
+        return operands_fit(SELECT, true, w / KINDS);
+    }
+    if SELECT_OR < kind {
+        return false;
+    }
+    operands_fit(kind, false, w / KINDS)
+}
+
+fn are_formed(tokens: &[u64]) -> bool
+    ensures { λ r. ⌜ r ≡ every formed-word (now (tokens .entry)) ⌝ }
+{
+    let mut i = tokens.len();
+    while i > 0 {
+        i -= 1;
+        if is_formed(tokens[i]) {} else {
+            return false;
+        }
+    }
+    true
+}
+
+fn holds_symbol(target: &[u64]) -> bool
+    ensures { λ r. ⌜ r ≡ has-symbol-word (now (target .entry)) ⌝ }
+{
+    let mut i = target.len();
+    while i > 0 {
+        i -= 1;
+        if target[i] % KINDS == SYM {
+            return true;
+        }
+    }
+    false
+}
+
+fn lacks_word(target: &[u64], name: u64) -> bool
+    ensures { λ r. ⌜ r ≡ lacks name (now (target .entry)) ⌝ }
+{
+    let mut i = target.len();
+    while i > 0 {
+        i -= 1;
+        if target[i] == name {
+            return false;
+        }
+    }
+    true
+}
+
+pub fn may_replace(tokens: &[u64], target: &[u64], name: u64) -> bool
+    ensures { λ r. ⌜ r ≡ (every formed-word (now (tokens .entry)) && (has-symbol-word (now (target .entry)) && lacks name (now (target .entry)))) ⌝ }
+{
+    if are_formed(tokens) {
+        if holds_symbol(target) {
+            return lacks_word(target, name);
+        }
+    }
+    false
+}

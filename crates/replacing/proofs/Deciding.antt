@@ -1,0 +1,346 @@
+-- What is decided at the first of some trees: the target, a word that stays, or a product with matches. Assumes nothing.
+use Prim.Native.Nat.{ℕ, zero, suc, _+_, _-_, _*_, _/_, _%_, _^_, _≤_, _<_}
+use native.Mathlib.Omega.{arith}
+use mathlib.Core.Path.{_≡_, refl, sym, _∙_, ap, ap₂, subst}
+use mathlib.Core.Bool.{Bool, true, false}
+use mathlib.Core.Option.{Option, none, some}
+use mathlib.Core.List.{List, [], _∷_, _++_, append-nil, map}
+use borrow.Author.Tests.{ne-eqb, eq-eqb, eqb-true}
+use lib.ListN.{length, getD, take, drop, length-append}
+use lib.Seq.{length-take-le, getD-take}
+use lib.Dec.{T, eqb, lit≤}
+use lib.IntN.{ℤ, pos, negsuc}
+use lib.Ieee.{Float}
+use Rattle.tree.specs.Bytes.{every}
+use Rattle.tree.specs.Outcome.{Refusal, Outcome, ok, refused, _>>=_, each}
+use Rattle.tree.specs.Tree.{Name, Tree, Forest, Sym, Const, Op, nil, _◂_, forest, eq-tree}
+use Rattle.tree.specs.Kinds.{Mul}
+use Rattle.tree.specs.Facts.{size}
+use Rattle.tree.specs.Rows.{occurrences}
+use Rattle.tree.specs.Tokens.{kind-of, takes, constant-code, constant-at, name-by, below-of, tree-of-word, numbered, read, tokens, all-tokens, trees-in, run-at}
+use Rattle.tree.proofs.Formed.{well-formed}
+use Rattle.tree.proofs.Logic.{and-left}
+use Rattle.tree.proofs.TokenLaws.{Word, a-symbol, a-constant, an-operation, word-is, leaf-takes, symbol-tree, constant-tree, operation-tree, made, read-cons, complete-tail, tree-at, words-complete}
+use Rattle.tree.proofs.TokenCode.{tokens-length, all-tokens-length}
+use Rattle.rewrite.specs.Rewrite.{flatten-mul-factors, constant-of, built, each-operand, replace, match-factors}
+use Rattle.rewrite.proofs.Counts.{well-formed-all}
+use Rattle.rewrite.proofs.Measure.{sum-of, size-up}
+use Rattle.rewrite.proofs.Factors.{factors-of}
+use Rattle.words.specs.Words.{number, tree-of, name-of, begins-with}
+use Rattle.words.proofs.Rewriting.{name-written, after-tree, begins-tree, first-tree}
+use Rattle.coefficient.specs.Answers.{constant-answer}
+use Rattle.coefficient.specs.declared.Constant.the-variants as constant
+use Rattle.factors.specs.Places.{tree, at-places}
+use Rattle.factors.specs.declared.Product.{Product}
+use Rattle.factors.proofs.PlaceLaws.{Each, Inside}
+use Rattle.factors.proofs.Products.{Product-of}
+use Rattle.closed.specs.Closed.{Taken, taken, take-out, named, by-factors, rebuilt}
+use Rattle.closed.proofs.Chain.{chain, chain-same}
+use Rattle.closed.proofs.Unit.{Small, magnitude, accepted-small}
+use Rattle.closed.proofs.Steps.{at-operation, at-op}
+use Rattle.closed.proofs.Products.{at-symbol, at-constant, at-other, at-unmatched, no-match, at-product}
+use Rattle.matching.specs.Matching.{factor-runs, take-out-places}
+use Rattle.matching.specs.Answers.{TakenAs}
+use Rattle.replacing.specs.Replacing.{replaced-words, formed-word, repeated, head-words}
+use Rattle.replacing.specs.Deciding.{Trees, Target, Within, rewritten, rewritten-words, StaysAt, RefusedAt, Match}
+use Rattle.replacing.proofs.Turns.{words-formed, each-long, each-forest, target-out, Stays, word-out}
+use Rattle.replacing.proofs.Runs.{target-runs, Agree, taken-agree}
+use Rattle.replacing.proofs.Products.{product-words, repeated-long, named-long, rest-size, built-size}
+
+module _ (part : List ℕ) (name : ℕ) (t : Target part name) where
+  abbrev rep : Tree → Outcome Tree
+  rep = replace (tree-of part) (name-of name)
+
+  abbrev ts : List Tree
+  ts = factors-of (tree-of part)
+
+  -- ---- the first tree
+
+  pub head-formed : (ws : List ℕ) → Trees ws → 0 < length ws → T (well-formed (tree-of ws))
+  unfolding well-formed-all
+  head-formed [] h p = absurd (omega arith)
+  head-formed (w ∷ ws) h p =
+      let a = words-formed (w ∷ ws) (h .count) (h .complete) (h .formed) in
+      let rs = read numbered ws in
+      subst (λ (e : Tree). T (well-formed e)) (sym (first-tree w ws))
+      (and-left (well-formed (made numbered w rs)) (well-formed-all (drop (takes w) rs)) (subst (λ (l : List Tree). T (well-formed-all l)) (read-cons numbered w ws) a))
+
+  trees-there : (w : ℕ) (ws : List ℕ) (n : ℕ) → trees-in (w ∷ ws) ≡ some n → 1 ≤ n
+  trees-there w ws n e = omega (arith, complete-tail w ws n e .left)
+
+  first-equal : (ws : List ℕ) → Trees ws → 0 < length ws → (b : Bool) → b ≡ begins-with ws part → eq-tree (tree-of ws) (tree-of part) ≡ b
+  first-equal [] h p b e = absurd (omega arith)
+  first-equal (w ∷ ws) h p b e = begins-tree (w ∷ ws) (h .count) (h .complete) (trees-there w ws (h .count) (h .complete)) part (t .one) b e
+
+  -- ---- the target itself
+
+  replaced-self : (e : Tree) → T (well-formed e) → eq-tree e (tree-of part) ≡ true → rep e ≡ ok (Sym (name-of name))
+  replaced-self (Sym s) w q =
+      at-symbol (tree-of part) (name-of name) s ∙ ap (λ (b : Bool). elim b as (λ _. Outcome Tree) [ true ↦ ok (Sym (name-of name)) | false ↦ ok (Sym s) ]) q
+  replaced-self (Const c) w q =
+      at-constant (tree-of part) (name-of name) c ∙ ap (λ (b : Bool). elim b as (λ _. Outcome Tree) [ true ↦ ok (Sym (name-of name)) | false ↦ ok (Const c) ]) q
+  replaced-self (Op k f) w q =
+      at-op (tree-of part) (name-of name) (t .some-factor) (t .new) k f w
+      ∙ ap (λ (b : Bool). at-operation (tree-of part) (name-of name) rep k f b (eqb k Mul) (match-factors (tree-of part) (name-of name) (Op k f))) q
+
+  pub equal-turn :
+      (ws : List ℕ) → Trees ws → 0 < length ws → true ≡ begins-with ws part
+      → rewritten-words part name ws ≡ (rewritten-words part name (drop (length part) ws) >>= λ b. ok (name ∷ b))
+  unfolding tree-of
+  equal-turn ws h p e =
+      let a = after-tree ws part (t .one) (subst T e tt) in
+      let same : tree-of ws ≡ tree-of part = ap (λ (l : List Tree). getD l 0 (Op 0 nil)) a in
+      target-out (tree-of part) (name-of name) ws (drop (length part) ws) name (tree-of part) refl (t .symbol) a
+      (subst (λ (e : Tree). rep e ≡ ok (Sym (name-of name))) same (replaced-self (tree-of ws) (head-formed ws h p) (first-equal ws h p true e)))
+
+  -- ---- a word that stays
+
+  stays-word :
+      (w : ℕ) (ws : List ℕ) → eq-tree (made numbered w (read numbered ws)) (tree-of part) ≡ false
+      → (1 < kind-of w → rep (Op (kind-of w) (forest (take (takes w) (read numbered ws)))) ≡ (each-operand rep (forest (take (takes w) (read numbered ws))) >>= λ h. ok (Op (kind-of w) h)))
+      → Stays (tree-of part) (name-of name) w ws
+  unfolding each
+  stays-word w ws e h = go (word-is w)
+    where
+      rs : List Tree
+      rs = read numbered ws
+
+      none-taken : kind-of w ≤ 1 → take (takes w) rs ≡ []
+      none-taken k = ap (λ (a : ℕ). take a rs) (leaf-takes w k)
+
+      leaf-out : (x : Tree) → kind-of w ≤ 1 → ((l : List Tree) → tree-of-word numbered w l ≡ x) → (eq-tree x (tree-of part) ≡ false → rep x ≡ ok x)
+          → rep (made numbered w rs) ≡ (each rep (take (takes w) rs) >>= λ m. ok (tree-of-word numbered w m))
+      leaf-out x k q r =
+          ap rep (q (take (takes w) rs)) ∙ r (ap (λ (y : Tree). eq-tree y (tree-of part)) (sym (q (take (takes w) rs))) ∙ e)
+          ∙ sym (ap (λ (l : List Tree). each rep l >>= λ m. ok (tree-of-word numbered w m)) (none-taken k) ∙ ap ok (q []))
+
+      go : Word w → rep (made numbered w rs) ≡ (each rep (take (takes w) rs) >>= λ m. ok (tree-of-word numbered w m))
+      go (a-symbol k) =
+          let s = name-by numbered (below-of w % 3) (below-of w / 3) in
+          leaf-out (Sym s) (omega arith) (λ l. symbol-tree numbered w l k)
+          (λ q. at-symbol (tree-of part) (name-of name) s ∙ ap (λ (b : Bool). elim b as (λ _. Outcome Tree) [ true ↦ ok (Sym (name-of name)) | false ↦ ok (Sym s) ]) q)
+      go (a-constant k) =
+          let c = constant-at (below-of w) in
+          leaf-out (Const c) (omega arith) (λ l. constant-tree numbered w l k)
+          (λ q. at-constant (tree-of part) (name-of name) c ∙ ap (λ (b : Bool). elim b as (λ _. Outcome Tree) [ true ↦ ok (Sym (name-of name)) | false ↦ ok (Const c) ]) q)
+      go (an-operation k) =
+          ap rep (operation-tree numbered w (take (takes w) rs) k) ∙ h k
+          ∙ ap (λ (o : Outcome Forest). o >>= λ g. ok (Op (kind-of w) g)) (each-forest rep (take (takes w) rs))
+          ∙ chain (each rep (take (takes w) rs)) (λ m. ok (forest m)) (λ g. ok (Op (kind-of w) g))
+          ∙ chain-same (each rep (take (takes w) rs)) (λ m. ok (Op (kind-of w) (forest m))) (λ m. ok (tree-of-word numbered w m)) (λ m q. ap ok (sym (operation-tree numbered w m k)))
+
+  -- any word where the target isn't sought by factors, and any but a Mul
+  pub plain-turn :
+      (ws : List ℕ) → Trees ws → 0 < length ws → false ≡ begins-with ws part → (kind-of (getD ws 0 0) ≡ 5 → by-factors (tree-of part) ≡ false) → StaysAt part name ws
+  plain-turn [] h p e f = absurd (omega arith)
+  plain-turn (w ∷ ws) h p e f =
+      let q = ap (λ (x : Tree). eq-tree x (tree-of part)) (sym (first-tree w ws)) ∙ first-equal (w ∷ ws) h p false e in
+      let formed = subst (λ (x : Tree). T (well-formed x)) (first-tree w ws) (head-formed (w ∷ ws) h p) in
+      word-out (tree-of part) (name-of name) w ws (h .count) (h .complete)
+      (stays-word w ws q
+      (λ k.
+      let x = operation-tree numbered w (take (takes w) (read numbered ws)) k in
+      by-kind (forest (take (takes w) (read numbered ws))) (subst (λ (y : Tree). T (well-formed y)) x formed) (ap (λ (y : Tree). eq-tree y (tree-of part)) (sym x) ∙ q) (eqb (kind-of w) 5) refl))
+    where
+      by-kind : (g : Forest) → T (well-formed (Op (kind-of w) g)) → eq-tree (Op (kind-of w) g) (tree-of part) ≡ false → (b : Bool) → eqb (kind-of w) 5 ≡ b
+          → rep (Op (kind-of w) g) ≡ (each-operand rep g >>= λ h. ok (Op (kind-of w) h))
+      by-kind g v q true z =
+          at-unmatched (tree-of part) (name-of name) (t .some-factor) (t .new) (kind-of w) g v q
+          (no-match (tree-of part) (name-of name) (t .some-factor) (t .new) (f (eqb-true (kind-of w) 5 z)) (Op (kind-of w) g))
+      by-kind g v q false z = at-other (tree-of part) (name-of name) (t .some-factor) (t .new) (kind-of w) g v q z
+
+-- ---- lists
+
+pub sum-occurrences : (l : List Tree) → sum-of size l ≡ occurrences l
+unfolding sum-of occurrences
+sum-occurrences [] = refl
+sum-occurrences (t ∷ l) = ap (λ (n : ℕ). size t + n) (sum-occurrences l)
+
+places-long : (ws ps : List ℕ) → length (at-places ws ps) ≡ length ps
+unfolding at-places
+places-long ws [] = refl
+places-long ws (p ∷ ps) = ap suc (places-long ws ps)
+
+each-at : (P : ℕ → Type 0) (ps : List ℕ) (j : ℕ) → Each P ps → j < length ps → P (getD ps j 0)
+each-at P [] j h l = absurd (omega arith)
+each-at P (p ∷ ps) zero h l = h .0
+each-at P (p ∷ ps) (suc j) h l = each-at P ps j (h .1) (omega arith)
+
+accepted : (code : ℕ) (o : Outcome ℤ) → constant.Is code ≡ constant-answer o → (c : ℤ) × ((o ≡ ok c) × (code ≡ constant-code c))
+unfolding constant-answer
+accepted code (ok c) e = (c, (refl, cc))
+accepted code (refused i) e = (let z : _≡_ {A = ℕ} 0 1 = cc in absurd (omega arith))
+
+small-code : (c : ℤ) → Small c → constant-code c < 2 ^ 51
+unfolding constant-code magnitude
+small-code (pos n) h = (let l : 2 * 10 ^ 15 ≤ 2 ^ 51 = lit≤ tt in omega arith)
+small-code (negsuc n) h = (let l : 2 * 10 ^ 15 ≤ 2 ^ 51 = lit≤ tt in omega arith)
+
+unaccepted : (o : Outcome ℤ) → constant.Not ≡ constant-answer o → (i : Refusal) × (o ≡ refused i)
+unfolding constant-answer
+unaccepted (ok c) e = (let z : _≡_ {A = ℕ} 0 1 = cc in absurd (omega arith))
+unaccepted (refused i) e = (i, refl)
+
+-- ---- a product
+
+-- the first tree is a product and not the target
+pub record Product-at (part : List ℕ) (name : ℕ) (ws : List ℕ) : Type 0 where
+  pub operands : Forest
+  pub is : tree-of ws ≡ Op Mul operands
+  pub formed : T (well-formed (Op Mul operands))
+  pub unequal : eq-tree (Op Mul operands) (tree-of part) ≡ false
+  pub stays : rewritten part name (Op Mul operands) ≡ (each-operand (rewritten part name) operands >>= λ g. ok (Op Mul g)) → StaysAt part name ws
+
+pub product-at :
+    (part : List ℕ) (name : ℕ) → Target part name → (ws : List ℕ) → Trees ws → 0 < length ws → false ≡ begins-with ws part → kind-of (getD ws 0 0) ≡ 5 → Product-at part name ws
+product-at part name t [] h p e k = absurd (omega arith)
+product-at part name t (w ∷ ws) h p e k =
+    let f = forest (take (takes w) (read numbered ws)) in
+    let x : made numbered w (read numbered ws) ≡ Op Mul f =
+    operation-tree numbered w (take (takes w) (read numbered ws)) (omega arith) ∙ ap (λ (j : ℕ). Op j f) k in
+    let y : tree-of (w ∷ ws) ≡ Op Mul f = first-tree w ws ∙ x in
+    let u = ap (λ (z : Tree). eq-tree z (tree-of part)) (sym y) ∙ first-equal part name t (w ∷ ws) h p false e in
+    record {
+      operands = f;
+      is = y;
+      formed = subst (λ (z : Tree). T (well-formed z)) y (head-formed part name t (w ∷ ws) h p);
+      unequal = u;
+      stays = λ r.
+          word-out (tree-of part) (name-of name) w ws (h .count) (h .complete)
+          (stays-word part name t w ws (ap (λ (z : Tree). eq-tree z (tree-of part)) x ∙ u)
+          (λ l. subst (λ (j : ℕ). rewritten part name (Op j f) ≡ (each-operand (rewritten part name) f >>= λ g. ok (Op j g))) (sym k) r));
+    }
+
+module _
+    (part : List ℕ) (name : ℕ) (t : Target part name) (ws : List ℕ) (h : Trees ws) (is-product : Product-at part name ws) (by : T (by-factors (tree-of part))) where
+  abbrev rp : Tree → Outcome Tree
+  rp = replace (tree-of part) (name-of name)
+
+  abbrev f : Forest
+  f = is-product .operands
+
+  abbrev e : Tree
+  e = Op Mul f
+
+  abbrev q : Taken
+  q = taken (factors-of (tree-of part)) (factors-of e)
+
+  tree-first : tree ws 0 ≡ e
+  unfolding tree-of
+  tree-first = tree-at numbered ws 0 ∙ is-product .is
+
+  -- how it is rewritten
+  rebuilt-is : rp e ≡ rebuilt (name-of name) rp (flatten-mul-factors e .coefficient) (q .rest) (q .copies) (each-operand rp f >>= λ g. ok (Op Mul g))
+  rebuilt-is = at-product (tree-of part) (name-of name) (t .some-factor) (t .new) by f (is-product .formed) (is-product .unequal)
+
+  module _
+      (old new places : List ℕ) (p : Product) (pr : Product-of ws 0 old p new) (left copies : ℕ)
+      (ta : TakenAs (take-out-places (p .count) ws (factor-runs part) (take (p .count) new)) places left copies) where
+    abbrev inside : ℕ → Type 0
+    inside = Inside ws 0 (0 + size (tree ws 0))
+
+    below : (i : ℕ) → inside i → i < length ws
+    unfolding run-at
+    below i x = (let a = x .high in let b = size-up (tree ws i) in let c = words-complete ws 1 (size (tree ws 0)) (pr .there) .0 in omega arith)
+
+    agree : Agree ws (h .count) (h .complete) inside (take-out-places (p .count) ws (factor-runs part) (take (p .count) new)) q
+    unfolding taken
+    agree =
+        let a = taken-agree ws (h .count) (h .complete) inside below (p .count) (factor-runs part) (factors-of (tree-of part)) (target-runs part (t .one)) (take (p .count) new) (pr .inside) in
+        let l : at-places ws (take (p .count) new) ≡ factors-of e = pr .factors-are ∙ ap factors-of tree-first in
+        let n : p .count ≡ length (factors-of e) = pr .count-is ∙ ap (λ (x : Tree). length (factors-of x)) tree-first in
+        subst (λ (k : ℕ). Agree ws (h .count) (h .complete) inside (take-out-places (p .count) ws (factor-runs part) (take (p .count) new)) (take-out k (factors-of (tree-of part)) (factors-of e))) n
+        (subst (λ (m : List Tree). Agree ws (h .count) (h .complete) inside (take-out-places (p .count) ws (factor-runs part) (take (p .count) new)) (take-out (p .count) (factors-of (tree-of part)) m)) l a)
+
+    rest-is : at-places ws (take left places) ≡ q .rest
+    rest-is = ap (at-places ws) (ta .0) ∙ agree .rest-is
+
+    copies-is : copies ≡ q .copies
+    copies-is = ta .2 ∙ agree .copies-is
+
+    coefficient-is : p .coefficient ≡ flatten-mul-factors e .coefficient
+    coefficient-is = pr .coefficient-is ∙ ap (λ (x : Tree). flatten-mul-factors x .coefficient) tree-first
+
+    rest-long : length (q .rest) ≡ left
+    rest-long = ap length (sym rest-is) ∙ places-long ws (take left places) ∙ length-take-le left places (ta .1)
+
+    -- nothing was taken out
+    pub none-taken : copies ≡ 0 → StaysAt part name ws
+    unfolding rebuilt
+    none-taken z =
+        is-product .stays
+        (rebuilt-is
+        ∙ ap (λ (k : ℕ). rebuilt (name-of name) rp (flatten-mul-factors e .coefficient) (q .rest) k (each-operand rp f >>= λ g. ok (Op Mul g))) (sym copies-is ∙ z))
+
+    module _ (k : ℕ) (some-copy : copies ≡ suc k) where
+      opened : rp e ≡ (constant-of (p .coefficient) >>= λ c. each rp (q .rest) >>= λ l. ok (built c (l ++ named (name-of name) (suc k))))
+      unfolding rebuilt
+      opened =
+          rebuilt-is
+          ∙ ap (λ (k : ℕ). rebuilt (name-of name) rp (flatten-mul-factors e .coefficient) (q .rest) k (each-operand rp f >>= λ g. ok (Op Mul g))) (sym copies-is ∙ some-copy)
+          ∙ ap (λ (x : Float). constant-of x >>= λ c. each rp (q .rest) >>= λ l. ok (built c (l ++ named (name-of name) (suc k)))) (sym coefficient-is)
+
+      -- its coefficient is no constant
+      pub refused-there : constant.Not ≡ constant-answer (constant-of (p .coefficient)) → RefusedAt part name ws
+      refused-there z =
+          let u = unaccepted (constant-of (p .coefficient)) z in
+          (u .0, ap rp (is-product .is) ∙ opened ∙ ap (λ (o : Outcome ℤ). o >>= λ c. each rp (q .rest) >>= λ l. ok (built c (l ++ named (name-of name) (suc k)))) (u .1))
+
+      module _ (code : ℕ) (z : constant.Is code ≡ constant-answer (constant-of (p .coefficient))) where
+        abbrev c : ℤ
+        c = accepted code (constant-of (p .coefficient)) z .0
+
+        c-is : constant-of (p .coefficient) ≡ ok c
+        c-is = accepted code (constant-of (p .coefficient)) z .1 .0
+
+        code-is : code ≡ constant-code c
+        code-is = accepted code (constant-of (p .coefficient)) z .1 .1
+
+        signs-is : left + k ≡ left + copies - 1
+        signs-is = omega (arith, some-copy)
+
+        words-of : (l : List Tree) → length l ≡ left
+            → tokens number (built c (l ++ named (name-of name) (suc k))) ≡ head-words code (left + copies - 1) ++ (all-tokens number l ++ repeated copies name)
+        words-of l n =
+            product-words c (name-of name) name k l (name-written name (t .symbol))
+            ∙ ap₂ (λ (i j : ℕ). head-words i j ++ (all-tokens number l ++ repeated (suc k) name)) (sym code-is) (ap (λ (i : ℕ). i + k) n ∙ signs-is)
+            ∙ ap (λ (i : ℕ). head-words code (left + copies - 1) ++ (all-tokens number l ++ repeated i name)) (sym some-copy)
+
+        becomes :
+            (rp (tree-of ws) >>= λ u. ok (tokens number u))
+            ≡ (each rp (at-places ws (take left places)) >>= λ l. ok (head-words code (left + copies - 1) ++ (all-tokens number l ++ repeated copies name)))
+        becomes =
+            ap (λ (o : Outcome Tree). o >>= λ u. ok (tokens number u))
+            (ap rp (is-product .is) ∙ opened ∙ ap (λ (o : Outcome ℤ). o >>= λ c. each rp (q .rest) >>= λ l. ok (built c (l ++ named (name-of name) (suc k)))) c-is)
+            ∙ chain (each rp (q .rest)) (λ l. ok (built c (l ++ named (name-of name) (suc k)))) (λ u. ok (tokens number u))
+            ∙ chain-same (each rp (q .rest)) (λ l. ok (tokens number (built c (l ++ named (name-of name) (suc k)))))
+            (λ l. ok (head-words code (left + copies - 1) ++ (all-tokens number l ++ repeated copies name))) (λ l x. ap ok (words-of l (each-long rp (q .rest) l x ∙ rest-long)))
+            ∙ ap (λ (m : List Tree). each rp m >>= λ l. ok (head-words code (left + copies - 1) ++ (all-tokens number l ++ repeated copies name))) (sym rest-is)
+
+        pub match-there : Match part name ws places left copies code (size (tree ws 0))
+        match-there =
+            let sz : size (tree ws 0) ≡ size e = ap size tree-first in
+            let b = built-size (tree-of part) (name-of name) (t .some-factor) f (is-product .formed) c (ap constant-of (sym coefficient-is) ∙ c-is) (omega (arith, copies-is, some-copy)) in
+            let bk : size (built c (q .rest ++ named (name-of name) (suc k))) ≤ size e = subst (λ (i : ℕ). size (built c (q .rest ++ named (name-of name) i)) ≤ size e) (sym copies-is ∙ some-copy) b in
+            let len = sym (tokens-length number (built c (q .rest ++ named (name-of name) (suc k)))) ∙ ap length (words-of (q .rest) rest-long) in
+            let l1 = length-append (head-words code (left + copies - 1)) (all-tokens number (q .rest) ++ repeated copies name) in
+            let l2 = length-append (all-tokens number (q .rest)) (repeated copies name) in
+            let l3 = all-tokens-length number (q .rest) in
+            let l4 = repeated-long copies name in
+            let oc : occurrences (at-places ws (take left places)) ≡ occurrences (q .rest) = ap occurrences rest-is in
+            let rs = rest-size (tree-of part) (name-of name) (t .some-factor) f (is-product .formed) in
+            let so = sum-occurrences (q .rest) in
+            record {
+              size-is = ap size (tree-first ∙ sym (is-product .is));
+              run-is = pr .there;
+              some-copy = omega (arith, some-copy);
+              small = subst (λ (i : ℕ). i < 2 ^ 51) (sym code-is) (small-code c (accepted-small (p .coefficient) c c-is));
+              there = ta .1;
+              within = λ j l.
+                  (let x = each-at inside (take left places) j (subst (Each inside) (sym (ta .0)) (agree .kept)) (omega (arith, length-take-le left places (ta .1))) in
+                  let y : Inside ws 0 (0 + size (tree ws 0)) (getD places j 0) = subst (Inside ws 0 (0 + size (tree ws 0))) (getD-take left places j 0 l) x in
+                  record { before = omega (arith, y .high); run = y .run });
+              becomes = becomes;
+              room = omega arith;
+              smaller = omega arith;
+            }
