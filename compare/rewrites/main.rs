@@ -85,14 +85,18 @@ fn asked(rewriting: Rewriting, pair: &Pair, name: &E) -> Option<Vec<E>> {
     }
 }
 
-fn expected(given: &Option<Vec<E>>) -> Expected {
+/// Where a coefficient is refused the trees are written as they were.
+fn expected(tokens: &[u64], given: &Option<Vec<E>>) -> Expected {
     match given {
         Some(es) => {
             let out = words_of(es);
             let answer = vec![out.len() as u64];
             Expected { number: 0, out, answer }
         }
-        None => nothing(REFUSED),
+        None => Expected {
+            out: tokens.to_vec(),
+            ..nothing(REFUSED)
+        },
     }
 }
 
@@ -272,7 +276,7 @@ impl Tally {
             each(self.source)
         );
         let wanted = shown.iter().zip(self.events).filter(|(name, _)| !name.is_empty());
-        self.differ == 0 && wanted.chain([(&"", self.unsound.iter().copied().min().unwrap())]).all(|(_, n)| n > 0)
+        self.differ == 0 && kinds == words::KINDS && wanted.chain([(&"", self.unsound.iter().copied().min().unwrap())]).all(|(_, n)| n > 0)
     }
 }
 
@@ -319,7 +323,7 @@ fn hold_one(r: &mut Random, rewriting: Rewriting, port: &mut Port, tally: &mut T
     tally.source += began.elapsed();
     tally.mark(rewriting, &pair, &given);
     let mut c = sound_call(r, rewriting, &pair, &name);
-    tally.hold(port, &c, &expected(&given), &shown(&pair));
+    tally.hold(port, &c, &expected(&c.tokens, &given), &shown(&pair));
     if r.chance(UNSOUND) {
         let number = spoil_call(r, &mut c);
         tally.unsound[(number - BROKEN) as usize] += 1;
@@ -337,7 +341,7 @@ fn self_test() {
         let pair = pair(&mut r, rewriting);
         let name = new_name(&mut r);
         let c = sound_call(&mut r, rewriting, &pair, &name);
-        let mut given = expected(&asked(rewriting, &pair, &pairs::sym(&name)));
+        let mut given = expected(&c.tokens, &asked(rewriting, &pair, &pairs::sym(&name)));
         assert_eq!(port.difference(&c, &given), None, "a true one: {}", shown(&pair));
         spoil(&mut r, &mut given);
         noticed += usize::from(port.difference(&c, &given).is_some());

@@ -217,13 +217,19 @@ fn has_symbol(e: &E) -> bool {
     matches!(e.as_ref(), Expr::Sym(_)) || children(e).into_iter().any(has_symbol)
 }
 
+/// One of the trees, the latest more often.
+fn late(r: &mut Random, pool: &[E]) -> E {
+    let from = if r.chance(50) { pool.len() - 4 } else { 0 };
+    pick(r, &pool[from..])
+}
+
 fn grown_pair(r: &mut Random, kinds: &[usize]) -> Pair {
     let mut pool = vec![sym("a"), sym("b"), sym("i"), sym("__m1"), num(-1), num(2), num(LIMIT - 1)];
     let leaves = pool.len();
     let any = r.chance(25);
     for _ in 0..2 + r.below(9) {
         let kind = if any && r.chance(50) { 2 + r.below(27) } else { pick(r, kinds) };
-        let parts = (0..arity(r, kind)).map(|_| pick(r, &pool)).collect();
+        let parts = (0..arity(r, kind)).map(|_| late(r, &pool)).collect();
         pool.push(op(kind, parts));
     }
     let count = 1 + r.below(3);

@@ -123,8 +123,7 @@ impl Port {
         number
     }
 
-    /// Calls the port; what it did otherwise than expected. A refused call is expected to leave the
-    /// words lent as they were; the places are free.
+    /// Calls the port; what it did otherwise than expected. The places are free.
     pub fn difference(&mut self, c: &Call, given: &Expected) -> Option<String> {
         let number = self.call(c);
         if number != given.number {

@@ -1,7 +1,7 @@
 //! Holds the port's writers of texts, called through their static library, against the source's own
-//! `Display`, on random trees.
+//! `Display`, on random trees and on the source's answers to random lists.
 //!
-//! Arguments: the number of trees; or `--self-test`, to see that wrong expectations are noticed; or
+//! Arguments: the number of trees and of answers; or `--self-test`, to see that wrong expectations are noticed; or
 //! `--stored`, which prints the list that the program `textreplay` replays.
 #![allow(dead_code)]
 
@@ -11,6 +11,7 @@ mod cse;
 mod fmt;
 mod lists;
 mod port;
+mod printed;
 mod stored;
 mod tree;
 mod trees;
@@ -21,7 +22,7 @@ pub use arael::{E, Expr, FuncKind, symbol};
 pub(crate) use arael::{as_exact_int, expand_func};
 
 use lists::Random;
-use port::{BROKEN, Call, Expected, NO_ANSWER, Port};
+use port::{BROKEN, Call, Expected, NO_ANSWER, Port, Writer};
 use std::time::{Duration, Instant};
 use trees::Rows;
 use words::{BELOW, KINDS, NAMES};
@@ -33,6 +34,7 @@ const DAMAGED: usize = 5;
 
 fn main() {
     let words: Vec<String> = std::env::args().skip(1).collect();
+    printed::hush();
     match words[0].as_str() {
         "--self-test" => self_test(),
         "--stored" => print!("{}", stored::list()),
@@ -43,7 +45,15 @@ fn main() {
 // ---- calls
 
 /// A tree's words among others, and what is lent for its text.
-fn call(r: &mut Random, rows: &Rows, e: &E, length: usize) -> (Call, usize) {
+struct Placed {
+    call: Call,
+    /// the places of the tree's first word and after its last
+    at: usize,
+    next: usize,
+    dry: bool,
+}
+
+fn placed(r: &mut Random, rows: &Rows, e: &E, length: usize) -> Placed {
     let mut words: Vec<u64> = (0..r.below(4)).map(|_| r.below(5000) as u64).collect();
     let at = words.len();
     words::put(e, &|name| rows.number(name), &mut words);
@@ -57,30 +67,31 @@ fn call(r: &mut Random, rows: &Rows, e: &E, length: usize) -> (Call, usize) {
         3..=6 => to + length,
         _ => to + length + r.below(30),
     };
-    let c = Call {
+    let dry = r.chance(30);
+    let call = Call {
+        writer: Writer::Text { at, dry },
         rows: rows.words.clone(),
         words,
-        at,
-        dry: r.chance(30),
         to,
         out,
         answer: 2 + r.below(2),
     };
-    (c, next)
+    Placed { call, at, next, dry }
 }
 
 /// Bytes past the end are dropped, and a place past the end stays one after it.
-fn expected(c: &Call, next: usize, text: &str) -> Expected {
+fn expected(p: &Placed, text: &str) -> Expected {
+    let c = &p.call;
     let end = (c.to + text.len()).min(c.out + 1);
     let fits = c.out.saturating_sub(c.to).min(text.len());
     Expected {
         number: 0,
-        bytes: if c.dry { Vec::new() } else { text.as_bytes()[..fits].to_vec() },
-        answer: vec![next as u64, end as u64],
+        bytes: if p.dry { Vec::new() } else { text.as_bytes()[..fits].to_vec() },
+        answer: vec![p.next as u64, end as u64],
     }
 }
 
-fn nothing(number: u64) -> Expected {
+pub fn nothing(number: u64) -> Expected {
     Expected {
         number,
         bytes: Vec::new(),
@@ -90,14 +101,18 @@ fn nothing(number: u64) -> Expected {
 
 /// One word of the tree made one that no tree of an answer has, or the tree cut off; the number that
 /// is to be returned.
-fn damage(r: &mut Random, rows: &Rows, c: &mut Call, next: usize) -> u64 {
-    let i = c.at + r.below(next - c.at);
+fn damage(r: &mut Random, rows: &Rows, p: &mut Placed) -> u64 {
+    let i = p.at + r.below(p.next - p.at);
+    let c = &mut p.call;
     let w = c.words[i];
     let leaf = w % BELOW <= 1;
     let unnamed = rows.names.iter().position(|n| n.is_none()).unwrap_or(rows.names.len());
     match r.below(7) {
-        0 => c.words.truncate(next - 1),
-        1 => c.at = c.words.len() + r.below(3),
+        0 => c.words.truncate(p.next - 1),
+        1 => {
+            let at = c.words.len() + r.below(3);
+            c.writer = Writer::Text { at, dry: p.dry };
+        }
         2 => {
             c.answer = r.below(2);
             return NO_ANSWER;
@@ -112,7 +127,7 @@ fn damage(r: &mut Random, rows: &Rows, c: &mut Call, next: usize) -> u64 {
         // operands that aren't there, at the end of the words
         _ => {
             c.words[i] += BELOW * 20;
-            c.words.truncate(next);
+            c.words.truncate(p.next);
         }
     }
     BROKEN
@@ -239,7 +254,9 @@ fn compare(count: usize) {
     for _ in 0..count {
         hold_one(&mut r, &mut port, &mut tally);
     }
-    if !tally.say(&port) {
+    let trees = tally.say(&port);
+    let answers = printed::compare(count);
+    if !(trees && answers) {
         std::process::exit(1);
     }
 }
@@ -251,17 +268,17 @@ fn hold_one(r: &mut Random, port: &mut Port, tally: &mut Tally) {
     let text = e.to_string();
     tally.source += began.elapsed();
     tally.mark(&e, 0);
-    let (mut c, next) = call(r, &rows, &e, text.len());
+    let mut p = placed(r, &rows, &e, text.len());
     tally.trees += 1;
-    tally.words += next - c.at;
+    tally.words += p.next - p.at;
     tally.bytes += text.len();
-    tally.too_long += usize::from(c.to + text.len() > c.out);
-    tally.dry += usize::from(c.dry);
-    tally.hold(port, &c, &expected(&c, next, &text), &text);
+    tally.too_long += usize::from(p.call.to + text.len() > p.call.out);
+    tally.dry += usize::from(p.dry);
+    tally.hold(port, &p.call, &expected(&p, &text), &text);
     if r.chance(DAMAGED) {
-        let number = damage(r, &rows, &mut c, next);
+        let number = damage(r, &rows, &mut p);
         *(if number == BROKEN { &mut tally.damaged } else { &mut tally.no_answer }) += 1;
-        tally.hold(port, &c, &nothing(number), &text);
+        tally.hold(port, &p.call, &nothing(number), &text);
     }
 }
 
@@ -274,24 +291,25 @@ fn self_test() {
         let rows = trees::rows(&mut r);
         let e = trees::tree(&mut r, &rows);
         let text = e.to_string();
-        let (c, next) = call(&mut r, &rows, &e, text.len());
-        let mut given = expected(&c, next, &text);
-        assert_eq!(port.difference(&c, &given), None, "a true one: {text}");
+        let p = placed(&mut r, &rows, &e, text.len());
+        let mut given = expected(&p, &text);
+        assert_eq!(port.difference(&p.call, &given), None, "a true one: {text}");
         spoil(&mut r, &mut given);
-        noticed += usize::from(port.difference(&c, &given).is_some());
+        noticed += usize::from(port.difference(&p.call, &given).is_some());
     }
-    println!("of {WRONG} wrong expectations {noticed} are noticed");
-    if noticed != WRONG {
+    noticed += printed::noticed(&mut r, &mut port, WRONG);
+    println!("of {} wrong expectations {noticed} are noticed", 2 * WRONG);
+    if noticed != 2 * WRONG {
         std::process::exit(1);
     }
 }
 
 /// The number, a place or a byte made another, or one byte more or fewer expected.
-fn spoil(r: &mut Random, given: &mut Expected) {
+pub fn spoil(r: &mut Random, given: &mut Expected) {
     let i = r.below(given.bytes.len() + 1);
     match r.below(5) {
-        0 => given.number ^= 1,
-        1 => given.answer[r.below(2)] += 1,
+        1 if !given.answer.is_empty() => given.answer[r.below(given.answer.len())] += 1,
+        0 | 1 => given.number ^= 1,
         2 if i < given.bytes.len() => given.bytes[i] ^= 1,
         3 if !given.bytes.is_empty() => {
             given.bytes.pop();

@@ -17,6 +17,17 @@ unsafe extern "C" {
         answer: *mut u64,
         answer_len: usize,
     ) -> u64;
+
+    fn cse_print(
+        rows: *const u64,
+        rows_len: usize,
+        answer: *const u64,
+        answer_len: usize,
+        out: *mut u8,
+        out_len: usize,
+        said: *mut u64,
+        said_len: usize,
+    ) -> u64;
 }
 
 /// The numbers that are returned beside 0 and 01's: for words that are no tree of an answer, and for
@@ -24,13 +35,21 @@ unsafe extern "C" {
 pub const BROKEN: u64 = 253;
 pub const NO_ANSWER: u64 = 255;
 
-/// The node rows and the words, and where a tree and its text begin.
+/// What is called.
+#[derive(Clone, Copy, Debug)]
+pub enum Writer {
+    /// of the tree at a place
+    Text { at: usize, dry: bool },
+    /// of an answer from its rows
+    Print,
+}
+
+/// The node rows, the words to be read, and where the text begins.
 #[derive(Clone, Debug)]
 pub struct Call {
+    pub writer: Writer,
     pub rows: Vec<u64>,
     pub words: Vec<u64>,
-    pub at: usize,
-    pub dry: bool,
     pub to: usize,
     /// how many bytes and how many words are lent
     pub out: usize,
@@ -71,10 +90,15 @@ impl Port {
         let began = Instant::now();
         // all areas are apart, and as long as is said
         let number = unsafe {
-            cse_text(
-                rows, rows_len, words, words_len, c.at, out, out_len, c.dry, c.to, answer,
-                answer_len,
-            )
+            match c.writer {
+                Writer::Text { at, dry } => cse_text(
+                    rows, rows_len, words, words_len, at, out, out_len, dry, c.to, answer,
+                    answer_len,
+                ),
+                Writer::Print => cse_print(
+                    rows, rows_len, words, words_len, out, out_len, answer, answer_len,
+                ),
+            }
         };
         self.time += began.elapsed();
         number
