@@ -308,7 +308,10 @@ fn self_test() {
 pub fn spoil(r: &mut Random, given: &mut Expected) {
     let i = r.below(given.bytes.len() + 1);
     match r.below(5) {
-        1 if !given.answer.is_empty() => given.answer[r.below(given.answer.len())] += 1,
+        1 if !given.answer.is_empty() => {
+            let n = r.below(given.answer.len());
+            given.answer[n] += 1;
+        }
         0 | 1 => given.number ^= 1,
         2 if i < given.bytes.len() => given.bytes[i] ^= 1,
         3 if !given.bytes.is_empty() => {
