@@ -1,0 +1,16 @@
+pub mod SpanLaws
+pub mod RowSpans
+pub mod ReadBack
+pub mod ListNames
+pub mod LaidOut
+pub mod FrontLaws
+pub mod HeadLaws
+pub mod TreeFronts
+pub mod RowFirst
+pub mod CodeLaws
+pub mod SpanWords
+pub mod BoundLaws
+pub mod ScopeLaws
+pub mod OnceLaws
+pub mod WayLaws
+pub mod ExtractRefs

@@ -1,0 +1,4 @@
+pub mod Fitting
+pub mod First
+pub mod Fronts
+pub mod Seen

@@ -1,0 +1,1 @@
+// Laws alone: answers written as rows and read back.

@@ -1,0 +1,15 @@
+-- `answers::between` meets its contract. Assumes nothing.
+use Rattle.answerlaws.proofs.CodeLaws.{between-low, between-high}
+use Rattle.answers.proofs.between.Statement.{statement}
+use Rattle.answers.proofs.between.Tie as tie
+
+pub between-spec : {M : Type 1} → statement M
+between-spec =
+    tie.close
+    (tie.spec
+    (λ c.
+    let start = c .before in
+    between-low (start .args .n) (start .args .least) (start .args .most) (c .if1 .taken))
+    (λ c.
+    let start = c .before in
+    between-high (start .args .n) (start .args .least) (start .args .most) (c .if1 .left)))

@@ -1,0 +1,74 @@
+// A table of yes or no in lent words: a row has 1,024 places, 64 in each of its 16 words, the lowest bit of the first word first. Each function takes any words
+// and numbers at all; a place outside the table is no.
+ghost use mathlib.Core.Path.{_≡_};
+ghost use Prim.Native.Nat.{_*_, min};
+ghost use lib.ListN.{length};
+ghost use Rattle.bits.specs.Bits.{inside, yes, with-yes, cleared};
+
+const COLUMNS: usize = 1024;
+
+// Words in a row, and places in a word.
+const WORDS: usize = 16;
+
+const PLACES: usize = 64;
+
+// Whether a place is in a table of so many words. The row is tested by a division, so that no product is too large.
+fn is_inside(words: usize, row: usize, column: usize) -> bool
+    ensures { λ r. ⌜ r ≡ inside words row column ⌝ }
+{
+    if column >= COLUMNS {
+        return false;
+    }
+    if row > words / WORDS {
+        return false;
+    }
+    WORDS * row + column / PLACES < words
+}
+
+// Whether a place is yes.
+pub fn get(table: &[u64], row: usize, column: usize) -> bool
+    ensures { λ r. ⌜ r ≡ yes (now (table .entry)) row column ⌝ }
+{
+    if !is_inside(table.len(), row, column) {
+        return false;
+    }
+    let i = WORDS * row + column / PLACES;
+    let k = column % PLACES;
+    (table[i] >> k) % 2 == 1
+}
+
+// Makes a place yes. False, and nothing is changed, where it is outside the table.
+pub fn set(table: &mut [u64], row: usize, column: usize) -> bool
+    ensures { λ r. ⌜ (r ≡ inside (length (now (table .entry))) row column) × (now (table .exit) ≡ with-yes (now (table .entry)) row column) ⌝ }
+{
+    if !is_inside(table.len(), row, column) {
+        return false;
+    }
+    let i = WORDS * row + column / PLACES;
+    let k = column % PLACES;
+    let place = 1u64 << k;
+    table[i] = table[i] | place;
+    true
+}
+
+// How many words the first rows are, as far as there are words.
+fn words_of(words: usize, rows: usize) -> usize
+    ensures { λ r. ⌜ r ≡ min (16 * rows) words ⌝ }
+{
+    if rows > words / WORDS {
+        return words;
+    }
+    WORDS * rows
+}
+
+// Makes every place of the first rows no.
+pub fn clear(table: &mut [u64], rows: usize)
+    ensures { λ r. ⌜ now (table .exit) ≡ cleared (now (table .entry)) rows ⌝ }
+{
+    let end = words_of(table.len(), rows);
+    let mut i = 0;
+    while i < end {
+        table[i] = 0;
+        i += 1;
+    }
+}
