@@ -1,0 +1,4 @@
+pub mod TreeText
+pub mod BindingLaws
+pub mod StatementLaws
+pub mod PrintLaws
