@@ -135,7 +135,15 @@ fn put_number(out: &mut [u8], dry: bool, to: usize, i: usize) -> usize
 }
 
 // Arm i of `count`: its number, or an underscore for the default.
-fn put_arm_opening(out: &mut [u8], dry: bool, to: usize, bare: bool, defaulted: bool, count: usize, i: usize) -> usize
+fn put_arm_opening(
+    out: &mut [u8],
+    dry: bool,
+    to: usize,
+    bare: bool,
+    defaulted: bool,
+    count: usize,
+    i: usize,
+) -> usize
     requires { ⌜ i < count ⌝ }
     ensures { λ r. ⌜ Writes dry (now (out .entry)) to (arm-opening bare defaulted count i) (now (out .exit)) r ⌝ }
 {
@@ -151,7 +159,15 @@ fn put_arm_opening(out: &mut [u8], dry: bool, to: usize, bare: bool, defaulted: 
     put_number(out, dry, to, i)
 }
 
-fn put_arm_closing(out: &mut [u8], dry: bool, to: usize, bare: bool, defaulted: bool, count: usize, i: usize) -> usize
+fn put_arm_closing(
+    out: &mut [u8],
+    dry: bool,
+    to: usize,
+    bare: bool,
+    defaulted: bool,
+    count: usize,
+    i: usize,
+) -> usize
     requires { ⌜ i < count ⌝ }
     ensures { λ r. ⌜ Writes dry (now (out .entry)) to (arm-closing bare defaulted count i) (now (out .exit)) r ⌝ }
 {
@@ -196,7 +212,15 @@ fn tree(rows: &[u64], words: &[u64], at: usize, out: &mut [u8], dry: bool, to: u
 }
 
 // n values as a tuple.
-fn values(rows: &[u64], words: &[u64], at: usize, n: usize, out: &mut [u8], dry: bool, to: usize) -> Pos
+fn values(
+    rows: &[u64],
+    words: &[u64],
+    at: usize,
+    n: usize,
+    out: &mut [u8],
+    dry: bool,
+    to: usize,
+) -> Pos
     requires { ⌜ SomeValues (rows-in (now rows)) (now words) n at ⌝ }
     ensures { λ r. ⌜ ValuesWritten (rows-in (now (rows .entry))) (now (words .entry)) at dry (now (out .entry)) to (now (out .exit)) (r .next) (r .to) n ⌝ }
 {
@@ -215,7 +239,15 @@ fn values(rows: &[u64], words: &[u64], at: usize, n: usize, out: &mut [u8], dry:
 }
 
 // n names as a tuple.
-fn names(rows: &[u64], words: &[u64], at: usize, n: usize, out: &mut [u8], dry: bool, to: usize) -> usize
+fn names(
+    rows: &[u64],
+    words: &[u64],
+    at: usize,
+    n: usize,
+    out: &mut [u8],
+    dry: bool,
+    to: usize,
+) -> usize
     requires { ⌜ SomeNames (rows-in (now rows)) (now words) n at ⌝ }
     ensures { λ r. ⌜ NamesWritten (rows-in (now (rows .entry))) (now (words .entry)) dry (now (out .entry)) to (now (out .exit)) r n at ⌝ }
 {
@@ -265,7 +297,13 @@ fn read_binding(words: &[u64], at: usize) -> Binding
     if kind == SIGN {
         return Binding::Match(Switch::Sign(key), first, bound, count, false);
     }
-    Binding::Match(Switch::Index(key), first, bound, count, kind == WITH_DEFAULT)
+    Binding::Match(
+        Switch::Index(key),
+        first,
+        bound,
+        count,
+        kind == WITH_DEFAULT,
+    )
 }
 
 fn is_sign(switch: Switch) -> bool
@@ -278,7 +316,15 @@ fn is_sign(switch: Switch) -> bool
 }
 
 // A let of the name with that code; `at` is the place of its expression.
-fn let_statement(rows: &[u64], words: &[u64], code: u64, at: usize, out: &mut [u8], dry: bool, to: usize) -> Pos
+fn let_statement(
+    rows: &[u64],
+    words: &[u64],
+    code: u64,
+    at: usize,
+    out: &mut [u8],
+    dry: bool,
+    to: usize,
+) -> Pos
     requires { ⌜ SomeTree (rows-in (now rows)) (now words) at ⌝ }
     ensures { λ r. ⌜ LetWritten (rows-in (now (rows .entry))) (now (words .entry)) at dry (now (out .entry)) to (now (out .exit)) (r .next) (r .to)
         (low-bytes (symbol-text (now (rows .entry)) code)) ⌝ }
@@ -288,11 +334,23 @@ fn let_statement(rows: &[u64], words: &[u64], code: u64, at: usize, out: &mut [u
     let c = emit::put_bytes(out, dry, b, b" = ");
     let p = tree(rows, words, at, out, dry, c);
     let e = emit::put(out, dry, p.to, b';');
-    Pos { next: p.next, to: e }
+    Pos {
+        next: p.next,
+        to: e,
+    }
 }
 
 // A match up to its arms.
-fn head(rows: &[u64], words: &[u64], switch: Switch, at: usize, bound: usize, out: &mut [u8], dry: bool, to: usize) -> usize
+fn head(
+    rows: &[u64],
+    words: &[u64],
+    switch: Switch,
+    at: usize,
+    bound: usize,
+    out: &mut [u8],
+    dry: bool,
+    to: usize,
+) -> usize
     requires { ⌜ SomeTree (rows-in (now rows)) (now words) (key-of switch) ⌝ }
     requires { ⌜ SomeNames (rows-in (now rows)) (now words) bound at ⌝ }
     ensures { λ r. ⌜ HeadWritten (rows-in (now (rows .entry))) (now (words .entry)) dry (now (out .entry)) to (now (out .exit)) r (is-sign switch) (key-of switch) bound at ⌝ }
@@ -323,13 +381,35 @@ fn statement(rows: &[u64], words: &[u64], at: usize, out: &mut [u8], dry: bool, 
         Binding::Match(switch, first, bound, count, defaulted) => {
             let bare = is_sign(switch);
             let e = head(rows, words, switch, first, bound, out, dry, to);
-            arms(rows, words, first + bound, bound, count, bare, defaulted, out, dry, e)
+            arms(
+                rows,
+                words,
+                first + bound,
+                bound,
+                count,
+                bare,
+                defaulted,
+                out,
+                dry,
+                e,
+            )
         }
     }
 }
 
 // The arms of a match of `bound` names; `bare` where they are the sides of an `if`.
-fn arms(rows: &[u64], words: &[u64], at: usize, bound: usize, count: usize, bare: bool, defaulted: bool, out: &mut [u8], dry: bool, to: usize) -> Pos
+fn arms(
+    rows: &[u64],
+    words: &[u64],
+    at: usize,
+    bound: usize,
+    count: usize,
+    bare: bool,
+    defaulted: bool,
+    out: &mut [u8],
+    dry: bool,
+    to: usize,
+) -> Pos
     requires { ⌜ SomeArms (rows-in (now rows)) (now words) bound count at ⌝ }
     ensures { λ r. ⌜ ArmsWritten (rows-in (now (rows .entry))) (now (words .entry)) at dry (now (out .entry)) to (now (out .exit)) (r .next) (r .to)
         bare defaulted bound count ⌝ }
@@ -349,7 +429,16 @@ fn arms(rows: &[u64], words: &[u64], at: usize, bound: usize, count: usize, bare
 }
 
 // An arm: its statements, a space after each, and its values.
-fn arm(rows: &[u64], words: &[u64], at: usize, bound: usize, bare: bool, out: &mut [u8], dry: bool, to: usize) -> Pos
+fn arm(
+    rows: &[u64],
+    words: &[u64],
+    at: usize,
+    bound: usize,
+    bare: bool,
+    out: &mut [u8],
+    dry: bool,
+    to: usize,
+) -> Pos
     requires { ⌜ SomeArm (rows-in (now rows)) (now words) bound at ⌝ }
     ensures { λ r. ⌜ ArmWritten (rows-in (now (rows .entry))) (now (words .entry)) at dry (now (out .entry)) to (now (out .exit)) (r .next) (r .to) bare bound ⌝ }
 {
@@ -365,7 +454,10 @@ fn arm(rows: &[u64], words: &[u64], at: usize, bound: usize, bare: bool, out: &m
     }
     let v = values(rows, words, next, bound, out, dry, end);
     let e = put_brace_closing(out, dry, v.to, bare, count);
-    Pos { next: v.next, to: e }
+    Pos {
+        next: v.next,
+        to: e,
+    }
 }
 
 // ---- answers

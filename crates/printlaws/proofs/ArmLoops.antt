@@ -223,10 +223,10 @@ module _ (rows : List Row) (ws : List ℕ) (n m at : ℕ) (bare d dry : Bool) (o
               token = omega (arith, ap length (arms-split rows ws s vs l), length-append (arm-words rows ws s vs) (arms-words (number-in rows) l));
               after = omega (arith, v .after);
               owes = owes-as more (arms-run bare d m (i + 1) (arms-texts l bare)) (ap (λ (j : ℕ). arms-run bare d m j (arms-texts l bare)) (sym (add-one i)))
-              (owes-less (arm-closing bare d m i) more
-              (owes-less text (arm-closing bare d m i ++ more)
-              (owes-less (arm-opening bare d m i) (text ++ (arm-closing bare d m i ++ more)) (owes-as (arms-run bare d m i (arms-texts (arm s vs l) bare)) (arm-opening bare d m i ++ (text ++ (arm-closing bare d m i ++ more))) y o) w)
-              (q .written)) u);
+                  (owes-less (arm-closing bare d m i) more
+                  (owes-less text (arm-closing bare d m i ++ more)
+                  (owes-less (arm-opening bare d m i) (text ++ (arm-closing bare d m i ++ more)) (owes-as (arms-run bare d m i (arms-texts (arm s vs l) bare)) (arm-opening bare d m i ++ (text ++ (arm-closing bare d m i ++ more))) y o) w)
+                  (q .written)) u);
             }
 
     pub arms-end :

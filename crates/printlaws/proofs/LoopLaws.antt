@@ -127,7 +127,7 @@ module _ (rows : List Row) (ws : List ℕ) (n at : ℕ) (dry : Bool) (old : List
               count = omega arith;
               token = omega (arith, value-words rows ws x l g, e);
               owes = owes-as more (tuple-parts (i + 1) (displays l) (tuple-closing n)) (ap (λ (j : ℕ). tuple-parts j (displays l) (tuple-closing n)) (sym (add-one i)))
-              (owes-less (display x) more (owes-less (comma i) (display x ++ more) (owes-as (tuple-parts i (displays (x ∷ l)) (tuple-closing n)) (comma i ++ (display x ++ more)) f o) w) (p .written));
+                  (owes-less (display x) more (owes-less (comma i) (display x ++ more) (owes-as (tuple-parts i (displays (x ∷ l)) (tuple-closing n)) (comma i ++ (display x ++ more)) f o) w) (p .written));
             }
 
     pub values-end :

@@ -125,8 +125,8 @@ module _ (rows : List Row) (ws : List ℕ) (n at : ℕ) (dry : Bool) (old : List
               here = subst (λ (j : ℕ). At ws j (names-words (number-in rows) l)) z (f .after);
               count = omega arith;
               owes = owes-as more (tuple-parts (i + 1) (names-texts l) (tuple-closing n)) (ap (λ (j : ℕ). tuple-parts j (names-texts l) (tuple-closing n)) (sym (add-one i)))
-              (owes-less (name-text x) more (owes-less (comma i) (name-text x ++ more) (owes-as (tuple-parts i (names-texts (x ∷ l)) (tuple-closing n)) (comma i ++ (name-text x ++ more)) q o) w)
-              (writes-as (low-bytes (symbol-text node (getD ws (at + i) 0 / 64))) (name-text x) s t));
+                  (owes-less (name-text x) more (owes-less (comma i) (name-text x ++ more) (owes-as (tuple-parts i (names-texts (x ∷ l)) (tuple-closing n)) (comma i ++ (name-text x ++ more)) q o) w)
+                  (writes-as (low-bytes (symbol-text node (getD ws (at + i) 0 / 64))) (name-text x) s t));
             }
 
     pub names-end : {new : List ℕ} {e : ℕ} → n ≤ i → Writes dry mid place (tuple-closing n) new e → Writes dry old to (tuple-parts 0 (names-texts ns) (tuple-closing n)) new e

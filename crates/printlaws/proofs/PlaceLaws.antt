@@ -94,6 +94,7 @@ module _ (rows : List Row) where
   ahead-names (n ∷ l) w r h =
       ap (λ (x : List ℕ). names-ahead (x ++ (w ∷ r))) (names-cons n l)
       ∙ (ahead-cons (word name-row (name-code number n)) (names-words number l ++ (w ∷ r)) (omega arith) ∙ ap suc (ahead-names l w r h))
+
   same-tree : (t : Tree) → T (fitting known t) → renamed number name-at t ≡ t
   same-tree t h =
       let c = fitting-coded known t h in
@@ -105,7 +106,6 @@ module _ (rows : List Row) where
     where
       one-coded : T (coded known t) → T (all-coded known (t ∷ []))
       one-coded c = unfold all-coded in and-both (coded known t) true c tt
-
 
 module _ (rows : List Row) (ws : List ℕ) where
   -- ---- trees
@@ -182,4 +182,3 @@ module _ (rows : List Row) (ws : List ℕ) where
         others = h;
         after = at-tail w (names-words (number rows) l) k;
       }
-
