@@ -56,7 +56,7 @@ pub fn hush() {
 }
 
 /// The answer in one form, or none where the list is refused.
-fn asked(es: &[E], scoped: bool) -> Option<Answer> {
+pub fn asked(es: &[E], scoped: bool) -> Option<Answer> {
     let ask = || {
         if scoped {
             let (inters, results) = cse_scoped(es);

@@ -2,9 +2,12 @@
 //! texts that the source gives.
 //!
 //! The first line has the node rows that name the symbols, and each other line the words of a tree, a
-//! bar, and its text; after each word there is a space.
+//! bar, and its text; after each word there is a space. A line that begins with an exclamation mark
+//! has an answer's rows, and a tilde for each line feed of its text.
 use crate::arael::E;
-use crate::lists::Random;
+use crate::lists::{self, Random};
+use crate::printed::{self, FORMS};
+use crate::tree::Maker;
 use crate::trees::{self, Rows, num, op, sym};
 use crate::words::{self, KINDS};
 
@@ -12,7 +15,12 @@ const SEED: u64 = 1;
 const RANDOM_TREES: usize = 60;
 /// Random trees with longer texts are left out.
 const SHORT: usize = 200;
-const SYMBOLS: [&str; 4] = ["a", "b", "_c9", "a_name_of_32_bytes_ABCDEFGHIJKL_"];
+/// Answers are stored until each form was met so often; those with longer texts are left out.
+const OF_EACH_FORM: usize = 4;
+const SHORT_ANSWER: usize = 300;
+const SYMBOLS: [&str; 13] = [
+    "a", "b", "_c9", "a_name_of_32_bytes_ABCDEFGHIJKL_", "c", "d", "i", "j", "k", "p", "q", "y", "z",
+];
 
 pub fn list() -> String {
     let mut rows = Rows::new();
@@ -28,6 +36,31 @@ pub fn list() -> String {
         if e.to_string().len() <= SHORT {
             text += &line(&rows, &e);
             count += 1;
+        }
+    }
+    text + &answers(&rows)
+}
+
+/// The source's own answers to random lists.
+fn answers(rows: &Rows) -> String {
+    let mut r = Random(SEED);
+    let mut met = [0; FORMS.len()];
+    let mut text = String::new();
+    while met.iter().any(|n| *n < OF_EACH_FORM) {
+        let trees = lists::list(&mut r);
+        let mut maker = Maker::new(false);
+        let es: Vec<E> = trees.iter().map(|t| maker.make(t)).collect();
+        let Some(answer) = printed::asked(&es, true) else {
+            continue;
+        };
+        let mut forms = [false; FORMS.len()];
+        printed::mark(&answer.inters, false, &mut forms);
+        let wanted = forms.iter().zip(met).any(|(here, n)| *here && n < OF_EACH_FORM);
+        let said = printed::text(&answer);
+        if wanted && said.len() <= SHORT_ANSWER {
+            met.iter_mut().zip(forms).for_each(|(n, here)| *n += usize::from(here));
+            let words = spaced(&printed::laid_out(rows, &answer));
+            text += &format!("!{words}|{}\n", said.replace('\n', "~"));
         }
     }
     text

@@ -1,9 +1,11 @@
-// Replays stored texts. Standard input has words of trees with the texts that the source's own `Display` gives (compare/texts/stored.rs says how a line is laid
-// out). Each text is measured and written, and the places that are answered and all bytes lent must be as stored.
+// Replays stored texts. Standard input has words of trees and rows of answers with the texts that the source's own `Display` gives (compare/texts/stored.rs says
+// how a line is laid out). Each text is written, a tree's also measured, and the places that are answered and all bytes lent must be as stored.
 ghost use Prim.Native.Nat.{_≤_};
 ghost use lib.ListN.{length};
 use libc::STDIN_FILENO;
 use libc::STDOUT_FILENO;
+use printer::Printed;
+use printer::print;
 use writer::Text;
 use writer::write_tree;
 
@@ -13,6 +15,12 @@ const LF: u8 = 10;
 const SPACE: u8 = 32;
 
 const BAR: u8 = 124;
+
+// A line with an answer begins with this.
+const ANSWER: u8 = 33;
+
+// Stands for a line feed in an answer's text.
+const TILDE: u8 = 126;
 
 // The bytes lent are filled with this, which no text has.
 const FILLED: u8 = 255;
@@ -86,6 +94,10 @@ fn fill(out: &mut [u8]) {
     }
 }
 
+fn stands_for(b: u8) -> u8 {
+    if b == TILDE { LF } else { b }
+}
+
 // Whether the bytes begin with those of a text, and all others are as they were filled.
 fn holds(out: &[u8], text: &[u8]) -> bool {
     if out.len() < text.len() {
@@ -93,7 +105,11 @@ fn holds(out: &[u8], text: &[u8]) -> bool {
     }
     let mut i = 0;
     while i < out.len() {
-        let b = if i < text.len() { text[i] } else { FILLED };
+        let b = if i < text.len() {
+            stands_for(text[i])
+        } else {
+            FILLED
+        };
         if out[i] != b {
             return false;
         }
@@ -134,6 +150,27 @@ fn is_written(rows: &[u64], words: &[u64], text: &[u8], out: &mut [u8]) -> bool 
     holds(out, text)
 }
 
+fn is_printed(rows: &[u64], words: &[u64], text: &[u8], out: &mut [u8]) -> bool {
+    fill(out);
+    let Printed::Bytes(n) = print(rows, words, out) else {
+        return false;
+    };
+    if n != text.len() {
+        return false;
+    }
+    holds(out, text)
+}
+
+// A line's words are a tree's, or an answer's rows.
+fn is_said(line: &[u8], rows: &[u64], words: &[u64], text: &[u8], out: &mut [u8]) -> bool {
+    if line.len() > 0 {
+        if line[0] == ANSWER {
+            return is_printed(rows, words, text, out);
+        }
+    }
+    is_written(rows, words, text, out)
+}
+
 // Whether the text of a line is written. One byte more is lent than the text has.
 fn is_stored(line: &[u8], rows: &[u64], words: &mut [u64], out: &mut [u8]) -> bool {
     let bar = find(line, 0, BAR);
@@ -149,7 +186,7 @@ fn is_stored(line: &[u8], rows: &[u64], words: &mut [u64], out: &mut [u8]) -> bo
     if room > out.len() {
         return false;
     }
-    is_written(rows, &words[..n], &line[first..], &mut out[..room])
+    is_said(line, rows, &words[..n], &line[first..], &mut out[..room])
 }
 
 // ---- all lines
