@@ -114,7 +114,7 @@ impl Maker {
     }
 }
 
-fn expr(kind: usize, parts: Vec<E>) -> Expr {
+pub fn expr(kind: usize, parts: Vec<E>) -> Expr {
     match kind {
         NEG | 8..=13 | 15..=24 => unary(kind, parts.into_iter().next().unwrap()),
         BRANCH | CLAMP => {

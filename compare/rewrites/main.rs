@@ -1,0 +1,374 @@
+//! Holds the port's rewritings of words, called through their static library, against the source's
+//! own `replace`, `replace_divisor` and `replace_outside_arms`, on random expressions.
+//!
+//! Arguments: the number of pairs for `replace`, half as many for each of the others; or
+//! `--self-test`, to see that wrong expectations are noticed.
+#![allow(dead_code)]
+
+mod arael;
+mod area;
+mod cse;
+mod fmt;
+mod lists;
+mod pairs;
+mod port;
+mod tree;
+mod words;
+
+// cse.rs and fmt.rs look for these at the top of the crate
+pub use arael::{E, Expr, FuncKind, symbol};
+pub(crate) use arael::{as_exact_int, expand_func};
+
+use arael::OutsideConstants;
+use lists::Random;
+use pairs::Pair;
+use port::{BROKEN, Call, Expected, NO_ANSWER, NO_ROOM, Port, REFUSED, Rewriting};
+use std::panic::{AssertUnwindSafe, catch_unwind, resume_unwind, set_hook, take_hook};
+use std::time::{Duration, Instant};
+
+const SEED: u64 = 20_261_115;
+const WRONG: usize = 5_000;
+/// Of a hundred calls so many are unsound, or lent too little.
+const UNSOUND: usize = 4;
+/// The word of a Neg, which needs an operand, and of an Add that has one operand only.
+const MINUS: u64 = 66;
+const LAME_SUM: u64 = 67;
+
+fn main() {
+    let words: Vec<String> = std::env::args().skip(1).collect();
+    hush();
+    match words[0].as_str() {
+        "--self-test" => self_test(),
+        pairs => compare(pairs.parse().expect("a number of pairs")),
+    }
+}
+
+/// Has the panics that stand for refusal 10 say nothing.
+fn hush() {
+    let loud = take_hook();
+    set_hook(Box::new(move |info| {
+        if !info.payload().is::<OutsideConstants>() {
+            loud(info);
+        }
+    }));
+}
+
+// ---- what the source gives
+
+/// Symbols of the list by numbers that are far apart.
+fn number(name: &str) -> u64 {
+    name.bytes().fold(7, |n, b| (n * 131 + u64::from(b)) % 1021)
+}
+
+fn words_of(es: &[E]) -> Vec<u64> {
+    let mut words = Vec::new();
+    es.iter().for_each(|e| words::put(e, &number, &mut words));
+    words
+}
+
+fn new_name(r: &mut Random) -> String {
+    let n = 100 + r.below(1000);
+    format!("__{}{n}", if r.chance(70) { "x" } else { "m" })
+}
+
+/// The rewritten expressions, or none where a rebuilt coefficient is no constant.
+fn asked(rewriting: Rewriting, pair: &Pair, name: &E) -> Option<Vec<E>> {
+    let one = |e: &E| match rewriting {
+        Rewriting::Replace => cse::replace(e, &pair.part, name),
+        Rewriting::Divisor => cse::divisor_replaced(e, &pair.part, name),
+        Rewriting::OutsideArms => cse::replaced_outside_arms(e, &pair.part, name),
+    };
+    match catch_unwind(AssertUnwindSafe(|| pair.es.iter().map(one).collect())) {
+        Ok(es) => Some(es),
+        Err(payload) if payload.is::<OutsideConstants>() => None,
+        Err(payload) => resume_unwind(payload),
+    }
+}
+
+/// Where a coefficient is refused the trees are written as they were.
+fn expected(tokens: &[u64], given: &Option<Vec<E>>) -> Expected {
+    match given {
+        Some(es) => {
+            let out = words_of(es);
+            let answer = vec![out.len() as u64];
+            Expected { number: 0, out, answer }
+        }
+        None => Expected {
+            out: tokens.to_vec(),
+            ..nothing(REFUSED)
+        },
+    }
+}
+
+fn nothing(number: u64) -> Expected {
+    Expected {
+        number,
+        out: Vec::new(),
+        answer: Vec::new(),
+    }
+}
+
+// ---- calls
+
+fn sound_call(r: &mut Random, rewriting: Rewriting, pair: &Pair, name: &str) -> Call {
+    let tokens = words_of(&pair.es);
+    let part = words_of(std::slice::from_ref(&pair.part));
+    let most = tokens.len().max(part.len());
+    let more = if r.chance(50) { 0 } else { r.below(20) };
+    Call {
+        rewriting,
+        name: words::BELOW * words::symbol_code(name, &number),
+        places: 2 * most + more,
+        out: tokens.len() + more,
+        answer: 1 + r.below(2),
+        tokens,
+        part,
+    }
+}
+
+/// One thing made unsound, or lent too little; the number that is to be returned.
+fn spoil_call(r: &mut Random, c: &mut Call) -> u64 {
+    let replace = c.rewriting == Rewriting::Replace;
+    match r.below(if replace { 9 } else { 5 }) {
+        0 => c.tokens.push(MINUS),
+        1 => c.part = c.part.repeat(2),
+        2 => c.name += 1 + r.below(60) as u64,
+        3 => {
+            c.out = r.below(c.tokens.len());
+            return NO_ROOM;
+        }
+        4 => {
+            c.answer = 0;
+            return NO_ANSWER;
+        }
+        5 => c.part = vec![words::constant_code(2.0) * words::BELOW + 1],
+        6 => {
+            let symbols: Vec<u64> = c.part.iter().copied().filter(|w| w % words::BELOW == 0).collect();
+            c.name = symbols[r.below(symbols.len())];
+        }
+        7 => c.tokens.insert(0, LAME_SUM),
+        _ => {
+            c.places = r.below(2 * c.tokens.len());
+            return NO_ROOM;
+        }
+    }
+    BROKEN
+}
+
+// ---- what was met
+
+const EVENTS: [&str; 8] = [
+    "unchanged",
+    "refused by 10",
+    "equal trees",
+    "matches by factors",
+    "several in one product",
+    "coefficients rebuilt",
+    "matches inside a product with matches",
+    "targets that are no products",
+];
+
+#[derive(Default)]
+struct Tally {
+    calls: usize,
+    unsound: [usize; 3],
+    /// pairs with each event
+    events: [usize; EVENTS.len()],
+    kinds: [bool; words::KINDS],
+    words: usize,
+    differ: usize,
+    source: Duration,
+}
+
+type Events = [bool; EVENTS.len()];
+
+/// Marks what happens in a tree, read off the tree: matches of the target as a whole or by factors.
+fn look(e: &E, target: &E, inside: bool, events: &mut Events) {
+    if e == target {
+        events[2] = true;
+        events[6] |= inside;
+        return;
+    }
+    if let (Expr::Mul(..), Expr::Mul(..)) = (e.as_ref(), target.as_ref()) {
+        let (coefficient, mut left) = cse::factors(e);
+        let (one, wanted) = cse::factors(target);
+        let mut times = 0;
+        while one == 1.0 && take_out(&mut left, &wanted) {
+            times += 1;
+        }
+        if times > 0 {
+            events[3] = true;
+            events[4] |= times > 1;
+            events[5] |= coefficient.abs() != 1.0;
+            events[6] |= inside;
+            left.iter().for_each(|f| look(f, target, true, events));
+            return;
+        }
+    }
+    cse::children(e).into_iter().for_each(|c| look(c, target, inside, events));
+}
+
+fn take_out(left: &mut Vec<E>, wanted: &[E]) -> bool {
+    let mut rest = left.clone();
+    for w in wanted {
+        let Some(i) = rest.iter().position(|f| f == w) else {
+            return false;
+        };
+        rest.remove(i);
+    }
+    *left = rest;
+    true
+}
+
+impl Tally {
+    fn mark(&mut self, rewriting: Rewriting, pair: &Pair, given: &Option<Vec<E>>) {
+        let mut events = [false; EVENTS.len()];
+        events[0] = given.as_ref() == Some(&pair.es);
+        events[1] = given.is_none();
+        events[7] = !matches!(pair.part.as_ref(), Expr::Mul(..));
+        if rewriting == Rewriting::Replace {
+            pair.es.iter().for_each(|e| look(e, &pair.part, false, &mut events));
+        } else {
+            events[2] = !events[0];
+        }
+        for (count, met) in self.events.iter_mut().zip(events) {
+            *count += usize::from(met);
+        }
+        for w in words_of(&pair.es) {
+            self.kinds[(w % words::BELOW) as usize] = true;
+        }
+    }
+
+    fn hold(&mut self, port: &mut Port, c: &Call, given: &Expected, shown: &str) {
+        self.calls += 1;
+        self.words += c.tokens.len();
+        if let Some(difference) = port.difference(c, given) {
+            self.differ += 1;
+            if self.differ <= 10 {
+                println!("DIFFERS: {difference}: {shown}\n  {c:?}\n  {given:?}");
+            }
+        }
+    }
+
+    fn say(&self, rewriting: Rewriting, port: &Port) -> bool {
+        let shown = if rewriting == Rewriting::Replace { &EVENTS[..] } else { &["unchanged", "", "rewritten"] };
+        let met: Vec<String> = shown
+            .iter()
+            .zip(self.events)
+            .filter(|(name, _)| !name.is_empty())
+            .map(|(name, n)| format!("{name} {n}"))
+            .collect();
+        let kinds = self.kinds.iter().filter(|met| **met).count();
+        println!(
+            "{rewriting:?}: {} calls, {} differ; {}; unsound {}, too few places {}, no room for an answer {}; kinds met {kinds}",
+            self.calls,
+            self.differ,
+            met.join(", "),
+            self.unsound[0],
+            self.unsound[1],
+            self.unsound[2],
+        );
+        let each = |time: Duration| time.as_secs_f64() * 1e6 / self.calls as f64;
+        println!(
+            "  {:.1} words a call; {:.2} microseconds a call in the port, {:.2} in the source",
+            self.words as f64 / self.calls as f64,
+            each(port.time),
+            each(self.source)
+        );
+        let wanted = shown.iter().zip(self.events).filter(|(name, _)| !name.is_empty());
+        self.differ == 0 && kinds == words::KINDS && wanted.chain([(&"", self.unsound.iter().copied().min().unwrap())]).all(|(_, n)| n > 0)
+    }
+}
+
+// ---- runs
+
+fn pair(r: &mut Random, rewriting: Rewriting) -> Pair {
+    match rewriting {
+        Rewriting::Replace => pairs::replace_pair(r),
+        Rewriting::Divisor => pairs::divisor_pair(r),
+        Rewriting::OutsideArms => pairs::outside_pair(r),
+    }
+}
+
+fn shown(pair: &Pair) -> String {
+    format!("{:?} in {:?}", pair.part, pair.es)
+}
+
+fn compare(count: usize) {
+    let runs = [
+        (Rewriting::Replace, count),
+        (Rewriting::Divisor, count / 2),
+        (Rewriting::OutsideArms, count / 2),
+    ];
+    let mut well = true;
+    for (rewriting, count) in runs {
+        let mut r = Random(SEED);
+        let mut port = Port::new();
+        let mut tally = Tally::default();
+        for _ in 0..count {
+            hold_one(&mut r, rewriting, &mut port, &mut tally);
+        }
+        well &= tally.say(rewriting, &port);
+    }
+    if !well {
+        std::process::exit(1);
+    }
+}
+
+fn hold_one(r: &mut Random, rewriting: Rewriting, port: &mut Port, tally: &mut Tally) {
+    let pair = pair(r, rewriting);
+    let name = new_name(r);
+    let began = Instant::now();
+    let given = asked(rewriting, &pair, &pairs::sym(&name));
+    tally.source += began.elapsed();
+    tally.mark(rewriting, &pair, &given);
+    let mut c = sound_call(r, rewriting, &pair, &name);
+    tally.hold(port, &c, &expected(&c.tokens, &given), &shown(&pair));
+    if r.chance(UNSOUND) {
+        let number = spoil_call(r, &mut c);
+        tally.unsound[(number - BROKEN) as usize] += 1;
+        tally.hold(port, &c, &nothing(number), &shown(&pair));
+    }
+}
+
+/// Expectations that are each wrong in one thing: all have to be noticed.
+fn self_test() {
+    let mut r = Random(SEED);
+    let mut port = Port::new();
+    let mut noticed = 0;
+    for n in 0..WRONG {
+        let rewriting = [Rewriting::Replace, Rewriting::Divisor, Rewriting::OutsideArms][n % 3];
+        let pair = pair(&mut r, rewriting);
+        let name = new_name(&mut r);
+        let c = sound_call(&mut r, rewriting, &pair, &name);
+        let mut given = expected(&c.tokens, &asked(rewriting, &pair, &pairs::sym(&name)));
+        assert_eq!(port.difference(&c, &given), None, "a true one: {}", shown(&pair));
+        spoil(&mut r, &mut given);
+        noticed += usize::from(port.difference(&c, &given).is_some());
+    }
+    println!("of {WRONG} wrong expectations {noticed} are noticed");
+    if noticed != WRONG {
+        std::process::exit(1);
+    }
+}
+
+/// The number, the count or a word of the rewritten trees made another, or one word more or fewer
+/// expected.
+fn spoil(r: &mut Random, given: &mut Expected) {
+    let words = match r.below(4) {
+        0 => {
+            given.number ^= REFUSED;
+            return;
+        }
+        1 => &mut given.answer,
+        _ => &mut given.out,
+    };
+    let i = r.below(words.len() + 1);
+    match r.below(3) {
+        0 if !words.is_empty() => {
+            words.pop();
+        }
+        1 if i < words.len() => words[i] += words::BELOW,
+        _ => words.push(r.below(300) as u64),
+    }
+}

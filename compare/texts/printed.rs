@@ -1,0 +1,383 @@
+//! The source's own answers to random lists, laid out as answer rows (AnswerRows.antt in
+//! crates/cse/specs) and printed by the port: the text is that of `Display` for `Intermediate` and
+//! `Expr`, a line feed after each binding and each result.
+use crate::arael::{E, OutsideConstants};
+use crate::cse::{Arm, Intermediate, Switch, cse, cse_scoped};
+use crate::lists::{self, Random};
+use crate::port::{Call, Expected, NO_ANSWER, Port, Writer};
+use crate::tree::Maker;
+use crate::trees::Rows;
+use crate::words::{self, BELOW};
+use crate::{nothing, spoil};
+use std::any::Any;
+use std::panic::{AssertUnwindSafe, catch_unwind, resume_unwind, set_hook, take_hook};
+use std::time::{Duration, Instant};
+
+const SEED: u64 = 20_261_116;
+/// Of a hundred answers so many are damaged too.
+const DAMAGED: usize = 5;
+
+/// Kinds of rows beside those of expressions. A match's is 30 for a sign switch, 31 for an index
+/// switch, 32 for one with a default.
+const LET: u64 = 29;
+const SIGN: u64 = 30;
+const INDEX: u64 = 31;
+const INDEX_OR: u64 = 32;
+const NAME: u64 = 33;
+const ARM: u64 = 34;
+const VALUE: u64 = 35;
+const RESULT: u64 = 36;
+
+/// 01's numbers: words that are no answer's rows, and a text longer than what is lent.
+const NOT_LAID_OUT: u64 = 13;
+const TOO_LONG: u64 = 14;
+
+pub struct Answer {
+    pub inters: Vec<Intermediate>,
+    pub results: Vec<E>,
+}
+
+// ---- the source's answers
+
+/// The panics that stand for refusals.
+fn is_refusal(payload: &(dyn Any + Send)) -> bool {
+    let cycle = |said: &String| said.contains("dependency cycle among intermediates");
+    payload.is::<OutsideConstants>() || payload.downcast_ref().is_some_and(cycle)
+}
+
+/// Has them say nothing.
+pub fn hush() {
+    let loud = take_hook();
+    set_hook(Box::new(move |info| {
+        if !is_refusal(info.payload()) {
+            loud(info);
+        }
+    }));
+}
+
+/// The answer in one form, or none where the list is refused.
+pub fn asked(es: &[E], scoped: bool) -> Option<Answer> {
+    let ask = || {
+        if scoped {
+            let (inters, results) = cse_scoped(es);
+            return Answer { inters, results };
+        }
+        let (lets, results) = cse(es);
+        let inters = lets.into_iter().map(|(name, expr)| Intermediate::Let { name, expr }).collect();
+        Answer { inters, results }
+    };
+    match catch_unwind(AssertUnwindSafe(ask)) {
+        Ok(answer) => Some(answer),
+        Err(payload) if is_refusal(payload.as_ref()) => None,
+        Err(payload) => resume_unwind(payload),
+    }
+}
+
+pub fn text(a: &Answer) -> String {
+    let inters = a.inters.iter().map(|it| format!("{it}\n"));
+    inters.chain(a.results.iter().map(|e| format!("{e}\n"))).collect()
+}
+
+// ---- answer rows
+
+struct Layout<'a> {
+    rows: &'a Rows,
+    words: Vec<u64>,
+}
+
+impl Layout<'_> {
+    fn put(&mut self, kind: u64, below: u64) {
+        self.words.push(kind + BELOW * below);
+    }
+
+    fn code(&self, name: &str) -> u64 {
+        words::symbol_code(name, &|name| self.rows.number(name))
+    }
+
+    fn tree(&mut self, e: &E) {
+        words::put(e, &|name| self.rows.number(name), &mut self.words);
+    }
+
+    fn each(&mut self, kind: u64, es: &[E]) {
+        for e in es {
+            self.put(kind, 0);
+            self.tree(e);
+        }
+    }
+
+    fn intermediate(&mut self, it: &Intermediate) {
+        match it {
+            Intermediate::Let { name, expr } => {
+                self.put(LET, self.code(name));
+                self.tree(expr);
+            }
+            Intermediate::Match { switch, names, arms, default } => {
+                let kind = match (switch, default) {
+                    (Switch::Sign(_), _) => SIGN,
+                    (_, None) => INDEX,
+                    (_, Some(_)) => INDEX_OR,
+                };
+                let all: Vec<&Arm> = arms.iter().chain(default).collect();
+                self.put(kind, (1 + names.len() + all.len()) as u64);
+                self.tree(switch.expr());
+                names.iter().for_each(|name| self.put(NAME, self.code(name)));
+                all.into_iter().for_each(|arm| self.arm(arm));
+            }
+        }
+    }
+
+    fn arm(&mut self, arm: &Arm) {
+        self.put(ARM, (arm.inters.len() + arm.values.len()) as u64);
+        arm.inters.iter().for_each(|it| self.intermediate(it));
+        self.each(VALUE, &arm.values);
+    }
+}
+
+pub fn laid_out(rows: &Rows, a: &Answer) -> Vec<u64> {
+    let mut layout = Layout { rows, words: Vec::new() };
+    a.inters.iter().for_each(|it| layout.intermediate(it));
+    layout.each(RESULT, &a.results);
+    layout.words
+}
+
+/// One list, or two or three together, with node rows for its symbols.
+fn list(r: &mut Random) -> (Rows, Vec<E>) {
+    let mut maker = Maker::new(r.chance(50));
+    let count = if r.chance(70) { 1 } else { 2 + r.below(2) };
+    let trees: Vec<_> = (0..count).flat_map(|_| lists::list(r)).collect();
+    let es: Vec<E> = trees.iter().map(|t| maker.make(t)).collect();
+    let mut rows = Rows::new();
+    let mut names: Vec<String> = es.iter().flat_map(|e| e.free_vars()).collect();
+    names.sort();
+    names.dedup();
+    while !names.is_empty() {
+        if r.chance(20) {
+            rows.put_other(r);
+        }
+        rows.put_symbol(&names.remove(r.below(names.len())));
+    }
+    (rows, es)
+}
+
+// ---- what was met
+
+#[derive(Clone, Copy)]
+pub enum Form {
+    Let,
+    IfBare,
+    IfWithStatements,
+    Default,
+    Panic,
+    ArmBare,
+    ArmInBraces,
+    OneName,
+    SeveralNames,
+    LetInArm,
+    MatchInArm,
+}
+
+pub const FORMS: [&str; 11] = [
+    "lets",
+    "sides of an if without statements",
+    "with statements",
+    "defaults",
+    "panics",
+    "arms without statements",
+    "arms in braces",
+    "matches of one name",
+    "of several names",
+    "lets in arms",
+    "matches in arms",
+];
+
+pub type Forms = [bool; FORMS.len()];
+
+pub fn mark(inters: &[Intermediate], inside: bool, forms: &mut Forms) {
+    for it in inters {
+        match it {
+            Intermediate::Let { .. } => forms[if inside { Form::LetInArm } else { Form::Let } as usize] = true,
+            Intermediate::Match { switch, names, arms, default } => {
+                let sign = matches!(switch, Switch::Sign(_));
+                forms[Form::MatchInArm as usize] |= inside;
+                let many = if names.len() == 1 { Form::OneName } else { Form::SeveralNames };
+                forms[many as usize] = true;
+                if !sign {
+                    forms[if default.is_some() { Form::Default } else { Form::Panic } as usize] = true;
+                }
+                for arm in arms.iter().chain(default) {
+                    let form = match (sign, arm.inters.is_empty()) {
+                        (true, true) => Form::IfBare,
+                        (true, false) => Form::IfWithStatements,
+                        (false, true) => Form::ArmBare,
+                        (false, false) => Form::ArmInBraces,
+                    };
+                    forms[form as usize] = true;
+                    mark(&arm.inters, true, forms);
+                }
+            }
+        }
+    }
+}
+
+#[derive(Default)]
+struct Tally {
+    answers: usize,
+    refused: usize,
+    too_long: usize,
+    damaged: usize,
+    no_answer: usize,
+    forms: [usize; FORMS.len()],
+    rows: usize,
+    bytes: usize,
+    differ: usize,
+    source: Duration,
+}
+
+// ---- calls
+
+fn call(r: &mut Random, rows: &Rows, words: Vec<u64>, length: usize) -> Call {
+    Call {
+        writer: Writer::Print,
+        rows: rows.words.clone(),
+        words,
+        to: 0,
+        out: match r.below(10) {
+            0 => r.below(length + 1),
+            1 => length.saturating_sub(1),
+            2..=6 => length,
+            _ => length + r.below(30),
+        },
+        answer: 1 + r.below(2),
+    }
+}
+
+fn expected(c: &Call, text: &str) -> Expected {
+    if text.len() > c.out {
+        return nothing(TOO_LONG);
+    }
+    Expected {
+        number: 0,
+        bytes: text.as_bytes().to_vec(),
+        answer: vec![text.len() as u64],
+    }
+}
+
+/// Words that are no answer's rows; the number that is to be returned.
+fn damage(r: &mut Random, c: &mut Call) -> u64 {
+    let i = r.below(c.words.len());
+    match r.below(5) {
+        0 => {
+            c.words.pop();
+        }
+        1 => c.words.push(RESULT),
+        2 => c.words[i] = c.words[i] - c.words[i] % BELOW + RESULT + 1 + r.below(27) as u64,
+        // a name that nothing binds, as a result
+        3 => c.words.extend([RESULT, BELOW * (3 * 999_999 + 1)]),
+        _ => {
+            c.answer = 0;
+            return NO_ANSWER;
+        }
+    }
+    NOT_LAID_OUT
+}
+
+impl Tally {
+    fn hold(&mut self, port: &mut Port, c: &Call, given: &Expected, text: &str) {
+        if let Some(difference) = port.difference(c, given) {
+            self.differ += 1;
+            if self.differ <= 10 {
+                println!("DIFFERS: {difference}: {text}\n  {c:?}\n  {given:?}");
+            }
+        }
+    }
+
+    fn hold_answer(&mut self, r: &mut Random, port: &mut Port, rows: &Rows, a: &Answer) {
+        let began = Instant::now();
+        let text = text(a);
+        self.source += began.elapsed();
+        let mut forms = [false; FORMS.len()];
+        mark(&a.inters, false, &mut forms);
+        self.forms.iter_mut().zip(forms).for_each(|(n, met)| *n += usize::from(met));
+        let words = laid_out(rows, a);
+        self.answers += 1;
+        self.rows += words.len();
+        self.bytes += text.len();
+        let mut c = call(r, rows, words, text.len());
+        let given = expected(&c, &text);
+        self.too_long += usize::from(given.number == TOO_LONG);
+        self.hold(port, &c, &given, &text);
+        if r.chance(DAMAGED) {
+            let number = damage(r, &mut c);
+            *(if number == NO_ANSWER { &mut self.no_answer } else { &mut self.damaged }) += 1;
+            self.hold(port, &c, &nothing(number), &text);
+        }
+    }
+
+    fn say(&self, port: &Port) -> bool {
+        let forms: Vec<String> = FORMS.iter().zip(self.forms).map(|(name, n)| format!("{name} {n}")).collect();
+        println!(
+            "{} answers, {} differ; refused by 13 {}, by 14 {}, no room for an answer {}; lists that the source refuses {}; answers with {}",
+            self.answers,
+            self.differ,
+            self.damaged,
+            self.too_long,
+            self.no_answer,
+            self.refused,
+            forms.join(", ")
+        );
+        let answers = self.answers as f64;
+        println!(
+            "  {:.1} rows and {:.1} bytes an answer; {:.2} microseconds a call in the port, {:.2} in the source",
+            self.rows as f64 / answers,
+            self.bytes as f64 / answers,
+            port.time.as_secs_f64() * 1e6 / (answers + (self.damaged + self.no_answer) as f64),
+            self.source.as_secs_f64() * 1e6 / answers
+        );
+        let met = [self.damaged, self.too_long, self.no_answer];
+        self.differ == 0 && !met.contains(&0) && !self.forms.contains(&0)
+    }
+}
+
+// ---- runs
+
+pub fn compare(count: usize) -> bool {
+    let mut r = Random(SEED);
+    let mut port = Port::new();
+    let mut tally = Tally::default();
+    let none = Answer {
+        inters: Vec::new(),
+        results: Vec::new(),
+    };
+    let empty = call(&mut r, &Rows::new(), laid_out(&Rows::new(), &none), 0);
+    tally.hold(&mut port, &empty, &expected(&empty, ""), "no roots");
+    while tally.answers < count {
+        let (rows, es) = list(&mut r);
+        for scoped in [false, true] {
+            match asked(&es, scoped) {
+                Some(answer) => tally.hold_answer(&mut r, &mut port, &rows, &answer),
+                None => tally.refused += 1,
+            }
+        }
+    }
+    tally.say(&port)
+}
+
+/// How many of so many wrong expectations are noticed.
+pub fn noticed(r: &mut Random, port: &mut Port, wrong: usize) -> usize {
+    let mut tried = 0;
+    let mut noticed = 0;
+    while tried < wrong {
+        let (rows, es) = list(r);
+        let Some(answer) = asked(&es, tried % 2 == 0) else {
+            continue;
+        };
+        let text = text(&answer);
+        let c = call(r, &rows, laid_out(&rows, &answer), text.len());
+        let mut given = expected(&c, &text);
+        assert_eq!(port.difference(&c, &given), None, "a true one: {text}");
+        spoil(r, &mut given);
+        noticed += usize::from(port.difference(&c, &given).is_some());
+        tried += 1;
+    }
+    noticed
+}

@@ -1,0 +1,18 @@
+-- `creplace::told` meets its contract. Assumes nothing.
+use Rattle.creplace.proofs.Ends.{wrote, broken, no-place}
+use borrow.Author.Needs.{needs}
+use Rattle.creplace.proofs.told.Statement.{statement}
+use Rattle.creplace.proofs.told.Tie as tie
+
+pub told-spec : {M : Type 1} → statement M
+told-spec =
+    tie.close
+    (tie.spec
+    (λ c. search needs)
+    (λ c. search needs)
+    (λ c. search needs)
+    (λ c. search needs)
+    (λ c. search needs)
+    (λ c. wrote _ _ (c .before .before .before .pre) _ (c .before .got .given .1))
+    (λ c. broken _ _ (c .enum-told .given .1))
+    (λ c. no-place _ _ (c .enum-told2 .given .1)))
