@@ -1,2 +1,5 @@
 pub mod Starting
 pub mod Leaving
+pub mod Ending
+pub mod Unfolding
+pub mod Rounding
