@@ -3,3 +3,4 @@ pub mod Leaving
 pub mod Ending
 pub mod Unfolding
 pub mod Rounding
+pub mod Flat
