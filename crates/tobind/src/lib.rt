@@ -201,11 +201,15 @@ fn gather(tokens: &[u64], scoped: bool, places: &mut [u64]) -> usize
 {
     let mut all = [0u64; 1024];
     let mut outside = [0u64; 1024];
-    let Divisors::Count(n) = list_divisors(tokens, &mut all) else {
-        return 0;
-    };
-    let m = list_outside(tokens, scoped, &mut outside);
-    choose(tokens, &all[..n], &outside[..m], places)
+    let listed = list_divisors(tokens, &mut all);
+    match listed {
+        Divisors::Count(n) => {
+            let m = list_outside(tokens, scoped, &mut outside);
+            choose(tokens, &all[..n], &outside[..m], places)
+        }
+        Divisors::Broken => 0,
+        Divisors::NoRoom => 0,
+    }
 }
 
 // Whether the text at a place comes before that at another.
