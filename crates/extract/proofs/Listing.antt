@@ -71,6 +71,9 @@ module _ (rows : List Row) (old : List ℕ) (len : ℕ) (scoped : Bool) (first t
     pub low : first ≤ 549755813888
     pub bytes : 131072 ≤ text
 
+  pub given-so : T (extractable rows first ws) × T (symbols-pass (is-number rows) ws) → (len ≤ 1024) × (len ≤ length old) × (first ≤ 549755813888) → 131072 ≤ text → Given
+  given-so (g, p) (f, t, l) b = record { good = g; pass = p; few = f; there = t; low = l; bytes = b }
+
   module _ (g : Given) (r : Rounds) (out : List ℕ) (given : (r ≡ rounds-answer rows old len scoped first text) × Leaves-words rows old len scoped first text out) where
     after-rounds : Rounded rows scoped first ws r out
     after-rounds = rounded rows old len scoped first text (g .few) (g .there) (g .low) (g .bytes) (g .good) r out given
