@@ -1,1 +1,4 @@
 pub mod Turns
+pub mod MarkLaws
+pub mod NameLaws
+pub mod ReadNames
