@@ -12,7 +12,7 @@ use lib.ListN.{length}
 use Rattle.bits.specs.Bits.{inside, yes, with-yes}
 use Rattle.bits.proofs.BitLaws.{made-yes, kept-yes, no-outside, with-length}
 use Rattle.needs.specs.Marks.{name-word, number-of, holds-name, with-need, with-needs, place-inside, all-inside}
-use Rattle.needs.proofs.Turns.{need-length, needs-cons, needs-none, inside-cons, name-marked, other-word}
+use Rattle.needs.proofs.Turns.{need-length, needs-cons, needs-none, inside-cons, name-marked, other-kept}
 
 -- ---- words of names
 
@@ -77,7 +77,7 @@ module _ (w row : ℕ) (table : List ℕ) (i : ℕ) where
           let h = eqb-true (w % 192) 64 q in
           ap (λ (t : List ℕ). yes t r i) (sym (name-marked w row table h))
           ∙ kept-yes table row (number-of w) r i (λ p. let e : w ≡ name-word i = omega (arith, h, p .1) in n (p .0, e))
-      go false q = ap (λ (t : List ℕ). yes t r i) (sym (other-word w row table (eqb-false (w % 192) 64 q) .1))
+      go false q = ap (λ (t : List ℕ). yes t r i) (sym (other-kept w row table (eqb-false (w % 192) 64 q)))
 
   one-yes : yes (with-need w row table) row i ≡ (yes table row i || (inside (length table) row i && eqb w (name-word i)))
   one-yes = go (eqb w (name-word i)) refl

@@ -14,9 +14,13 @@ use Rattle.needs.specs.Marks.{number-of, with-need, with-needs, place-in
 
 -- ---- one word
 
-pub other-word : (w row : ℕ) (table : List ℕ) → (w % 192 ≡ 64 → ⊥) → (true ≡ place-inside w row (length table)) × (table ≡ with-need w row table)
-unfolding place-inside with-need
-other-word w row table h = (rw (ne-eqb (w % 192) 64 h) refl, rw (ne-eqb (w % 192) 64 h) refl)
+pub other-inside : (w row words : ℕ) → (w % 192 ≡ 64 → ⊥) → true ≡ place-inside w row words
+unfolding place-inside
+other-inside w row words h = rw (ne-eqb (w % 192) 64 h) refl
+
+pub other-kept : (w row : ℕ) (table : List ℕ) → (w % 192 ≡ 64 → ⊥) → table ≡ with-need w row table
+unfolding with-need
+other-kept w row table h = rw (ne-eqb (w % 192) 64 h) refl
 
 pub name-inside : (w row words : ℕ) → w % 192 ≡ 64 → inside words row (number-of w) ≡ place-inside w row words
 unfolding place-inside

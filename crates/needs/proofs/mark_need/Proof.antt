@@ -1,7 +1,7 @@
 -- `needs::mark_need` meets its contract. Assumes nothing.
 use mathlib.Core.Path.{_∙_}
 use lib.ListN.{length}
-use Rattle.needs.proofs.Turns.{other-word, name-inside, name-marked}
+use Rattle.needs.proofs.Turns.{other-inside, other-kept, name-inside, name-marked}
 use borrow.Author.Needs.{needs}
 use Rattle.needs.proofs.mark_need.Statement.{statement}
 use Rattle.needs.proofs.mark_need.Tie as tie
@@ -11,7 +11,9 @@ use Rattle.bits.proofs.set.Reads as set-reads
 
 -- src/lib.rt:17:9
 returns : tie.Need-returns
-returns c = other-word (c .before .before .args .w) (c .before .before .args .row) (c .before .before .args .table .now) (c .if1 .taken)
+returns c =
+    let a = c .before .before .args in
+    (other-inside (a .w) (a .row) (length (a .table .now)) (c .if1 .taken), other-kept (a .w) (a .row) (a .table .now) (c .if1 .taken))
 
 -- src/lib.rt:19:5
 set-requires : tie.Need-set-requires
