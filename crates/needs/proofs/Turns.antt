@@ -119,6 +119,7 @@ module _ (ws : List ℕ) (row : ℕ) (old : List ℕ) where
 
   pub ends : {table : List ℕ} {all : Bool} {i : ℕ} → State table all i → length ws ≤ i → (all ≡ all-inside ws row (length old)) × (table ≡ with-needs ws row old)
   ends {table} {all} {i} state h =
-      let none : drop i ws ≡ [] = drop-of-length-le ws h in
-      (sym (and-true all) ∙ (ap (λ (b : Bool). all && b) (sym (ap (λ (l : List ℕ). all-inside l row (length old)) none ∙ inside-none row (length old))) ∙ state .answer),
-      sym (ap (λ (l : List ℕ). with-needs l row table) none ∙ needs-none row table) ∙ state .marked)
+      let none : drop i ws ≡ [] = drop-of-length-le ws h in (
+        sym (and-true all) ∙ (ap (λ (b : Bool). all && b) (sym (ap (λ (l : List ℕ). all-inside l row (length old)) none ∙ inside-none row (length old))) ∙ state .answer),
+        sym (ap (λ (l : List ℕ). with-needs l row table) none ∙ needs-none row table) ∙ state .marked,
+      )
