@@ -13,7 +13,7 @@ use Rattle.tree.proofs.Logic.{and-left, and-right}
 use Rattle.bits.specs.Bits.{inside, yes}
 use Rattle.bits.proofs.BitLaws.{inside-of}
 use Rattle.needs.specs.Marks.{name-word, number-of, holds-name, with-needs, place-inside, all-inside}
-use Rattle.needs.proofs.Turns.{inside-cons, inside-none, name-inside, other-inside}
+use Rattle.needs.proofs.Turns.{and-false, inside-cons, inside-none, name-inside, other-inside}
 use Rattle.needs.proofs.MarkLaws.{holds-none, holds-cons, needs-yes}
 
 false-true : {A : Type 0} → false ≡ true → A
@@ -77,10 +77,6 @@ module _ (row words : ℕ) where
 pub needs-all : (ws : List ℕ) (row : ℕ) (table : List ℕ) (i : ℕ) → all-inside ws row (length table) ≡ true → yes (with-needs ws row table) row i ≡ (yes table row i || holds-name ws i)
 needs-all ws row table i a = needs-yes ws row table i ∙ ap (λ (b : Bool). yes table row i || b) (go (holds-name ws i) refl)
   where
-    and-false : (b : Bool) → (b && false) ≡ false
-    and-false true = refl
-    and-false false = refl
-
     go : (b : Bool) → holds-name ws i ≡ b → (inside (length table) row i && holds-name ws i) ≡ holds-name ws i
     go true h = ap (λ (b : Bool). b && holds-name ws i) (inside-holds row (length table) ws i a h)
     go false h = ap (λ (b : Bool). inside (length table) row i && b) h ∙ (and-false (inside (length table) row i) ∙ sym h)

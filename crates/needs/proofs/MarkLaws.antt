@@ -1,18 +1,18 @@
 -- The table after the names of some words are marked in a row: a place of the row is yes where it was or where its name is among the words, every other row is as
 -- before, and so is the table's length. Assumes nothing.
-use Prim.Native.Nat.{ℕ, _+_, _*_, _/_, _%_}
+use Prim.Native.Nat.{ℕ, _%_}
 use native.Mathlib.Omega.{arith}
 use mathlib.Core.Path.{_≡_, refl, sym, _∙_, ap}
 use mathlib.Core.Logic.{_≢_}
-use mathlib.Core.Bool.{Bool, true, false, _&&_, _||_, cond}
+use mathlib.Core.Bool.{Bool, true, false, _&&_, _||_}
 use mathlib.Core.List.{List, [], _∷_}
-use borrow.Author.Tests.{eqb-true, eqb-false, eq-eqb, ne-eqb}
+use borrow.Author.Tests.{eqb-true, eqb-false}
 use lib.Dec.{eqb}
 use lib.ListN.{length}
 use Rattle.bits.specs.Bits.{inside, yes, with-yes}
 use Rattle.bits.proofs.BitLaws.{made-yes, kept-yes, no-outside, with-length}
-use Rattle.needs.specs.Marks.{name-word, number-of, holds-name, with-need, with-needs, place-inside, all-inside}
-use Rattle.needs.proofs.Turns.{need-length, needs-cons, needs-none, inside-cons, name-marked, other-kept}
+use Rattle.needs.specs.Marks.{name-word, number-of, holds-name, with-need, with-needs}
+use Rattle.needs.proofs.Turns.{and-false, need-length, needs-cons, needs-none, name-marked, other-kept}
 
 -- ---- words of names
 
@@ -26,17 +26,9 @@ holds-cons w ws i = refl
 
 -- ---- tests
 
-or-false : (b : Bool) → (b || false) ≡ b
+pub or-false : (b : Bool) → (b || false) ≡ b
 or-false true = refl
 or-false false = refl
-
-and-false : (b : Bool) → (b && false) ≡ false
-and-false true = refl
-and-false false = refl
-
-or-same : (a c : Bool) → (a || (a && c)) ≡ a
-or-same true c = refl
-or-same false c = refl
 
 -- what is so after a word, then after the others
 together : (y a b c : Bool) → ((y || (a && b)) || (a && c)) ≡ (y || (a && (b || c)))

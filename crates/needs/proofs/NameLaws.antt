@@ -1,9 +1,9 @@
 -- The words of a tree hold the word of `__xN` where the tree has that symbol, and so a place marked says whether one let reads the name that another binds (01,
 -- "Order"). Assumes nothing.
-use Prim.Native.Nat.{ℕ, _+_, _*_, _/_, _%_, _≤_, _<_}
+use Prim.Native.Nat.{ℕ, _+_, _*_, _<_}
 use native.Mathlib.Omega.{arith}
 use mathlib.Core.Path.{_≡_, refl, sym, _∙_, ap, ap₂}
-use mathlib.Core.Bool.{Bool, true, false, _&&_, _||_}
+use mathlib.Core.Bool.{Bool, true, false, _||_}
 use mathlib.Core.List.{List, [], _∷_, _++_}
 use borrow.Author.Tests.{eqb-true, eq-eqb, ne-eqb}
 use lib.IntN.{ℤ}
@@ -13,16 +13,12 @@ use Rattle.tree.specs.Tree.{Name, input, xname, mname, Tree, Forest, Sym, Const
 use Rattle.tree.specs.Tokens.{word, constant-code, name-code, tokens, tokens-of, all-tokens, kind-of}
 use Rattle.tree.proofs.Logic.{and-left, and-right}
 use Rattle.tree.proofs.TokenCode.{fits-word, coded, coded-each, all-coded}
-use Rattle.cse.specs.Answer.{Intermediate, Let, names, free, concat, symbols, all-symbols, elem}
+use Rattle.cse.specs.Answer.{Let, names, free, concat, symbols, all-symbols, elem}
 use Rattle.cse.specs.Order.{meets}
 use Rattle.answerlaws.proofs.ScopeLaws.{elem-both}
 use Rattle.bits.specs.Bits.{inside, yes}
 use Rattle.needs.specs.Marks.{name-word, holds-name, with-needs}
-use Rattle.needs.proofs.MarkLaws.{holds-none, holds-cons, needs-fresh}
-
-pub or-false : (b : Bool) → (b || false) ≡ b
-or-false true = refl
-or-false false = refl
+use Rattle.needs.proofs.MarkLaws.{or-false, holds-none, holds-cons, needs-fresh}
 
 pub or-assoc : (a b c : Bool) → (a || (b || c)) ≡ ((a || b) || c)
 or-assoc true b c = refl

@@ -2,22 +2,22 @@
 -- where no words are written anew. Assumes nothing.
 use Prim.Native.Nat.{ℕ, zero, suc, _+_, _*_, _/_, _%_, _<_}
 use native.Mathlib.Omega.{arith}
-use mathlib.Core.Path.{_≡_, refl, sym, _∙_, ap, ap₂}
+use mathlib.Core.Path.{_≡_, refl, sym, _∙_, ap}
 use mathlib.Core.Bool.{Bool, true, false, _||_}
 use mathlib.Core.List.{List, [], _∷_, _++_, append-assoc, append-nil}
 use borrow.Author.Tests.{ne-eqb}
 use lib.Dec.{eqb}
 use lib.ListN.{length, take, drop, take-append-drop}
-use Rattle.tree.specs.Tree.{Name, input, xname, mname, Tree, Sym, Const, Op, fold, forest, eq-name}
+use Rattle.tree.specs.Tree.{Name, xname, Tree, Op, fold, forest, eq-name}
 use Rattle.tree.specs.Tokens.{word, name-code, kind-of, below-of, takes, constant-at, name-by, read}
-use Rattle.tree.proofs.TokenLaws.{Word, a-symbol, a-constant, an-operation, word-is, leaf-takes, symbol-tree, constant-tree, operation-tree, fold-operation, made, read-cons}
+use Rattle.tree.proofs.TokenLaws.{Word, a-symbol, a-constant, an-operation, word-is, leaf-takes, symbol-tree, constant-tree, operation-tree, made, read-cons}
 use Rattle.cse.specs.Answer.{Let, names, free, concat, symbols, all-symbols, elem}
 use Rattle.cse.specs.Order.{meets}
 use Rattle.answerlaws.proofs.ScopeLaws.{elem-both}
 use Rattle.bits.specs.Bits.{inside, yes}
 use Rattle.needs.specs.Marks.{name-word, holds-name, with-needs}
-use Rattle.needs.proofs.MarkLaws.{holds-none, holds-cons, needs-fresh}
-use Rattle.needs.proofs.NameLaws.{or-assoc, or-false, other-kind, code-test, elem-none, elem-one, symbol-symbols, constant-symbols, meets-one}
+use Rattle.needs.proofs.MarkLaws.{or-false, holds-none, holds-cons, needs-fresh}
+use Rattle.needs.proofs.NameLaws.{or-assoc, other-kind, code-test, elem-none, elem-one, symbol-symbols, constant-symbols, meets-one}
 
 -- ---- symbols of trees one after another
 

@@ -5,7 +5,7 @@ use native.Mathlib.Omega.{arith}
 use mathlib.Core.Path.{_≡_, refl, sym, _∙_, ap}
 use mathlib.Core.Option.{some}
 use mathlib.Core.List.{List, [], _∷_, _++_}
-use lib.ListN.{length, getD, take, drop, length-drop}
+use lib.ListN.{length, getD, take, drop}
 use lib.Seq.{getD-drop, take-suc, drop-cons, take-at}
 use Rattle.tree.specs.Tree.{Tree, Op, nil}
 use Rattle.tree.specs.Facts.{total, size}

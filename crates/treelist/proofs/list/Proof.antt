@@ -2,7 +2,6 @@
 use Prim.Native.Nat.{_-_}
 use native.Mathlib.Omega.{arith}
 use mathlib.Core.Path.{sym, _∙_}
-use lib.ListN.{length}
 use Rattle.treelist.proofs.Listing.{State, begins, long, not-broken, turn, ends}
 use borrow.Author.Needs.{needs}
 use Rattle.treelist.proofs.list.Statement.{statement}
