@@ -1,0 +1,2 @@
+pub mod DivisionsMost
+pub mod FlatRows
