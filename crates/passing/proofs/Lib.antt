@@ -1,2 +1,6 @@
 pub mod DivisionsMost
 pub mod FlatRows
+pub mod Trees
+pub mod Steps
+pub mod Fusing
+pub mod Passed
