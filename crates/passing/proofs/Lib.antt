@@ -4,3 +4,5 @@ pub mod Trees
 pub mod Steps
 pub mod Fusing
 pub mod Passed
+pub mod Printed
+pub mod ByCalls
