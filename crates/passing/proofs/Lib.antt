@@ -6,3 +6,4 @@ pub mod Fusing
 pub mod Passed
 pub mod Printed
 pub mod ByCalls
+pub mod Enough
