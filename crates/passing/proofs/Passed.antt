@@ -15,7 +15,10 @@ use Rattle.tree.proofs.Logic.{and-left, and-right, and-both}
 use Rattle.cse.specs.Answer.{Intermediate, Intermediates, Arms, Answer, Let, Match, end, step, no-arm, arm}
 use Rattle.cse.specs.Read.{arm-count}
 use Rattle.cse.specs.Scope.{answer}
+use Rattle.cse.specs.Demand.{well-scoped}
 use Rattle.cse.specs.AnswerRows.{answer-words, let-name, match-names, intermediate-ok, intermediates-ok, arms-ok, references-ok, answer-laid-out}
+use Rattle.cse.proofs.PassesLaws.{passes-unmade}
+use Rattle.cse.proofs.ScopeNames.{answer-well-scoped}
 use Rattle.cse.proofs.Widths.{even-stmt, even-stmts, even-arms, answer-even}
 use Rattle.answerlaws.proofs.ExtractRefs.{extract-references, extract-laid}
 use Rattle.passing.proofs.Trees.{Fits, Fits-all, tree-same, trees-same, expressions-fit}
@@ -59,19 +62,26 @@ unfolding passes
 listed es h = and-right (within-limits es) (expressions es) (and-right (leb (length es) 64) (within-limits es && expressions es) h)
 
 -- kinds, operand counts, names and constants, of every statement and of the results
-pub answer-passes : (scoped : Bool) (es : List Tree) → T (passes es) → (a : Answer) → answer scoped es ≡ ok a → T (intermediates-ok (a .inters) && trees-ok (a .results))
-answer-passes scoped es h a e =
+pub answer-parts : (scoped : Bool) (es : List Tree) → T (passes es) → (a : Answer) → answer scoped es ≡ ok a → T (intermediates-ok (a .inters)) × T (trees-ok (a .results))
+answer-parts scoped es h a e =
     let q = answer-ok scoped es (expressions-fit es (listed es h)) a e in
-    and-both (intermediates-ok (a .inters)) (trees-ok (a .results)) (whole-stmts (a .inters) (q .0) (answer-even scoped es a e .0)) (fit-trees (a .results) (q .1))
+    (whole-stmts (a .inters) (q .0) (answer-even scoped es a e .0), fit-trees (a .results) (q .1))
 
--- 13 whole, references too: the answer's rows, and what it is over the rows of the table
+-- 13 on the answer of a list, its references among the list's symbols and its own names
+pub answer-passes :
+    (scoped : Bool) (es : List Tree) → T (passes es) → (a : Answer) → answer scoped es ≡ ok a → T (intermediates-ok (a .inters) && (trees-ok (a .results) && well-scoped es a))
+answer-passes scoped es h a e =
+    let q = answer-parts scoped es h a e in
+    and-both (intermediates-ok (a .inters)) (trees-ok (a .results) && well-scoped es a) (q .0)
+    (and-both (trees-ok (a .results)) (well-scoped es a) (q .1) (answer-well-scoped scoped es (passes-unmade es h) a e))
+
+-- 13 on the answer of a table, its references among the symbols of the rows, and on its words
 pub table-answer-passes :
     (t : Table) → T (passes (trees t)) → (scoped : Bool) (a : Answer) → answer scoped (trees t) ≡ ok a
     → T (intermediates-ok (a .inters) && (trees-ok (a .results) && references-ok (t .rows) a)) × T (answer-laid-out (t .rows) (answer-words (number-in (t .rows)) a))
 table-answer-passes t h scoped a e =
-    let p = answer-passes scoped (trees t) h a e in
-    let i = and-left (intermediates-ok (a .inters)) (trees-ok (a .results)) p in
-    let r = and-right (intermediates-ok (a .inters)) (trees-ok (a .results)) p in (
-      and-both (intermediates-ok (a .inters)) (trees-ok (a .results) && references-ok (t .rows) a) i (and-both (trees-ok (a .results)) (references-ok (t .rows) a) r (extract-references t scoped a e)),
-      extract-laid t scoped a e i r,
+    let q = answer-parts scoped (trees t) h a e in (
+      and-both (intermediates-ok (a .inters)) (trees-ok (a .results) && references-ok (t .rows) a) (q .0)
+          (and-both (trees-ok (a .results)) (references-ok (t .rows) a) (q .1) (extract-references t scoped a e)),
+      extract-laid t scoped a e (q .0) (q .1),
     )
