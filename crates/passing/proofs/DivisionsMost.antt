@@ -5,7 +5,6 @@ use mathlib.Core.Bool.{Bool, true, false, cond}
 use mathlib.Core.Option.{Option, none, some}
 use mathlib.Core.List.{List, [], _∷_, _++_}
 use native.Mathlib.Omega.{arith}
-use native.Mathlib.Nat.{zero-mul, suc-mul}
 use lib.ListN.{length}
 use lib.Dec.{eqb}
 use Rattle.tree.specs.Tree.{Tree, Forest, Sym, Const, Op, nil, _◂_}
@@ -16,11 +15,11 @@ use Rattle.rewrite.proofs.Counts.{count-nil, one-le, one-equal}
 use Rattle.cse.specs.Extract.{State, roots, divisor-of, divisors}
 use Rattle.cse.proofs.ReciprocalsCount.{AllTrees, bound-divisors, bound-twice}
 use Rattle.cse.proofs.DivisorsMost.{bound-once}
-use Rattle.cse.proofs.SizeCount.{total-size, reciprocals-most, divisor-half}
+use Rattle.cse.proofs.SizeCount.{total-size}
 
 -- ---- divisions among the nodes
 
-divisors-length : (s t : List Tree) → length (divisors (s ++ t)) ≡ length (divisors s) + length (divisors t)
+pub divisors-length : (s t : List Tree) → length (divisors (s ++ t)) ≡ length (divisors s) + length (divisors t)
 unfolding divisors
 divisors-length [] t = omega arith
 divisors-length (e ∷ s) t = go (divisor-of e) (divisors-length s t)
@@ -31,7 +30,7 @@ divisors-length (e ∷ s) t = go (divisor-of e) (divisors-length s t)
     go none h = h
     go (some d) h = omega arith
 
-operands-count : Forest → ℕ
+unfoldable pub operands-count : Forest → ℕ
 operands-count nil = 0
 operands-count (t ◂ f) = suc (operands-count f)
 
@@ -90,11 +89,12 @@ unfolding sum-of
 counts-nil [] = refl
 counts-nil (d ∷ ds) = (let a = counts-nil ds in let b = count-nil d in omega arith)
 
-counts-most : (l ds : List Tree) → ((x : Tree) → count x ds ≤ 1) → sum-of (λ d. count d l) ds ≤ length l
+-- different trees stand in a list no more often than it is long
+pub counts-most : (l ds : List Tree) → ((x : Tree) → count x ds ≤ 1) → sum-of (λ d. count d l) ds ≤ length l
 counts-most [] ds h = (let a = counts-nil ds in omega arith)
 counts-most (y ∷ l) ds h = (let a = counts-cons y l ds in let b = ones-count y ds in let c = h y in let e = counts-most l ds h in omega arith)
 
-twice-each : (l ds : List Tree) → AllTrees (λ d. 2 ≤ count d l) ds → 2 * length ds ≤ sum-of (λ d. count d l) ds
+pub twice-each : (l ds : List Tree) → AllTrees (λ d. 2 ≤ count d l) ds → 2 * length ds ≤ sum-of (λ d. count d l) ds
 unfolding sum-of
 twice-each l [] h = omega arith
 twice-each l (d ∷ ds) h = (let a = twice-each l ds (h .1) in let b = h .0 in omega arith)
@@ -105,14 +105,3 @@ bound-quarter scoped s =
     let b = counts-most (divisors (all-nodes (roots s))) (bound-divisors scoped s) (bound-once scoped s) in
     let c = divisions-all (roots s) in
     omega arith)
-
--- ---- their nodes
-
-half-each : (N : ℕ) (ds : List Tree) → AllTrees (λ d. 2 * size d ≤ N) ds → 2 * reciprocals-most ds ≤ length ds * (N + 4)
-unfolding reciprocals-most sum-of
-half-each N [] h = (let a = zero-mul (N + 4) in omega arith)
-half-each N (d ∷ ds) h = (let a = half-each N ds (h .1) in let b = h .0 in let c = suc-mul (length ds) (N + 4) in omega arith)
-
--- twice what reciprocals add
-pub reciprocals-add : (scoped : Bool) (s : State) → 2 * reciprocals-most (bound-divisors scoped s) ≤ length (bound-divisors scoped s) * (total-size (roots s) + 4)
-reciprocals-add scoped s = half-each (total-size (roots s)) (bound-divisors scoped s) (divisor-half scoped s)

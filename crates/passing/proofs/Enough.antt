@@ -1,4 +1,4 @@
--- Where enough rows and bytes are lent the three calls give what the programs are defined to write; for the flat form 132,864 rows are enough for every
+-- Where enough rows and bytes are lent the three calls give what the programs are defined to write; for the flat form 67,328 rows are enough for every
 -- sheet, and the call of extract never refuses by 12 (01, "Sheet and printing", "Turned down"). Assumes nothing.
 use Prim.Native.Nat.{ℕ, _≤_}
 use native.Mathlib.Omega.{arith}
@@ -59,7 +59,7 @@ module _ (scoped : Bool) (rows-lent bytes-lent : ℕ) where
 
 -- the flat program by its three calls, where the text fits
 pub csesheet-by-calls :
-    (rows-lent bytes-lent : ℕ) (sheet : List ℕ) → 132864 ≤ rows-lent
+    (rows-lent bytes-lent : ℕ) (sheet : List ℕ) → 67328 ≤ rows-lent
     → ((t : Table) (a : Answer) → load 1024 64 sheet ≡ ok t → answer false (trees t) ≡ ok a → length (answer-text a) ≤ bytes-lent)
     → reply (by-calls false rows-lent bytes-lent sheet) ≡ csesheet sheet
 csesheet-by-calls rows-lent bytes-lent sheet r f =
@@ -77,7 +77,7 @@ unfolding table-or-9 trees answer answer-words number-in
 flat-call words-lent bytes-lent node-rows roots =
     cond (ltb words-lent work-words || ltb bytes-lent work-bytes) (refused (by 8)) (table-or-9 node-rows roots >>= λ t. answer false (trees t) >>= λ a. rows-given t a)
 
-module _ (node-rows roots : List ℕ) (lent : ℕ) (enough : 132864 ≤ lent) where
+module _ (node-rows roots : List ℕ) (lent : ℕ) (enough : 67328 ≤ lent) where
   answer-rows : (t : Table) (o : Outcome Answer) → ((a : Answer) → o ≡ ok a → rows a ≤ lent) → (o >>= λ a. cond (ltb lent (rows a)) (refused (by 12)) (rows-given t a)) ≡ (o >>= λ a. rows-given t a)
   answer-rows t (ok a) f = ap (λ (c : Bool). cond c (refused (by 12)) (rows-given t a)) (le-ltb lent (rows a) (f a refl))
   answer-rows t (refused i) f = refl

@@ -1,11 +1,11 @@
 -- How many rows a flat answer can have (01, "Turned down", 12): a bound for every list that passes 9, so that a program that lends as many never sees 12.
 -- Assumes nothing.
-use Prim.Native.Nat.{ℕ, suc, _+_, _*_, _≤_}
+use Prim.Native.Nat.{ℕ, zero, suc, _+_, _-_, _*_, _≤_}
 use mathlib.Core.Path.{_≡_, refl, sym, _∙_, ap, ap₂, subst}
 use mathlib.Core.Bool.{Bool, false, _&&_}
 use mathlib.Core.List.{List, [], _∷_, _++_}
 use native.Mathlib.Omega.{arith}
-use native.Mathlib.Nat.{mul-le-mul-left}
+use native.Mathlib.Nat.{mul-add, mul-le-mul-left, mul-le-mul-right}
 use lib.ListN.{length, length-append}
 use lib.Dec.{T, leb, leb→le}
 use Rattle.tree.specs.Outcome.{ok}
@@ -23,7 +23,8 @@ use Rattle.cse.proofs.FlatCount.{Parts, parts, list-made}
 use Rattle.cse.proofs.SortCount.{summed, sorted-sum}
 use Rattle.cse.proofs.ReciprocalsCount.{inverse, roots-reciprocal, bound-divisors, reciprocals-are}
 use Rattle.cse.proofs.SizeCount.{total-size, extract-all-size, reciprocals-most, reciprocal-each-size}
-use Rattle.passing.proofs.DivisionsMost.{bound-quarter, reciprocals-add}
+use Rattle.passing.proofs.DivisionsMost.{bound-quarter}
+use Rattle.passing.proofs.Larger.{reciprocals-add}
 
 -- ---- rows of an answer by its trees
 
@@ -86,8 +87,19 @@ answer-rows es a P =
     let m = sum-append size (t .results) (bound (t .lets)) in
     omega (arith, i, r, l, m)
 
-flat-rows : (es : List Tree) → T (passes es) → (a : Answer) → answer false es ≡ ok a → 2 * rows a ≤ 265728
-flat-rows es h a e =
+-- the most of 511 r - r * r, for r up to 256
+square-most : (r : ℕ) → r ≤ 256 → 512 * r ≤ 65280 + r * suc r
+square-most r h = go (256 - r) (omega arith)
+  where
+    go : (k : ℕ) → r + k ≡ 256 → 512 * r ≤ 65280 + r * suc r
+    go zero e = (let q : r * suc r ≡ 256 * 257 = ap (λ (n : ℕ). n * suc n) (let z : r ≡ 256 = omega arith in z) in omega arith)
+    go (suc k) e =
+        (let a : r * 256 ≡ r * suc r + r * k = ap (λ (n : ℕ). r * n) (let z : 256 ≡ suc r + k = omega arith in z) ∙ mul-add r (suc r) k in
+        let b : r * k ≤ 256 * k = mul-le-mul-right k h in
+        omega arith)
+
+pub flat-rows-most : (es : List Tree) → T (passes es) → (a : Answer) → answer false es ≡ ok a → rows a ≤ 67328
+flat-rows-most es h a e =
     (let P = parts es a e in
     let s = P .state in
     let t = reciprocals false s in
@@ -101,9 +113,7 @@ flat-rows es h a e =
     let big : total-size (roots t) ≤ total-size (roots s) + reciprocals-most ds =
     subst (λ (u : State). total-size (roots u) ≤ total-size (roots s) + reciprocals-most ds) (sym (reciprocals-are false s)) (reciprocal-each-size ds s) in
     let add = reciprocals-add false s in
-    let most : length ds * (total-size (roots s) + 4) ≤ length ds * 1028 = mul-le-mul-left (length ds) (omega (arith, small)) in
+    let most : length ds * (total-size (roots s) + 6) ≤ length ds * 1030 = mul-le-mul-left (length ds) (omega (arith, small)) in
     let few = bound-quarter false s in
+    let square = square-most (length ds) (omega (arith, few, small)) in
     omega arith)
-
-pub flat-rows-most : (es : List Tree) → T (passes es) → (a : Answer) → answer false es ≡ ok a → rows a ≤ 132864
-flat-rows-most es h a e = omega (arith, flat-rows es h a e)

@@ -1,4 +1,5 @@
 pub mod DivisionsMost
+pub mod Larger
 pub mod FlatRows
 pub mod Trees
 pub mod Steps
