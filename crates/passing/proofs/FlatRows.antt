@@ -75,6 +75,10 @@ limited : (es : List Tree) → T (passes es) → T (within-limits es)
 unfolding passes
 limited es h = and-left (within-limits es) (expressions es) (and-right (leb (length es) 64) (within-limits es && expressions es) h)
 
+-- a list that passes 9 has at most 1,024 nodes
+pub few-nodes : (es : List Tree) → T (passes es) → total-size es ≤ 1024
+few-nodes es h = (let y = occurrences-are es in let z = few-occurrences es (limited es h) in omega arith)
+
 -- by the state after reciprocals
 answer-rows : (es : List Tree) (a : Answer) (P : Parts es a) → rows a ≡ length (roots (reciprocals false (P .state))) + total-size (roots (reciprocals false (P .state)))
 unfolding rows roots
@@ -106,8 +110,7 @@ flat-rows-most es h a e =
     let ds = bound-divisors false s in
     let same = answer-rows es a P in
     let x = extract-all-size false 0 es (passes-formed es h) (list-made es (passes-unmade es h)) s (P .rounds) in
-    let y = occurrences-are es in
-    let z = few-occurrences es (limited es h) in
+    let y = few-nodes es h in
     let small : total-size (roots s) ≤ 1024 = omega arith in
     let long : length (roots t) ≡ length (roots s) + length ds = ap (λ (u : State). length (roots u)) (reciprocals-are false s) ∙ bound-length ds s in
     let big : total-size (roots t) ≤ total-size (roots s) + reciprocals-most ds =

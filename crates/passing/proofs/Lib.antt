@@ -8,3 +8,4 @@ pub mod Passed
 pub mod Printed
 pub mod ByCalls
 pub mod Enough
+pub mod FlatTrees
