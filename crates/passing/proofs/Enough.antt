@@ -1,5 +1,5 @@
--- Where enough rows and bytes are lent the three calls give what the programs are defined to write; for the flat form 67,328 rows are enough for every
--- sheet, and the call of extract never refuses by 12 (01, "Sheet and printing", "Turned down"). Assumes nothing.
+-- Where enough rows and bytes are lent the three calls give what the programs are defined to write; for the flat form 67,328 rows and 2,296,320
+-- bytes are enough for every sheet, and the call of extract never refuses by 12 (01, "Sheet and printing", "Turned down"). Assumes nothing.
 use Prim.Native.Nat.{ℕ, _≤_}
 use native.Mathlib.Omega.{arith}
 use borrow.Author.Tests.{le-ltb}
@@ -23,6 +23,7 @@ use Rattle.program.proofs.Whole.{flat-refused-by-10}
 use Rattle.program.specs.Calls.{by-calls}
 use Rattle.program.specs.Program.{reply, written, csesheet}
 use Rattle.passing.proofs.FlatRows.{flat-rows-most}
+use Rattle.passing.proofs.FlatText.{flat-text-most}
 use Rattle.passing.proofs.Printed.{or-14}
 use Rattle.passing.proofs.ByCalls.{or-12, by-answer, calls-answer}
 
@@ -82,6 +83,10 @@ module _ (rows-lent bytes-lent : ℕ) (sheet : List ℕ) (enough : 67328 ≤ row
   pub csesheet-by-calls :
       ((t : Table) (a : Answer) → load 1024 64 sheet ≡ ok t → answer false (trees t) ≡ ok a → length (answer-text a) ≤ bytes-lent) → reply (by-calls false rows-lent bytes-lent sheet) ≡ csesheet sheet
   csesheet-by-calls f = written-by-calls false rows-lent bytes-lent sheet (λ t a l e. (sheet-rows t a l e, f t a l e)) ∙ (unfold csesheet in refl)
+
+  -- and with so many bytes, for every sheet
+  pub csesheet-always : 2296320 ≤ bytes-lent → reply (by-calls false rows-lent bytes-lent sheet) ≡ csesheet sheet
+  csesheet-always h = csesheet-by-calls (λ t a l e. let q = flat-text-most (trees t) (accepted-passes 1024 64 sheet t l) a e in omega arith)
 
 -- ---- the flat call of extract
 

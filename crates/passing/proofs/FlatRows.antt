@@ -15,7 +15,7 @@ use Rattle.tree.specs.Rows.{occurrences, within-limits}
 use Rattle.tree.specs.Passes.{expressions, passes}
 use Rattle.tree.proofs.Logic.{and-left, and-right}
 use Rattle.rewrite.proofs.Measure.{sum-of, sum-append}
-use Rattle.cse.specs.Extract.{Binding, State, bound, roots, replace-divisor-each, bind-reciprocal, bind-reciprocals, reciprocals}
+use Rattle.cse.specs.Extract.{Binding, State, bound, roots, extract-all, replace-divisor-each, bind-reciprocal, bind-reciprocals, reciprocals}
 use Rattle.cse.specs.Answer.{Intermediate, Intermediates, Answer, Let, Match, block, value-rows, stmt-rows, stmts-rows, rows}
 use Rattle.cse.specs.Scope.{binds, answer}
 use Rattle.cse.proofs.PassesLaws.{passes-formed, passes-unmade}
@@ -80,7 +80,7 @@ pub few-nodes : (es : List Tree) → T (passes es) → total-size es ≤ 1024
 few-nodes es h = (let y = occurrences-are es in let z = few-occurrences es (limited es h) in omega arith)
 
 -- by the state after reciprocals
-answer-rows : (es : List Tree) (a : Answer) (P : Parts es a) → rows a ≡ length (roots (reciprocals false (P .state))) + total-size (roots (reciprocals false (P .state)))
+pub answer-rows : (es : List Tree) (a : Answer) (P : Parts es a) → rows a ≡ length (roots (reciprocals false (P .state))) + total-size (roots (reciprocals false (P .state)))
 unfolding rows roots
 answer-rows es a P =
     let t = reciprocals false (P .state) in
@@ -90,6 +90,16 @@ answer-rows es a P =
     let l = length-append (t .results) (bound (t .lets)) in
     let m = sum-append size (t .results) (bound (t .lets)) in
     omega (arith, i, r, l, m)
+
+-- what the state after rounds is bounded by, and how many results and bindings there are after reciprocals
+few-left : (es : List Tree) → T (passes es) → (s : State) → extract-all false 0 es ≡ ok s → total-size (roots s) ≤ 1024
+few-left es h s e = (let x = extract-all-size false 0 es (passes-formed es h) (list-made es (passes-unmade es h)) s e in let y = few-nodes es h in omega arith)
+
+roots-long : (s : State) → length (roots (reciprocals false s)) ≡ length (roots s) + length (bound-divisors false s)
+roots-long s = ap (λ (u : State). length (roots u)) (reciprocals-are false s) ∙ bound-length (bound-divisors false s) s
+
+pub few-roots : (es : List Tree) → T (passes es) → (s : State) → extract-all false 0 es ≡ ok s → length (roots (reciprocals false s)) ≤ 1024
+few-roots es h s e = (let a = few-left es h s e in let b = roots-long s in let c = bound-quarter false s in omega arith)
 
 -- the most of 511 r - r * r, for r up to 256
 square-most : (r : ℕ) → r ≤ 256 → 512 * r ≤ 65280 + r * suc r
@@ -109,10 +119,8 @@ flat-rows-most es h a e =
     let t = reciprocals false s in
     let ds = bound-divisors false s in
     let same = answer-rows es a P in
-    let x = extract-all-size false 0 es (passes-formed es h) (list-made es (passes-unmade es h)) s (P .rounds) in
-    let y = few-nodes es h in
-    let small : total-size (roots s) ≤ 1024 = omega arith in
-    let long : length (roots t) ≡ length (roots s) + length ds = ap (λ (u : State). length (roots u)) (reciprocals-are false s) ∙ bound-length ds s in
+    let small = few-left es h s (P .rounds) in
+    let long = roots-long s in
     let big : total-size (roots t) ≤ total-size (roots s) + reciprocals-most ds =
     subst (λ (u : State). total-size (roots u) ≤ total-size (roots s) + reciprocals-most ds) (sym (reciprocals-are false s)) (reciprocal-each-size ds s) in
     let add = reciprocals-add false s in

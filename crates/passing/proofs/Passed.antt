@@ -57,7 +57,7 @@ mutual
       (and-both (eqb (length vs) n) (trees-ok vs) (and-left (eqb (length vs) n) (even-stmts s && even-arms n l) w) (fit-trees vs (h .0 .1))))
       (whole-arms n l (h .1) (and-right (even-stmts s) (even-arms n l) q))
 
-listed : (es : List Tree) → T (passes es) → T (expressions es)
+pub listed : (es : List Tree) → T (passes es) → T (expressions es)
 unfolding passes
 listed es h = and-right (within-limits es) (expressions es) (and-right (leb (length es) 64) (within-limits es && expressions es) h)
 
