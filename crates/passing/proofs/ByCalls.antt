@@ -1,19 +1,17 @@
--- Load, extract and print one after another give what the programs are defined to write, but for 12 and 14 (01, "Sheet and printing", "Turned down"); and for
--- the flat form as many rows as no answer outgrows. Assumes nothing.
-use Prim.Native.Nat.{ℕ, _/_, _≤_}
-use native.Mathlib.Omega.{arith}
-use borrow.Author.Tests.{le-ltb}
-use mathlib.Core.Path.{_≡_, refl, sym, _∙_, ap, subst}
+-- Load, extract and print one after another give what the programs are defined to write, but for 12 and 14 (01, "Sheet and printing", "Turned down"). Assumes
+-- nothing.
+use Prim.Native.Nat.{ℕ, _/_}
+use mathlib.Core.Path.{_≡_, refl, _∙_, ap}
 use mathlib.Core.Bool.{Bool, true, false, cond}
 use mathlib.Core.List.{List}
 use lib.ListN.{length}
 use lib.Dec.{T, ltb}
-use Rattle.tree.specs.Outcome.{Refusal, Outcome, ok, refused, by, _>>=_}
+use Rattle.tree.specs.Outcome.{Outcome, ok, refused, by, _>>=_}
 use Rattle.tree.specs.Rows.{Row, Table, trees}
 use Rattle.tree.specs.Layout.{row-width, table-words, rows-of, table-of, in-domain, sheet-fits, loadable, laid-out, table-or-9}
 use Rattle.tree.specs.Tokens.{number-in}
 use Rattle.tree.proofs.Logic.{and-left}
-use Rattle.tree.proofs.LayoutLaws.{table-back, laid-out-complete, laid-out-passes}
+use Rattle.tree.proofs.LayoutLaws.{table-back, laid-out-complete}
 use Rattle.tree.proofs.DomainPasses.{loadable-passes}
 use Rattle.sheet.specs.Sheet.{load}
 use Rattle.sheet.proofs.Loaded.{loaded-loadable}
@@ -23,8 +21,6 @@ use Rattle.cse.specs.Scope.{answer}
 use Rattle.cse.specs.Call.{Extracted, extract-call}
 use Rattle.print.specs.Print.{print-call}
 use Rattle.program.specs.Calls.{by-calls}
-use Rattle.program.specs.Program.{reply, written, csesheet}
-use Rattle.passing.proofs.FlatRows.{flat-rows-most}
 use Rattle.passing.proofs.Printed.{or-14, table-printed}
 
 -- rows where as many are lent

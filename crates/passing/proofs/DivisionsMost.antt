@@ -19,7 +19,7 @@ use Rattle.cse.proofs.SizeCount.{total-size}
 
 -- ---- divisions among the nodes
 
-pub divisors-length : (s t : List Tree) → length (divisors (s ++ t)) ≡ length (divisors s) + length (divisors t)
+divisors-length : (s t : List Tree) → length (divisors (s ++ t)) ≡ length (divisors s) + length (divisors t)
 unfolding divisors
 divisors-length [] t = omega arith
 divisors-length (e ∷ s) t = go (divisor-of e) (divisors-length s t)

@@ -1,9 +1,9 @@
 -- How many rows a flat answer can have (01, "Turned down", 12): a bound for every list that passes 9, so that a program that lends as many never sees 12.
 -- Assumes nothing.
 use Prim.Native.Nat.{ℕ, zero, suc, _+_, _-_, _*_, _≤_}
-use mathlib.Core.Path.{_≡_, refl, sym, _∙_, ap, ap₂, subst}
-use mathlib.Core.Bool.{Bool, false, _&&_}
-use mathlib.Core.List.{List, [], _∷_, _++_}
+use mathlib.Core.Path.{_≡_, refl, sym, _∙_, ap, subst}
+use mathlib.Core.Bool.{false, _&&_}
+use mathlib.Core.List.{List, [], _∷_}
 use native.Mathlib.Omega.{arith}
 use native.Mathlib.Nat.{mul-add, mul-le-mul-left, mul-le-mul-right}
 use lib.ListN.{length, length-append}
@@ -16,7 +16,7 @@ use Rattle.tree.specs.Passes.{expressions, passes}
 use Rattle.tree.proofs.Logic.{and-left, and-right}
 use Rattle.rewrite.proofs.Measure.{sum-of, sum-append}
 use Rattle.cse.specs.Extract.{Binding, State, bound, roots, extract-all, replace-divisor-each, bind-reciprocal, bind-reciprocals, reciprocals}
-use Rattle.cse.specs.Answer.{Intermediate, Intermediates, Answer, Let, Match, block, value-rows, stmt-rows, stmts-rows, rows}
+use Rattle.cse.specs.Answer.{Intermediate, Answer, block, value-rows, stmt-rows, stmts-rows, rows}
 use Rattle.cse.specs.Scope.{binds, answer}
 use Rattle.cse.proofs.PassesLaws.{passes-formed, passes-unmade}
 use Rattle.cse.proofs.FlatCount.{Parts, parts, list-made}

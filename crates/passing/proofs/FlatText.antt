@@ -2,7 +2,7 @@
 -- passes 9. Assumes nothing.
 use Prim.Native.Nat.{ℕ, suc, _+_, _*_, _^_, _≤_}
 use mathlib.Core.Path.{_≡_, refl, sym, _∙_, ap, subst}
-use mathlib.Core.Bool.{Bool, true, false, _&&_}
+use mathlib.Core.Bool.{Bool, true, false}
 use mathlib.Core.List.{List, [], _∷_, _++_}
 use native.Mathlib.Omega.{arith}
 use lib.ListN.{length, length-append}
@@ -17,7 +17,7 @@ use Rattle.text.specs.Text.{name-text, display}
 use Rattle.rewrite.proofs.Measure.{sum-of, sum-append}
 use Rattle.rewrite.proofs.Names.{holds, holds-each, holds-all, below}
 use Rattle.cse.specs.Extract.{Binding, State, bound, roots, extract-all, reciprocals}
-use Rattle.cse.specs.Answer.{Intermediate, Intermediates, Answer, Let, Match, block, rows, displays, stmt-text, stmts-texts, lines, answer-text}
+use Rattle.cse.specs.Answer.{Intermediate, Intermediates, Answer, Let, block, displays, stmt-text, stmts-texts, lines, answer-text}
 use Rattle.cse.specs.Scope.{binds, answer}
 use Rattle.tree.specs.Value.{values}
 use Rattle.cse.proofs.Outcomes.{good-at}

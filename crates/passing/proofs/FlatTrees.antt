@@ -1,7 +1,7 @@
 -- No expression of a flat answer is larger than the list: each has at most 1,024 nodes, so that a line of its text has room in a buffer of fixed length, though
 -- all of it may not (01, "Sheet and printing"). Assumes nothing.
-use Prim.Native.Nat.{ℕ, _+_, _*_, _≤_}
-use mathlib.Core.Path.{_≡_, refl, sym, ap, subst}
+use Prim.Native.Nat.{_+_, _*_, _≤_}
+use mathlib.Core.Path.{_≡_, refl, sym, subst}
 use mathlib.Core.Bool.{false}
 use mathlib.Core.List.{List, [], _∷_, _++_}
 use native.Mathlib.Omega.{arith}

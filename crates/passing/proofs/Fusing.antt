@@ -2,12 +2,12 @@
 use Prim.Native.Nat.{ℕ, zero, suc, _-_}
 use native.Mathlib.Omega.{arith}
 use mathlib.Core.Path.{_≡_, refl, sym, _∙_, ap, subst}
-use mathlib.Core.Bool.{Bool, true, false, _&&_}
+use mathlib.Core.Bool.{Bool, true, false}
 use mathlib.Core.List.{List, [], _∷_, _++_}
 use lib.ListN.{length}
 use lib.Dec.{T, leb, le→leb}
 use Rattle.tree.specs.Outcome.{Outcome, ok, refused, _>>=_}
-use Rattle.tree.specs.Tree.{Name, mname, Tree, Forest, Sym, Const, Op, nil, _◂_, eq-tree, operands}
+use Rattle.tree.specs.Tree.{mname, Tree, Forest, Sym, Const, Op, nil, _◂_, operands}
 use Rattle.tree.specs.Kinds.{is-switch, arity-ok, Neg}
 use Rattle.tree.specs.Facts.{all-outer}
 use Rattle.tree.specs.Rows.{occurrences}
@@ -26,7 +26,7 @@ use Rattle.cse.proofs.SortCount.{Every, sorted-every}
 use Rattle.cse.proofs.SwitchLaws.{length-columns}
 use Rattle.cse.proofs.ScopeRoom.{or-no-room}
 use Rattle.kept.proofs.Passing.{none-fit, one-fits, first-fits, rest-fits}
-use Rattle.passing.proofs.Trees.{Fits, Fits-each, Fits-all, mname-ok, kind-fits, operands-fit, head-fits, tail-fits, list-fits, all-outer-fit, outside-fits}
+use Rattle.passing.proofs.Trees.{Fits, Fits-all, mname-ok, kind-fits, operands-fit, head-fits, tail-fits, list-fits, all-outer-fit, outside-fits}
 use Rattle.passing.proofs.Steps.{Ok-lets, Ok-state, roots-fit, extract-all-ok, reciprocals-ok}
 
 -- ---- what 13 asks, but for the widths of arms

@@ -1,26 +1,26 @@
 -- How many nodes the divisors to bind have. Two equal trees do not overlap, and no division by a tree as large stands inside one of them: what is outside has
 -- room for all those divisions. So the second largest divisor is smaller than the largest may be, and so on. Assumes nothing.
 use Prim.Native.Nat.{ℕ, zero, suc, _+_, _*_, _≤_, _<_}
-use mathlib.Core.Path.{_≡_, refl, sym, _∙_, ap, subst}
+use mathlib.Core.Path.{_≡_, refl, _∙_, ap}
 use mathlib.Core.Bool.{Bool, true, false, not, cond}
 use mathlib.Core.Logic.{inl, inr}
 use mathlib.Core.Option.{Option, none, some}
 use mathlib.Core.List.{List, [], _∷_, _++_}
 use native.Mathlib.Omega.{arith}
-use native.Mathlib.Nat.{zero-mul, suc-mul, one-mul, mul-zero, mul-suc, add-mul, mul-add, mul-le-mul-right}
+use native.Mathlib.Nat.{zero-mul, suc-mul, one-mul, mul-zero, mul-suc, add-mul, mul-le-mul-right}
 use lib.IntN.{ℤ}
 use lib.ListN.{length}
 use lib.Dec.{T, eqb, leb, leb→le, nleb→lt}
-use Rattle.tree.specs.Tree.{Name, Tree, Forest, Sym, Const, Op, nil, _◂_, eq-tree}
+use Rattle.tree.specs.Tree.{Name, Tree, Forest, Sym, Const, Op, nil, _◂_}
 use Rattle.tree.specs.Kinds.{Div}
 use Rattle.tree.specs.Facts.{size, nodes, nodes-of, all-nodes, count}
 use Rattle.rewrite.proofs.Measure.{sum-of, sum-each, sizes, size-op, size-up, size-const, one-of, count-cons}
-use Rattle.rewrite.proofs.Counts.{count-nil, count-sym, count-const, count-none, count-operands, count-cases, all-nodes-cons, whole-count, one-le, one-equal}
+use Rattle.rewrite.proofs.Counts.{count-nil, count-sym, count-const, count-none, count-operands, count-cases, all-nodes-cons, whole-count, one-equal}
 use Rattle.cse.specs.Extract.{State, roots, divisor-of, divisors}
 use Rattle.cse.proofs.ReciprocalsCount.{AllTrees, all-map, divisors-all, bound-divisors, bound-twice}
 use Rattle.cse.proofs.DivisorsMost.{bound-once}
 use Rattle.cse.proofs.SizeCount.{total-size, reciprocals-most}
-use Rattle.passing.proofs.DivisionsMost.{divisors-length, operands-count, counts-most, twice-each}
+use Rattle.passing.proofs.DivisionsMost.{operands-count, counts-most, twice-each}
 
 -- ---- those of at least a size
 

@@ -6,7 +6,7 @@ use mathlib.Core.List.{List}
 use lib.ListN.{length}
 use lib.Dec.{T, eqb, leb}
 use Rattle.tree.specs.Outcome.{ok}
-use Rattle.tree.specs.Tree.{Name, Tree}
+use Rattle.tree.specs.Tree.{Tree}
 use Rattle.tree.specs.Kinds.{is-switch, arity-ok}
 use Rattle.tree.specs.Rows.{Table, trees, within-limits}
 use Rattle.tree.specs.Passes.{expressions, passes, tree-ok, trees-ok}

@@ -1,13 +1,13 @@
 -- Rounds and reciprocals keep trees such as print takes, and bind `__xN` alone (01, "Extraction", "Reciprocals", "Turned down": 13). Assumes nothing.
 use Prim.Native.Nat.{ℕ, suc, _≤_}
 use native.Mathlib.Omega.{arith}
-use mathlib.Core.Path.{_≡_, sym, subst}
+use mathlib.Core.Path.{sym, subst}
 use mathlib.Core.Bool.{Bool}
 use mathlib.Core.List.{List, [], _∷_, _++_}
 use lib.IntN.{pos}
 use lib.Dec.{T}
-use Rattle.tree.specs.Outcome.{Outcome, ok, _>>=_, each}
-use Rattle.tree.specs.Tree.{Name, xname, Tree, Const, Op, nil, _◂_}
+use Rattle.tree.specs.Outcome.{ok, _>>=_, each}
+use Rattle.tree.specs.Tree.{xname, Tree, Const, Op, nil, _◂_}
 use Rattle.tree.specs.Kinds.{Div}
 use Rattle.tree.specs.Facts.{all-nodes, count}
 use Rattle.tree.specs.Passes.{symbol-ok}
