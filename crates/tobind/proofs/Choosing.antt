@@ -1,5 +1,5 @@
 -- Those to be bound, one after another: each is met where its tree stands first. Assumes nothing.
-use Prim.Native.Nat.{ℕ, zero, suc, _+_, _≤_, _<_}
+use Prim.Native.Nat.{ℕ, suc, _+_, _≤_, _<_}
 use native.Mathlib.Omega.{arith}
 use mathlib.Core.Path.{_≡_, refl, sym, _∙_, ap, ap₂, subst}
 use mathlib.Core.Bool.{Bool, true, false, not, _&&_, _||_}
@@ -154,9 +154,6 @@ module _ (ws all out : List ℕ) where
               total = ap (λ (l : List ℕ). s .done ++ l) (sym (ap (to-come (s .seen)) rest ∙ comes-new q (s .seen) (drop (i + 1) all) false (s .covers q ∙ f) g)) ∙ s .total;
               covers = covers-new;
             }
-
-    pub choosing-long : length all ≤ length old → length places ≡ length old
-    choosing-long room = ap length (s .written) ∙ omega (arith, length-append (s .done) (drop n old), length-drop n old, s .count, s .few, s .within, room)
 
     pub choosing-takes : length all ≤ length old → true ≡ chosen-at ws all out i → Choosing old (set places n (getD all i 0)) (n + 1) (i + 1)
     choosing-takes room e = go (among-places ws q (take i all)) refl (known true (among-places ws q (take i all)) (sym e) refl)

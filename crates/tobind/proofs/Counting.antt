@@ -1,17 +1,16 @@
 -- How many of some places have a tree, one by one, and what the counts decide. Assumes nothing.
-use Prim.Native.Nat.{ℕ, zero, suc, _+_, _≤_, _<_}
+use Prim.Native.Nat.{ℕ, suc, _+_, _≤_, _<_}
 use native.Mathlib.Omega.{arith}
-use mathlib.Core.Path.{_≡_, refl, sym, _∙_, ap, subst}
+use mathlib.Core.Path.{_≡_, refl, sym, _∙_, ap}
 use mathlib.Core.Bool.{Bool, true, false, not, _&&_}
 use mathlib.Core.Option.{some}
 use mathlib.Core.List.{List, [], _∷_}
 use borrow.Author.Tests.{le-leb, lt-leb}
-use lib.ListN.{length, getD, take, drop}
-use lib.Seq.{drop-cons, drop-length}
-use lib.ListN.{drop-of-length-le}
+use lib.ListN.{length, getD, take, drop, drop-of-length-le}
+use lib.Seq.{drop-cons}
 use lib.Dec.{leb}
 use Rattle.tree.specs.Tree.{eq-tree}
-use Rattle.tree.specs.Tokens.{same-at, trees-in}
+use Rattle.tree.specs.Tokens.{same-at}
 use Rattle.tokens.specs.Answers.{same-answer}
 use Rattle.tokens.specs.declared.Equality.the-variants as equality
 use Rattle.tokens.proofs.Complete.{same-is}

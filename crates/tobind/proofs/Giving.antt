@@ -1,18 +1,18 @@
 -- What `divisors_to_bind` answers and leaves in each case. Assumes nothing.
-use Prim.Native.Nat.{ℕ, _+_, _*_, _≤_, _<_}
+use Prim.Native.Nat.{ℕ, _≤_, _<_}
 use native.Mathlib.Omega.{arith}
 use mathlib.Core.Path.{_≡_, refl, sym, _∙_, ap, ap₂, subst}
 use mathlib.Core.Bool.{Bool, true, false, _&&_, _||_}
-use mathlib.Core.Option.{Option, none, some}
-use mathlib.Core.List.{List, [], _∷_, _++_}
+use mathlib.Core.Option.{Option, none}
+use mathlib.Core.List.{List, _++_}
 use borrow.Author.Tests.{lt-ltb, le-ltb, le-leb}
 use lib.ListN.{length, take, drop, length-append}
 use lib.Seq.{take-at, drop-at}
-use lib.Dec.{T, ltb, leb}
+use lib.Dec.{ltb, leb}
 use Rattle.tree.specs.Bytes.{every}
 use Rattle.tree.specs.Rows.{Row}
 use Rattle.tree.specs.Tokens.{trees-in, name-in}
-use Rattle.checked.specs.Check.{rows-in, word-ok}
+use Rattle.checked.specs.Check.{word-ok}
 use Rattle.tokens.specs.Answers.{count-answer}
 use Rattle.tokens.specs.declared.Trees.the-variants as trees
 use Rattle.words.specs.Words.{some-trees, Complete}

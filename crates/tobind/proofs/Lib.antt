@@ -4,3 +4,4 @@ pub mod Counting
 pub mod Choosing
 pub mod Sorting
 pub mod Giving
+pub mod Definition

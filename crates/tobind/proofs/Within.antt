@@ -1,15 +1,15 @@
 -- Places of divisors are places of words, in each list that is made of them. Assumes nothing.
-use Prim.Native.Nat.{ℕ, zero, suc, _+_, _≤_, _<_}
+use Prim.Native.Nat.{ℕ, zero, suc, _≤_, _<_}
 use native.Mathlib.Omega.{arith}
 use mathlib.Core.Path.{_≡_, refl, sym, ap, subst}
 use mathlib.Core.Bool.{Bool, true, false, _&&_}
 use mathlib.Core.Option.{Option, none, some}
 use mathlib.Core.List.{List, [], _∷_, _++_}
-use lib.ListN.{length, getD, take, drop, length-drop, take-append-drop}
+use lib.ListN.{length, getD, take, drop, length-append, length-drop, take-append-drop}
 use lib.Dec.{T, eqb, leb, leb→le}
 use Rattle.tree.specs.Kinds.{Div}
 use Rattle.tree.specs.Facts.{size}
-use Rattle.tree.specs.Tokens.{read, numbered, kind-of, takes, run-at, trees-in}
+use Rattle.tree.specs.Tokens.{read, numbered, kind-of, takes, run-at}
 use Rattle.tree.proofs.Logic.{and-right}
 use Rattle.tree.proofs.TokenLaws.{run-size}
 use Rattle.text.specs.Text.{before}
@@ -91,8 +91,8 @@ module _ (ws : List ℕ) where
         (divisors-inside test n (omega arith)) (divisor-step (test n) (divides-at ws n) (second-at ws n) (λ t. second-within n (omega arith) t))
 
   step-few : (b : Bool) (l : List ℕ) (q n : ℕ) → length l ≤ n → length (l ++ elim b as (λ _. List ℕ) [ true ↦ q ∷ [] | false ↦ [] ]) ≤ suc n
-  step-few true l q n h = omega (arith, lib.ListN.length-append l (q ∷ []))
-  step-few false l q n h = omega (arith, lib.ListN.length-append l [])
+  step-few true l q n h = omega (arith, length-append l (q ∷ []))
+  step-few false l q n h = omega (arith, length-append l [])
 
   pub divisors-few : (test : ℕ → Bool) (n : ℕ) → length (divisor-places ws test n) ≤ n
   unfolding divisor-places

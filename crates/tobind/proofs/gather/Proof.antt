@@ -2,7 +2,7 @@
 use native.Mathlib.Omega.{arith}
 use mathlib.Core.Path.{sym, _∙_}
 use Prim.Native.Nat.{ℕ}
-use lib.ListN.{length, replicate, length-replicate}
+use lib.ListN.{replicate, length-replicate}
 use Rattle.tobind.proofs.Giving.{listed-all, not-broken, not-full, front-long, first-few, second-few, first-inside, second-inside, gathered}
 use borrow.Author.Needs.{needs}
 use Rattle.tobind.proofs.gather.Statement.{statement}

@@ -18,6 +18,6 @@ is-chosen-spec =
     (λ c κs. let w = c .before .before .before .before .before .args .tokens .now in let all = c .before .before .before .before .before .args .all .now in let i = c .before .before .before .before .before .args .i in let here = inside-at (length w) all i (c .before .before .before .before .before .pre .1 .0) (c .before .before .before .before .before .pre .0 .1) in ((c .before .before .before .before .before .pre .0 .0, here), inside-take (length w) i all (c .before .before .before .before .before .pre .1 .0)))
     (λ c. let w = c .before .before .before .before .before .before .before .args .tokens .now in let all = c .before .before .before .before .before .before .before .args .all .now in let out = c .before .before .before .before .before .before .before .args .outside .now in let i = c .before .before .before .before .before .before .before .args .i in stood-before w all out i _ (c .before .count-equal .ensures) (c .if1 .taken))
     (λ c κs. let w = c .before .before .before .before .before .before .before .args .tokens .now in let all = c .before .before .before .before .before .before .before .args .all .now in let i = c .before .before .before .before .before .before .before .args .i in let here = inside-at (length w) all i (c .before .before .before .before .before .before .before .pre .1 .0) (c .before .before .before .before .before .before .before .pre .0 .1) in ((c .before .before .before .before .before .before .before .pre .0 .0, here), c .before .before .before .before .before .before .before .pre .1 .0))
-    (λ c. let w = c .before .before .before .before .before .before .before .before .before .args .tokens .now in let all = c .before .before .before .before .before .before .before .before .before .args .all .now in let out = c .before .before .before .before .before .before .before .before .before .args .outside .now in let i = c .before .before .before .before .before .before .before .before .before .args .i in stands-once w all out i _ (c .before .count-equal2 .ensures) (c .if2 .taken))
+    (λ c. let w = c .before .before .before .before .before .before .before .before .before .args .tokens .now in let all = c .before .before .before .before .before .before .before .before .before .args .all .now in let out = c .before .before .before .before .before .before .before .before .before .args .outside .now in let i = c .before .before .before .before .before .before .before .before .before .args .i in stands-once w all out i _ (c .before .count-equal2 .ensures) (omega (arith, c .if2 .taken)))
     (λ c κs. let w = c .before .before .before .before .before .before .before .before .before .args .tokens .now in let all = c .before .before .before .before .before .before .before .before .before .args .all .now in let i = c .before .before .before .before .before .before .before .before .before .args .i in let here = inside-at (length w) all i (c .before .before .before .before .before .before .before .before .before .pre .1 .0) (c .before .before .before .before .before .before .before .before .before .pre .0 .1) in ((c .before .before .before .before .before .before .before .before .before .pre .0 .0, here), c .before .before .before .before .before .before .before .before .before .pre .1 .1))
-    (λ c. let w = c .before .before .before .before .before .before .before .before .before .before .args .tokens .now in let all = c .before .before .before .before .before .before .before .before .before .before .args .all .now in let out = c .before .before .before .before .before .before .before .before .before .before .args .outside .now in let i = c .before .before .before .before .before .before .before .before .before .before .args .i in last-test w all out i _ _ _ (c .before .before .before .before .count-equal .ensures) (c .before .before .before .if1 .left) (c .before .before .count-equal2 .ensures) (c .before .if2 .left) (c .count-equal3 .ensures)))
+    (λ c. let w = c .before .before .before .before .before .before .before .before .before .before .args .tokens .now in let all = c .before .before .before .before .before .before .before .before .before .before .args .all .now in let out = c .before .before .before .before .before .before .before .before .before .before .args .outside .now in let i = c .before .before .before .before .before .before .before .before .before .before .args .i in last-test w all out i _ _ _ (c .before .before .before .before .count-equal .ensures) (omega (arith, c .before .before .before .if1 .left)) (c .before .before .count-equal2 .ensures) (omega (arith, c .before .if2 .left)) (c .count-equal3 .ensures)))

@@ -1,7 +1,7 @@
 -- `tobind::list_marked` meets its contract. Assumes nothing.
 use native.Mathlib.Omega.{arith}
 use lib.ListN.{length}
-use Prim.Native.Nat.{ℕ, _-_, _≤_}
+use Prim.Native.Nat.{_-_}
 use Rattle.tobind.proofs.Marked.{State, starts, turn-none, turn-one, list-long, list-ends}
 use Rattle.tobind.proofs.list_marked.Statement.{statement}
 use Rattle.tobind.proofs.list_marked.Tie as tie

@@ -1,6 +1,6 @@
 -- `tobind::sort` meets its contract. Assumes nothing.
 use native.Mathlib.Omega.{arith}
-use mathlib.Core.Path.{_≡_, refl, sym, _∙_}
+use mathlib.Core.Path.{_≡_, refl, _∙_}
 use lib.ListN.{length}
 use Rattle.tobind.proofs.Sorting.{Sorting, sorting-starts, lent-some, lent-inside, sorting-turns, sorting-ends}
 use borrow.Author.Needs.{needs}
