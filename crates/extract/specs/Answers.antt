@@ -1,15 +1,12 @@
 -- What extract answers, by cases, with 01's number and values for each (01, "Turned down": Extract); and what rounds with the divisors to bind leave. Assumes nothing.
-use Prim.Native.Nat.{ℕ, _≤_}
-use mathlib.Core.Path.{_≡_}
+use Prim.Native.Nat.{ℕ}
 use mathlib.Core.Bool.{Bool}
 use mathlib.Core.List.{List}
-use lib.ListN.{length, take, drop}
-use Rattle.tree.specs.Outcome.{Refusal, Outcome, ok, refused}
+use lib.ListN.{length}
+use Rattle.tree.specs.Outcome.{Outcome, ok, refused}
 use Rattle.tree.specs.Rows.{Row}
-use Rattle.tree.specs.Tokens.{read, numbered, name-in}
 use Rattle.cse.specs.Call.{Extracted}
-use Rattle.renaming.specs.Places.{divisors-to-bind}
-use Rattle.rounds.specs.Rounds.{all-rounds}
+use Rattle.extractlaws.specs.Parts.{Rounds-listed, Rounds-refused}
 use Rattle.extract.specs.declared.Extraction.{Extraction}
 use Rattle.extract.specs.declared.Extraction.the-variants as extraction
 use Rattle.extract.specs.declared.Listed.{Listed}
@@ -22,10 +19,5 @@ extraction-answer (refused r) = extraction.Refused (r .number)
 
 -- the words after the rounds stand in front, and so do the places of their divisors to bind; or the rounds are refused
 abbrev pub Lists : List Row → Bool → ℕ → List ℕ → Listed → List ℕ → List ℕ → Type 0
-Lists rows scoped first ws (listed.Words n m d) tokens places =
-    (all-rounds rows scoped first ws ≡ ok (take n tokens))
-    × (m ≡ length (drop (length (read numbered ws)) (read numbered (take n tokens))))
-    × (take d places ≡ divisors-to-bind (take n tokens) (name-in rows) scoped)
-    × (n ≤ length tokens)
-    × (d ≤ length places)
-Lists rows scoped first ws listed.Refused tokens places = (i : Refusal) × (all-rounds rows scoped first ws ≡ refused i)
+Lists rows scoped first ws (listed.Words n m d) tokens places = Rounds-listed rows scoped first ws n m d tokens places
+Lists rows scoped first ws listed.Refused tokens places = Rounds-refused rows scoped first ws

@@ -4,3 +4,4 @@ pub mod Ending
 pub mod Unfolding
 pub mod Rounding
 pub mod Flat
+pub mod Listing

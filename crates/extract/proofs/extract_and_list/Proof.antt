@@ -1,7 +1,7 @@
 -- `extract::extract_and_list` meets its contract. Assumes nothing.
 use lib.ListN.{length}
 use Rattle.checked.specs.Check.{rows-in}
-use Rattle.extract.proofs.Listing.{given-so, rounds-refused, vs-long, vs-there, never-unlisted, all-listed}
+use Rattle.extractlaws.proofs.Listing.{given-so, rounds-refused, vs-long, vs-there, never-unlisted, all-listed}
 use borrow.Author.Needs.{needs}
 use Rattle.extract.proofs.extract_and_list.Statement.{statement}
 use Rattle.extract.proofs.extract_and_list.Tie as tie
@@ -14,7 +14,7 @@ extract-and-list-spec =
     (λ c. search needs)
     (λ c. search needs)
     (λ c. search needs)
-    (λ c. let s = c .before .before .before .before .before .before .before .before .before .before .before .before in let a = s .args in let x = c .before .before .before .before .before .extract-all in rounds-refused (rows-in (a .rows .now)) (a .tokens .now) (a .len) (a .scoped) (a .first) (length (a .text .now)) (given-so (rows-in (a .rows .now)) (a .tokens .now) (a .len) (a .scoped) (a .first) (length (a .text .now)) (s .pre .0) (s .pre .1 .0) (s .pre .1 .1 .0)) (x .result) _ (x .ensures) (c .match .keys2) (a .places .now))
+    (λ c. let s = c .before .before .before .before .before .before .before .before .before .before .before .before in let a = s .args in let x = c .before .before .before .before .before .extract-all in rounds-refused (rows-in (a .rows .now)) (a .tokens .now) (a .len) (a .scoped) (a .first) (length (a .text .now)) (given-so (rows-in (a .rows .now)) (a .tokens .now) (a .len) (a .scoped) (a .first) (length (a .text .now)) (s .pre .0) (s .pre .1 .0) (s .pre .1 .1 .0)) (x .result) _ (x .ensures) (c .match .keys2))
     (λ c. let s = c .before .before .before .before .before .before .before .before .before .before .before .before .before .before in let a = s .args in let x = c .before .before .before .before .before .before .before .extract-all in let r = c .before .rounds .given in vs-there (rows-in (a .rows .now)) (a .tokens .now) (a .len) (a .scoped) (a .first) (length (a .text .now)) (given-so (rows-in (a .rows .now)) (a .tokens .now) (a .len) (a .scoped) (a .first) (length (a .text .now)) (s .pre .0) (s .pre .1 .0) (s .pre .1 .1 .0)) (x .result) _ (x .ensures) (r .0 .0) (r .0 .1 .0) (r .1))
     (λ c. let s = c .before .before .before .before .before .before .before .before .before .before .before .before .before .before .before in let a = s .args in let x = c .before .before .before .before .before .before .before .before .extract-all in let r = c .before .before .rounds .given in vs-long (rows-in (a .rows .now)) (a .tokens .now) (a .len) (a .scoped) (a .first) (length (a .text .now)) (given-so (rows-in (a .rows .now)) (a .tokens .now) (a .len) (a .scoped) (a .first) (length (a .text .now)) (s .pre .0) (s .pre .1 .0) (s .pre .1 .1 .0)) (x .result) _ (x .ensures) (r .0 .0) (r .0 .1 .0) (r .1))
     (λ c κs. search needs)

@@ -1,5 +1,5 @@
 -- `extract::is_short` meets its contract. Assumes nothing.
-use Rattle.extract.proofs.Listing.{short-words, long-words}
+use Rattle.extractlaws.proofs.Listing.{short-words, long-words}
 use Rattle.extract.proofs.is_short.Statement.{statement}
 use Rattle.extract.proofs.is_short.Tie as tie
 

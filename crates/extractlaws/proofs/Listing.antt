@@ -32,12 +32,10 @@ use Rattle.tobind.specs.Answers.{to-bind-short, to-bind-by, to-bind-answer}
 use Rattle.tobind.specs.declared.ToBind.{ToBind}
 use Rattle.tobind.specs.declared.ToBind.the-variants as tobind
 use Rattle.tobind.proofs.ToBind as tobind-enum
 use Rattle.extractlaws.proofs.Unfolding.{not-less}
 use Rattle.extractlaws.proofs.Rounding.{Rounded, rounded}
 use Rattle.extractlaws.proofs.Leaving.{Left, rounds-leave, left-trees, left-complete, left-words, left-short}
-use Rattle.extract.specs.Answers.{Lists}
-use Rattle.extract.specs.declared.Listed.{Listed}
-use Rattle.extract.specs.declared.Listed.the-variants as listed
+use Rattle.extractlaws.specs.Parts.{Rounds-listed, Rounds-refused}
 
 -- ---- 8
 
@@ -80,7 +78,7 @@ module _ (rows : List Row) (old : List ℕ) (len : ℕ) (scoped : Bool) (first t
 
     -- ---- rounds that are not done are refused
 
-    not-done : (q : Rounds) → Rounded rows scoped first ws q out → Run.OneOf (1 ∷ 2 ∷ 3 ∷ []) (Declared.tagOf rounds-enum.the-type q) → (i : Refusal) × (all-rounds rows scoped first ws ≡ refused i)
+    not-done : (q : Rounds) → Rounded rows scoped first ws q out → Run.OneOf (1 ∷ 2 ∷ 3 ∷ []) (Declared.tagOf rounds-enum.the-type q) → Rounds-refused rows scoped first ws
     not-done (rounds.Done n m) h (inl e) = absurd (omega arith)
     not-done (rounds.Done n m) h (inr (inl e)) = absurd (omega arith)
     not-done (rounds.Done n m) h (inr (inr e)) = absurd (omega arith)
@@ -88,8 +86,8 @@ module _ (rows : List Row) (old : List ℕ) (len : ℕ) (scoped : Bool) (first t
     not-done rounds.Broken h e = absurd h
     not-done rounds.NoRoom h e = absurd h
 
-    pub rounds-refused : Run.OneOf (1 ∷ 2 ∷ 3 ∷ []) (Declared.tagOf rounds-enum.the-type r) → (places : List ℕ) → Lists rows scoped first ws listed.Refused out places
-    rounds-refused k places = not-done r after-rounds k
+    pub rounds-refused : Run.OneOf (1 ∷ 2 ∷ 3 ∷ []) (Declared.tagOf rounds-enum.the-type r) → Rounds-refused rows scoped first ws
+    rounds-refused k = not-done r after-rounds k
 
     module _ (n m : ℕ) (is-done : r ≡ rounds.Done n m) where
       abbrev pub vs : List ℕ
@@ -154,7 +152,7 @@ module _ (rows : List Row) (old : List ℕ) (len : ℕ) (scoped : Bool) (first t
             go (inl e) = omega arith
             go (inr e) = omega arith
 
-        pub all-listed : (d : ℕ) → b ≡ tobind.Count d → Lists rows scoped first ws (listed.Words n m d) out now
+        pub all-listed : (d : ℕ) → b ≡ tobind.Count d → Rounds-listed rows scoped first ws n m d out now
         all-listed d e =
             let s : d ≡ length new = let z = sym e ∙ counted in cc in
             let long = ap length placed in (
