@@ -1,5 +1,5 @@
 -- The flat call of extract from what its steps give (01, "Turned down": Extract): 8, 9, the rounds' 10, and the end after them. Assumes nothing.
-use Prim.Native.Nat.{ℕ, _≤_}
+use Prim.Native.Nat.{ℕ}
 use mathlib.Core.Path.{_≡_, refl, sym, _∙_, ap}
 use mathlib.Core.Bool.{Bool, true, false, _||_, cond}
 use mathlib.Core.List.{List}
@@ -10,12 +10,12 @@ use Rattle.tree.specs.Rows.{Table, trees}
 use Rattle.tree.specs.Layout.{table-of, laid-out, table-or-9}
 use Rattle.tree.specs.Tokens.{read, numbered, name-in, number-in}
 use Rattle.tree.proofs.TokenCode.{unnumbered}
-use Rattle.cse.specs.Answer.{Answer, Intermediate, rows}
+use Rattle.cse.specs.Answer.{rows}
 use Rattle.cse.specs.AnswerRows.{answer-words}
 use Rattle.cse.specs.Order.{topo-sort-intermediates}
 use Rattle.cse.specs.Scope.{Scoped, Work, unfused, finish, as-answer, answer}
 use Rattle.cse.specs.Call.{Extracted, work-words, work-bytes, extract-call}
-use Rattle.cse.proofs.Outcomes.{Good, then-good, any-good, good-ok, good-at}
+use Rattle.cse.proofs.Outcomes.{Good, then-good, any-good, good-at}
 use Rattle.renaming.specs.Places.{divisors-to-bind}
 use Rattle.renaming.specs.Rounds.{state-of}
 use Rattle.renaming.proofs.RowNames.{tree-words}

@@ -2,17 +2,16 @@
 -- has room for them (01, "Turned down": Extract). Assumes nothing.
 use Prim.Native.Nat.{ℕ, _+_, _≤_}
 use native.Mathlib.Omega.{arith}
-use mathlib.Core.Path.{_≡_, refl, sym, _∙_, ap, subst}
-use mathlib.Core.Bool.{Bool, false}
+use mathlib.Core.Path.{_≡_, sym, _∙_, ap, subst}
+use mathlib.Core.Bool.{false}
 use mathlib.Core.Option.{some}
 use mathlib.Core.List.{List}
 use lib.ListN.{length, drop}
 use lib.Dec.{T}
-use Rattle.tree.specs.Outcome.{Refusal, Outcome, ok, refused, by}
+use Rattle.tree.specs.Outcome.{Refusal, ok, refused, by}
 use Rattle.tree.specs.Rows.{Row, Table, trees}
 use Rattle.tree.specs.Layout.{table-of, laid-out}
 use Rattle.tree.specs.Tokens.{read, numbered, name-in, trees-in}
-use Rattle.cse.specs.Call.{Extracted}
 use Rattle.checked.specs.Check.{rows-in}
 use Rattle.renaming.specs.Names.{is-number, symbols-pass}
 use Rattle.renaming.specs.Places.{divisors-to-bind}

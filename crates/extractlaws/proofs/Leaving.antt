@@ -1,9 +1,9 @@
 -- What rounds leave where they are not refused (01, "Extraction"): words such as they started from, with as many more trees as bindings were made, and few enough
 -- divisors to bind; and where they are refused, it is by 10. Assumes nothing.
-use Prim.Native.Nat.{ℕ, zero, suc, _+_, _*_, _≤_}
+use Prim.Native.Nat.{ℕ, zero, suc, _+_, _≤_}
 use native.Mathlib.Omega.{arith}
 use mathlib.Core.Path.{_≡_, refl, sym, _∙_, ap, subst}
-use mathlib.Core.Bool.{Bool, true}
+use mathlib.Core.Bool.{Bool}
 use mathlib.Core.Option.{Option, none, some}
 use mathlib.Core.List.{List}
 use lib.ListN.{length, drop, length-drop}
@@ -15,12 +15,12 @@ use Rattle.tree.specs.Facts.{all-operations}
 use Rattle.tree.specs.Rows.{Row}
 use Rattle.tree.specs.Tokens.{read, numbered, name-in, trees-in}
 use Rattle.tree.proofs.TokenLaws.{complete-length}
-use Rattle.cse.specs.Extract.{State, extract-all}
+use Rattle.cse.specs.Extract.{extract-all}
 use Rattle.cse.proofs.Refusals.{Ten, only-at, extract-all-ten}
 use Rattle.checked.specs.Check.{word-ok}
 use Rattle.renaming.specs.Names.{is-number, symbols-pass}
 use Rattle.renaming.specs.Places.{numbered-at, best-place, divisors-to-bind}
-use Rattle.renaming.specs.Rounds.{next-number, extract-words, rounds-words, state-of}
+use Rattle.renaming.specs.Rounds.{next-number, extract-words, state-of}
 use Rattle.renaming.proofs.WordRoom.{divisors-most}
 use Rattle.renaming.proofs.WordSteps.{some-operation, numbers-kept}
 use Rattle.kept.proofs.Words.{words-taken}

@@ -4,15 +4,14 @@ use native.Mathlib.Omega.{arith}
 use types.Run
 use denote.Enum.Declared
 use mathlib.Core.Path.{_≡_, refl, sym, _∙_, ap, ap₂, subst}
-use mathlib.Core.Logic.{_⊎_, inl, inr}
+use mathlib.Core.Logic.{inl, inr}
 use mathlib.Core.Bool.{Bool, true, false, _&&_, _||_}
-use mathlib.Core.Option.{Option, some}
+use mathlib.Core.Option.{Option}
 use mathlib.Core.List.{List, [], _∷_, _++_}
-use lib.ListN.{length, take, drop, length-append, length-drop}
+use lib.ListN.{length, take, drop, length-append}
 use lib.Seq.{take-at, length-take-le}
 use lib.Dec.{T, ltb, lt→ltb}
 use Rattle.tree.specs.Bytes.{every}
-use Rattle.tree.specs.Outcome.{Refusal, Outcome, ok, refused}
 use Rattle.tree.specs.Rows.{Row}
 use Rattle.tree.specs.Tokens.{read, numbered, name-in, trees-in}
 use Rattle.tree.proofs.Logic.{and-both}
@@ -34,7 +33,7 @@ use Rattle.tobind.specs.declared.ToBind.the-variants as tobind
 use Rattle.tobind.proofs.ToBind as tobind-enum
 use Rattle.extractlaws.proofs.Unfolding.{not-less}
 use Rattle.extractlaws.proofs.Rounding.{Rounded, rounded}
-use Rattle.extractlaws.proofs.Leaving.{Left, rounds-leave, left-trees, left-complete, left-words, left-short}
+use Rattle.extractlaws.proofs.Leaving.{Left, rounds-leave, left-complete, left-words, left-short}
 use Rattle.extractlaws.specs.Parts.{Rounds-listed, Rounds-refused}
 
 -- ---- 8

@@ -1,21 +1,15 @@
 -- What rounds answer and leave where there is room for them and the words may be extracted from: neither Broken nor NoRoom (01, "Extraction"). And that the
 -- divisors to bind are then listed. Assumes nothing.
 use Prim.Native.Nat.{ℕ, _≤_}
-use native.Mathlib.Omega.{arith}
 use mathlib.Core.Path.{_≡_, refl, sym, _∙_, ap, ap₂, subst}
-use mathlib.Core.Bool.{Bool, true, false, _&&_, _||_}
-use mathlib.Core.Option.{Option, some}
+use mathlib.Core.Bool.{Bool, true, false, _||_}
 use mathlib.Core.List.{List}
 use lib.ListN.{length, take, drop}
 use lib.Dec.{T, ltb}
-use Rattle.tree.specs.Bytes.{every}
 use Rattle.tree.specs.Outcome.{Refusal, Outcome, ok, refused}
 use Rattle.tree.specs.Rows.{Row}
-use Rattle.tree.specs.Tokens.{read, numbered, name-in, trees-in}
-use Rattle.tree.proofs.Logic.{and-both}
+use Rattle.tree.specs.Tokens.{read, numbered}
 use Rattle.tree.proofs.Tests.{is-true}
-use Rattle.checked.specs.Check.{word-ok}
-use Rattle.words.specs.Words.{some-trees}
 use Rattle.kept.specs.Sound.{extractable}
 use Rattle.rounds.specs.Rounds.{rounds-short, all-rounds, rounds-by, rounds-answer, Leaves, Leaves-words}
 use Rattle.rounds.specs.declared.Rounds.{Rounds}

@@ -2,8 +2,8 @@
 -- print takes, no `__xN` is among them, and their symbols are numbers of rows. Assumes nothing.
 use Prim.Native.Nat.{ℕ, suc, _≤_}
 use native.Mathlib.Omega.{arith}
-use mathlib.Core.Path.{_≡_, refl, sym, _∙_, ap, ap₂, subst}
-use mathlib.Core.Bool.{Bool, true, false, _&&_}
+use mathlib.Core.Path.{_≡_, refl, sym, _∙_, ap, subst}
+use mathlib.Core.Bool.{Bool, _&&_}
 use mathlib.Core.Option.{some}
 use mathlib.Core.List.{List, [], _∷_, map}
 use lib.ListN.{length}
@@ -103,10 +103,6 @@ unfolding passes within-limits
 limits-of ts h =
     let g = and-left (within-limits ts) (expressions ts) (and-right (leb (length ts) 64) (within-limits ts && expressions ts) h) in
     leb→le (occurrences ts) 1024 (and-left (leb (occurrences ts) 1024) _ g)
-
-roots-few : (ts : List Tree) → T (passes ts) → length ts ≤ 64
-unfolding passes
-roots-few ts h = leb→le (length ts) 64 (and-left (leb (length ts) 64) (within-limits ts && expressions ts) h)
 
 module _ (rows roots : List ℕ) (h : T (laid-out rows roots)) where
   abbrev pub table : Table

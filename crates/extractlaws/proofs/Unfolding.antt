@@ -3,13 +3,13 @@ use Prim.Native.Nat.{ℕ, suc, _≤_}
 use native.Mathlib.Omega.{arith}
 use mathlib.Core.Path.{_≡_, refl, sym, _∙_, ap, subst}
 use mathlib.Core.Bool.{Bool, true, false, cond}
-use mathlib.Core.List.{List, [], _∷_, _++_}
+use mathlib.Core.List.{List, [], _∷_}
 use lib.ListN.{length, take, drop}
 use lib.Seq.{take-at}
 use lib.Dec.{T, ltb, ltb→lt}
 use Rattle.tree.specs.Outcome.{Outcome, ok, refused, by, _>>=_}
 use Rattle.tree.specs.Tree.{Tree}
-use Rattle.tree.specs.Rows.{Table, at, trees, trees-from}
+use Rattle.tree.specs.Rows.{at, trees, trees-from}
 use Rattle.tree.specs.Layout.{table-of, laid-out, table-or-9}
 use Rattle.tree.specs.Tokens.{number-in, all-tokens}
 use Rattle.renaming.proofs.RowNames.{tree-words}

@@ -4,7 +4,7 @@ use lib.ListN.{length}
 use Rattle.extractlaws.proofs.Starting.{start-short}
 use Rattle.extractlaws.proofs.Unfolding.{unfold-tokens, unfold-refused}
 use Rattle.extractlaws.proofs.Flat.{flat-extractable, flat-symbols}
-use Rattle.extract.proofs.Finishing.{is-nine, stops-at-10, words-there, words-long, places-there, places-long, ends-in-rows, ends-refused, never-broken, never-roomless}
+use Rattle.extract.proofs.Ends.{is-nine, stops-at-10, words-there, words-long, places-there, places-long, ends-in-rows, ends-refused, never-broken, never-roomless}
 use borrow.Author.Needs.{needs}
 use Rattle.extract.proofs.extract_flat.Statement.{statement}
 use Rattle.extract.proofs.extract_flat.Tie as tie
