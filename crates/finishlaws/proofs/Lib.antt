@@ -1,1 +1,4 @@
 pub mod Flat
+pub mod Entering
+pub mod Trees
+pub mod Ending
