@@ -86,7 +86,14 @@ pub fn reciprocal(base: &[u64], places: &[u64], first: u64, j: usize, out: &mut 
     }
     let mut work = [0u64; AREA];
     write_quotient(base, place, end, &mut work);
-    let settled = settle(base, places, j + 1, first, &mut work, BESIDES + (end - place));
+    let settled = settle(
+        base,
+        places,
+        j + 1,
+        first,
+        &mut work,
+        BESIDES + (end - place),
+    );
     match settled {
         Settled::Words(n) => {
             if n > out.len() {
