@@ -26,6 +26,7 @@ pub record Ready (ws settled starts places : List ℕ) (k : ℕ) : Type 0 where
   pub there : T (all-there ws places)
   pub few : length ws ≤ 1024
   pub numbers : (length starts - k) + length places ≤ 1024
+  pub short : length settled ≤ 1024
   pub settled-is : settled-words ws places (length starts - k) ws ≡ some settled
   pub starts-are : starts ≡ starts-of settled
 
