@@ -1,21 +1,20 @@
 -- What binding a reciprocal answers and leaves: each way the code ends is a case of the definition. Assumes nothing.
-use Prim.Native.Nat.{ℕ, suc, _+_, _-_, _≤_, _<_}
+use Prim.Native.Nat.{ℕ, _+_, _-_, _≤_, _<_}
 use native.Mathlib.Omega.{arith}
-use mathlib.Core.Path.{_≡_, refl, sym, _∙_, ap, subst}
-use mathlib.Core.Bool.{Bool, true, false, _&&_}
+use mathlib.Core.Path.{_≡_, refl, sym, _∙_, ap}
+use mathlib.Core.Bool.{Bool, true, false}
 use mathlib.Core.Option.{Option, none, some}
-use mathlib.Core.List.{List, [], _∷_, _++_}
+use mathlib.Core.List.{List, _++_}
 use borrow.Author.Tests.{le-leb, lt-leb, lt-ltb, le-ltb}
 use lib.ListN.{length, getD, take, drop, length-drop, length-append}
 use lib.Seq.{length-take-le, take-at}
-use lib.Dec.{leb, ltb}
+use lib.Dec.{ltb}
 use Rattle.tree.specs.Tokens.{run-at, trees-in}
 use Rattle.tokens.specs.Answers.{end-answer}
 use Rattle.tokens.specs.declared.Run.the-variants as run
 use Rattle.words.specs.Words.{some-trees}
 use Rattle.settle.specs.Steps.{settled-words}
 use Rattle.settle.specs.Answers.{Settling, settling-by, forest-there, room-for, settling}
-use Rattle.settle.specs.declared.Settled.{Settled}
 use Rattle.settle.specs.declared.Settled.the-variants as settled
 use Rattle.settle.proofs.Stepping.{Divisor}
 use Rattle.reciprocal.specs.Bindings.{one-over, Binding, written-by, settled-by, settled-reciprocal, binding-by, reciprocal-answer}

@@ -1,11 +1,11 @@
 -- `1 / d` written to the front of an area: two words, then those of d, and the rest as it was. Assumes nothing.
-use Prim.Native.Nat.{ℕ, suc, _+_, _-_, _≤_, _<_}
+use Prim.Native.Nat.{ℕ, suc, _+_, _-_, _≤_}
 use native.Mathlib.Omega.{arith}
 use mathlib.Core.Path.{_≡_, refl, sym, _∙_, ap}
-use mathlib.Core.Bool.{true, false, cond}
+use mathlib.Core.Bool.{cond}
 use mathlib.Core.Option.{Option, none, some}
 use mathlib.Core.List.{List, [], _∷_, _++_, append-nil}
-use lib.ListN.{length, take, drop, set, length-drop, length-append, drop-of-length-le}
+use lib.ListN.{length, take, drop, set, length-set, length-drop, drop-of-length-le}
 use lib.Dec.{leb}
 use lib.Seq.{take-all, length-take-le}
 use borrow.Rule.Slice.PartMut.{putMid}
@@ -23,24 +23,25 @@ rest-back w x u = ap (λ (l : List ℕ). take u w ++ (x ++ l)) (drop-of-length-l
     past : length (drop u w) ≤ length w - u
     past = omega (arith, length-drop u w)
 
-abbrev pub begun : List ℕ → List ℕ
-begun old = set (set old 0 134) 1 129
+-- two words written, the rest lent on, and what comes back
+abbrev begun : List ℕ → ℕ → ℕ → List ℕ
+begun old v w = set (set old 0 v) 1 w
 
-abbrev pub lent : List ℕ → List ℕ
-lent old = take (length (begun old) - 2) (drop 2 (begun old))
+abbrev lent : List ℕ → ℕ → ℕ → List ℕ
+lent old v w = take (length (begun old v w) - 2) (drop 2 (begun old v w))
 
-abbrev pub ended : List ℕ → List ℕ → List ℕ
-ended old x = putMid 2 (length (begun old) - 2) (begun old) x
+abbrev ended : List ℕ → ℕ → ℕ → List ℕ → List ℕ
+ended old v w x = putMid 2 (length (begun old v w) - 2) (begun old v w) x
 
-lent-is : (old : List ℕ) → 2 ≤ length old → lent old ≡ drop 2 old
-lent-is [] h = absurd (omega arith)
-lent-is (a ∷ []) h = absurd (omega arith)
-lent-is (a ∷ (b ∷ l)) h = rest-is (134 ∷ (129 ∷ l)) 2
+lent-is : (old : List ℕ) (v w : ℕ) → 2 ≤ length old → lent old v w ≡ drop 2 old
+lent-is [] v w h = absurd (omega arith)
+lent-is (a ∷ []) v w h = absurd (omega arith)
+lent-is (a ∷ (b ∷ l)) v w h = rest-is (v ∷ (w ∷ l)) 2
 
-ended-is : (old x : List ℕ) → 2 ≤ length old → ended old x ≡ 134 ∷ (129 ∷ x)
-ended-is [] x h = absurd (omega arith)
-ended-is (a ∷ []) x h = absurd (omega arith)
-ended-is (a ∷ (b ∷ l)) x h = rest-back (134 ∷ (129 ∷ l)) x 2
+ended-is : (old : List ℕ) (v w : ℕ) (x : List ℕ) → 2 ≤ length old → ended old v w x ≡ v ∷ (w ∷ x)
+ended-is [] v w x h = absurd (omega arith)
+ended-is (a ∷ []) v w x h = absurd (omega arith)
+ended-is (a ∷ (b ∷ l)) v w x h = rest-back (v ∷ (w ∷ l)) x 2
 
 after-two : (n : ℕ) (old : List ℕ) → 2 ≤ length old → drop n (drop 2 old) ≡ drop (2 + n) old
 after-two n [] h = absurd (omega arith)
@@ -50,28 +51,37 @@ after-two n (a ∷ (b ∷ l)) h =
     sym (ap (λ (k : ℕ). drop k (a ∷ (b ∷ l))) i)
 
 module _ (base old : List ℕ) (place end : ℕ) (after : place ≤ end) (within : end ≤ length base) (room : 2 + (end - place) ≤ length old) where
-  abbrev pub part : List ℕ
+  abbrev part : List ℕ
   part = take (end - place) (drop place base)
 
-  pub part-long : length part ≡ end - place
+  part-long : length part ≡ end - place
   part-long = length-take-le (end - place) (drop place base) (omega (arith, length-drop place base, after, within))
 
-  pub lent-long : length (lent old) ≡ length old - 2
-  lent-long = ap length (lent-is old (omega (arith, room))) ∙ length-drop 2 old
+  -- whatever the two words are, there is room
+  pub one-begun : (v : ℕ) → 2 ≤ length (set old 0 v)
+  one-begun v = omega (arith, length-set old 0 v, room)
 
-  pub part-fits : length part ≤ length (lent old)
-  part-fits = omega (arith, part-long, lent-long, room)
+  module _ (v w : ℕ) where
+    pub two-begun : 2 ≤ length (begun old v w)
+    two-begun = omega (arith, length-set (set old 0 v) 1 w, one-begun v)
 
-  pub ended-long : (x : List ℕ) → length x ≡ length (lent old) → length (ended old x) ≡ length old
-  ended-long x e = ap length (ended-is old x (omega (arith, room))) ∙ omega (arith, e, lent-long, room)
+    lent-long : length (lent old v w) ≡ length old - 2
+    lent-long = ap length (lent-is old v w (omega (arith, room))) ∙ length-drop 2 old
 
-  pub quotient-written : (x : List ℕ) → x ≡ part ++ drop (length part) (lent old) → ended old x ≡ one-over base place (end - place) ++ drop (2 + (end - place)) old
+    pub part-fits : length part ≤ length (lent old v w)
+    part-fits = omega (arith, part-long, lent-long, room)
+
+    pub ended-long : (x : List ℕ) → length x ≡ length (lent old v w) → length (ended old v w x) ≡ length old
+    ended-long x e = ap length (ended-is old v w x (omega (arith, room))) ∙ omega (arith, e, lent-long, room)
+
+  pub quotient-written :
+      (x : List ℕ) → x ≡ part ++ drop (length part) (lent old 134 129) → ended old 134 129 x ≡ one-over base place (end - place) ++ drop (2 + (end - place)) old
   unfolding one-over
   quotient-written x e =
-      ended-is old x (omega (arith, room))
+      ended-is old 134 129 x (omega (arith, room))
       ∙ ap (λ (l : List ℕ). 134 ∷ (129 ∷ l))
       (e
-      ∙ (ap (λ (l : List ℕ). part ++ drop (length part) l) (lent-is old (omega (arith, room)))
+      ∙ (ap (λ (l : List ℕ). part ++ drop (length part) l) (lent-is old 134 129 (omega (arith, room)))
       ∙ (ap (λ (k : ℕ). part ++ drop k (drop 2 old)) part-long ∙ ap (λ (l : List ℕ). part ++ l) (after-two (end - place) old (omega (arith, room))))))
 
 -- ---- one tree

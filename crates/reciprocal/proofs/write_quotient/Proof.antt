@@ -1,7 +1,5 @@
--- `reciprocal::write_quotient` meets its contract. Assumes nothing.
-use native.Mathlib.Omega.{arith}
-use lib.ListN.{length, set, length-set}
-use Rattle.reciprocal.proofs.Quotient.{part-fits, ended-long, quotient-written}
+-- `reciprocal::write_quotient` meets its contract: two words are written, and the divisor is copied after them. Assumes nothing.
+use Rattle.reciprocal.proofs.Quotient.{one-begun, two-begun, part-fits, ended-long, quotient-written}
 use borrow.Author.Needs.{needs}
 use Rattle.reciprocal.proofs.write_quotient.Statement.{statement}
 use Rattle.reciprocal.proofs.write_quotient.Tie as tie
@@ -11,14 +9,14 @@ write-quotient-spec =
     tie.close
     (tie.spec
     (λ c. search needs)
-    (λ c. omega (arith, length-set (c .before .before .args .work .now) 0 134, c .before .before .pre .1))
+    (λ c. one-begun (c .before .before .args .base .now) (c .before .before .args .work .now) (c .before .before .args .place) (c .before .before .args .end) (c .before .before .pre .0 .0) (c .before .before .pre .0 .1) (c .before .before .pre .1) _)
     (λ c. search needs)
     (λ c. search needs)
     (λ c. search needs)
     (λ c. search needs)
-    (λ c. omega (arith, length-set (set (c .before .before .before .args .work .now) 0 134) 1 129, length-set (c .before .before .before .args .work .now) 0 134, c .before .before .before .pre .1))
-    (λ c. omega (arith, length-set (set (c .before .before .before .args .work .now) 0 134) 1 129, length-set (c .before .before .before .args .work .now) 0 134, c .before .before .before .pre .1))
+    (λ c. two-begun (c .before .before .before .args .base .now) (c .before .before .before .args .work .now) (c .before .before .before .args .place) (c .before .before .before .args .end) (c .before .before .before .pre .0 .0) (c .before .before .before .pre .0 .1) (c .before .before .before .pre .1) _ _)
+    (λ c. two-begun (c .before .before .before .args .base .now) (c .before .before .before .args .work .now) (c .before .before .before .args .place) (c .before .before .before .args .end) (c .before .before .before .pre .0 .0) (c .before .before .before .pre .0 .1) (c .before .before .before .pre .1) _ _)
     (λ c. search needs)
-    (λ c κs. part-fits (c .before .before .before .before .args .base .now) (c .before .before .before .before .args .work .now) (c .before .before .before .before .args .place) (c .before .before .before .before .args .end) (c .before .before .before .before .pre .0 .0) (c .before .before .before .before .pre .0 .1) (c .before .before .before .before .pre .1))
-    (λ c. ended-long (c .before .before .before .before .before .before .before .args .base .now) (c .before .before .before .before .before .before .before .args .work .now) (c .before .before .before .before .before .before .before .args .place) (c .before .before .before .before .before .before .before .args .end) (c .before .before .before .before .before .before .before .pre .0 .0) (c .before .before .before .before .before .before .before .pre .0 .1) (c .before .before .before .before .before .before .before .pre .1) (c .before .before .copy .last .1 .0) (c .before .before .copy .kept .1 .0))
+    (λ c κs. part-fits (c .before .before .before .before .args .base .now) (c .before .before .before .before .args .work .now) (c .before .before .before .before .args .place) (c .before .before .before .before .args .end) (c .before .before .before .before .pre .0 .0) (c .before .before .before .before .pre .0 .1) (c .before .before .before .before .pre .1) _ _)
+    (λ c. ended-long (c .before .before .before .before .before .before .before .args .base .now) (c .before .before .before .before .before .before .before .args .work .now) (c .before .before .before .before .before .before .before .args .place) (c .before .before .before .before .before .before .before .args .end) (c .before .before .before .before .before .before .before .pre .0 .0) (c .before .before .before .before .before .before .before .pre .0 .1) (c .before .before .before .before .before .before .before .pre .1) _ _ (c .before .before .copy .last .1 .0) (c .before .before .copy .kept .1 .0))
     (λ c. quotient-written (c .before .before .before .before .before .before .before .args .base .now) (c .before .before .before .before .before .before .before .args .work .now) (c .before .before .before .before .before .before .before .args .place) (c .before .before .before .before .before .before .before .args .end) (c .before .before .before .before .before .before .before .pre .0 .0) (c .before .before .before .before .before .before .before .pre .0 .1) (c .before .before .before .before .before .before .before .pre .1) _ (c .before .before .copy .ensures)))
