@@ -1,5 +1,5 @@
 -- Words marked one after another: what is so far, with the words to come, is the whole. Assumes nothing.
-use Prim.Native.Nat.{ℕ, suc, _+_, _*_, _/_, _%_, _≤_, _<_}
+use Prim.Native.Nat.{ℕ, suc, _+_, _%_, _≤_, _<_}
 use native.Mathlib.Omega.{arith}
 use mathlib.Core.Path.{_≡_, refl, sym, _∙_, ap}
 use mathlib.Core.Bool.{Bool, true, false, _&&_, cond}
@@ -14,9 +14,13 @@ use Rattle.needs.specs.Marks.{number-of, with-need, with-needs, place-in
 
 -- ---- one word
 
-pub other-word : (w row : ℕ) (table : List ℕ) → (w % 192 ≡ 64 → ⊥) → (true ≡ place-inside w row (length table)) × (table ≡ with-need w row table)
-unfolding place-inside with-need
-other-word w row table h = (rw (ne-eqb (w % 192) 64 h) refl, rw (ne-eqb (w % 192) 64 h) refl)
+pub other-inside : (w row words : ℕ) → (w % 192 ≡ 64 → ⊥) → true ≡ place-inside w row words
+unfolding place-inside
+other-inside w row words h = rw (ne-eqb (w % 192) 64 h) refl
+
+pub other-kept : (w row : ℕ) (table : List ℕ) → (w % 192 ≡ 64 → ⊥) → table ≡ with-need w row table
+unfolding with-need
+other-kept w row table h = rw (ne-eqb (w % 192) 64 h) refl
 
 pub name-inside : (w row words : ℕ) → w % 192 ≡ 64 → inside words row (number-of w) ≡ place-inside w row words
 unfolding place-inside
@@ -52,6 +56,14 @@ pub inside-none : (row words : ℕ) → all-inside [] row words ≡ true
 unfolding all-inside
 inside-none row words = refl
 
+pub and-false : (b : Bool) → (b && false) ≡ false
+and-false true = refl
+and-false false = refl
+
+and-true : (b : Bool) → (b && true) ≡ b
+and-true true = refl
+and-true false = refl
+
 module _ (ws : List ℕ) (row : ℕ) (old : List ℕ) where
   pub record State (table : List ℕ) (all : Bool) (i : ℕ) : Type 0 where
     pub within : i ≤ length ws
@@ -62,16 +74,9 @@ module _ (ws : List ℕ) (row : ℕ) (old : List ℕ) where
   pub starts : State old true 0
   starts = record { within = omega arith; long = refl; answer = refl; marked = refl }
 
-  and-false : (b : Bool) → (b && false) ≡ false
-  and-false true = refl
-  and-false false = refl
-
   module _ {table : List ℕ} {all : Bool} {i : ℕ} (state : State table all i) (here : i < length ws) where
     abbrev w : ℕ
     w = getD ws i 0
-
-    abbrev rest : List ℕ
-    rest = drop (suc i) ws
 
     after : drop i ws ≡ w ∷ drop (i + 1) ws
     after = let z : suc i ≡ i + 1 = omega arith in drop-cons ws i 0 here ∙ ap (λ (k : ℕ). w ∷ drop k ws) z
@@ -109,12 +114,9 @@ module _ (ws : List ℕ) (row : ℕ) (old : List ℕ) where
           marked = marked-now new e;
         }
 
-  and-true : (b : Bool) → (b && true) ≡ b
-  and-true true = refl
-  and-true false = refl
-
   pub ends : {table : List ℕ} {all : Bool} {i : ℕ} → State table all i → length ws ≤ i → (all ≡ all-inside ws row (length old)) × (table ≡ with-needs ws row old)
   ends {table} {all} {i} state h =
-      let none : drop i ws ≡ [] = drop-of-length-le ws h in
-      (sym (and-true all) ∙ (ap (λ (b : Bool). all && b) (sym (ap (λ (l : List ℕ). all-inside l row (length old)) none ∙ inside-none row (length old))) ∙ state .answer),
-      sym (ap (λ (l : List ℕ). with-needs l row table) none ∙ needs-none row table) ∙ state .marked)
+      let none : drop i ws ≡ [] = drop-of-length-le ws h in (
+        sym (and-true all) ∙ (ap (λ (b : Bool). all && b) (sym (ap (λ (l : List ℕ). all-inside l row (length old)) none ∙ inside-none row (length old))) ∙ state .answer),
+        sym (ap (λ (l : List ℕ). with-needs l row table) none ∙ needs-none row table) ∙ state .marked,
+      )
