@@ -5,3 +5,7 @@ pub mod Ending
 pub mod Putting
 pub mod Rows
 pub mod Taking
+pub mod Marking
+pub mod Needing
+pub mod Ordering
+pub mod Deciding
