@@ -7,7 +7,7 @@ ghost use lib.ListN.{length, getD, take, drop};
 ghost use Rattle.needs.specs.Marks.{with-needs};
 ghost use Rattle.finishlaws.specs.Entries.{final-run, entry-row, entry-tree, entry, entries};
 ghost use Rattle.finishlaws.specs.Final.{final-rows};
-ghost use Rattle.finishlaws.specs.Ready.{There, Ready, Stands, marks, binding-run, final-order, In-order, Positions, lent-rows};
+ghost use Rattle.finishlaws.specs.Ready.{There, Settled-front, Ready, Stands, marks, binding-run, final-order, In-order, Positions, lent-rows};
 ghost use Rattle.finish.specs.Answers.{finish-outcome, finishing};
 use needs::mark_needs;
 use order::Ordered;
@@ -21,7 +21,6 @@ use tokens::Run;
 use tokens::Trees;
 use tokens::count_trees;
 use tokens::end_of;
-use treelist::TreeList;
 use treelist::list_trees;
 
 // The most words, and the most bindings.
@@ -362,7 +361,29 @@ fn finish_settled(
     }
 }
 
-// Settles the trees from before and lists where each begins. That they can't be settled or listed never comes up.
+// Settles the trees from before, in a copy of their words. That they can't be settled never comes up.
+fn settle_all(
+    tokens: &[u64],
+    results: usize,
+    trees: usize,
+    places: &[u64],
+    settled: &mut [u64],
+) -> usize
+    requires { ⌜ There (now tokens) results trees (now places) ⌝ }
+    requires { ⌜ length (now settled) ≡ 1024 ⌝ }
+    ensures { λ r. ⌜ Settled-front (now (tokens .entry)) results trees (now (places .entry)) (now (settled .exit)) r ⌝ }
+{
+    put(tokens, 0, settled);
+    let first = (trees - results) as u64;
+    let done = settle(tokens, places, 0, first, settled, tokens.len());
+    match done {
+        Settled::Words(n) => n,
+        Settled::Broken => 0,
+        Settled::NoRoom => 0,
+    }
+}
+
+// Settles the trees from before, and lists where each begins.
 fn finish_there(
     tokens: &[u64],
     results: usize,
@@ -376,15 +397,9 @@ fn finish_there(
 {
     let mut settled = [0u64; MOST];
     let mut starts = [0u64; MOST];
-    put(tokens, 0, &mut settled);
-    let first = (trees - results) as u64;
-    let Settled::Words(n) = settle(tokens, places, 0, first, &mut settled, tokens.len()) else {
-        return Finished::Broken;
-    };
-    let TreeList::Count(m) = list_trees(&settled[..n], &mut starts) else {
-        return Finished::Broken;
-    };
-    finish_settled(tokens, &settled[..n], &starts[..m], places, results, table)
+    let n = settle_all(tokens, results, trees, places, &mut settled);
+    list_trees(&settled[..n], &mut starts);
+    finish_settled(tokens, &settled[..n], &starts[..trees], places, results, table)
 }
 
 // The words of all trees are `results` results, then the bindings by number from 0 on; the divisors to bind stand at the places, in order. The answer's rows stand

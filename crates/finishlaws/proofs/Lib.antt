@@ -9,3 +9,5 @@ pub mod Marking
 pub mod Needing
 pub mod Ordering
 pub mod Deciding
+pub mod Writing
+pub mod Starting

@@ -38,6 +38,12 @@ pub record There (ws : List ℕ) (k m : ℕ) (places : List ℕ) : Type 0 where
   pub few : length ws ≤ 1024
   pub numbers : (m - k) + length places ≤ 1024
 
+-- the settled words of all trees stand in front
+pub record Settled-front (ws : List ℕ) (k m : ℕ) (places out : List ℕ) (n : ℕ) : Type 0 where
+  pub settled-is : settled-words ws places (m - k) ws ≡ some (take n out)
+  pub inside : n ≤ length out
+  pub short : n ≤ 1024
+
 -- a run of words stands in front
 pub record Stands (run out : List ℕ) (n : ℕ) : Type 0 where
   pub many : n ≡ length run
