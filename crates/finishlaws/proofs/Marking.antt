@@ -43,6 +43,26 @@ module _ (f : ℕ → List ℕ) where
   marks-after zero t j i h = refl
   marks-after (suc n) t j i h = other-rows (f n) n (marks f n t) j i (λ e. omega arith) ∙ marks-after n t j i (omega arith)
 
+  -- so far
+  pub record Marked (old : List ℕ) (count : ℕ) (bits : List ℕ) (j : ℕ) : Type 0 where
+    pub most : j ≤ count
+    pub marked : bits ≡ marks f j old
+    pub long : length bits ≡ length old
+
+  pub marked-begins : (old : List ℕ) (count : ℕ) → Marked old count old 0
+  marked-begins old count = record { most = omega arith; marked = sym (marks-none old); long = refl }
+
+  pub marked-turns : {old : List ℕ} {count : ℕ} {bits : List ℕ} {j : ℕ} → Marked old count bits j → j < count → (new : List ℕ) → new ≡ with-needs (f j) j bits → Marked old count new (j + 1)
+  marked-turns {old} {count} {bits} {j} s h new e =
+      record {
+        most = omega arith;
+        marked = e ∙ (ap (with-needs (f j) j) (s .marked) ∙ sym (marks-more j old));
+        long = ap length e ∙ (needs-length (f j) j bits ∙ s .long);
+      }
+
+  pub marked-ends : {old : List ℕ} {count : ℕ} {bits : List ℕ} {j : ℕ} → Marked old count bits j → count ≤ j → bits ≡ marks f count old
+  marked-ends {old} {count} {bits} {j} s h = s .marked ∙ ap (λ (n : ℕ). marks f n old) (let z : j ≡ count = omega (arith, s .most) in z)
+
   -- from a table that is all no
   module _ (t : List ℕ) (long : length t ≡ 16384) (none : (j i : ℕ) → yes t j i ≡ false) where
     pub marks-yes : (n : ℕ) → n ≤ 1024 → (j i : ℕ) → j < n → i < 1024 → yes (marks f n t) j i ≡ holds-name (f j) i

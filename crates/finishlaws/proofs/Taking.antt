@@ -3,15 +3,17 @@
 use Prim.Native.Nat.{ℕ, zero, suc, _+_, _-_, _≤_, _<_}
 use native.Mathlib.Omega.{arith}
 use mathlib.Core.Path.{_≡_, refl, sym, _∙_, ap, subst}
-use mathlib.Core.Option.{Option, none, some}
+use mathlib.Core.Bool.{Bool, true, false}
+use mathlib.Core.Option.{some}
 use mathlib.Core.List.{List, [], _∷_, _++_, map, append-nil}
-use lib.Dec.{T}
+use borrow.Author.Tests.{ltb-true, ltb-false}
+use lib.Dec.{T, ltb}
 use lib.ListN.{length, getD, take, drop, length-append, length-drop}
 use lib.Seq.{take-append-seam, take-at, length-take-le}
 use Rattle.tree.specs.Tree.{Tree, Op, nil}
 use Rattle.tree.specs.Facts.{size}
 use Rattle.tree.specs.Tokens.{tokens, all-tokens, read, numbered, run-at, trees-in}
-use Rattle.tree.proofs.TokenLaws.{complete-length}
+use Rattle.tree.proofs.TokenLaws.{complete-length, complete-within}
 use Rattle.tree.proofs.TokenCode.{coded, all-coded, unnumbered, tokens-length, tokens-complete}
 use Rattle.tokens.specs.Answers.{end-answer}
 use Rattle.tokens.specs.declared.Run.{Run}
@@ -24,7 +26,7 @@ use Rattle.reciprocal.specs.Bindings.{Binding, reciprocal-answer}
 use Rattle.reciprocal.specs.declared.Bound.{Bound}
 use Rattle.reciprocal.specs.declared.Bound.the-variants as bound
 use Rattle.reciprocal.proofs.There.{tested-there}
-use Rattle.reciprocal.proofs.Made.{made, made-words, made-is, bound-always}
+use Rattle.reciprocal.proofs.Made.{made, made-words, made-is, made-within, bound-always}
 use Rattle.treelist.specs.Starts.{starts-of}
 use Rattle.treelist.proofs.Begins.{tree-number, start-number, as-many, ends-within, run-there, words-there}
 use Rattle.finishlaws.specs.Final.{final-trees}
@@ -53,6 +55,9 @@ module _ {ws settled starts places : List ℕ} {k : ℕ} (ready : Ready ws settl
 
   abbrev S : List Tree
   S = settled-trees k m places ws (ready .complete) there-is
+
+  pub trees-few : length starts ≤ 1024
+  trees-few = omega (arith, complete-within ws m (ready .complete), ready .few)
 
   settled-are-words : settled ≡ all-tokens unnumbered S
   settled-are-words = some-same settled (all-tokens unnumbered S) (sym (ready .settled-is) ∙ settled-are ws places (m - k) ws m (ready .complete) there-is)
@@ -127,20 +132,33 @@ module _ {ws settled starts places : List ℕ} {k : ℕ} (ready : Ready ws settl
 
   -- ---- reciprocals
 
+  made-run : (j : ℕ) → j < length places → made-words ws places (m - k) j ≡ final-run k places ws (m + j)
+  unfolding final-run all-tokens
+  made-run j h =
+      append-nil (tokens unnumbered (made ws places (m - k) j))
+      ∙ ap (tokens unnumbered) (sym (final-after k m places ws (ready .complete) there-is j ∙ made-is ws places (m - k) j h (Op 0 nil)))
+
+  -- no tree has more words
+  pub run-short : (i : ℕ) → i < length starts + length places → length (final-run k places ws i) ≤ 1026
+  run-short i h = go (ltb i (length starts)) refl
+    where
+      go : (b : Bool) → ltb i (length starts) ≡ b → length (final-run k places ws i) ≤ 1026
+      go true e = omega (arith, run-within i (ltb-true i (length starts) e), ready .short)
+      go false e =
+          let past = ltb-false i (length starts) e in
+          let j = i - length starts in
+          let z : m + j ≡ i = omega arith in
+          let below : j < length places = omega arith in
+          omega (arith, made-within ws places (m - k) j below there-is, ap length (made-run j below), ap (λ (x : ℕ). length (final-run k places ws x)) z, ready .few)
+
   module _ (j : ℕ) (h : j < length places) (old : List ℕ) (lent : 1026 ≤ length old) where
     abbrev answer : Binding
     answer = reciprocal-answer ws places (m - k) j old
 
-    made-run : made-words ws places (m - k) j ≡ final-run k places ws (m + j)
-    unfolding final-run all-tokens
-    made-run =
-        append-nil (tokens unnumbered (made ws places (m - k) j))
-        ∙ ap (tokens unnumbered) (sym (final-after k m places ws (ready .complete) there-is j ∙ made-is ws places (m - k) j h (Op 0 nil)))
-
     answer-is : answer ≡ record { answer = bound.Words (length (final-run k places ws (m + j))); out = final-run k places ws (m + j) ++ drop (length (final-run k places ws (m + j))) old }
     answer-is =
         bound-always ws places (m - k) j h there-is (omega (arith, ready .few)) (omega (arith, ready .numbers)) (omega (arith, ready .numbers)) old (omega (arith, ready .few))
-        ∙ ap (λ (r : List ℕ). record { answer = bound.Words (length r); out = r ++ drop (length r) old }) made-run
+        ∙ ap (λ (r : List ℕ). record { answer = bound.Words (length r); out = r ++ drop (length r) old }) (made-run j h)
 
     pub reciprocal-stands :
         (n : ℕ) (out : List ℕ) → bound.Words n ≡ reciprocal-answer ws places (m - k) j old .answer → out ≡ reciprocal-answer ws places (m - k) j old .out

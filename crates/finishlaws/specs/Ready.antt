@@ -71,6 +71,7 @@ final-order k places ws count = positions-taken (table-of (marks (binding-run k 
 pub record In-order (order : List ℕ) (count : ℕ) (old new : List ℕ) (answer : Ordered) : Type 0 where
   pub answer-is : answer ≡ order-answer true count order
   pub taken-is : new ≡ order-written true order old
+  pub inside : count ≤ length new
 
 -- each is the position of a binding
 pub record Positions (taken : List ℕ) (count : ℕ) : Type 0 where

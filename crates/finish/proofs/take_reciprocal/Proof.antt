@@ -1,66 +1,23 @@
+-- `finish::take_reciprocal` meets its contract. Assumes nothing.
+use native.Mathlib.Omega.{arith}
+use mathlib.Core.Path.{_≡_, sym, _∙_}
+use Rattle.finishlaws.proofs.Taking.{reciprocal-stands, reciprocal-there}
 use borrow.Author.Needs.{needs}
 use Rattle.finish.proofs.take_reciprocal.Statement.{statement}
 use Rattle.finish.proofs.take_reciprocal.Tie as tie
-use Rattle.finish.proofs.take_reciprocal.Reads as reads
-use Rattle.finish.proofs.take_reciprocal.Lts as lts
-use Rattle.reciprocal.proofs.reciprocal.Reads as reciprocal-reads
-
--- src/lib.rt:107:18
-sub-first : tie.Need-sub-first
-sub-first c = search needs
-
--- src/lib.rt:108:9
-reciprocal-requires : tie.Need-reciprocal-requires
-reciprocal-requires c κs = search needs
-
--- src/lib.rt:110:22
-enum-known-bound : tie.Need-enum-known-bound
-enum-known-bound c = search needs
-
--- src/lib.rt:111:26
-enum-told : tie.Need-enum-told
-enum-told c = search needs
-
--- src/lib.rt:112:26
-enum-told-2 : tie.Need-enum-told-2
-enum-told-2 c = search needs
-
--- src/lib.rt:94:1
-same-length : tie.Need-same-length
-same-length c = search needs
-
--- src/lib.rt:94:1
-returns : tie.Need-returns
-returns c = ?
-
--- src/lib.rt:94:1
-same-length-2 : tie.Need-same-length-2
-same-length-2 c = search needs
-
--- src/lib.rt:94:1
-returns-2 : tie.Need-returns-2
-returns-2 c = ?
-
--- src/lib.rt:94:1
-same-length-3 : tie.Need-same-length-3
-same-length-3 c = search needs
-
--- src/lib.rt:94:1
-returns-3 : tie.Need-returns-3
-returns-3 c = ?
 
 pub take-reciprocal-spec : {M : Type 1} → statement M
 take-reciprocal-spec =
     tie.close
     (tie.spec
-    sub-first
-    reciprocal-requires
-    enum-known-bound
-    enum-told
-    enum-told-2
-    same-length
-    returns
-    same-length-2
-    returns-2
-    same-length-3
-    returns-3)
+    (λ c. c .before .before .before .before .before .pre .0 .enough)
+    (λ c κs. search needs)
+    (λ c. search needs)
+    (λ c. search needs)
+    (λ c. search needs)
+    (λ c. search needs)
+    (λ c. reciprocal-stands (c .before .before .before .before .before .before .before .before .before .before .before .before .pre .0) (c .before .before .before .before .before .before .before .before .before .before .before .before .args .j) (c .before .before .before .before .before .before .before .before .before .before .before .before .pre .1 .0) (c .before .before .before .before .before .before .before .before .before .before .before .before .args .tree .now) (c .before .before .before .before .before .before .before .before .before .before .before .before .pre .1 .1) (c .before .bound .given .0 .0) _ (sym (c .before .bound .given .1) ∙ c .before .before .before .before .before .reciprocal .ensures .0) (c .before .before .before .before .before .reciprocal .ensures .1))
+    (λ c. search needs)
+    (λ c. absurd (reciprocal-there (c .before .before .before .before .before .before .before .before .before .before .before .pre .0) (c .before .before .before .before .before .before .before .before .before .before .before .args .j) (c .before .before .before .before .before .before .before .before .before .before .before .pre .1 .0) (c .before .before .before .before .before .before .before .before .before .before .before .args .tree .now) (c .before .before .before .before .before .before .before .before .before .before .before .pre .1 .1) (c .before .before .before .before .reciprocal .result) (c .before .before .before .before .reciprocal .ensures .0) .0 (c .enum-told .given .1)))
+    (λ c. search needs)
+    (λ c. absurd (reciprocal-there (c .before .before .before .before .before .before .before .before .before .before .before .pre .0) (c .before .before .before .before .before .before .before .before .before .before .before .args .j) (c .before .before .before .before .before .before .before .before .before .before .before .pre .1 .0) (c .before .before .before .before .before .before .before .before .before .before .before .args .tree .now) (c .before .before .before .before .before .before .before .before .before .before .before .pre .1 .1) (c .before .before .before .before .reciprocal .result) (c .before .before .before .before .reciprocal .ensures .0) .1 (c .enum-told2 .given .1))))

@@ -1,82 +1,28 @@
+-- `finish::take_settled` meets its contract. Assumes nothing.
+use native.Mathlib.Omega.{arith}
+use Prim.Native.Nat.{_+_, _≤_}
+use mathlib.Core.Path.{_≡_, sym, _∙_, ap}
+use lib.ListN.{length, getD}
+use Rattle.finishlaws.proofs.Taking.{never-broken, end-is, part-is, run-within, settled-stands}
 use borrow.Author.Needs.{needs}
 use Rattle.finish.proofs.take_settled.Statement.{statement}
 use Rattle.finish.proofs.take_settled.Tie as tie
-use Rattle.finish.proofs.take_settled.Reads as reads
-use Rattle.finish.proofs.take_settled.Lts as lts
-use Rattle.finish.proofs.put.Reads as put-reads
-use Rattle.tokens.proofs.end_of.Reads as end-of-reads
-
--- src/lib.rt:85:14
-mul-at : tie.Need-mul-at
-mul-at c = search needs
-
--- src/lib.rt:85:14
-shared-slice-read-at : tie.Need-shared-slice-read-at
-shared-slice-read-at c = search needs
-
--- src/lib.rt:86:26
-end-of-requires : tie.Need-end-of-requires
-end-of-requires c κs = search needs
-
--- src/lib.rt:86:19
-enum-known-end : tie.Need-enum-known-end
-enum-known-end c = search needs
-
--- src/lib.rt:87:9
-enum-told : tie.Need-enum-told
-enum-told c = search needs
-
--- src/lib.rt:87:9
-returns : tie.Need-returns
-returns c = ?
-
--- src/lib.rt:89:9
-mul-put : tie.Need-mul-put
-mul-put c = ?
-
--- src/lib.rt:89:9
-sub-put : tie.Need-sub-put
-sub-put c = ?
-
--- src/lib.rt:89:9
-part-put-start : tie.Need-part-put-start
-part-put-start c = ?
-
--- src/lib.rt:89:9
-part-put-end : tie.Need-part-put-end
-part-put-end c = ?
-
--- src/lib.rt:89:5
-put-requires : tie.Need-put-requires
-put-requires c κs = ?
-
--- src/lib.rt:90:5
-sub-result : tie.Need-sub-result
-sub-result c = ?
-
--- src/lib.rt:72:1
-same-length : tie.Need-same-length
-same-length c = search needs
-
--- src/lib.rt:72:1
-returns-2 : tie.Need-returns-2
-returns-2 c = ?
 
 pub take-settled-spec : {M : Type 1} → statement M
 take-settled-spec =
     tie.close
     (tie.spec
-    mul-at
-    shared-slice-read-at
-    end-of-requires
-    enum-known-end
-    enum-told
-    returns
-    mul-put
-    sub-put
-    part-put-start
-    part-put-end
-    put-requires
-    sub-result
-    same-length
-    returns-2)
+    (λ c. search needs)
+    (λ c. search needs)
+    (λ c κs. search needs)
+    (λ c. search needs)
+    (λ c. search needs)
+    (λ c. absurd (never-broken (c .before .before .before .before .before .before .before .before .before .pre .0) (c .before .before .before .before .before .before .before .before .before .args .i) (c .before .before .before .before .before .before .before .before .before .pre .1 .0) (sym (c .enum-told .given .1) ∙ c .before .before .end-of .ensures)))
+    (λ c. omega (arith, end-is (c .before .before .before .before .before .before .before .before .before .before .pre .0) (c .before .before .before .before .before .before .before .before .before .before .args .i) (c .before .before .before .before .before .before .before .before .before .before .pre .1 .0) (c .before .end .given .0 .0) (sym (c .before .end .given .1) ∙ c .before .before .before .end-of .ensures), run-within (c .before .before .before .before .before .before .before .before .before .before .pre .0) (c .before .before .before .before .before .before .before .before .before .before .args .i) (c .before .before .before .before .before .before .before .before .before .before .pre .1 .0), c .before .before .before .before .before .before .before .before .before .before .pre .0 .short))
+    (λ c. omega (arith, end-is (c .before .before .before .before .before .before .before .before .before .before .pre .0) (c .before .before .before .before .before .before .before .before .before .before .args .i) (c .before .before .before .before .before .before .before .before .before .before .pre .1 .0) (c .before .end .given .0 .0) (sym (c .before .end .given .1) ∙ c .before .before .before .end-of .ensures)))
+    (λ c. omega (arith, end-is (c .before .before .before .before .before .before .before .before .before .before .pre .0) (c .before .before .before .before .before .before .before .before .before .before .args .i) (c .before .before .before .before .before .before .before .before .before .before .pre .1 .0) (c .before .end .given .0 .0) (sym (c .before .end .given .1) ∙ c .before .before .before .end-of .ensures)))
+    (λ c. omega (arith, end-is (c .before .before .before .before .before .before .before .before .before .before .pre .0) (c .before .before .before .before .before .before .before .before .before .before .args .i) (c .before .before .before .before .before .before .before .before .before .before .pre .1 .0) (c .before .end .given .0 .0) (sym (c .before .end .given .1) ∙ c .before .before .before .end-of .ensures), run-within (c .before .before .before .before .before .before .before .before .before .before .pre .0) (c .before .before .before .before .before .before .before .before .before .before .args .i) (c .before .before .before .before .before .before .before .before .before .before .pre .1 .0)))
+    (λ c κs. let e = end-is (c .before .before .before .before .before .before .before .before .before .before .before .before .pre .0) (c .before .before .before .before .before .before .before .before .before .before .before .before .args .i) (c .before .before .before .before .before .before .before .before .before .before .before .before .pre .1 .0) (c .before .before .before .end .given .0 .0) (sym (c .before .before .before .end .given .1) ∙ c .before .before .before .before .before .end-of .ensures) in omega (arith, ap length (part-is (c .before .before .before .before .before .before .before .before .before .before .before .before .pre .0) (c .before .before .before .before .before .before .before .before .before .before .before .before .args .i) (c .before .before .before .before .before .before .before .before .before .before .before .before .pre .1 .0) (c .before .before .before .end .given .0 .0) e), run-within (c .before .before .before .before .before .before .before .before .before .before .before .before .pre .0) (c .before .before .before .before .before .before .before .before .before .before .before .before .args .i) (c .before .before .before .before .before .before .before .before .before .before .before .before .pre .1 .0), c .before .before .before .before .before .before .before .before .before .before .before .before .pre .0 .short, c .before .before .before .before .before .before .before .before .before .before .before .before .pre .1 .1))
+    (λ c. omega (arith, end-is (c .before .before .before .before .before .before .before .before .before .before .before .before .before .before .before .pre .0) (c .before .before .before .before .before .before .before .before .before .before .before .before .before .before .before .args .i) (c .before .before .before .before .before .before .before .before .before .before .before .before .before .before .before .pre .1 .0) (c .before .before .before .before .before .before .end .given .0 .0) (sym (c .before .before .before .before .before .before .end .given .1) ∙ c .before .before .before .before .before .before .before .before .end-of .ensures)))
+    (λ c. search needs)
+    (λ c. settled-stands (c .before .before .before .before .before .before .before .before .before .before .before .before .before .before .before .pre .0) (c .before .before .before .before .before .before .before .before .before .before .before .before .before .before .before .args .i) (c .before .before .before .before .before .before .before .before .before .before .before .before .before .before .before .pre .1 .0) (c .before .before .before .before .before .before .end .given .0 .0) (end-is (c .before .before .before .before .before .before .before .before .before .before .before .before .before .before .before .pre .0) (c .before .before .before .before .before .before .before .before .before .before .before .before .before .before .before .args .i) (c .before .before .before .before .before .before .before .before .before .before .before .before .before .before .before .pre .1 .0) (c .before .before .before .before .before .before .end .given .0 .0) (sym (c .before .before .before .before .before .before .end .given .1) ∙ c .before .before .before .before .before .before .before .before .end-of .ensures)) (c .before .before .before .before .before .before .before .before .before .before .before .before .before .before .before .args .tree .now) _ (c .before .before .put .ensures)))

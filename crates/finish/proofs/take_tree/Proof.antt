@@ -1,47 +1,22 @@
+-- `finish::take_tree` meets its contract. Assumes nothing.
+use native.Mathlib.Omega.{arith}
+use Prim.Native.Nat.{ℕ, _+_, _-_}
+use mathlib.Core.Path.{_≡_, subst}
+use lib.ListN.{length}
+use Rattle.finishlaws.specs.Entries.{final-run}
+use Rattle.finishlaws.specs.Ready.{Stands}
 use borrow.Author.Needs.{needs}
 use Rattle.finish.proofs.take_tree.Statement.{statement}
 use Rattle.finish.proofs.take_tree.Tie as tie
-use Rattle.finish.proofs.take_tree.Reads as reads
-use Rattle.finish.proofs.take_tree.Lts as lts
-use Rattle.finish.proofs.take_reciprocal.Reads as take-reciprocal-reads
-use Rattle.finish.proofs.take_settled.Reads as take-settled-reads
-
--- src/lib.rt:131:9
-take-settled-requires : tie.Need-take-settled-requires
-take-settled-requires c κs = search needs
-
--- src/lib.rt:131:9
-same-length : tie.Need-same-length
-same-length c = search needs
-
--- src/lib.rt:131:9
-returns : tie.Need-returns
-returns c = search needs
-
--- src/lib.rt:133:63
-sub-take-reciprocal : tie.Need-sub-take-reciprocal
-sub-take-reciprocal c = search needs
-
--- src/lib.rt:133:5
-take-reciprocal-requires : tie.Need-take-reciprocal-requires
-take-reciprocal-requires c κs = search needs
-
--- src/lib.rt:117:1
-same-length-2 : tie.Need-same-length-2
-same-length-2 c = search needs
-
--- src/lib.rt:117:1
-returns-2 : tie.Need-returns-2
-returns-2 c = ?
 
 pub take-tree-spec : {M : Type 1} → statement M
 take-tree-spec =
     tie.close
     (tie.spec
-    take-settled-requires
-    same-length
-    returns
-    sub-take-reciprocal
-    take-reciprocal-requires
-    same-length-2
-    returns-2)
+    (λ c κs. (c .before .before .before .before .before .before .before .pre .0, (c .before .if1 .taken, c .before .before .before .before .before .before .before .pre .1 .1)))
+    (λ c. search needs)
+    (λ c. c .before .before .take-settled .ensures)
+    (λ c. c .if1 .left)
+    (λ c κs. (c .before .before .before .before .before .before .before .pre .0, (omega (arith, c .before .if1 .left, c .before .before .before .before .before .before .before .pre .1 .0), c .before .before .before .before .before .before .before .pre .1 .1)))
+    (λ c. search needs)
+    (λ c. let a = c .before .before .before .before .before .before .before .before .before .before .args in let z : length (a .starts .now) + (a .i - length (a .starts .now)) ≡ a .i = omega (arith, c .before .before .before .before .if1 .left) in subst (λ (x : ℕ). Stands (final-run (a .results) (a .places .now) (a .tokens .now) x) _ _) z (c .before .before .take-reciprocal .ensures)))
