@@ -106,3 +106,6 @@ module _ {ws : List ℕ} {k m : ℕ} {places : List ℕ} (t : There ws k m place
       let l = first-no-more ws places places-there (m - k) m (t .complete) in
       subst (λ (x : List ℕ). Ready ws x (take m starts) places k) (sym same)
       (subst (λ (x : List ℕ). Ready ws S x places k) (sym listed) (ready-so (omega (arith, l, t .few))))
+
+  pub ready-long : {settled starts : List ℕ} → Ready ws settled starts places k → m ≡ length starts
+  ready-long {settled} {starts} r = let e : some m ≡ some (length starts) = sym (t .complete) ∙ r .complete in cc

@@ -46,6 +46,10 @@ in-front new old out n e f =
       inside = omega (arith, ap length f, length-append new (drop n old));
     }
 
+-- a number past m is m and what is past it
+pub past-stands : (k : ℕ) (places ws : List ℕ) (m i : ℕ) → m ≤ i → (out : List ℕ) (n : ℕ) → Stands (final-run k places ws (m + (i - m))) out n → Stands (final-run k places ws i) out n
+past-stands k places ws m i h out n s = let z : m + (i - m) ≡ i = omega arith in subst (λ (x : ℕ). Stands (final-run k places ws x) out n) z s
+
 module _ {ws settled starts places : List ℕ} {k : ℕ} (ready : Ready ws settled starts places k) where
   pub there-is : All-there ws places
   there-is = tested-there ws places (ready .there)

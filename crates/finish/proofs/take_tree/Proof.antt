@@ -1,10 +1,7 @@
 -- `finish::take_tree` meets its contract. Assumes nothing.
 use native.Mathlib.Omega.{arith}
-use Prim.Native.Nat.{ℕ, _+_, _-_}
-use mathlib.Core.Path.{_≡_, subst}
 use lib.ListN.{length}
-use Rattle.finishlaws.specs.Entries.{final-run}
-use Rattle.finishlaws.specs.Ready.{Stands}
+use Rattle.finishlaws.proofs.Taking.{past-stands}
 use borrow.Author.Needs.{needs}
 use Rattle.finish.proofs.take_tree.Statement.{statement}
 use Rattle.finish.proofs.take_tree.Tie as tie
@@ -19,4 +16,4 @@ take-tree-spec =
     (λ c. c .if1 .left)
     (λ c κs. (c .before .before .before .before .before .before .before .pre .0, (omega (arith, c .before .if1 .left, c .before .before .before .before .before .before .before .pre .1 .0), c .before .before .before .before .before .before .before .pre .1 .1)))
     (λ c. search needs)
-    (λ c. let a = c .before .before .before .before .before .before .before .before .before .before .args in let z : length (a .starts .now) + (a .i - length (a .starts .now)) ≡ a .i = omega (arith, c .before .before .before .before .if1 .left) in subst (λ (x : ℕ). Stands (final-run (a .results) (a .places .now) (a .tokens .now) x) _ _) z (c .before .before .take-reciprocal .ensures)))
+    (λ c. let a = c .before .before .before .before .before .before .before .before .before .before .args in past-stands (a .results) (a .places .now) (a .tokens .now) (length (a .starts .now)) (a .i) (c .before .before .before .before .if1 .left) _ _ (c .before .before .take-reciprocal .ensures)))
