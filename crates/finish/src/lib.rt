@@ -129,7 +129,15 @@ fn take_tree(
     if i < starts.len() {
         return take_settled(tokens, settled, starts, places, results, i, tree);
     }
-    take_reciprocal(tokens, settled, starts, places, results, i - starts.len(), tree)
+    take_reciprocal(
+        tokens,
+        settled,
+        starts,
+        places,
+        results,
+        i - starts.len(),
+        tree,
+    )
 }
 
 // What binding j needs.
@@ -147,7 +155,15 @@ fn mark_one(
     ensures { λ _. ⌜ now (bits .exit) ≡ with-needs (binding-run results (now (places .entry)) (now (tokens .entry)) j) j (now (bits .entry)) ⌝ }
 {
     let mut tree = [0u64; TREE];
-    let n = take_tree(tokens, settled, starts, places, results, results + j, &mut tree);
+    let n = take_tree(
+        tokens,
+        settled,
+        starts,
+        places,
+        results,
+        results + j,
+        &mut tree,
+    );
     mark_needs(&tree[..n], j, bits);
 }
 
@@ -236,7 +252,7 @@ fn entry_rows(
     let count = starts.len() - results + places.len();
     let i = tree_of(taken, count, results, q);
     let n = take_tree(tokens, settled, starts, places, results, i, &mut tree);
-    1 + n
+    n + 1
 }
 
 // How many rows the answer has.
@@ -308,7 +324,17 @@ fn write_rows(
     let mut at = 0;
     let mut q = 0;
     while q < taken.len() + results {
-        at = write_entry(tokens, settled, starts, places, results, taken, q, at, table);
+        at = write_entry(
+            tokens,
+            settled,
+            starts,
+            places,
+            results,
+            taken,
+            q,
+            at,
+            table,
+        );
         q += 1;
     }
 }
@@ -354,7 +380,15 @@ fn finish_settled(
     let ordered = take_in_order(tokens, settled, starts, places, results, count, &mut taken);
     match ordered {
         Ordered::All => {
-            write_answer(tokens, settled, starts, places, results, &taken[..count], table)
+            write_answer(
+                tokens,
+                settled,
+                starts,
+                places,
+                results,
+                &taken[..count],
+                table,
+            )
         }
         Ordered::Ring(_) => Finished::Refused(RING),
         Ordered::Broken => Finished::Broken,
@@ -399,7 +433,14 @@ fn finish_there(
     let mut starts = [0u64; MOST];
     let n = settle_all(tokens, results, trees, places, &mut settled);
     list_trees(&settled[..n], &mut starts);
-    finish_settled(tokens, &settled[..n], &starts[..trees], places, results, table)
+    finish_settled(
+        tokens,
+        &settled[..n],
+        &starts[..trees],
+        places,
+        results,
+        table,
+    )
 }
 
 // The words of all trees are `results` results, then the bindings by number from 0 on; the divisors to bind stand at the places, in order. The answer's rows stand

@@ -21,10 +21,10 @@ count-rows-spec =
     Inv-loop
     μ-loop
     (λ c. let a = c .before .before .before .before .before .args in count-begins (a .results) (a .places .now) (a .tokens .now) (a .taken .now))
-    (λ c. omega (arith, trees-few (c .before .before .before .before .before .before .pre .0), c .before .before .before .before .before .before .pre .0 .enough, c .before .before .before .before .before .before .pre .0 .numbers, c .before .before .before .before .before .before .pre .1 .few))
-    (λ c κs. (c .before .before .before .before .before .before .before .pre .0, (c .before .before .before .before .before .before .before .pre .1, c .loop-test .taken)))
-    (λ c. omega (arith, c .before .before .loop .inv .small, c .before .loop-test .taken, c .entry-rows .ensures .1, trees-few (c .before .before .before .before .before .before .before .before .pre .0), c .before .before .before .before .before .before .before .before .pre .0 .enough, c .before .before .before .before .before .before .before .before .pre .0 .numbers, c .before .before .before .before .before .before .before .before .pre .1 .few))
-    (λ c. omega (arith, c .before .loop-test .taken, trees-few (c .before .before .before .before .before .before .before .before .pre .0), c .before .before .before .before .before .before .before .before .pre .0 .enough, c .before .before .before .before .before .before .before .before .pre .0 .numbers, c .before .before .before .before .before .before .before .before .pre .1 .few))
+    (λ c. let start = c .before .before .before .before .before .before in omega (arith, trees-few (start .pre .0), start .pre .0 .enough, start .pre .0 .numbers, start .pre .1 .few))
+    (λ c κs. let start = c .before .before .before .before .before .before .before in (start .pre .0, (start .pre .1, c .loop-test .taken)))
+    (λ c. let start = c .before .before .before .before .before .before .before .before in omega (arith, c .before .before .loop .inv .small, c .before .loop-test .taken, c .entry-rows .ensures .1, trees-few (start .pre .0), start .pre .0 .enough, start .pre .0 .numbers, start .pre .1 .few))
+    (λ c. let start = c .before .before .before .before .before .before .before .before in omega (arith, c .before .loop-test .taken, trees-few (start .pre .0), start .pre .0 .enough, start .pre .0 .numbers, start .pre .1 .few))
     (λ c. omega (arith, c .before .loop-test .taken))
     (λ c. let a = c .before .before .before .before .before .before .before .before .args in count-turns (a .results) (a .places .now) (a .tokens .now) (a .taken .now) (c .before .before .loop .inv) (c .before .loop-test .taken) (c .entry-rows .ensures))
     (λ c. let a = c .before .before .before .before .before .before .before .args in count-ends (a .results) (a .places .now) (a .tokens .now) (a .taken .now) (c .before .loop .inv) (c .loop-test .left)))

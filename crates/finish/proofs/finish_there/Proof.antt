@@ -21,7 +21,7 @@ finish-there-spec =
     (λ c. omega (arith, c .before .before .before .before .before .settle-all .ensures .short))
     (λ c. sym (length-take-le _ _ (c .before .before .before .before .before .before .settle-all .ensures .inside)))
     (λ c. omega (arith, trees-few (c .before .before .before .before .before .before .before .before .before .before .before .pre)))
-    (λ c. ready-long (c .before .before .before .before .before .before .before .before .before .before .before .before .pre) (ready-is (c .before .before .before .before .before .before .before .before .before .before .before .before .pre) _ _ (c .before .before .before .before .before .before .before .settle-all .ensures) (replicate 1024 0) _ refl (c .before .before .before .list-trees .ensures .1)))
+    (λ c. let start = c .before .before .before .before .before .before .before .before .before .before .before .before in ready-long (start .pre) (ready-is (start .pre) _ _ (c .before .before .before .before .before .before .before .settle-all .ensures) (replicate 1024 0) _ refl (c .before .before .before .list-trees .ensures .1)))
     (λ c κs. ready-is (c .before .before .before .before .before .before .before .before .before .before .before .before .before .pre) _ _ (c .before .before .before .before .before .before .before .before .settle-all .ensures) (replicate 1024 0) _ refl (c .before .before .before .before .list-trees .ensures .1))
     (λ c. search needs)
     (λ c. c .before .before .finish-settled .ensures))

@@ -20,7 +20,7 @@ mark-all-spec =
     Inv-loop
     μ-loop
     (λ c. let a = c .before .before .before .before .before .args in marked-begins (binding-run (a .results) (a .places .now) (a .tokens .now)) (a .bits .now) (a .count))
-    (λ c κs. (c .before .before .before .before .before .before .before .before .pre .0, omega (arith, c .before .loop-test .taken, c .before .before .before .before .before .before .before .before .pre .1)))
+    (λ c κs. let start = c .before .before .before .before .before .before .before .before in (start .pre .0, omega (arith, c .before .loop-test .taken, start .pre .1)))
     (λ c. omega (arith, c .before .before .before .before .loop-test .taken))
     (λ c. omega (arith, c .before .before .before .before .loop-test .taken))
     (λ c. let a = c .before .before .before .before .before .before .before .before .before .before .before .args in marked-turns (binding-run (a .results) (a .places .now) (a .tokens .now)) (c .before .before .before .before .before .loop .inv) (c .before .before .before .before .loop-test .taken) _ (c .before .before .mark-one .ensures))

@@ -12,9 +12,9 @@ pub mark-one-spec : {M : Type 1} → statement M
 mark-one-spec =
     tie.close
     (tie.spec
-    (λ c. omega (arith, c .before .before .before .before .before .pre .0 .numbers, c .before .before .before .before .before .pre .0 .enough, c .before .before .before .before .before .pre .1, trees-few (c .before .before .before .before .before .pre .0)))
+    (λ c. let start = c .before .before .before .before .before in omega (arith, start .pre .0 .numbers, start .pre .0 .enough, start .pre .1, trees-few (start .pre .0)))
     (λ c. search needs)
-    (λ c κs. (c .before .before .before .before .before .before .pre .0, (omega (arith, c .before .before .before .before .before .before .pre .0 .enough, c .before .before .before .before .before .before .pre .1), search needs)))
+    (λ c κs. let start = c .before .before .before .before .before .before in (start .pre .0, (omega (arith, start .pre .0 .enough, start .pre .1), search needs)))
     (λ c. search needs)
     (λ c. sym (length-take-le _ _ (c .before .before .take-tree .ensures .inside)))
     (λ c κs. tt)

@@ -11,7 +11,7 @@ row-of-spec =
     (tie.spec
     (λ c. search needs)
     (λ c. search needs)
-    (λ c. omega (arith, c .before .before .pre .0 .below (c .before .before .args .q) (c .before .if1 .taken), c .before .before .pre .1))
-    (λ c. omega (arith, c .before .before .pre .0 .below (c .before .before .args .q) (c .before .if1 .taken), c .before .before .pre .1))
-    (λ c. row-let (c .before .before .args .taken .now) 0 (c .before .before .args .q) (c .before .if1 .taken))
-    (λ c. row-result (c .before .args .taken .now) 0 (c .before .args .q) (c .if1 .left)))
+    (λ c. let start = c .before .before in omega (arith, start .pre .0 .below (start .args .q) (c .before .if1 .taken), start .pre .1))
+    (λ c. let start = c .before .before in omega (arith, start .pre .0 .below (start .args .q) (c .before .if1 .taken), start .pre .1))
+    (λ c. let start = c .before .before in row-let (start .args .taken .now) 0 (start .args .q) (c .before .if1 .taken))
+    (λ c. let start = c .before in row-result (start .args .taken .now) 0 (start .args .q) (c .if1 .left)))

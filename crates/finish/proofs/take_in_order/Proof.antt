@@ -11,10 +11,10 @@ take-in-order-spec =
     tie.close
     (tie.spec
     (λ c. search needs)
-    (λ c κs. (c .before .before .before .before .before .before .pre .0, omega (arith, c .before .before .before .before .before .before .pre .1 .0)))
+    (λ c κs. let start = c .before .before .before .before .before .before in (start .pre .0, omega (arith, start .pre .1 .0)))
     (λ c. search needs)
     (λ c. search needs)
     (λ c. search needs)
     (λ c κs. tt)
     (λ c. search needs)
-    (λ c. let a = c .before .before .before .before .before .before .before .before .before .before .before .before .before .before .before .before .before .args in ordered-so _ _ _ (a .taken .now) (a .count) (omega (arith, c .before .before .before .before .before .before .before .before .before .before .before .before .before .before .before .before .before .pre .0 .numbers, c .before .before .before .before .before .before .before .before .before .before .before .before .before .before .before .before .before .pre .1 .0)) (search needs) (search needs) (c .before .before .before .before .before .before .before .before .before .before .before .before .before .before .before .before .before .pre .1 .1) (a .results) (a .places .now) (a .tokens .now) 16384 refl (c .before .before .before .before .before .before .before .before .before .before .mark-all .ensures) _ _ _ _ (c .before .before .before .before .order .kept .1 .1 .1 .1 .0) (c .before .before .before .before .order .ensures)))
+    (λ c. let start = c .before .before .before .before .before .before .before .before .before .before .before .before .before .before .before .before .before in let order-here = c .before .before .before .before .order in let a = start .args in ordered-so _ _ _ (a .taken .now) (a .count) (omega (arith, start .pre .0 .numbers, start .pre .1 .0)) (search needs) (search needs) (start .pre .1 .1) (a .results) (a .places .now) (a .tokens .now) 16384 refl (c .before .before .before .before .before .before .before .before .before .before .mark-all .ensures) _ _ _ _ (order-here .kept .1 .1 .1 .1 .0) (order-here .ensures)))

@@ -11,7 +11,7 @@ tree-of-spec =
     (tie.spec
     (λ c. search needs)
     (λ c. search needs)
-    (λ c. omega (arith, c .before .before .pre .0 .below (c .before .before .args .q) (c .before .if1 .taken), c .before .before .pre .1))
-    (λ c. tree-let (c .before .before .args .taken .now) (c .before .before .args .results) (c .before .before .args .q) (c .before .if1 .taken))
+    (λ c. let start = c .before .before in omega (arith, start .pre .0 .below (start .args .q) (c .before .if1 .taken), start .pre .1))
+    (λ c. let start = c .before .before in tree-let (start .args .taken .now) (start .args .results) (start .args .q) (c .before .if1 .taken))
     (λ c. c .if1 .left)
-    (λ c. tree-result (c .before .args .taken .now) (c .before .args .results) (c .before .args .q) (c .if1 .left)))
+    (λ c. let start = c .before in tree-result (start .args .taken .now) (start .args .results) (start .args .q) (c .if1 .left)))

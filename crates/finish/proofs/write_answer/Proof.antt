@@ -12,8 +12,8 @@ pub write-answer-spec : {M : Type 1} → statement M
 write-answer-spec =
     tie.close
     (tie.spec
-    (λ c κs. (c .before .before .before .before .before .before .pre .0, c .before .before .before .before .before .before .pre .1))
-    (λ c. let a = c .before .before .before .before .before .before .before .before .args in too-many (entries (a .results) (a .places .now) (a .tokens .now) (a .taken .now) (length (a .taken .now) + a .results)) (a .table .now) _ (c .before .count-rows .result) (c .before .count-rows .ensures) (c .if1 .taken))
-    (λ c κs. (c .before .before .before .before .before .before .before .before .before .pre .0, (c .before .before .before .before .before .before .before .before .before .pre .1, omega (arith, c .before .before .count-rows .ensures, c .before .if1 .left))))
+    (λ c κs. let start = c .before .before .before .before .before .before in (start .pre .0, start .pre .1))
+    (λ c. let count-rows-here = c .before .count-rows in let a = c .before .before .before .before .before .before .before .before .args in too-many (entries (a .results) (a .places .now) (a .tokens .now) (a .taken .now) (length (a .taken .now) + a .results)) (a .table .now) _ (count-rows-here .result) (count-rows-here .ensures) (c .if1 .taken))
+    (λ c κs. let start = c .before .before .before .before .before .before .before .before .before in (start .pre .0, (start .pre .1, omega (arith, c .before .before .count-rows .ensures, c .before .if1 .left))))
     (λ c. search needs)
-    (λ c. let a = c .before .before .before .before .before .before .before .before .before .before .before .before .args in rows-written (entries (a .results) (a .places .now) (a .tokens .now) (a .taken .now) (length (a .taken .now) + a .results)) (a .table .now) _ (c .before .before .before .before .before .count-rows .result) (c .before .before .before .before .before .count-rows .ensures) (c .before .before .before .before .if1 .left) _ (c .before .before .write-rows .ensures)))
+    (λ c. let count-rows-here = c .before .before .before .before .before .count-rows in let a = c .before .before .before .before .before .before .before .before .before .before .before .before .args in rows-written (entries (a .results) (a .places .now) (a .tokens .now) (a .taken .now) (length (a .taken .now) + a .results)) (a .table .now) _ (count-rows-here .result) (count-rows-here .ensures) (c .before .before .before .before .if1 .left) _ (c .before .before .write-rows .ensures)))

@@ -21,10 +21,10 @@ write-rows-spec =
     Inv-loop
     μ-loop
     (λ c. let a = c .before .before .before .before .before .before .args in write-begins (a .results) (a .places .now) (a .tokens .now) (a .taken .now) (a .table .now))
-    (λ c. omega (arith, trees-few (c .before .before .before .before .before .before .before .pre .0), c .before .before .before .before .before .before .before .pre .0 .enough, c .before .before .before .before .before .before .before .pre .0 .numbers, c .before .before .before .before .before .before .before .pre .1 .0 .few))
-    (λ c κs. let a = c .before .before .before .before .before .before .before .before .before .args in (c .before .before .before .before .before .before .before .before .before .pre .0, (c .before .before .before .before .before .before .before .before .before .pre .1 .0, (c .before .loop-test .taken, write-room (a .results) (a .places .now) (a .tokens .now) (a .taken .now) (a .table .now) (c .before .before .before .before .before .before .before .before .before .pre .1 .1) (c .before .before .loop .inv) (c .before .loop-test .taken)))))
-    (λ c. omega (arith, c .before .before .before .before .loop-test .taken, trees-few (c .before .before .before .before .before .before .before .before .before .before .before .before .pre .0), c .before .before .before .before .before .before .before .before .before .before .before .before .pre .0 .enough, c .before .before .before .before .before .before .before .before .before .before .before .before .pre .0 .numbers, c .before .before .before .before .before .before .before .before .before .before .before .before .pre .1 .0 .few))
+    (λ c. let start = c .before .before .before .before .before .before .before in omega (arith, trees-few (start .pre .0), start .pre .0 .enough, start .pre .0 .numbers, start .pre .1 .0 .few))
+    (λ c κs. let start = c .before .before .before .before .before .before .before .before .before in let loop-test-here = c .before .loop-test in let a = start .args in (start .pre .0, (start .pre .1 .0, (loop-test-here .taken, write-room (a .results) (a .places .now) (a .tokens .now) (a .taken .now) (a .table .now) (start .pre .1 .1) (c .before .before .loop .inv) (loop-test-here .taken)))))
+    (λ c. let start = c .before .before .before .before .before .before .before .before .before .before .before .before in omega (arith, c .before .before .before .before .loop-test .taken, trees-few (start .pre .0), start .pre .0 .enough, start .pre .0 .numbers, start .pre .1 .0 .few))
     (λ c. omega (arith, c .before .before .before .before .loop-test .taken))
-    (λ c. let a = c .before .before .before .before .before .before .before .before .before .before .before .before .args in write-turns (a .results) (a .places .now) (a .tokens .now) (a .taken .now) (a .table .now) (c .before .before .before .before .before .before .before .before .before .before .before .before .pre .1 .1) (c .before .before .before .before .before .loop .inv) (c .before .before .before .before .loop-test .taken) _ _ (c .before .before .write-entry .ensures))
+    (λ c. let start = c .before .before .before .before .before .before .before .before .before .before .before .before in let a = start .args in write-turns (a .results) (a .places .now) (a .tokens .now) (a .taken .now) (a .table .now) (start .pre .1 .1) (c .before .before .before .before .before .loop .inv) (c .before .before .before .before .loop-test .taken) _ _ (c .before .before .write-entry .ensures))
     (λ c. c .before .loop .inv .long)
     (λ c. let a = c .before .before .before .before .before .before .before .before .args in write-ends (a .results) (a .places .now) (a .tokens .now) (a .taken .now) (a .table .now) (c .before .loop .inv) (c .loop-test .left)))
