@@ -5,3 +5,4 @@ pub mod Unfolding
 pub mod Rounding
 pub mod Flat
 pub mod Listing
+pub mod Finishing

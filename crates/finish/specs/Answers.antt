@@ -6,10 +6,9 @@ use mathlib.Core.List.{List, _++_}
 use lib.ListN.{length, drop}
 use lib.Dec.{leb}
 use Rattle.tree.specs.Outcome.{Outcome, ok, refused}
-use Rattle.tree.specs.Bytes.{every}
-use Rattle.tree.specs.Tokens.{read, numbered, run-at, trees-in}
-use Rattle.words.specs.Words.{some-trees}
+use Rattle.tree.specs.Tokens.{read, numbered, trees-in}
 use Rattle.cse.specs.Call.{Extracted}
+use Rattle.reciprocal.specs.Bindings.{all-there}
 use Rattle.finishlaws.specs.Final.{final-rows}
 use Rattle.finish.specs.declared.Finished.{Finished}
 use Rattle.finish.specs.declared.Finished.the-variants as finished
@@ -38,8 +37,8 @@ at-least k (some m) = leb k m
 
 -- no word lacks an operand, the results are there, and a tree stands at each place
 unfoldable pub trees-there : List ℕ → ℕ → List ℕ → Bool
-unfolding at-least trees-in every run-at some-trees
-trees-there ws k places = at-least k (trees-in ws) && every (λ p. some-trees (run-at ws p)) places
+unfolding at-least trees-in all-there
+trees-there ws k places = at-least k (trees-in ws) && all-there ws places
 
 -- at most 1,024 words, and 1,024 bindings with the reciprocals
 unfoldable pub room-for : List ℕ → ℕ → List ℕ → Bool
