@@ -1,2 +1,4 @@
 pub mod Parts
 pub mod Collected
+pub mod Joining
+pub mod Grouped

@@ -132,11 +132,7 @@ one-switch k (suc n) (q ∷ rs) l t g h =
     go true t = ap (λ (a : List Tree). record { tree = Op k (q ◂ forest (take n rs)); kind = k; key = q; arms = a } ∷ switches l) (operands-forest (take n rs))
     go false t = absurd t
 
-module _ (ws : List ℕ) (m : ℕ) (complete : trees-in ws ≡ some m) where
-  pub switch-at-is : (p : ℕ) → p < length ws → switch-tree (numbered-at ws p) ≡ switch-at ws p
-  unfolding switch-at
-  switch-at-is p h = ap switch-tree (here-is ws m complete p h) ∙ made-switch (getD ws p 0) (after ws (suc p)) (enough ws m complete p h)
-
+module _ (ws : List ℕ) where
   -- a switch has an operand, and its word is an operation's
   pub has-key : (p : ℕ) → T (switch-at ws p) → (1 ≤ takes (getD ws p 0)) × (26 ≤ kind-of (getD ws p 0))
   unfolding switch-at
@@ -145,16 +141,21 @@ module _ (ws : List ℕ) (m : ℕ) (complete : trees-in ws ≡ some m) where
     leb→le 26 (kind-of (getD ws p 0)) (and-left (is-switch (kind-of (getD ws p 0))) (leb 1 (takes (getD ws p 0))) t),
   )
 
+module _ (ws : List ℕ) (m : ℕ) (complete : trees-in ws ≡ some m) where
+  pub switch-at-is : (p : ℕ) → p < length ws → switch-tree (numbered-at ws p) ≡ switch-at ws p
+  unfolding switch-at
+  switch-at-is p h = ap switch-tree (here-is ws m complete p h) ∙ made-switch (getD ws p 0) (after ws (suc p)) (enough ws m complete p h)
+
   -- it is its kind over its key and its arms
   pub switch-is : (p : ℕ) → p < length ws → T (switch-at ws p) → numbered-at ws p ≡ Op (kind-of (getD ws p 0)) (forest (take (takes (getD ws p 0)) (after ws (suc p))))
   switch-is p h t =
-      let k = has-key p t .1 in
+      let k = has-key ws p t .1 in
       here-is ws m complete p h ∙ operation-tree numbered (getD ws p 0) (take (takes (getD ws p 0)) (after ws (suc p))) (omega arith)
 
   pub arms-are : (p : ℕ) → p < length ws → T (switch-at ws p) → map (numbered-at ws) (arm-places ws p) ≡ take (takes (getD ws p 0) - 1) (drop 1 (after ws (suc p)))
   unfolding arm-places arm-count
   arms-are p h t =
-      let k = has-key p t .0 in
+      let k = has-key ws p t .0 in
       let n = enough ws m complete p h in
       arms-within-are ws p (takes (getD ws p 0) - 1) (omega arith)
 
@@ -162,7 +163,7 @@ module _ (ws : List ℕ) (m : ℕ) (complete : trees-in ws ≡ some m) where
   unfolding switch-there key-place switch-at
   switch-there-is p h t l =
       let w = getD ws p 0 in
-      let k = has-key p t .0 in
+      let k = has-key ws p t .0 in
       let e = switch-is p h t in
       ap (λ (u : Tree). switches (u ∷ l)) e
       ∙ one-switch (kind-of w) (takes w) (after ws (suc p)) l (and-left (is-switch (kind-of w)) (leb 1 (takes w)) t) k (enough ws m complete p h)
