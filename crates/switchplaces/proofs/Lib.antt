@@ -2,3 +2,5 @@ pub mod Parts
 pub mod Collected
 pub mod Joining
 pub mod Grouped
+pub mod Words
+pub mod Turned
