@@ -4,3 +4,4 @@ pub mod Joining
 pub mod Grouped
 pub mod Words
 pub mod Turned
+pub mod GroupColumns
