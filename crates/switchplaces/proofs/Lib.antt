@@ -5,3 +5,4 @@ pub mod Grouped
 pub mod Words
 pub mod Turned
 pub mod GroupColumns
+pub mod Holding
