@@ -61,7 +61,7 @@ module _ (ws ps : List ℕ) where
   unfolding members-of
   members-are i = members-within-are i (length ps)
 
-  member-armed : Every (Switching ws) ps → (i j : ℕ) → Member i (length ps) j → Armed ws (arm-count ws (member ws ps i)) (member ws ps j)
+  member-armed : Every (Switching ws) ps → (i j : ℕ) → Member i (length ps) j → Armed ws (arm-count ws (member ps i)) (member ps j)
   unfolding member
   member-armed s i j h =
       let t = subst (λ (k : ℕ). T (joins-at ws (getD ps k 0) (getD ps j 0))) (h .1) (first-joins-at j) in
@@ -70,27 +70,27 @@ module _ (ws ps : List ℕ) where
       first-joins-at : (j : ℕ) → T (joins-at ws (getD ps (group-first ws ps j) 0) (getD ps j 0))
       first-joins-at j = first-joins ws ps j
 
-  armed-all : Every (Switching ws) ps → (i : ℕ) (l : List ℕ) → Every (Member i (length ps)) l → Every (Armed ws (arm-count ws (member ws ps i))) (map (member ws ps) l)
+  armed-all : Every (Switching ws) ps → (i : ℕ) (l : List ℕ) → Every (Member i (length ps)) l → Every (Armed ws (arm-count ws (member ps i))) (map (member ps) l)
   armed-all s i [] h = tt
   armed-all s i (j ∷ l) h = (member-armed s i j (h .0), armed-all s i l (h .1))
 
-  pub members-armed : Every (Switching ws) ps → (i : ℕ) → Every (Armed ws (arm-count ws (member ws ps i))) (member-places ws ps i)
+  pub members-armed : Every (Switching ws) ps → (i : ℕ) → Every (Armed ws (arm-count ws (member ps i))) (member-places ws ps i)
   unfolding member-places
   members-armed s i = armed-all s i (members-of ws ps i) (members-are i)
 
   -- the switches at the places of the members
-  switches-of : (l : List ℕ) → map (switch-there ws) (map (member ws ps) l) ≡ map (member-switch ws ps) l
+  switches-of : (l : List ℕ) → map (switch-there ws) (map (member ps) l) ≡ map (member-switch ws ps) l
   unfolding member-switch
   switches-of [] = refl
-  switches-of (j ∷ l) = ap (λ (r : List Switch). switch-there ws (member ws ps j) ∷ r) (switches-of l)
+  switches-of (j ∷ l) = ap (λ (r : List Switch). switch-there ws (member ps j) ∷ r) (switches-of l)
 
   pub members-by-place : (i : ℕ) → i < length ps → group-first ws ps i ≡ i → members (group-there ws ps i) ≡ map (switch-there ws) (member-places ws ps i)
   unfolding member-places
   members-by-place i h o = members-there ws ps i h o ∙ sym (switches-of (members-of ws ps i))
 
-  pub first-arms-are : (i : ℕ) → length (group-there ws ps i .first .arms) ≡ arm-count ws (member ws ps i)
+  pub first-arms-are : (i : ℕ) → length (group-there ws ps i .first .arms) ≡ arm-count ws (member ps i)
   unfolding group-there member-switch switch-there
-  first-arms-are i = arms-counted ws (member ws ps i)
+  first-arms-are i = arms-counted ws (member ps i)
 
 -- ---- bounds
 
@@ -142,7 +142,7 @@ module _ (ws : List ℕ) (m : ℕ) (complete : trees-in ws ≡ some m) where
     places = member-places ws (switch-places ws) i
 
     abbrev arms : ℕ
-    arms = arm-count ws (member ws (switch-places ws) i)
+    arms = arm-count ws (member (switch-places ws) i)
 
     -- all arms of a group's members
     pub group-small : arms-total (members (group-there ws (switch-places ws) i)) ≤ length ws
@@ -160,7 +160,7 @@ module _ (ws : List ℕ) (m : ℕ) (complete : trees-in ws ≡ some m) where
     armed : Every (Armed ws arms) places
     armed = members-armed ws ps (places-switch ws) i
 
-    module _ (a : ℕ) (l : a < arm-count ws (member ws (switch-places ws) i)) where
+    module _ (a : ℕ) (l : a < arm-count ws (member (switch-places ws) i)) where
       -- the words of a group's column
       pub group-column-written :
           column-words ws (member-places ws (switch-places ws) i) a

@@ -177,9 +177,9 @@ module _ (ws ps : List ℕ) where
   abbrev group-within : ℕ → ℕ → Group
   group-within n i = record { first = S i; others = map S (drop 1 (members-within ws ps i n)) }
 
-  joins-is : (i j : ℕ) → joins (S i) (S j) ≡ joins-at ws (member ws ps i) (member ws ps j)
+  joins-is : (i j : ℕ) → joins (S i) (S j) ≡ joins-at ws (member ps i) (member ps j)
   unfolding member-switch
-  joins-is i j = joins-there ws (member ws ps i) (member ws ps j)
+  joins-is i j = joins-there ws (member ps i) (member ps j)
 
   apart-before : (n k : ℕ) → k < group-first ws ps n → joins (S k) (S n) ≡ false
   apart-before n k h = joins-is k n ∙ none-sooner ws ps n k h
@@ -228,8 +228,8 @@ module _ (ws ps : List ℕ) where
       let other-a = every-so (Opens f) (λ i. opener n ≡ i → ⊥) (λ i g d. let k = g .0 in omega arith) a h in
       let other-b = every-so (λ i. f < i) (λ i. opener n ≡ i → ⊥) (λ i g d. omega arith) b (s .later) in
       let joins-f : joins (S f) (S n) ≡ true =
-      joins-is f n ∙ ap (λ (k : ℕ). joins-at ws (member ws ps k) (member ws ps n)) (sym e)
-      ∙ is-true (joins-at ws (member ws ps (opener n)) (member ws ps n)) (first-joins ws ps n) in
+      joins-is f n ∙ ap (λ (k : ℕ). joins-at ws (member ps k) (member ps n)) (sym e)
+      ∙ is-true (joins-at ws (member ps (opener n)) (member ps n)) (first-joins ws ps n) in
       let longer : map S (drop 1 (members-within ws ps f n)) ++ (S n ∷ []) ≡ map S (drop 1 (members-within ws ps f (suc n))) =
       sym (ap (λ (l : List ℕ). map S (drop 1 l)) (is-member f n e)
       ∙ ap (map S) (first-kept (members-within ws ps f n) (n ∷ []) f (opener-first f n less own) .1)

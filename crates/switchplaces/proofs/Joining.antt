@@ -30,26 +30,26 @@ module _ (ws : List ℕ) where
   unfolding joins joins-at switch-there
   joins-there p q =
       ap₂
-      (λ (a b : ℕ). eqb (kind-of (getD ws p 0)) (kind-of (getD ws q 0)) && (eq-tree (numbered-at ws (key-place ws p)) (numbered-at ws (key-place ws q)) && eqb a b))
+      (λ (a b : ℕ). eqb (kind-of (getD ws p 0)) (kind-of (getD ws q 0)) && (eq-tree (numbered-at ws (key-place p)) (numbered-at ws (key-place q)) && eqb a b))
       (arms-counted p) (arms-counted q)
 
   -- ---- an equivalence
 
   pub record Joined (p q : ℕ) : Type 0 where
     pub kind : kind-of (getD ws p 0) ≡ kind-of (getD ws q 0)
-    pub key : numbered-at ws (key-place ws p) ≡ numbered-at ws (key-place ws q)
+    pub key : numbered-at ws (key-place p) ≡ numbered-at ws (key-place q)
     pub count : arm-count ws p ≡ arm-count ws q
 
   pub joined-so : (p q : ℕ) → T (joins-at ws p q) → Joined p q
   unfolding joins-at
   joined-so p q t =
       let a = eqb (kind-of (getD ws p 0)) (kind-of (getD ws q 0)) in
-      let b = eq-tree (numbered-at ws (key-place ws p)) (numbered-at ws (key-place ws q)) in
+      let b = eq-tree (numbered-at ws (key-place p)) (numbered-at ws (key-place q)) in
       let c = eqb (arm-count ws p) (arm-count ws q) in
       let r = and-right a (b && c) t in
       record {
         kind = eqb→eq (kind-of (getD ws p 0)) (kind-of (getD ws q 0)) (and-left a (b && c) t);
-        key = eq-tree-sound (numbered-at ws (key-place ws p)) (numbered-at ws (key-place ws q)) (and-left b c r);
+        key = eq-tree-sound (numbered-at ws (key-place p)) (numbered-at ws (key-place q)) (and-left b c r);
         count = eqb→eq (arm-count ws p) (arm-count ws q) (and-right b c r);
       }
 
@@ -57,11 +57,11 @@ module _ (ws : List ℕ) where
   unfolding joins-at
   so-joined p q j =
       let a = eqb (kind-of (getD ws p 0)) (kind-of (getD ws q 0)) in
-      let b = eq-tree (numbered-at ws (key-place ws p)) (numbered-at ws (key-place ws q)) in
+      let b = eq-tree (numbered-at ws (key-place p)) (numbered-at ws (key-place q)) in
       let c = eqb (arm-count ws p) (arm-count ws q) in
       and-both a (b && c) (eq→eqb (kind-of (getD ws p 0)) (kind-of (getD ws q 0)) (j .kind))
       (and-both b c
-      (subst (λ (t : Tree). T (eq-tree (numbered-at ws (key-place ws p)) t)) (j .key) (eq-tree-refl (numbered-at ws (key-place ws p))))
+      (subst (λ (t : Tree). T (eq-tree (numbered-at ws (key-place p)) t)) (j .key) (eq-tree-refl (numbered-at ws (key-place p))))
       (eq→eqb (arm-count ws p) (arm-count ws q) (j .count)))
 
   pub joins-itself : (p : ℕ) → T (joins-at ws p p)
@@ -86,12 +86,12 @@ module _ (ws : List ℕ) where
 
   pub joins-by-word :
       (p q : ℕ) → T (switch-at ws p) → T (switch-at ws q)
-      → joins-at ws p q ≡ (eqb (getD ws p 0) (getD ws q 0) && eq-tree (numbered-at ws (key-place ws p)) (numbered-at ws (key-place ws q)))
+      → joins-at ws p q ≡ (eqb (getD ws p 0) (getD ws q 0) && eq-tree (numbered-at ws (key-place p)) (numbered-at ws (key-place q)))
   unfolding arm-count
   joins-by-word p q s t =
       let w = getD ws p 0 in
       let v = getD ws q 0 in
-      let key = eq-tree (numbered-at ws (key-place ws p)) (numbered-at ws (key-place ws q)) in
+      let key = eq-tree (numbered-at ws (key-place p)) (numbered-at ws (key-place q)) in
       let a = has-key ws p s in
       let b = has-key ws q t in
       let ka = a .0 in
@@ -107,13 +107,13 @@ module _ (ws : List ℕ) where
       let jc = j .count in
       let same : w ≡ v = omega arith in
       and-both (eqb w v) key (eq→eqb w v same)
-      (subst (λ (t : Tree). T (eq-tree (numbered-at ws (key-place ws p)) t)) (j .key) (eq-tree-refl (numbered-at ws (key-place ws p)))))
+      (subst (λ (t : Tree). T (eq-tree (numbered-at ws (key-place p)) t)) (j .key) (eq-tree-refl (numbered-at ws (key-place p)))))
       (λ u.
       let e : w ≡ v = eqb→eq w v (and-left (eqb w v) key u) in
       so-joined p q
       (record {
         kind = ap kind-of e;
-        key = eq-tree-sound (numbered-at ws (key-place ws p)) (numbered-at ws (key-place ws q)) (and-right (eqb w v) key u);
+        key = eq-tree-sound (numbered-at ws (key-place p)) (numbered-at ws (key-place q)) (and-right (eqb w v) key u);
         count = ap (λ (x : ℕ). takes x - 1) e;
       }))
 
@@ -123,8 +123,8 @@ module _ (ws : List ℕ) where
     pub record First (i j n r : ℕ) : Type 0 where
       pub from : j ≤ r
       pub to : r ≤ j + n
-      pub none-before : (k : ℕ) → j ≤ k → k < r → joins-at ws (member ws ps k) (member ws ps i) ≡ false
-      pub one-there : r < j + n → T (joins-at ws (member ws ps r) (member ws ps i))
+      pub none-before : (k : ℕ) → j ≤ k → k < r → joins-at ws (member ps k) (member ps i) ≡ false
+      pub one-there : r < j + n → T (joins-at ws (member ps r) (member ps i))
 
     true-there : (b : Bool) → b ≡ true → T b
     true-there b e = subst (λ (c : Bool). T c) (sym e) tt
@@ -133,16 +133,16 @@ module _ (ws : List ℕ) where
     unfolding first-joined
     first-is i j zero =
         record { from = omega arith; to = omega arith; none-before = λ k g h. absurd (omega arith); one-there = λ h. absurd (omega arith) }
-    first-is i j (suc n) = go (joins-at ws (member ws ps j) (member ws ps i)) refl (first-is i (suc j) n)
+    first-is i j (suc n) = go (joins-at ws (member ps j) (member ps i)) refl (first-is i (suc j) n)
       where
-        go : (b : Bool) → joins-at ws (member ws ps j) (member ws ps i) ≡ b → First i (suc j) n (first-joined ws ps i (suc j) n)
+        go : (b : Bool) → joins-at ws (member ps j) (member ps i) ≡ b → First i (suc j) n (first-joined ws ps i (suc j) n)
             → First i j (suc n) (elim b [ true ↦ j | false ↦ first-joined ws ps i (suc j) n ])
         go true e f =
             record {
               from = omega arith;
               to = omega arith;
               none-before = λ k g h. absurd (omega arith);
-              one-there = λ h. true-there (joins-at ws (member ws ps j) (member ws ps i)) e;
+              one-there = λ h. true-there (joins-at ws (member ps j) (member ps i)) e;
             }
         go false e f =
             let a = f .from in
@@ -154,9 +154,9 @@ module _ (ws : List ℕ) where
               one-there = λ h. f .one-there (omega arith);
             }
           where
-            here-or : (k : ℕ) → j ≤ k → k < first-joined ws ps i (suc j) n → joins-at ws (member ws ps j) (member ws ps i) ≡ false → First i (suc j) n (first-joined ws ps i (suc j) n)
-                → (c : Bool) → eqb k j ≡ c → joins-at ws (member ws ps k) (member ws ps i) ≡ false
-            here-or k g h e f true d = ap (λ (x : ℕ). joins-at ws (member ws ps x) (member ws ps i)) (eqb-true k j d) ∙ e
+            here-or : (k : ℕ) → j ≤ k → k < first-joined ws ps i (suc j) n → joins-at ws (member ps j) (member ps i) ≡ false → First i (suc j) n (first-joined ws ps i (suc j) n)
+                → (c : Bool) → eqb k j ≡ c → joins-at ws (member ps k) (member ps i) ≡ false
+            here-or k g h e f true d = ap (λ (x : ℕ). joins-at ws (member ps x) (member ps i)) (eqb-true k j d) ∙ e
             here-or k g h e f false d = let ne = eqb-false k j d in f .none-before k (omega (arith, ne)) h
 
     -- a member's group is opened by it or by one before it
@@ -164,19 +164,19 @@ module _ (ws : List ℕ) where
     unfolding group-first
     first-within i = let f = first-is i 0 i .to in omega arith
 
-    pub none-sooner : (i k : ℕ) → k < group-first ws ps i → joins-at ws (member ws ps k) (member ws ps i) ≡ false
+    pub none-sooner : (i k : ℕ) → k < group-first ws ps i → joins-at ws (member ps k) (member ps i) ≡ false
     unfolding group-first
     none-sooner i k h = first-is i 0 i .none-before k (omega arith) h
 
-    one-then : (i : ℕ) → group-first ws ps i < i → T (joins-at ws (member ws ps (group-first ws ps i)) (member ws ps i))
+    one-then : (i : ℕ) → group-first ws ps i < i → T (joins-at ws (member ps (group-first ws ps i)) (member ps i))
     unfolding group-first
     one-then i h = first-is i 0 i .one-there (omega arith)
 
-    pub first-joins : (i : ℕ) → T (joins-at ws (member ws ps (group-first ws ps i)) (member ws ps i))
+    pub first-joins : (i : ℕ) → T (joins-at ws (member ps (group-first ws ps i)) (member ps i))
     first-joins i = go (eqb (group-first ws ps i) i) refl
       where
-        go : (b : Bool) → eqb (group-first ws ps i) i ≡ b → T (joins-at ws (member ws ps (group-first ws ps i)) (member ws ps i))
-        go true e = subst (λ (k : ℕ). T (joins-at ws (member ws ps k) (member ws ps i))) (sym (eqb-true (group-first ws ps i) i e)) (joins-itself (member ws ps i))
+        go : (b : Bool) → eqb (group-first ws ps i) i ≡ b → T (joins-at ws (member ps (group-first ws ps i)) (member ps i))
+        go true e = subst (λ (k : ℕ). T (joins-at ws (member ps k) (member ps i))) (sym (eqb-true (group-first ws ps i) i e)) (joins-itself (member ps i))
         go false e =
             let ne = eqb-false (group-first ws ps i) i e in
             let le = first-within i in
@@ -193,5 +193,5 @@ module _ (ws : List ℕ) where
             let g = group-first ws ps h in
             let ne = eqb-false g h e in
             let le = first-within h in
-            let both = joins-on (member ws ps g) (member ws ps h) (member ws ps i) (first-joins h) (first-joins i) in
+            let both = joins-on (member ps g) (member ps h) (member ps i) (first-joins h) (first-joins i) in
             absurd (subst (λ (b : Bool). T b) (none-sooner i g (omega (arith, ne, le))) both)

@@ -10,24 +10,24 @@ use Rattle.renaming.specs.Places.{numbered-at}
 use Rattle.cse.specs.Scope.{Switch, Group}
 use Rattle.switchplaces.specs.Switches.{key-place, arm-count, switch-there}
 
+-- of some places the one of number i
+unfoldable pub member : List ℕ → ℕ → ℕ
+member ps i = getD ps i 0
+
 module _ (ws : List ℕ) where
   -- equal kind of switch, key, arm count and default
   unfoldable pub joins-at : ℕ → ℕ → Bool
   unfolding eq-tree numbered-at key-place arm-count
   joins-at p q =
       eqb (kind-of (getD ws p 0)) (kind-of (getD ws q 0))
-      && (eq-tree (numbered-at ws (key-place ws p)) (numbered-at ws (key-place ws q)) && eqb (arm-count ws p) (arm-count ws q))
+      && (eq-tree (numbered-at ws (key-place p)) (numbered-at ws (key-place q)) && eqb (arm-count ws p) (arm-count ws q))
 
   module _ (ps : List ℕ) where
-    -- the place of member number i
-    unfoldable pub member : ℕ → ℕ
-    member i = getD ps i 0
-
     -- of the n members from number j on, the number of the first that i joins; if it joins none, the number past them
     unfoldable pub first-joined : ℕ → ℕ → ℕ → ℕ
     unfolding joins-at member
     first-joined i j zero = j
-    first-joined i j (suc n) = elim (joins-at (member j) (member i)) [ true ↦ j | false ↦ first-joined i (suc j) n ]
+    first-joined i j (suc n) = elim (joins-at (member ps j) (member ps i)) [ true ↦ j | false ↦ first-joined i (suc j) n ]
 
     -- the number of the first of i's group: i itself where it opens one
     unfoldable pub group-first : ℕ → ℕ
@@ -58,12 +58,12 @@ module _ (ws : List ℕ) where
     -- and where they stand
     unfoldable pub member-places : ℕ → List ℕ
     unfolding members-of member
-    member-places i = map member (members-of i)
+    member-places i = map (member ps) (members-of i)
 
     -- the switch of a member, and the group that i opens
     unfoldable pub member-switch : ℕ → Switch
     unfolding switch-there member
-    member-switch i = switch-there ws (member i)
+    member-switch i = switch-there ws (member ps i)
 
     unfoldable pub group-there : ℕ → Group
     unfolding member-switch members-of

@@ -10,6 +10,10 @@ use Rattle.tree.specs.Tokens.{kind-of, takes}
 use Rattle.renaming.specs.Places.{numbered-at, outside-at, second-at, distinct-places}
 use Rattle.cse.specs.Scope.{Switch}
 
+-- a switch's key stands right after it
+unfoldable pub key-place : ℕ → ℕ
+key-place p = suc p
+
 module _ (ws : List ℕ) where
   -- ---- which places are switches
 
@@ -41,10 +45,6 @@ module _ (ws : List ℕ) where
   holds-switch = switch-among (length ws)
 
   -- ---- the parts of a switch
-
-  -- its key stands right after it
-  unfoldable pub key-place : ℕ → ℕ
-  key-place p = suc p
 
   -- every operand after the first is an arm, the default among them
   unfoldable pub arm-count : ℕ → ℕ
