@@ -22,7 +22,7 @@ use Rattle.renaming.specs.Places.{numbered-at, outside-at, among-places, distin
 use Rattle.renaming.proofs.Arms.{those-passing, outer-passing}
 use Rattle.renaming.proofs.UsesAt.{passing-append}
 use Rattle.renaming.proofs.Extraction.{Every, every-append}
-use Rattle.switchplaces.specs.Switches.{switch-at, switches-passing, switch-places, switch-there}
+use Rattle.switchplaces.specs.Switches.{switch-at, switches-passing, places-within, switch-places, switch-there}
 use Rattle.switchplaces.proofs.Parts.{switch-tree, switch-at-is, switch-there-is}
 
 -- ---- switches among trees
@@ -171,7 +171,7 @@ module _ (ws : List ℕ) where
 
   -- each of the switch places is one
   pub places-switch : Every Switching (switch-places ws)
-  unfolding switch-places
+  unfolding switch-places places-within
   places-switch = distinct-keeps Switching [] (switches-passing ws (outside-at ws true) (length ws)) (passing-switch (outside-at ws true) (length ws) (omega arith))
 
 -- ---- of all places that pass
@@ -218,7 +218,7 @@ module _ (ws : List ℕ) (m : ℕ) (complete : trees-in ws ≡ some m) where
       switch-there-is ws m complete p (h .0 .0) (h .0 .1) (map (numbered-at ws) ps) ∙ ap (λ (l : List Switch). switch-there ws p ∷ l) (switches-there ps (h .1))
 
   pub collected-are : collect-switches (read numbered ws) ≡ map (switch-there ws) (switch-places ws)
-  unfolding collect-switches switch-places
+  unfolding collect-switches switch-places places-within
   collected-are =
       let ps = switches-passing ws (outside-at ws true) (length ws) in
       commute [] [] (all-outer (read numbered ws)) (λ s k. refl)

@@ -19,7 +19,7 @@ use Rattle.cse.specs.Scope.{Switch, collect-switches}
 use Rattle.cse.proofs.RoundsValue.{off}
 use Rattle.renaming.specs.Places.{numbered-at, in-arm-of, in-arm, outside-at, among-places, distinct-places}
 use Rattle.renaming.proofs.DivisorPlaces.{here-is}
-use Rattle.switchplaces.specs.Switches.{switch-at, switches-passing, switch-places, switch-among, holds-switch, switch-there}
+use Rattle.switchplaces.specs.Switches.{switch-at, switches-passing, places-within, switch-places, switch-among, holds-switch, switch-there}
 use Rattle.switchplaces.proofs.Parts.{after}
 use Rattle.switchplaces.proofs.Collected.{collected-are}
 
@@ -138,11 +138,11 @@ module _ (ws : List ℕ) (m : ℕ) (complete : trees-in ws ≡ some m) where
   by-places = ap length (collected-are ws m complete) ∙ length-map (switch-places ws) (switch-there ws)
 
   none-there : ((k : ℕ) → k < length ws → switch-at ws k ≡ false) → switch-places ws ≡ []
-  unfolding switch-places distinct-places
+  unfolding switch-places places-within distinct-places
   none-there f = ap (distinct-places ws []) (none-passing ws (outside-at ws true) (length ws) f)
 
   one-there : First-switch ws (length ws) → 1 ≤ length (switch-places ws)
-  unfolding switch-places
+  unfolding switch-places places-within
   one-there f =
       one-distinct ws (switches-passing ws (outside-at ws true) (length ws))
       (some-passing ws (outside-at ws true) (f .place) (length ws) (f .within) (first-outside ws m complete f) (f .switch))

@@ -6,3 +6,4 @@ pub mod Words
 pub mod Turned
 pub mod GroupColumns
 pub mod Holding
+pub mod Stepping

@@ -17,3 +17,9 @@ module _ (ws : List ℕ) where
   unfolding words-at arm-place
   column-words [] a = []
   column-words (q ∷ qs) a = words-at (arm-place ws q a) ++ column-words qs a
+
+  -- how many words the first n columns are
+  unfoldable pub columns-length : List ℕ → ℕ → ℕ
+  unfolding column-words
+  columns-length qs zero = 0
+  columns-length qs (suc n) = columns-length qs n + length (column-words qs n)

@@ -1,13 +1,13 @@
 -- The switches outside arms as places among words, and where their keys and arms stand (01, "Scoped fusion"). Trees have numbers for names. Assumes nothing.
 use Prim.Native.Nat.{ℕ, zero, suc, _+_, _-_}
-use mathlib.Core.Bool.{Bool, true, false, _&&_, _||_}
+use mathlib.Core.Bool.{Bool, true, false, not, _&&_, _||_}
 use mathlib.Core.List.{List, [], _∷_, _++_, map}
 use lib.ListN.{length, getD}
 use lib.Dec.{leb}
 use Rattle.tree.specs.Kinds.{is-switch}
 use Rattle.tree.specs.Facts.{size}
 use Rattle.tree.specs.Tokens.{kind-of, takes}
-use Rattle.renaming.specs.Places.{numbered-at, outside-at, second-at, distinct-places}
+use Rattle.renaming.specs.Places.{numbered-at, outside-at, second-at, among-places, distinct-places}
 use Rattle.cse.specs.Scope.{Switch}
 
 -- a switch's key stands right after it
@@ -28,10 +28,20 @@ module _ (ws : List ℕ) where
   switches-passing test zero = []
   switches-passing test (suc n) = switches-passing test n ++ elim (test n && switch-at n) as (λ _. List ℕ) [ true ↦ n ∷ [] | false ↦ [] ]
 
-  -- `collect_switches`: those outside arms, each tree once, where it stands first
-  unfoldable pub switch-places : List ℕ
+  -- of the first n places the switches outside arms, each tree once, where it stands first
+  unfoldable pub places-within : ℕ → List ℕ
   unfolding switches-passing distinct-places outside-at
-  switch-places = distinct-places ws [] (switches-passing (outside-at ws true) (length ws))
+  places-within n = distinct-places ws [] (switches-passing (outside-at ws true) n)
+
+  -- `collect_switches`
+  unfoldable pub switch-places : List ℕ
+  unfolding places-within
+  switch-places = places-within (length ws)
+
+  -- whether a place is a switch outside arms, and none of some places has its tree
+  unfoldable pub new-switch : List ℕ → ℕ → Bool
+  unfolding switch-at outside-at among-places
+  new-switch met n = outside-at ws true n && (switch-at n && not (among-places ws n met))
 
   -- whether one of the first n places is a switch
   unfoldable pub switch-among : ℕ → Bool
