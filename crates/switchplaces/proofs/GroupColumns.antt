@@ -94,7 +94,7 @@ module _ (ws ps : List ℕ) where
 
 -- ---- bounds
 
-sizes-are : (l : List Tree) → sum-of arm-nodes l ≤ sizes l
+pub sizes-are : (l : List Tree) → sum-of arm-nodes l ≤ sizes l
 unfolding sum-of sizes total
 sizes-are [] = omega arith
 sizes-are (t ∷ l) = (let a = arm-nodes-size t in let b = sizes-are l in omega arith)

@@ -7,3 +7,4 @@ pub mod Turned
 pub mod GroupColumns
 pub mod Holding
 pub mod Stepping
+pub mod Lengths
