@@ -6,7 +6,7 @@ use mathlib.Core.Path.{_≡_, refl, sym, _∙_, ap, ap₂, subst}
 use mathlib.Core.Bool.{Bool, true, false, _&&_}
 use mathlib.Core.Option.{some}
 use mathlib.Core.List.{List, [], _∷_, _++_, map}
-use lib.ListN.{length, getD, take}
+use lib.ListN.{length, take}
 use lib.Seq.{take-suc, take-all, length-take-le}
 use lib.Dec.{T}
 use Rattle.tree.specs.Tree.{Tree, Sym, Const, Op, nil, _◂_, eq-tree, operands}
@@ -77,7 +77,7 @@ alike-one t seen met e h s k =
     let apart : eq-tree t s ≡ false = off (eq-tree t s) (λ u. no-tree (switch-tree s) (ap switch-tree (sym (eq-tree-sound t s u)) ∙ e) k) in
     ap (λ (b : Bool). elim b as (λ _. Bool) [ true ↦ true | false ↦ among s seen ]) apart ∙ h s k
 
-is-so : (b : Bool) → b ≡ true → T b
+pub is-so : (b : Bool) → b ≡ true → T b
 is-so b e = subst (λ (c : Bool). T c) (sym e) tt
 
 module _ (t : Tree) (seen met l : List Tree) where

@@ -1,6 +1,6 @@
 -- The columns of each group of the switches of words, as words (specs, Groups, Columns): complete, and together no longer than the words, since switches
 -- outside arms have their arms in separate places. Assumes nothing.
-use Prim.Native.Nat.{ℕ, zero, suc, _+_, _≤_, _<_}
+use Prim.Native.Nat.{ℕ, zero, suc, _≤_, _<_}
 use native.Mathlib.Omega.{arith}
 use mathlib.Core.Path.{_≡_, refl, sym, _∙_, ap, ap₂, subst}
 use mathlib.Core.Bool.{Bool, true, false}
@@ -10,23 +10,22 @@ use borrow.Author.Tests.{eqb-true}
 use lib.ListN.{length, getD}
 use lib.Dec.{T, eqb}
 use Rattle.tree.specs.Tree.{Tree}
-use Rattle.tree.specs.Facts.{total, size}
+use Rattle.tree.specs.Facts.{total}
 use Rattle.tree.specs.Rows.{occurrences}
 use Rattle.tree.specs.Tokens.{all-tokens, read, numbered, trees-in}
 use Rattle.tree.proofs.TokenLaws.{sizes, map-append, read-size}
 use Rattle.tree.proofs.TokenCode.{unnumbered, all-tokens-length}
 use Rattle.rewrite.proofs.Measure.{sum-of}
-use Rattle.cse.specs.Scope.{Switch, Group, collect-switches, groups-from, members, columns, arms-of-members}
+use Rattle.cse.specs.Scope.{Switch, Group, members, columns, arms-of-members}
 use Rattle.cse.proofs.ReciprocalsCount.{AllTrees}
 use Rattle.cse.proofs.ArmNodes.{arm-nodes, arm-nodes-size, arms-total, All-arms, Small-groups, collected-small, Columns, group-columns}
-use Rattle.renaming.specs.Places.{numbered-at}
 use Rattle.renaming.proofs.Extraction.{Every, every-append}
 use Rattle.switchplaces.specs.Switches.{arm-count, switch-places, switch-there}
 use Rattle.switchplaces.specs.Groups.{joins-at, member, group-first, firsts-within, group-numbers, members-within, members-of, member-places, member-switch, group-there}
 use Rattle.switchplaces.specs.Columns.{column-words}
 use Rattle.switchplaces.proofs.Collected.{Switching, places-switch}
 use Rattle.switchplaces.proofs.Joining.{arms-counted, joined-so, first-joins}
-use Rattle.switchplaces.proofs.Grouped.{Opens, splits, members-there, collected-groups}
+use Rattle.switchplaces.proofs.Grouped.{splits, members-there, collected-groups}
 use Rattle.switchplaces.proofs.Turned.{Armed, column-written, column-complete, column-read}
 
 -- ---- the members of a group are switches with one number of arms

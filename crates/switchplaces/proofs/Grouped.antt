@@ -1,14 +1,14 @@
 -- The groups of some switches by numbers: a group for each number that opens one, with the members whose first it is (specs, Groups). Assumes nothing.
-use Prim.Native.Nat.{ℕ, zero, suc, _+_, _≤_, _<_}
+use Prim.Native.Nat.{ℕ, zero, suc, _≤_, _<_}
 use native.Mathlib.Omega.{arith}
-use mathlib.Core.Path.{_≡_, refl, sym, _∙_, ap, ap₂, subst}
-use mathlib.Core.Bool.{Bool, true, false, _&&_}
+use mathlib.Core.Path.{_≡_, refl, sym, _∙_, ap, ap₂}
+use mathlib.Core.Bool.{Bool, true, false}
 use mathlib.Core.Option.{some}
-use mathlib.Core.List.{List, [], _∷_, _++_, append-assoc, map}
+use mathlib.Core.List.{List, [], _∷_, _++_, append-assoc, append-nil, map}
 use borrow.Author.Tests.{eqb-true, eqb-false, eq-eqb, ne-eqb}
 use lib.ListN.{length, getD, take, drop}
 use lib.Seq.{take-suc, take-length}
-use lib.Dec.{T, eqb}
+use lib.Dec.{eqb}
 use Rattle.tree.specs.Tokens.{read, numbered, trees-in}
 use Rattle.tree.proofs.Tests.{is-true}
 use Rattle.tree.proofs.TokenLaws.{map-append}
@@ -28,10 +28,6 @@ every-so P Q f (a ∷ l) h = (f a (h .0), every-so P Q f l (h .1))
 map-same : {A B : Type 0} (f g : A → B) (l : List A) → Every (λ a. f a ≡ g a) l → map f l ≡ map g l
 map-same f g [] h = refl
 map-same f g (a ∷ l) h = ap₂ _∷_ (h .0) (map-same f g l (h .1))
-
-map-map : {A B C : Type 0} (f : A → B) (g : B → C) (l : List A) → map g (map f l) ≡ map (λ (a : A). g (f a)) l
-map-map f g [] = refl
-map-map f g (a ∷ l) = ap₂ _∷_ refl (map-map f g l)
 
 -- ---- groups one switch at a time
 
@@ -137,15 +133,11 @@ module _ (ws ps : List ℕ) where
       let other : eqb (opener n) i ≡ false = ne-eqb (opener n) i (λ e. omega arith) in
       ap₂ (λ (l : List ℕ) (b : Bool). l ++ elim b as (λ _. List ℕ) [ true ↦ n ∷ [] | false ↦ [] ]) (no-members i n (omega arith)) other
 
-  nothing-after : (l : List ℕ) → l ++ [] ≡ l
-  nothing-after [] = refl
-  nothing-after (x ∷ l) = ap (λ (r : List ℕ). x ∷ r) (nothing-after l)
-
   pub not-member : (i n : ℕ) → (group-first ws ps n ≡ i → ⊥) → members-within ws ps i (suc n) ≡ members-within ws ps i n
   unfolding members-within
   not-member i n h =
       ap (λ (b : Bool). members-within ws ps i n ++ elim b as (λ _. List ℕ) [ true ↦ n ∷ [] | false ↦ [] ]) (ne-eqb (opener n) i h)
-      ∙ nothing-after (members-within ws ps i n)
+      ∙ append-nil (members-within ws ps i n)
 
   pub is-member : (i n : ℕ) → group-first ws ps n ≡ i → members-within ws ps i (suc n) ≡ members-within ws ps i n ++ (n ∷ [])
   unfolding members-within
@@ -198,21 +190,16 @@ module _ (ws ps : List ℕ) where
   opened : (n : ℕ) → group-first ws ps n ≡ n → place (S n) (map (group-within n) (firsts-within ws ps n)) ≡ map (group-within (suc n)) (firsts-within ws ps n ++ (n ∷ []))
   opened n o =
       let l = firsts-within ws ps n in
-      let none : List ℕ = [] in
       let h = firsts-open n in
       let far = every-so (Opens n) (λ i. joins (S i) (S n) ≡ false) (λ i g. let k = g .0 in apart-before n i (omega arith)) l h in
       let other = every-so (Opens n) (λ i. opener n ≡ i → ⊥) (λ i g e. let k = g .0 in omega arith) l h in
       let own : members-within ws ps n (suc n) ≡ n ∷ [] = is-member n n o ∙ ap (λ (l : List ℕ). l ++ (n ∷ [])) (no-members n n (omega arith)) in
       let new : alone (S n) ≡ group-within (suc n) n = ap (λ (l : List ℕ). record { first = S n; others = map S (drop 1 l) }) (sym own) in
-      ap (place (S n)) (sym (groups-end (map (group-within n) l)))
+      ap (place (S n)) (sym (append-nil (map (group-within n) l)))
       ∙ place-after (S n) (map (group-within n) l) [] (all-apart n l far)
       ∙ ap (λ (r : List Group). map (group-within n) l ++ r) (place-end (S n))
       ∙ ap₂ (λ (a : List Group) (g : Group). a ++ (g ∷ [])) (same-groups n l other) new
       ∙ sym (map-append (group-within (suc n)) l (n ∷ []))
-    where
-      groups-end : (l : List Group) → l ++ [] ≡ l
-      groups-end [] = refl
-      groups-end (g ∷ l) = ap (λ (r : List Group). g ∷ r) (groups-end l)
 
   -- n joins the group that f opens
   joined-one :
@@ -253,7 +240,7 @@ module _ (ws ps : List ℕ) where
       go false e =
           let ne = eqb-false (opener n) n e in
           let w = first-within ws ps n in
-          joined-one n (opener n) refl (omega (arith, ne, w)) ∙ ap (map (group-within (suc n))) (sym (nothing-after (firsts-within ws ps n)))
+          joined-one n (opener n) refl (omega (arith, ne, w)) ∙ ap (map (group-within (suc n))) (sym (append-nil (firsts-within ws ps n)))
 
   grouped-within : (n : ℕ) → n ≤ length ps → groups-from [] (map (switch-there ws) (take n ps)) ≡ map (group-within n) (firsts-within ws ps n)
   grouped-within zero h = (unfold groups-from firsts-within in refl)

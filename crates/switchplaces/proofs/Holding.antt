@@ -4,16 +4,14 @@ use native.Mathlib.Omega.{arith}
 use mathlib.Core.Path.{_≡_, refl, sym, _∙_, ap, ap₂, subst}
 use mathlib.Core.Bool.{Bool, true, false, not, _&&_, _||_}
 use mathlib.Core.Option.{some}
-use mathlib.Core.List.{List, [], _∷_, _++_, map}
-use borrow.Author.Tests.{le-leb, leb-false}
+use mathlib.Core.List.{List, [], _∷_, _++_}
+use borrow.Author.Tests.{le-leb, leb-true, leb-false}
 use lib.ListN.{length, getD, take, length-append, length-map}
 use lib.Dec.{T, leb, ltb, leb→le, ltb→lt, le→leb}
 use Rattle.tree.specs.Kinds.{is-switch}
-use Rattle.tree.specs.Facts.{total, size}
-use Rattle.tree.specs.Tree.{Tree}
+use Rattle.tree.specs.Facts.{size}
 use Rattle.tree.specs.Tokens.{read, numbered, kind-of, takes, trees-in}
 use Rattle.tree.proofs.Logic.{and-left, and-right, and-both}
-use Rattle.tree.proofs.Tests.{is-true}
 use Rattle.tree.proofs.TokenLaws.{sizes, size-made}
 use Rattle.cse.specs.Scope.{Switch, collect-switches}
 use Rattle.cse.proofs.RoundsValue.{off}
@@ -22,6 +20,7 @@ use Rattle.renaming.proofs.DivisorPlaces.{here-is}
 use Rattle.switchplaces.specs.Switches.{switch-at, switches-passing, places-within, switch-places, switch-among, holds-switch, switch-there}
 use Rattle.switchplaces.proofs.Parts.{after}
 use Rattle.switchplaces.proofs.Collected.{collected-are}
+use Rattle.switchplaces.proofs.Words.{no-sizes}
 
 -- ---- the first switch
 
@@ -39,11 +38,8 @@ none-so-far : (ws : List ℕ) (n : ℕ) → switch-at ws n ≡ false → ((k : �
 none-so-far ws n e f k h = go (leb n k) refl
   where
     go : (b : Bool) → leb n k ≡ b → switch-at ws k ≡ false
-    go true d = let z : n ≡ k = (let l = leb→le n k (subst (λ (c : Bool). T c) (sym d) tt) in omega arith) in ap (switch-at ws) (sym z) ∙ e
-    go false d = f k (not-yet d)
-      where
-        not-yet : leb n k ≡ false → k < n
-        not-yet d = leb-false n k d
+    go true d = let z : n ≡ k = (let l = leb-true n k d in omega arith) in ap (switch-at ws) (sym z) ∙ e
+    go false d = f k (leb-false n k d)
 
 pub found : (ws : List ℕ) (n : ℕ) → Found ws n (switch-among ws n)
 unfolding switch-among
@@ -57,11 +53,6 @@ found ws (suc n) = go (switch-at ws n) refl (switch-among ws n) (found ws n)
     go false e false f = none-so-far ws n e f
 
 -- ---- is outside arms
-
-no-sizes : (l : List Tree) (n : ℕ) → n ≡ 0 → sizes (take n l) ≡ 0
-unfolding sizes total
-no-sizes l zero e = refl
-no-sizes l (suc n) e = absurd (omega arith)
 
 module _ (ws : List ℕ) (m : ℕ) (complete : trees-in ws ≡ some m) where
   -- a place in an arm has a switch before it
@@ -80,7 +71,7 @@ module _ (ws : List ℕ) (m : ℕ) (complete : trees-in ws ≡ some m) where
       (before, and-both s (leb 1 (takes w)) (and-left s (low && high) t) (go (takes w) before b whole))
     where
       go : (k : ℕ) → n < p → p < n + size (numbered-at ws n) → size (numbered-at ws n) ≡ suc (sizes (take k (after ws (suc n)))) → T (leb 1 k)
-      go zero f b e = absurd (let z = no-sizes (after ws (suc n)) 0 refl in omega arith)
+      go zero f b e = absurd (let z = no-sizes (after ws (suc n)) in omega arith)
       go (suc k) f b e = le→leb 1 (suc k) (omega arith)
 
   never-in-arm : (p n : ℕ) → p < length ws → ((k : ℕ) → k < p → switch-at ws k ≡ false) → in-arm ws n p ≡ false
@@ -114,13 +105,10 @@ module _ (ws : List ℕ) where
   some-passing test p zero h e f = absurd (omega arith)
   some-passing test p (suc n) h e f = go (leb n p) refl (λ k. some-passing test p n k e f)
     where
-      last : List ℕ
-      last = elim (test n && switch-at ws n) as (λ _. List ℕ) [ true ↦ n ∷ [] | false ↦ [] ]
-
       go : (b : Bool) → leb n p ≡ b → (p < n → 1 ≤ length (switches-passing ws test n))
           → 1 ≤ length (switches-passing ws test n ++ elim (test n && switch-at ws n) as (λ _. List ℕ) [ true ↦ n ∷ [] | false ↦ [] ])
       go true d g =
-          let z : n ≡ p = (let l = leb→le n p (subst (λ (c : Bool). T c) (sym d) tt) in omega arith) in
+          let z : n ≡ p = (let l = leb-true n p d in omega arith) in
           let one : (test n && switch-at ws n) ≡ true = ap₂ _&&_ (ap test z ∙ e) (ap (switch-at ws) z ∙ f) in
           let shown = ap (λ (b : Bool). length (switches-passing ws test n ++ elim b as (λ _. List ℕ) [ true ↦ n ∷ [] | false ↦ [] ])) one in
           omega (arith, shown, length-append (switches-passing ws test n) (n ∷ []))

@@ -1,25 +1,24 @@
 -- Which switches join, by places (specs, Groups): it is what the definition of groups asks of the switches there, and an equivalence. Assumes nothing.
-use Prim.Native.Nat.{ℕ, zero, suc, _+_, _-_, _*_, _%_, _/_, _≤_, _<_}
+use Prim.Native.Nat.{ℕ, zero, suc, _+_, _-_, _≤_, _<_}
 use native.Mathlib.Omega.{arith}
 use mathlib.Core.Path.{_≡_, refl, sym, _∙_, ap, ap₂, subst}
 use mathlib.Core.Bool.{Bool, true, false, _&&_}
-use mathlib.Core.List.{List, [], _∷_, map}
-use borrow.Author.Tests.{eqb-true, eqb-false, eq-eqb, ne-eqb}
+use mathlib.Core.List.{List, map}
+use borrow.Author.Tests.{eqb-true, eqb-false}
 use lib.ListN.{length, getD, length-map}
 use lib.Dec.{T, eqb, eqb→eq}
 use Rattle.tree.specs.Tree.{Tree, eq-tree}
-use Rattle.tree.specs.Tokens.{kind-of, below-of, takes, trees-in}
+use Rattle.tree.specs.Tokens.{kind-of, takes}
 use Rattle.tree.proofs.Logic.{and-left, and-right, and-both}
-use Rattle.tree.proofs.Tests.{is-true, eq→eqb}
+use Rattle.tree.proofs.Tests.{eq→eqb}
 use Rattle.tree.proofs.TreeLaws.{eq-tree-sound, eq-tree-refl}
 use Rattle.tree.proofs.TokenLaws.{operation-takes}
-use Rattle.cse.specs.Scope.{Switch, joins}
-use Rattle.cse.proofs.RoundsValue.{off}
+use Rattle.cse.specs.Scope.{joins}
 use Rattle.renaming.specs.Places.{numbered-at}
 use Rattle.switchplaces.specs.Switches.{switch-at, key-place, arm-count, arm-places, switch-there}
 use Rattle.switchplaces.specs.Groups.{joins-at, member, first-joined, group-first}
 use Rattle.switchplaces.proofs.Parts.{arms-length, has-key}
-use Rattle.switchplaces.proofs.Collected.{Switching}
+use Rattle.switchplaces.proofs.Collected.{is-so}
 
 module _ (ws : List ℕ) where
   pub arms-counted : (p : ℕ) → length (map (numbered-at ws) (arm-places ws p)) ≡ arm-count ws p
@@ -126,9 +125,6 @@ module _ (ws : List ℕ) where
       pub none-before : (k : ℕ) → j ≤ k → k < r → joins-at ws (member ps k) (member ps i) ≡ false
       pub one-there : r < j + n → T (joins-at ws (member ps r) (member ps i))
 
-    true-there : (b : Bool) → b ≡ true → T b
-    true-there b e = subst (λ (c : Bool). T c) (sym e) tt
-
     pub first-is : (i j n : ℕ) → First i j n (first-joined ws ps i j n)
     unfolding first-joined
     first-is i j zero =
@@ -142,7 +138,7 @@ module _ (ws : List ℕ) where
               from = omega arith;
               to = omega arith;
               none-before = λ k g h. absurd (omega arith);
-              one-there = λ h. true-there (joins-at ws (member ps j) (member ps i)) e;
+              one-there = λ h. is-so (joins-at ws (member ps j) (member ps i)) e;
             }
         go false e f =
             let a = f .from in

@@ -12,12 +12,11 @@ use Rattle.tree.specs.Facts.{size}
 use Rattle.tree.specs.Rows.{occurrences}
 use Rattle.tree.specs.Tokens.{read, numbered, trees-in}
 use Rattle.tree.proofs.TokenLaws.{map-append, read-size}
-use Rattle.cse.specs.Scope.{Switch, members}
 use Rattle.cse.proofs.ArmNodes.{arms-total, collected-total}
 use Rattle.renaming.specs.Places.{numbered-at}
 use Rattle.renaming.proofs.Extraction.{Every}
 use Rattle.switchplaces.specs.Switches.{arm-count, arm-place, arms-within, arm-places, switch-places, switch-there}
-use Rattle.switchplaces.specs.Groups.{member, group-first, member-places, group-there}
+use Rattle.switchplaces.specs.Groups.{member, group-first, member-places}
 use Rattle.switchplaces.specs.Columns.{words-at, column-words, columns-length}
 use Rattle.switchplaces.proofs.Collected.{Switching, places-switch, collected-are}
 use Rattle.switchplaces.proofs.Words.{ends-within, arm-within}

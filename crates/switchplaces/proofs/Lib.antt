@@ -8,3 +8,4 @@ pub mod GroupColumns
 pub mod Holding
 pub mod Stepping
 pub mod Lengths
+pub mod Examples

@@ -6,13 +6,13 @@ use mathlib.Core.Bool.{Bool, true, false, _&&_}
 use mathlib.Core.Option.{some}
 use mathlib.Core.List.{List, [], _∷_, _++_, map}
 use borrow.Author.Tests.{le-leb, lt-leb}
-use lib.ListN.{length, getD, take, drop, length-drop, length-map, length-append}
+use lib.ListN.{length, getD, take, drop, length-drop, length-append}
 use lib.Seq.{take-suc, getD-drop, drop-drop}
 use lib.Dec.{T, leb, leb→le}
 use Rattle.tree.specs.Tree.{Tree, Sym, Const, Op, nil, _◂_, operands, forest}
 use Rattle.tree.specs.Kinds.{is-switch}
 use Rattle.tree.specs.Facts.{total, size}
-use Rattle.tree.specs.Tokens.{read, trees-at, numbered, kind-of, takes, trees-in}
+use Rattle.tree.specs.Tokens.{read, numbered, kind-of, takes, trees-in}
 use Rattle.tree.proofs.Logic.{and-left, and-right}
 use Rattle.tree.proofs.TokenLaws.{Word, a-symbol, a-constant, an-operation, word-is, symbol-tree, constant-tree, operation-tree, operands-forest, made, map-append, sizes, read-past, tree-at}
 use Rattle.cse.specs.Scope.{Switch, switches}

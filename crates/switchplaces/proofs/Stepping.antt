@@ -1,9 +1,9 @@
 -- Switch places one place at a time (specs, Switches), as a loop over the words finds them; how many there are, and that all are outside arms. Assumes nothing.
-use Prim.Native.Nat.{ℕ, zero, suc, _+_, _≤_, _<_}
+use Prim.Native.Nat.{ℕ, zero, suc, _≤_, _<_}
 use native.Mathlib.Omega.{arith}
-use mathlib.Core.Path.{_≡_, refl, sym, _∙_, ap, ap₂}
+use mathlib.Core.Path.{_≡_, refl, sym, _∙_, ap}
 use mathlib.Core.Bool.{Bool, true, false, not, _&&_, _||_}
-use mathlib.Core.List.{List, [], _∷_, _++_}
+use mathlib.Core.List.{List, [], _∷_, _++_, append-nil}
 use lib.ListN.{length, length-append}
 use lib.Dec.{T}
 use Rattle.tree.specs.Tree.{eq-tree}
@@ -11,10 +11,6 @@ use Rattle.renaming.specs.Places.{numbered-at, outside-at, among-places, distin
 use Rattle.renaming.proofs.Extraction.{Every, every-append}
 use Rattle.switchplaces.specs.Switches.{switch-at, switches-passing, places-within, switch-places, new-switch}
 use Rattle.switchplaces.proofs.Collected.{distinct-keeps}
-
-no-more : (l : List ℕ) → l ++ [] ≡ l
-no-more [] = refl
-no-more (x ∷ l) = ap (λ (r : List ℕ). x ∷ r) (no-more l)
 
 -- one place, unless it is known
 abbrev unless : Bool → ℕ → List ℕ
@@ -61,15 +57,12 @@ module _ (ws : List ℕ) where
   unfolding places-within switches-passing new-switch
   places-next n = go (outside-at ws true n) (switch-at ws n)
     where
-      before : List ℕ
-      before = switches-passing ws (outside-at ws true) n
-
       turned : (b : Bool) → unless b n ≡ elim (not b) as (λ _. List ℕ) [ true ↦ n ∷ [] | false ↦ [] ]
       turned true = refl
       turned false = refl
 
       nothing : distinct-places ws [] (switches-passing ws (outside-at ws true) n ++ []) ≡ distinct-places ws [] (switches-passing ws (outside-at ws true) n) ++ []
-      nothing = ap (distinct-places ws []) (no-more (switches-passing ws (outside-at ws true) n)) ∙ sym (no-more (distinct-places ws [] (switches-passing ws (outside-at ws true) n)))
+      nothing = ap (distinct-places ws []) (append-nil (switches-passing ws (outside-at ws true) n)) ∙ sym (append-nil (distinct-places ws [] (switches-passing ws (outside-at ws true) n)))
 
       go : (b c : Bool)
           → distinct-places ws [] (switches-passing ws (outside-at ws true) n ++ elim (b && c) as (λ _. List ℕ) [ true ↦ n ∷ [] | false ↦ [] ])

@@ -1,18 +1,18 @@
 -- The words of a column are those of the arms of one number (specs, Columns): they are complete, and read as the column. Assumes nothing.
-use Prim.Native.Nat.{ℕ, zero, suc, _+_, _≤_, _<_}
+use Prim.Native.Nat.{ℕ, zero, suc, _<_}
 use native.Mathlib.Omega.{arith}
 use mathlib.Core.Path.{_≡_, refl, sym, _∙_, ap, ap₂, subst}
 use mathlib.Core.Bool.{Bool, true, false}
 use mathlib.Core.Option.{some}
 use mathlib.Core.List.{List, [], _∷_, _++_, map}
 use borrow.Author.Tests.{eqb-true, eqb-false}
-use lib.ListN.{length, getD, drop, length-map, List·getD-append, List·getD-map}
+use lib.ListN.{length, getD, length-map, List·getD-append, List·getD-map}
 use lib.Seq.{getD-at}
 use lib.Dec.{T, eqb}
-use Rattle.tree.specs.Tree.{Tree, Op, nil}
+use Rattle.tree.specs.Tree.{Tree}
 use Rattle.tree.specs.Tokens.{all-tokens, read, numbered, trees-in}
 use Rattle.tree.proofs.TokenCode.{all-coded, unnumbered, all-tokens-append, tokens-complete}
-use Rattle.cse.specs.Scope.{Switch, first-arms, rest-arms, columns, arms-of-members}
+use Rattle.cse.specs.Scope.{first-arms, rest-arms, columns, arms-of-members}
 use Rattle.renaming.specs.Places.{numbered-at}
 use Rattle.renaming.proofs.Extraction.{Every}
 use Rattle.renaming.proofs.Coded.{is-alone, none-fit, append-fits, read-fits, read-again}

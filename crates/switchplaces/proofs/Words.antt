@@ -1,21 +1,19 @@
 -- The words of the tree at a place, and that a switch's arms stand one after another up to the switch's end (specs, Switches, Columns). Assumes nothing.
 use Prim.Native.Nat.{ℕ, zero, suc, _+_, _-_, _≤_, _<_}
 use native.Mathlib.Omega.{arith}
-use mathlib.Core.Path.{_≡_, refl, sym, _∙_, ap, ap₂, subst}
+use mathlib.Core.Path.{_≡_, refl, sym, _∙_, ap}
 use mathlib.Core.Option.{some}
 use mathlib.Core.List.{List, [], _∷_, _++_}
 use lib.ListN.{length, getD, take, drop, length-drop, drop-of-length-le, take-append-drop}
 use lib.Seq.{take-suc}
-use lib.Dec.{T}
 use Rattle.tree.specs.Tree.{Tree, Op, nil}
 use Rattle.tree.specs.Facts.{total, size}
 use Rattle.tree.specs.Tokens.{all-tokens, read, numbered, takes, trees-in, run-at}
-use Rattle.tree.proofs.FactLaws.{size-one}
-use Rattle.tree.proofs.TokenLaws.{sizes, sizes-append, size-made, tree-at, run-size, words-complete, complete-read, complete-length}
+use Rattle.tree.proofs.TokenLaws.{sizes, sizes-append, size-made, run-size, words-complete, complete-read, complete-length}
 use Rattle.tree.proofs.TokenCode.{unnumbered, writes-back}
 use Rattle.renaming.specs.Places.{numbered-at, second-at}
 use Rattle.renaming.proofs.DivisorPlaces.{here-is, enough}
-use Rattle.switchplaces.specs.Switches.{switch-at, arm-count, trees-past, arm-place}
+use Rattle.switchplaces.specs.Switches.{arm-count, trees-past, arm-place}
 use Rattle.switchplaces.specs.Columns.{words-at}
 use Rattle.switchplaces.proofs.Parts.{after, first-after, after-key, read-trees-past, tree-past, has-key}
 use Rattle.switchplaces.proofs.Collected.{Switching}
@@ -42,7 +40,7 @@ none-read : length (read numbered []) ≡ 0
 unfolding read
 none-read = refl
 
-no-sizes : (l : List Tree) → sizes (take 0 l) ≡ 0
+pub no-sizes : (l : List Tree) → sizes (take 0 l) ≡ 0
 unfolding sizes total
 no-sizes l = refl
 
