@@ -7,7 +7,8 @@ use mathlib.Core.Bool.{Bool, true, false}
 use mathlib.Core.Option.{some}
 use mathlib.Core.List.{List, [], _∷_, _++_, map}
 use borrow.Author.Tests.{eqb-true}
-use lib.ListN.{length, getD}
+use lib.ListN.{length, getD, drop, drop-of-length-le}
+use lib.Seq.{drop-cons}
 use lib.Dec.{T, eqb}
 use Rattle.tree.specs.Tree.{Tree}
 use Rattle.tree.specs.Facts.{total}
@@ -19,6 +20,7 @@ use Rattle.rewrite.proofs.Measure.{sum-of}
 use Rattle.cse.specs.Scope.{Switch, Group, members, columns, arms-of-members}
 use Rattle.cse.proofs.ReciprocalsCount.{AllTrees}
 use Rattle.cse.proofs.ArmNodes.{arm-nodes, arm-nodes-size, arms-total, All-arms, Small-groups, collected-small, Columns, group-columns}
+use Rattle.cse.proofs.SwitchLaws.{length-columns}
 use Rattle.renaming.proofs.Extraction.{Every, every-append}
 use Rattle.switchplaces.specs.Switches.{arm-count, switch-places, switch-there}
 use Rattle.switchplaces.specs.Groups.{joins-at, member, group-first, firsts-within, group-numbers, members-within, members-of, member-places, member-switch, group-there}
@@ -184,3 +186,23 @@ module _ (ws : List ℕ) (m : ℕ) (complete : trees-in ws ≡ some m) where
           let e = ap length group-column-written ∙ all-tokens-length unnumbered (getD all a []) in
           let s = short-at (length ws) a all (group-columns Any (length ws) group (any-arms (members group)) group-small) in
           omega (arith, e, s)
+
+      -- the columns from number a on: this one, and those after it
+      pub group-columns-next :
+          drop a (columns (length (group-there ws (switch-places ws) i .first .arms)) (arms-of-members (members (group-there ws (switch-places ws) i))))
+          ≡ read numbered (column-words ws (member-places ws (switch-places ws) i) a)
+          ∷ drop (suc a) (columns (length (group-there ws (switch-places ws) i .first .arms)) (arms-of-members (members (group-there ws (switch-places ws) i))))
+      group-columns-next =
+          let n = length (group .first .arms) in
+          let all = columns n (arms-of-members (members group)) in
+          drop-cons all a [] (omega (arith, length-columns n (arms-of-members (members group)), first-arms-are ws ps i))
+          ∙ ap (λ (t : List Tree). t ∷ drop (suc a) all) (sym group-column-read)
+
+    -- and past the last none
+    pub group-columns-end :
+        drop (arm-count ws (member (switch-places ws) i))
+        (columns (length (group-there ws (switch-places ws) i .first .arms)) (arms-of-members (members (group-there ws (switch-places ws) i))))
+        ≡ []
+    group-columns-end =
+        let n = length (group .first .arms) in
+        drop-of-length-le (columns n (arms-of-members (members group))) {i = arms} (omega (arith, length-columns n (arms-of-members (members group)), first-arms-are ws ps i))

@@ -2,6 +2,7 @@ pub mod Parts
 pub mod Collected
 pub mod Joining
 pub mod Grouped
+pub mod Remaining
 pub mod Words
 pub mod Turned
 pub mod GroupColumns

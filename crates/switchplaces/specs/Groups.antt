@@ -44,11 +44,23 @@ module _ (ws : List ℕ) where
     unfolding firsts-within
     group-numbers = firsts-within (length ps)
 
+    -- those of the n from number j on, which a loop has still to come to
+    unfoldable pub firsts-from : ℕ → ℕ → List ℕ
+    unfolding group-first
+    firsts-from j zero = []
+    firsts-from j (suc n) = elim (eqb (group-first j) j) [ true ↦ j ∷ firsts-from (suc j) n | false ↦ firsts-from (suc j) n ]
+
     -- those of the first n that are in the group that i opens, in order
     unfoldable pub members-within : ℕ → ℕ → List ℕ
     unfolding group-first
     members-within i zero = []
     members-within i (suc n) = members-within i n ++ elim (eqb (group-first n) i) as (λ _. List ℕ) [ true ↦ n ∷ [] | false ↦ [] ]
+
+    -- those of the n from number j on
+    unfoldable pub members-from : ℕ → ℕ → ℕ → List ℕ
+    unfolding group-first
+    members-from i j zero = []
+    members-from i j (suc n) = elim (eqb (group-first j) i) [ true ↦ j ∷ members-from i (suc j) n | false ↦ members-from i (suc j) n ]
 
     -- the members of the group that i opens, i first
     unfoldable pub members-of : ℕ → List ℕ
