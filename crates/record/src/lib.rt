@@ -210,7 +210,7 @@ fn read_numbers(kind: u64, s: &[u8], rows: u64, roots: u64, row: &mut [u64]) -> 
         return Read::Refused(2);
     };
     let end = n + 3;
-    if !fields::all_below(&row[3..end], rows) {
+    if !bounds::all_below(&row[3..end], rows) {
         return Read::Refused(5);
     }
     if kind == ROOT {

@@ -1,10 +1,10 @@
--- `fields::constant_ok` meets its contract. Assumes nothing.
+-- `constants::constant_ok` meets its contract. Assumes nothing.
 use lib.ListN.{length, getD}
 use borrow.Author.Tests.{lt-ltb, le-ltb, eq-eqb, ne-eqb}
-use Rattle.fields.specs.Tests.{constant-test}
+use Rattle.constants.specs.Constant.{constant-test}
 use borrow.Author.Needs.{needs}
-use Rattle.fields.proofs.constant_ok.Statement.{statement}
-use Rattle.fields.proofs.constant_ok.Tie as tie
+use Rattle.constants.proofs.constant_ok.Statement.{statement}
+use Rattle.constants.proofs.constant_ok.Tie as tie
 
 returns : tie.Need-returns
 unfolding constant-test

@@ -1,15 +1,15 @@
--- `fields::all_below` meets its contract: every number is compared, from the front. Assumes nothing.
+-- `bounds::all_below` meets its contract: every number is compared, from the front. Assumes nothing.
 use Prim.Native.Nat.{_≤_, _-_}
 use mathlib.Core.Path.{_≡_, refl}
 use lib.Dec.{ltb}
 use lib.ListN.{length, getD, drop}
 use borrow.Author.Tests.{lt-ltb, le-ltb}
 use Rattle.tree.specs.Bytes.{every}
-use Rattle.fields.specs.Tests.{below}
+use Rattle.bounds.specs.Below.{below}
 use Rattle.names.proofs.Leaves.{every-next, every-stop, every-end}
 use borrow.Author.Needs.{needs}
-use Rattle.fields.proofs.all_below.Statement.{statement}
-use Rattle.fields.proofs.all_below.Tie as tie
+use Rattle.bounds.proofs.all_below.Statement.{statement}
+use Rattle.bounds.proofs.all_below.Tie as tie
 
 abbrev Inv-loop : tie.InvT-loop
 Inv-loop numbers bound i₀ i = (i ≤ length numbers) × (below bound numbers ≡ below bound (drop i numbers))
