@@ -1,2 +1,3 @@
 pub mod Replacing
 pub mod Rounds
+pub mod Switches
