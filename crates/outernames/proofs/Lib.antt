@@ -1,3 +1,4 @@
 pub mod Replacing
 pub mod Rounds
 pub mod Switches
+pub mod Arms

@@ -52,6 +52,24 @@ module _ (p : Name → Bool) where
   columns-back zero ls h g = none-back ls h
   columns-back (suc n) ls h g = first-back n ls h (g .0) (columns-back n (rest-arms ls) (rest-long n ls h) (g .1))
 
+  first-forth : (ls : List (List Tree)) → All-hold p ls → T (holds-all p (first-arms ls))
+  unfolding first-arms holds-all
+  first-forth [] h = tt
+  first-forth ([] ∷ ls) h = first-forth ls (h .1)
+  first-forth ((t ∷ ts) ∷ ls) h = and-both (holds p t) (holds-all p (first-arms ls)) (and-left (holds p t) (holds-all p ts) (h .0)) (first-forth ls (h .1))
+
+  rest-forth : (ls : List (List Tree)) → All-hold p ls → All-hold p (rest-arms ls)
+  unfolding rest-arms holds-all
+  rest-forth [] h = tt
+  rest-forth ([] ∷ ls) h = (tt, rest-forth ls (h .1))
+  rest-forth ((t ∷ ts) ∷ ls) h = (and-right (holds p t) (holds-all p ts) (h .0), rest-forth ls (h .1))
+
+  -- and no more
+  pub columns-forth : (n : ℕ) (ls : List (List Tree)) → All-hold p ls → All-hold p (columns n ls)
+  unfolding columns
+  columns-forth zero ls h = tt
+  columns-forth (suc n) ls h = (first-forth ls h, columns-forth n (rest-arms ls) (rest-forth ls h))
+
   -- ---- a switch has what its key and its arms have
 
   operands-back : (f : Forest) → T (holds-all p (operands f)) → T (holds-each p f)
