@@ -109,7 +109,7 @@ pub record Same-arms (start : ℕ) (ls : List (List Tree)) (a : Armed) : Type 0 
   pub back : (p : Name → Bool) → Sub p (free-arms (a .arms)) → All-hold p ls
   pub forth : (q : Name → Bool) → New start q → All-hold q ls → Sub q (free-arms (a .arms))
 
-new-later : (start k : ℕ) → start ≤ k → (q : Name → Bool) → New start q → New k q
+pub new-later : (start k : ℕ) → start ≤ k → (q : Name → Bool) → New start q → New k q
 new-later start k h q new n f = new n (λ t. f (under-le start k h n t))
 
 arm-same :

@@ -2,3 +2,4 @@ pub mod Replacing
 pub mod Rounds
 pub mod Switches
 pub mod Arms
+pub mod Fusing
