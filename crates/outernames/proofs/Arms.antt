@@ -19,7 +19,7 @@ use Rattle.cse.specs.Scope.{Group, Work, Scoped, Armed, members, name-members, 
 use Rattle.cse.proofs.Outcomes.{Good, then-good, good-ok, good-at}
 use Rattle.cse.proofs.Symbols.{decide, or-left, or-right, or-cases, elem-cases, elem-here, elem-later, elem-left, elem-right, elem-append, holds-all-at, Sub, sub-left, sub-right, sub-append, no-elem, holds-all-by}
 use Rattle.cse.proofs.SwitchLaws.{Fair-group, All-hold, group-columns-known}
-use Rattle.cse.proofs.ScopeValue.{under, under-le, name-members-later}
+use Rattle.cse.proofs.ScopeValue.{under, under-le, hold-more}
 use Rattle.outernames.proofs.Rounds.{New}
 use Rattle.outernames.proofs.Switches.{All-formed, columns-forth, group-columns, group-arms-back}
 
@@ -103,11 +103,13 @@ pub record Same-names (start : ℕ) (es : List Tree) (a : Scoped) : Type 0 where
   pub later : start ≤ a .next
   pub back : (p : Name → Bool) → Sub p (read-by a) → T (holds-all p es)
   pub forth : (q : Name → Bool) → New start q → T (holds-all q es) → Sub q (read-by a)
+  pub top : T (holds-all (under start) es) → Sub (under (a .next)) (read-by a)
 
 pub record Same-arms (start : ℕ) (ls : List (List Tree)) (a : Armed) : Type 0 where
   pub later : start ≤ a .next
   pub back : (p : Name → Bool) → Sub p (free-arms (a .arms)) → All-hold p ls
   pub forth : (q : Name → Bool) → New start q → All-hold q ls → Sub q (free-arms (a .arms))
+  pub top : All-hold (under start) ls → Sub (under (a .next)) (free-arms (a .arms))
 
 pub new-later : (start k : ℕ) → start ≤ k → (q : Name → Bool) → New start q → New k q
 new-later start k h q new n f = new n (λ t. f (under-le start k h n t))
@@ -129,6 +131,10 @@ arm-same start es ls a r A B =
       forth = λ q new h.
           let g = A .forth q new (h .0) in
           sub-append q s (v ++ f) (sub-left q s v g) (sub-append q v f (sub-right q s v g) (B .forth q (new-later start (a .next) (A .later) q new) (h .1)));
+      top = λ h.
+          let g : Sub (under (r .next)) (s ++ v) = λ n t. under-le (a .next) (r .next) (B .later) n (A .top (h .0) n t) in
+          sub-append (under (r .next)) s (v ++ f) (sub-left (under (r .next)) s v g)
+          (sub-append (under (r .next)) v f (sub-right (under (r .next)) s v g) (B .top (hold-more (under start) (under (a .next)) (under-le start (a .next) (A .later)) ls (h .1))));
     }
 
 module _ (scope : ℕ → List Tree → Outcome Scoped) (ih : (start : ℕ) (es : List Tree) → T (well-formed-all es) → Good (Same-names start es) (scope start es)) where
@@ -136,7 +142,7 @@ module _ (scope : ℕ → List Tree → Outcome Scoped) (ih : (start : ℕ) (es 
   unfolding scope-arms
   arms-same [] start w =
       good-ok (Same-arms start []) (record { arms = no-arm; next = start; extracted = 0 })
-      (record { later = omega arith; back = λ p u. tt; forth = λ q new h n t. absurd (no-elem n (unfold free-stmts in t)) })
+      (record { later = omega arith; back = λ p u. tt; forth = λ q new h n t. absurd (no-elem n (unfold free-stmts in t)); top = λ h n t. absurd (no-elem n (unfold free-stmts in t)) })
   arms-same (es ∷ ls) start w =
       then-good (Same-names start es) (Same-arms start (es ∷ ls)) (scope start es) (ih start es (w .0)) _
       (λ a A. then-good (Same-arms (a .next) ls) (Same-arms start (es ∷ ls)) (scope-arms scope (a .next) ls) (arms-same ls (a .next) (w .1)) _

@@ -3,3 +3,5 @@ pub mod Rounds
 pub mod Switches
 pub mod Arms
 pub mod Fusing
+pub mod Finishing
+pub mod Whole

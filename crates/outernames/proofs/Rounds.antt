@@ -8,6 +8,7 @@ use lib.ListN.{length}
 use lib.Dec.{T, ltb→lt}
 use Rattle.tree.specs.Outcome.{Outcome, ok, refused}
 use Rattle.tree.specs.Tree.{Name, xname, mname, Tree}
+use Rattle.tree.specs.Value.{Env, values}
 use Rattle.tree.specs.Facts.{all-nodes, count}
 use Rattle.tree.proofs.Formed.{well-formed}
 use Rattle.tree.proofs.Logic.{and-left, and-right, and-both}
@@ -16,7 +17,7 @@ use Rattle.rewrite.proofs.Measure.{by-operations, least-operations}
 use Rattle.rewrite.proofs.Shrinks.{replace-shrinks}
 use Rattle.rewrite.proofs.Factors.{factors-of}
 use Rattle.rewrite.proofs.Counts.{well-formed-all, all-append, counted-formed, all-nodes-formed}
-use Rattle.rewrite.proofs.Names.{holds, holds-all, holds-left, holds-right, below}
+use Rattle.rewrite.proofs.Names.{holds, holds-all, holds-left, holds-right, below, weaken-all}
 use Rattle.cse.specs.Extract.{State, roots, is-candidate, extract, extract-all, divisors, replace-divisor-each, bind-reciprocal, bind-reciprocals, reciprocals}
 use Rattle.cse.proofs.Outcomes.{Good, good-at}
 use Rattle.cse.proofs.RoundsCount.{symbol-factor, candidate-facts, Replaced, extracted, begin, begin-roots}
@@ -24,7 +25,9 @@ use Rattle.cse.proofs.RoundsGood.{extract-all-good}
 use Rattle.cse.proofs.ReciprocalsCount.{AllTrees, all-map, divisors-all, bound-divisors, bound-twice, inverse, roots-reciprocal, reciprocals-are, divided-formed, inverse-formed}
 use Rattle.cse.proofs.RoundsNames.{Held, All-held, roots-held, extract-all-held, reciprocals-held}
 use Rattle.cse.proofs.Symbols.{holds-all-by}
-use Rattle.cse.proofs.ScopeValue.{under}
+use Rattle.cse.proofs.RoundsValue.{Model, Modeled, extract-all-keeps, reciprocals-keep, roots-known}
+use Rattle.cse.proofs.FlatCount.{some-reading}
+use Rattle.cse.proofs.ScopeValue.{under, under-below}
 use Rattle.outernames.proofs.Replacing.{replace-back, divisor-back}
 
 -- ---- one extraction
@@ -138,12 +141,28 @@ pub record Begun (start : ℕ) (es : List Tree) (s : State) : Type 0 where
   pub formed : T (well-formed-all (roots s))
   pub back : (p : Name → Bool) → T (holds-all p (roots s)) → T (holds-all p es)
   pub forth : (q : Name → Bool) → New start q → T (holds-all q es) → T (holds-all q (roots s))
+  pub top : T (holds-all (under start) es) → T (holds-all (under (s .next)) (roots s))
 
 module _ (scoped : Bool) (start : ℕ) (es : List Tree) (w : T (well-formed-all es)) (s : State) (e : extract-all scoped start es ≡ ok s) where
   held : (q : Name → Bool) (new : New start q) → T (holds-all q es) → Held q start (new-x start q new) (reciprocals scoped s)
   held q new h =
       reciprocals-held q start (new-x start q new) scoped s
       (unfold All-held in subst (All-held q start (new-x start q new)) e (extract-all-held q start (new-x start q new) scoped es h))
+
+  abbrev ρ : Env
+  ρ n = 0
+
+  abbrev vs : List ℕ
+  vs = values some-reading ρ es
+
+  -- the names that are made have numbers below the next
+  below-next : T (holds-all (under start) es) → T (holds-all (under (reciprocals scoped s .next)) (roots (reciprocals scoped s)))
+  below-next h =
+      let t = reciprocals scoped s in
+      let M : Model some-reading (λ s. true) start ρ vs s =
+      (unfold Modeled in subst (Modeled some-reading (λ s. true) start ρ vs) e (extract-all-keeps some-reading (λ s. true) start ρ scoped es h)) in
+      let N : Model some-reading (λ s. true) start ρ vs t = reciprocals-keep some-reading (λ s. true) start ρ vs scoped s M in
+      weaken-all (below (λ s. true) start (t .next)) (under (t .next)) (under-below (λ s. true) start (t .next) (N .later)) (roots t) (roots-known some-reading (λ s. true) start ρ vs t N)
 
   pub begun : Begun start es (reciprocals scoped s)
   begun =
@@ -153,4 +172,5 @@ module _ (scoped : Bool) (start : ℕ) (es : List Tree) (w : T (well-formed-all 
         formed = L .0;
         back = L .1;
         forth = λ q new h. roots-held q start (new-x start q new) (reciprocals scoped s) (held q new h);
+        top = below-next;
       }

@@ -1,0 +1,30 @@
+-- A name from outside a scope is read in the scope's answer exactly where its input holds it, and so a match that a group makes reads exactly what its key and its
+-- members' arms hold (01, "Order", "Scoped fusion"). Assumes nothing.
+use Prim.Native.Nat.{ℕ, _-_, zero, suc}
+use mathlib.Core.Path.{_≡_}
+use mathlib.Core.Bool.{Bool, true, false}
+use mathlib.Core.List.{List}
+use lib.ListN.{length}
+use lib.Dec.{T, leb}
+use Rattle.tree.specs.Outcome.{Outcome, ok, refused, _>>=_}
+use Rattle.tree.specs.Tree.{Name, Tree}
+use Rattle.tree.specs.Rows.{occurrences}
+use Rattle.rewrite.proofs.Counts.{well-formed-all}
+use Rattle.cse.specs.Extract.{reciprocals}
+use Rattle.cse.specs.Answer.{block, all-symbols, free-stmts, elem}
+use Rattle.cse.specs.Scope.{Scoped, fuse-all, unfused, finish, cse-scope}
+use Rattle.cse.proofs.Outcomes.{Good, good-at}
+use Rattle.cse.proofs.ScopeValue.{under}
+use Rattle.cse.proofs.ScopeRoom.{or-no-room}
+use Rattle.outernames.proofs.Arms.{Same-names, scope-elem}
+use Rattle.outernames.proofs.Finishing.{fused-finished, plain-finished, from-input}
+use Rattle.outernames.proofs.Rounds.{Begun}
+
+pub scope-same : (fuel room : ℕ) (scoped : Bool) (start : ℕ) (es : List Tree) → T (well-formed-all es) → Good (Same-names start es) (cse-scope fuel room scoped start es)
+unfolding cse-scope
+scope-same zero room scoped start es w = (unfold Good in tt)
+scope-same (suc fuel) room false start es w = from-input false start es w _ (λ s B. plain-finished start es (length (s .lets)) (reciprocals false s) B)
+scope-same (suc fuel) room true start es w =
+    or-no-room (Good (Same-names start es)) (unfold Good in tt) (leb (occurrences es) room) _
+    (from-input true start es w _
+    (λ s B. fused-finished (λ n l. cse-scope fuel (room - occurrences es) true n l) (λ n l v. scope-same fuel (room - occurrences es) true n l v) start es (length (s .lets)) (reciprocals true s) B))
