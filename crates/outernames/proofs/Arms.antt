@@ -162,15 +162,35 @@ arms-elem start ls a A n u =
     elem-same n (free-arms (a .arms)) (column-symbols ls) (λ s. columns-at (apart n) ls (A .back (apart n) s))
     (λ s. A .forth (apart n) (apart-new start n u) (columns-by (apart n) ls s))
 
-free-match : (n : Name) (k : ℕ) (key : Tree) (ns : List Name) (arms : Arms) → elem n (free (Match k key ns arms)) ≡ (elem n (symbols key) || elem n (free-arms arms))
+-- A name that was there before a scope's first number, or comes from its next on: none that the scope makes.
+abbrev pub Outside : ℕ → ℕ → Name → Type 0
+Outside start next n = T (under start n) ⊎ (T (under next n) → ⊥)
+
+none-there : (n : Name) (s t : List Name) → (T (elem n s) → ⊥) → (T (elem n t) → ⊥) → elem n s ≡ elem n t
+none-there n s t f g = same-tests (elem n s) (elem n t) (λ u. absurd (f u)) (λ u. absurd (g u))
+
+pub scope-elem-any :
+    (start : ℕ) (es : List Tree) (a : Scoped) → Same-names start es a → T (holds-all (under start) es) → (n : Name) → Outside start (a .next) n → elem n (read-by a) ≡ elem n (all-symbols es)
+scope-elem-any start es a A h n (inl u) = scope-elem start es a A n u
+scope-elem-any start es a A h n (inr f) =
+    none-there n (read-by a) (all-symbols es) (λ t. f (A .top h n t)) (λ t. f (under-le start (a .next) (A .later) n (holds-all-at (under start) es n h t)))
+
+pub arms-elem-any :
+    (start : ℕ) (ls : List (List Tree)) (a : Armed) → Same-arms start ls a → All-hold (under start) ls → (n : Name) → Outside start (a .next) n
+    → elem n (free-arms (a .arms)) ≡ elem n (column-symbols ls)
+arms-elem-any start ls a A h n (inl u) = arms-elem start ls a A n u
+arms-elem-any start ls a A h n (inr f) =
+    none-there n (free-arms (a .arms)) (column-symbols ls) (λ t. f (A .top h n t)) (λ t. f (under-le start (a .next) (A .later) n (columns-at (under start) ls h n t)))
+
+pub free-match : (n : Name) (k : ℕ) (key : Tree) (ns : List Name) (arms : Arms) → elem n (free (Match k key ns arms)) ≡ (elem n (symbols key) || elem n (free-arms arms))
 unfolding free
 free-match n k key ns arms = elem-or n (symbols key) (free-arms arms)
 
 -- a match reads a name from outside exactly where its key or the inputs of its arms hold it
 pub match-elem :
-    (start : ℕ) (ls : List (List Tree)) (a : Armed) → Same-arms start ls a → (n : Name) → T (under start n) → (k : ℕ) (key : Tree) (ns : List Name)
-    → elem n (free (Match k key ns (a .arms))) ≡ (elem n (symbols key) || elem n (column-symbols ls))
-match-elem start ls a A n u k key ns = free-match n k key ns (a .arms) ∙ ap (λ (b : Bool). elem n (symbols key) || b) (arms-elem start ls a A n u)
+    (arms : Arms) (ls : List (List Tree)) (n : Name) → elem n (free-arms arms) ≡ elem n (column-symbols ls) → (k : ℕ) (key : Tree) (ns : List Name)
+    → elem n (free (Match k key ns arms)) ≡ (elem n (symbols key) || elem n (column-symbols ls))
+match-elem arms ls n e k key ns = free-match n k key ns arms ∙ ap (λ (b : Bool). elem n (symbols key) || b) e
 
 -- the columns of a group hold what its members' arms hold
 pub columns-elem : (g : Group) → Fair-group (λ n. true) g → (n : Name) → elem n (column-symbols (group-columns g)) ≡ elem n (column-symbols (arms-of-members (members g)))

@@ -4,4 +4,5 @@ pub mod Switches
 pub mod Arms
 pub mod Fusing
 pub mod Finishing
+pub mod Matches
 pub mod Whole

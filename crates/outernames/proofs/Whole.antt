@@ -3,20 +3,21 @@
 use Prim.Native.Nat.{ℕ, _-_, zero, suc}
 use mathlib.Core.Path.{_≡_}
 use mathlib.Core.Bool.{Bool, true, false}
-use mathlib.Core.List.{List}
+use mathlib.Core.List.{List, _++_}
 use lib.ListN.{length}
 use lib.Dec.{T, leb}
 use Rattle.tree.specs.Outcome.{Outcome, ok, refused, _>>=_}
 use Rattle.tree.specs.Tree.{Name, Tree}
 use Rattle.tree.specs.Rows.{occurrences}
 use Rattle.rewrite.proofs.Counts.{well-formed-all}
+use Rattle.rewrite.proofs.Names.{holds-all}
 use Rattle.cse.specs.Extract.{reciprocals}
 use Rattle.cse.specs.Answer.{block, all-symbols, free-stmts, elem}
 use Rattle.cse.specs.Scope.{Scoped, fuse-all, unfused, finish, cse-scope}
 use Rattle.cse.proofs.Outcomes.{Good, good-at}
 use Rattle.cse.proofs.ScopeValue.{under}
 use Rattle.cse.proofs.ScopeRoom.{or-no-room}
-use Rattle.outernames.proofs.Arms.{Same-names, scope-elem}
+use Rattle.outernames.proofs.Arms.{Same-names, Outside, scope-elem, scope-elem-any}
 use Rattle.outernames.proofs.Finishing.{fused-finished, plain-finished, from-input}
 use Rattle.outernames.proofs.Rounds.{Begun}
 
@@ -28,3 +29,18 @@ scope-same (suc fuel) room true start es w =
     or-no-room (Good (Same-names start es)) (unfold Good in tt) (leb (occurrences es) room) _
     (from-input true start es w _
     (λ s B. fused-finished (λ n l. cse-scope fuel (room - occurrences es) true n l) (λ n l v. scope-same fuel (room - occurrences es) true n l v) start es (length (s .lets)) (reciprocals true s) B))
+
+-- For every input symbol and every name with a number below the scope's first.
+pub scope-reads :
+    (fuel room : ℕ) (scoped : Bool) (start : ℕ) (es : List Tree) → T (well-formed-all es) → (a : Scoped) → cse-scope fuel room scoped start es ≡ ok a
+    → (n : Name) → T (under start n) → elem n (free-stmts (block (a .inters)) ++ all-symbols (a .results)) ≡ elem n (all-symbols es)
+scope-reads fuel room scoped start es w a e n u =
+    scope-elem start es a (good-at (Same-names start es) (cse-scope fuel room scoped start es) a e (scope-same fuel room scoped start es w)) n u
+
+-- And for every name with a number from the scope's next on, where the input holds none that the scope could make.
+pub scope-reads-any :
+    (fuel room : ℕ) (scoped : Bool) (start : ℕ) (es : List Tree) → T (well-formed-all es) → T (holds-all (under start) es)
+    → (a : Scoped) → cse-scope fuel room scoped start es ≡ ok a
+    → (n : Name) → Outside start (a .next) n → elem n (free-stmts (block (a .inters)) ++ all-symbols (a .results)) ≡ elem n (all-symbols es)
+scope-reads-any fuel room scoped start es w h a e n u =
+    scope-elem-any start es a (good-at (Same-names start es) (cse-scope fuel room scoped start es) a e (scope-same fuel room scoped start es w)) h n u
