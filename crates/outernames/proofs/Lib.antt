@@ -5,4 +5,5 @@ pub mod Arms
 pub mod Fusing
 pub mod Finishing
 pub mod Matches
+pub mod Ordering
 pub mod Whole

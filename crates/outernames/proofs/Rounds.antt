@@ -1,11 +1,12 @@
 -- Rounds and reciprocals lose no symbol, bring in none but the names that they make, and keep operand counts (01, "Extraction", "Reciprocals"). Assumes nothing.
 use Prim.Native.Nat.{ℕ, suc, _≤_}
 use native.Mathlib.Omega.{arith}
-use mathlib.Core.Path.{_≡_, refl, sym, subst}
+use mathlib.Core.Path.{_≡_, refl, sym, _∙_, subst}
+use mathlib.Core.Logic.{inl, inr}
 use mathlib.Core.Bool.{Bool, true, _&&_}
 use mathlib.Core.List.{List, [], _∷_, _++_}
 use lib.ListN.{length}
-use lib.Dec.{T, ltb→lt}
+use lib.Dec.{T, ltb→lt, lt→ltb}
 use Rattle.tree.specs.Outcome.{Outcome, ok, refused}
 use Rattle.tree.specs.Tree.{Name, xname, mname, Tree}
 use Rattle.tree.specs.Value.{Env, values}
@@ -19,15 +20,16 @@ use Rattle.rewrite.proofs.Factors.{factors-of}
 use Rattle.rewrite.proofs.Counts.{well-formed-all, all-append, counted-formed, all-nodes-formed}
 use Rattle.rewrite.proofs.Names.{holds, holds-all, holds-left, holds-right, below, weaken-all}
 use Rattle.cse.specs.Extract.{State, roots, is-candidate, extract, extract-all, divisors, replace-divisor-each, bind-reciprocal, bind-reciprocals, reciprocals}
+use Rattle.cse.specs.Scope.{binds}
 use Rattle.cse.proofs.Outcomes.{Good, good-at}
 use Rattle.cse.proofs.RoundsCount.{symbol-factor, candidate-facts, Replaced, extracted, begin, begin-roots}
 use Rattle.cse.proofs.RoundsGood.{extract-all-good}
 use Rattle.cse.proofs.ReciprocalsCount.{AllTrees, all-map, divisors-all, bound-divisors, bound-twice, inverse, roots-reciprocal, reciprocals-are, divided-formed, inverse-formed}
 use Rattle.cse.proofs.RoundsNames.{Held, All-held, roots-held, extract-all-held, reciprocals-held}
-use Rattle.cse.proofs.Symbols.{holds-all-by}
-use Rattle.cse.proofs.RoundsValue.{Model, Modeled, extract-all-keeps, reciprocals-keep, roots-known}
+use Rattle.cse.proofs.Symbols.{elem-cases, no-elem, Sub, holds-all-by, all-names}
+use Rattle.cse.proofs.RoundsValue.{let-names, Numbered, Model, Modeled, extract-all-keeps, reciprocals-keep, roots-known}
 use Rattle.cse.proofs.FlatCount.{some-reading}
-use Rattle.cse.proofs.ScopeValue.{under, under-below}
+use Rattle.cse.proofs.ScopeValue.{under, under-below, bind-names}
 use Rattle.outernames.proofs.Replacing.{replace-back, divisor-back}
 
 -- ---- one extraction
@@ -142,6 +144,20 @@ pub record Begun (start : ℕ) (es : List Tree) (s : State) : Type 0 where
   pub back : (p : Name → Bool) → T (holds-all p (roots s)) → T (holds-all p es)
   pub forth : (q : Name → Bool) → New start q → T (holds-all q es) → T (holds-all q (roots s))
   pub top : T (holds-all (under start) es) → T (holds-all (under (s .next)) (roots s))
+  pub bound : T (holds-all (under start) es) → Sub (under (s .next)) (all-names (binds (s .lets)))
+
+numbered-later : (k top : ℕ) (l : List Name) → Numbered k top l → k ≤ top
+numbered-later k top [] h = omega (arith, h)
+numbered-later k top (n ∷ l) h = (let a = numbered-later (suc k) top l (h .1) in omega arith)
+
+numbered-under : (k top : ℕ) (l : List Name) → Numbered k top l → Sub (under top) l
+numbered-under k top [] h = λ m t. absurd (no-elem m t)
+numbered-under k top (n ∷ l) h =
+    let a = numbered-later (suc k) top l (h .1) in
+    λ m t. elim (elem-cases m n l t) [
+      | inl e ↦ subst (λ (x : Name). T (under top x)) (sym (h .0) ∙ e) (unfold below in lt→ltb k top (omega arith))
+      | inr u ↦ numbered-under (suc k) top l (h .1) m u
+    ]
 
 module _ (scoped : Bool) (start : ℕ) (es : List Tree) (w : T (well-formed-all es)) (s : State) (e : extract-all scoped start es ≡ ok s) where
   held : (q : Name → Bool) (new : New start q) → T (holds-all q es) → Held q start (new-x start q new) (reciprocals scoped s)
@@ -155,14 +171,23 @@ module _ (scoped : Bool) (start : ℕ) (es : List Tree) (w : T (well-formed-all 
   abbrev vs : List ℕ
   vs = values some-reading ρ es
 
+  abbrev t : State
+  t = reciprocals scoped s
+
+  model : T (holds-all (under start) es) → Model some-reading (λ s. true) start ρ vs t
+  model h =
+      reciprocals-keep some-reading (λ s. true) start ρ vs scoped s
+      (unfold Modeled in subst (Modeled some-reading (λ s. true) start ρ vs) e (extract-all-keeps some-reading (λ s. true) start ρ scoped es h))
+
   -- the names that are made have numbers below the next
-  below-next : T (holds-all (under start) es) → T (holds-all (under (reciprocals scoped s .next)) (roots (reciprocals scoped s)))
+  below-next : T (holds-all (under start) es) → T (holds-all (under (t .next)) (roots t))
   below-next h =
-      let t = reciprocals scoped s in
-      let M : Model some-reading (λ s. true) start ρ vs s =
-      (unfold Modeled in subst (Modeled some-reading (λ s. true) start ρ vs) e (extract-all-keeps some-reading (λ s. true) start ρ scoped es h)) in
-      let N : Model some-reading (λ s. true) start ρ vs t = reciprocals-keep some-reading (λ s. true) start ρ vs scoped s M in
-      weaken-all (below (λ s. true) start (t .next)) (under (t .next)) (under-below (λ s. true) start (t .next) (N .later)) (roots t) (roots-known some-reading (λ s. true) start ρ vs t N)
+      weaken-all (below (λ s. true) start (t .next)) (under (t .next)) (under-below (λ s. true) start (t .next) (model h .later)) (roots t)
+      (roots-known some-reading (λ s. true) start ρ vs t (model h))
+
+  bound-below : T (holds-all (under start) es) → Sub (under (t .next)) (all-names (binds (t .lets)))
+  bound-below h =
+      subst (λ (l : List Name). Sub (under (t .next)) l) (sym (bind-names (t .lets))) (numbered-under start (t .next) (let-names (t .lets)) (model h .numbered))
 
   pub begun : Begun start es (reciprocals scoped s)
   begun =
@@ -173,4 +198,5 @@ module _ (scoped : Bool) (start : ℕ) (es : List Tree) (w : T (well-formed-all 
         back = L .1;
         forth = λ q new h. roots-held q start (new-x start q new) (reciprocals scoped s) (held q new h);
         top = below-next;
+        bound = bound-below;
       }
