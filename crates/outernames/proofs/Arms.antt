@@ -2,23 +2,22 @@
 -- as they were collected (01, "Order", "Scoped fusion"). Assumes nothing.
 use Prim.Native.Nat.{ℕ, _+_, _≤_}
 use native.Mathlib.Omega.{arith}
-use mathlib.Core.Path.{_≡_, refl, sym, _∙_, ap, ap₂, subst}
+use mathlib.Core.Path.{_≡_, refl, sym, _∙_, ap, subst}
 use mathlib.Core.Logic.{_⊎_, inl, inr}
 use mathlib.Core.Bool.{Bool, true, false, not, _||_}
 use mathlib.Core.List.{List, [], _∷_, _++_}
 use lib.ListN.{length}
 use lib.Dec.{T}
-use Rattle.tree.specs.Outcome.{Outcome, ok, refused, _>>=_}
+use Rattle.tree.specs.Outcome.{Outcome}
 use Rattle.tree.specs.Tree.{Name, Tree, eq-name}
 use Rattle.tree.proofs.TreeLaws.{eq-name-sound, eq-name-refl}
-use Rattle.tree.proofs.Logic.{and-left, and-right, and-both}
 use Rattle.rewrite.proofs.Counts.{well-formed-all}
-use Rattle.rewrite.proofs.Names.{holds, holds-all}
-use Rattle.cse.specs.Answer.{Intermediate, Arms, Match, no-arm, arm, block, symbols, all-symbols, free, free-stmts, free-arms, elem}
-use Rattle.cse.specs.Scope.{Group, Work, Scoped, Armed, members, name-members, member-names, arms-of-members, scope-arms}
-use Rattle.cse.proofs.Outcomes.{Good, then-good, good-ok, good-at}
-use Rattle.cse.proofs.Symbols.{decide, or-left, or-right, or-cases, elem-cases, elem-here, elem-later, elem-left, elem-right, elem-append, holds-all-at, Sub, sub-left, sub-right, sub-append, no-elem, holds-all-by}
-use Rattle.cse.proofs.SwitchLaws.{Fair-group, All-hold, group-columns-known}
+use Rattle.rewrite.proofs.Names.{holds-all}
+use Rattle.cse.specs.Answer.{Arms, Match, no-arm, arm, block, symbols, all-symbols, free, free-stmts, free-arms, elem}
+use Rattle.cse.specs.Scope.{Group, Scoped, Armed, members, arms-of-members, scope-arms}
+use Rattle.cse.proofs.Outcomes.{Good, then-good, good-ok}
+use Rattle.cse.proofs.Symbols.{decide, or-left, or-right, or-cases, elem-left, elem-right, elem-append, holds-all-at, Sub, sub-left, sub-right, sub-append, no-elem, holds-all-by}
+use Rattle.cse.proofs.SwitchLaws.{Fair-group, All-hold}
 use Rattle.cse.proofs.ScopeValue.{under, under-le, hold-more}
 use Rattle.outernames.proofs.Rounds.{New}
 use Rattle.outernames.proofs.Switches.{All-formed, columns-forth, group-columns, group-arms-back}

@@ -1,17 +1,15 @@
 -- The order of statements takes each, so that it loses no symbol and brings in none; and so a scope reads from outside what its input reads, where the scopes of
 -- its arms do (01, "Order", "Scoped fusion"). Assumes nothing.
-use Prim.Native.Nat.{ℕ, suc, _+_, _≤_}
+use Prim.Native.Nat.{ℕ, suc, _≤_}
 use native.Mathlib.Omega.{arith}
-use mathlib.Core.Path.{_≡_, refl, sym, _∙_, ap, subst}
+use mathlib.Core.Path.{_≡_, refl, sym, _∙_, subst}
 use mathlib.Core.Logic.{inl, inr}
 use mathlib.Core.Bool.{Bool, true, false}
-use mathlib.Core.List.{List, [], _∷_, _++_}
-use lib.ListN.{length}
+use mathlib.Core.List.{List, [], _∷_}
 use lib.Dec.{T}
 use Rattle.tree.specs.Outcome.{Outcome, ok, refused, _>>=_}
 use Rattle.tree.specs.Tree.{Name, Tree}
 use Rattle.rewrite.proofs.Counts.{well-formed-all}
-use Rattle.rewrite.proofs.Names.{holds-all}
 use Rattle.cse.specs.Extract.{State, extract-all, reciprocals}
 use Rattle.cse.specs.Answer.{Intermediate, block, all-symbols, free, free-stmts}
 use Rattle.cse.specs.Order.{topo-sort-intermediates}
@@ -20,7 +18,7 @@ use Rattle.cse.proofs.Outcomes.{Good, then-good, good-ok}
 use Rattle.cse.proofs.SortCount.{summed, sorted-sum}
 use Rattle.cse.proofs.Symbols.{elem-cases, elem-here, elem-later, holds-all-at, Sub, sub-left, sub-right, sub-append, no-elem, holds-all-by}
 use Rattle.cse.proofs.ScopeValue.{under}
-use Rattle.outernames.proofs.Rounds.{New, Begun, begun}
+use Rattle.outernames.proofs.Rounds.{Begun, begun}
 use Rattle.outernames.proofs.Arms.{read-by, Same-names}
 use Rattle.outernames.proofs.Fusing.{Stmts, Reads, Same-work, unfused-same, fused-same}
 

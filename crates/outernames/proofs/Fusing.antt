@@ -4,7 +4,7 @@ use native.Mathlib.Omega.{arith}
 use mathlib.Core.Bool.{Bool, true}
 use mathlib.Core.List.{List, [], _∷_, _++_}
 use lib.Dec.{T}
-use Rattle.tree.specs.Outcome.{Outcome, ok, _>>=_}
+use Rattle.tree.specs.Outcome.{Outcome}
 use Rattle.tree.specs.Tree.{Name, mname, Tree}
 use Rattle.tree.proofs.Logic.{and-left, and-right, and-both}
 use Rattle.rewrite.specs.Rewrite.{replace-outside-arms}

@@ -1,6 +1,6 @@
 -- The needs of a scope's statements from their expressions, their keys and the inputs of their arms alone: the arms' answers decide nothing (01, "Order",
 -- "Scoped fusion"). A name that a statement of the scope binds is never one that an arm's scope makes. Assumes nothing.
-use Prim.Native.Nat.{ℕ, zero, suc, _+_, _≤_}
+use Prim.Native.Nat.{ℕ, suc, _+_, _≤_}
 use native.Mathlib.Omega.{arith}
 use mathlib.Core.Path.{_≡_, refl, sym, _∙_, ap, ap₂, subst}
 use mathlib.Core.Logic.{_⊎_, inl, inr}
@@ -16,7 +16,7 @@ use Rattle.cse.specs.Answer.{Intermediate, Arms, Let, Match, names, symbols, fr
 use Rattle.cse.specs.Order.{meets, needs-from, needs}
 use Rattle.cse.specs.Scope.{Switch, Group, Work, Scoped, Armed, members, collect-switches, groups-from, replace-in-stmts, name-members, member-names, scope-arms, fuse-group, fuse-groups, fuse-all, binds, unfused}
 use Rattle.cse.proofs.Outcomes.{Good, then-good, good-ok, good-at}
-use Rattle.cse.proofs.Symbols.{elem-here, elem-later, elem-left, elem-right, elem-append, Sub, sub-append, no-elem, all-names}
+use Rattle.cse.proofs.Symbols.{elem-here, elem-later, elem-left, elem-right, elem-append, Sub, sub-append, all-names}
 use Rattle.cse.proofs.SwitchLaws.{Fair-groups, groups-fair, All-hold, group-columns-known}
 use Rattle.cse.proofs.ScopeValue.{under, under-le, names-to-come, all-names-append, one-named, names-kept, name-members-later, names-made, hold-more}
 use Rattle.outernames.proofs.Rounds.{Begun}
@@ -173,8 +173,7 @@ match-placed low gs g w a P h A =
           (ranged-append (a .next) (old ++ ns) (v .inters) (st ∷ []) gs (g ∷ [])
           (ranged-named (members g) w (a .next) (old ++ ns) gs
           (ranged-more (w .next) (a .next) (omega arith) old (old ++ ns)
-          (λ n t. elim (elem-append n old ns t) [ inl u ↦ inl u | inr u ↦ inr (λ z. names-to-come (w .next) (w .next) (members g) n (omega arith) u z) ]) (w .inters) gs (P .ranged)))
-          (
+          (λ n t. elim (elem-append n old ns t) [ inl u ↦ inl u | inr u ↦ inr (λ z. names-to-come (w .next) (w .next) (members g) n (omega arith) u z) ]) (w .inters) gs (P .ranged))) (
             record {
               low = v .next;
               high = a .next;

@@ -1,13 +1,13 @@
 -- Rounds and reciprocals lose no symbol, bring in none but the names that they make, and keep operand counts (01, "Extraction", "Reciprocals"). Assumes nothing.
 use Prim.Native.Nat.{ℕ, suc, _≤_}
 use native.Mathlib.Omega.{arith}
-use mathlib.Core.Path.{_≡_, refl, sym, _∙_, subst}
+use mathlib.Core.Path.{_≡_, sym, _∙_, subst}
 use mathlib.Core.Logic.{inl, inr}
 use mathlib.Core.Bool.{Bool, true, _&&_}
-use mathlib.Core.List.{List, [], _∷_, _++_}
+use mathlib.Core.List.{List, [], _∷_}
 use lib.ListN.{length}
 use lib.Dec.{T, ltb→lt, lt→ltb}
-use Rattle.tree.specs.Outcome.{Outcome, ok, refused}
+use Rattle.tree.specs.Outcome.{ok}
 use Rattle.tree.specs.Tree.{Name, xname, mname, Tree}
 use Rattle.tree.specs.Value.{Env, values}
 use Rattle.tree.specs.Facts.{all-nodes, count}
@@ -22,7 +22,7 @@ use Rattle.rewrite.proofs.Names.{holds, holds-all, holds-left, holds-right, bel
 use Rattle.cse.specs.Extract.{State, roots, is-candidate, extract, extract-all, divisors, replace-divisor-each, bind-reciprocal, bind-reciprocals, reciprocals}
 use Rattle.cse.specs.Scope.{binds}
 use Rattle.cse.proofs.Outcomes.{Good, good-at}
-use Rattle.cse.proofs.RoundsCount.{symbol-factor, candidate-facts, Replaced, extracted, begin, begin-roots}
+use Rattle.cse.proofs.RoundsCount.{symbol-factor, candidate-facts, Replaced, extracted, begin-roots}
 use Rattle.cse.proofs.RoundsGood.{extract-all-good}
 use Rattle.cse.proofs.ReciprocalsCount.{AllTrees, all-map, divisors-all, bound-divisors, bound-twice, inverse, roots-reciprocal, reciprocals-are, divided-formed, inverse-formed}
 use Rattle.cse.proofs.RoundsNames.{Held, All-held, roots-held, extract-all-held, reciprocals-held}

@@ -3,23 +3,25 @@
 use Prim.Native.Nat.{ℕ, _-_, zero, suc}
 use mathlib.Core.Path.{_≡_}
 use mathlib.Core.Bool.{Bool, true, false}
-use mathlib.Core.List.{List, _++_}
+use mathlib.Core.List.{List, [], _++_}
 use lib.ListN.{length}
 use lib.Dec.{T, leb}
-use Rattle.tree.specs.Outcome.{Outcome, ok, refused, _>>=_}
+use Rattle.tree.specs.Outcome.{ok}
 use Rattle.tree.specs.Tree.{Name, Tree}
 use Rattle.tree.specs.Rows.{occurrences}
 use Rattle.rewrite.proofs.Counts.{well-formed-all}
 use Rattle.rewrite.proofs.Names.{holds-all}
-use Rattle.cse.specs.Extract.{reciprocals}
+use Rattle.cse.specs.Extract.{State, roots, extract-all, reciprocals}
 use Rattle.cse.specs.Answer.{block, all-symbols, free-stmts, elem}
-use Rattle.cse.specs.Scope.{Scoped, fuse-all, unfused, finish, cse-scope}
+use Rattle.cse.specs.Order.{needs}
+use Rattle.cse.specs.Scope.{Work, Scoped, collect-switches, groups-from, fuse-all, cse-scope}
 use Rattle.cse.proofs.Outcomes.{Good, good-at}
 use Rattle.cse.proofs.ScopeValue.{under}
 use Rattle.cse.proofs.ScopeRoom.{or-no-room}
 use Rattle.outernames.proofs.Arms.{Same-names, Outside, scope-elem, scope-elem-any}
 use Rattle.outernames.proofs.Finishing.{fused-finished, plain-finished, from-input}
-use Rattle.outernames.proofs.Rounds.{Begun}
+use Rattle.outernames.proofs.Ordering.{needs-of, read-before, fused-needs}
+use Rattle.outernames.proofs.Rounds.{begun}
 
 pub scope-same : (fuel room : ℕ) (scoped : Bool) (start : ℕ) (es : List Tree) → T (well-formed-all es) → Good (Same-names start es) (cse-scope fuel room scoped start es)
 unfolding cse-scope
@@ -44,3 +46,11 @@ pub scope-reads-any :
     → (n : Name) → Outside start (a .next) n → elem n (free-stmts (block (a .inters)) ++ all-symbols (a .results)) ≡ elem n (all-symbols es)
 scope-reads-any fuel room scoped start es w h a e n u =
     scope-elem-any start es a (good-at (Same-names start es) (cse-scope fuel room scoped start es) a e (scope-same fuel room scoped start es w)) h n u
+
+-- The needs of a scope's statements, told from the scope's roots before its arms' scopes.
+pub scope-needs :
+    (fuel room start : ℕ) (es : List Tree) → T (well-formed-all es) → T (holds-all (under start) es) → (s : State) → extract-all true start es ≡ ok s
+    → (x : ℕ) (w : Work) → fuse-all (λ n l. cse-scope fuel room true n l) x (reciprocals true s) ≡ ok w
+    → needs (w .inters) (w .inters) ≡ needs-of (w .inters) (read-before (w .inters) (groups-from [] (collect-switches (roots (reciprocals true s)))))
+scope-needs fuel room start es v h s e x w f =
+    fused-needs (λ n l. cse-scope fuel room true n l) (λ n l u. scope-same fuel room true n l u) start es x (reciprocals true s) (begun true start es v s e) h w f
