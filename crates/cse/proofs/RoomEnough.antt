@@ -7,11 +7,11 @@ use mathlib.Core.Bool.{Bool, true, false}
 use mathlib.Core.List.{List, [], _∷_, reverse}
 use native.Mathlib.Omega.{arith}
 use lib.ListN.{length}
-use lib.Dec.{T, eqb, leb, leb→le, le→leb}
+use lib.Dec.{T, eqb, leb, le→leb}
 use Rattle.tree.specs.Outcome.{Refusal, Outcome, ok, refused, by, _>>=_}
 use Rattle.tree.specs.Tree.{Name, xname, Tree, Forest, Op, nil, _◂_, fold, operands}
 use Rattle.tree.specs.Kinds.{is-switch, arity-ok}
-use Rattle.tree.specs.Facts.{size, nesting, all-nodes, count}
+use Rattle.tree.specs.Facts.{size, all-nodes, count}
 use Rattle.tree.specs.Rows.{occurrences, within-limits}
 use Rattle.tree.specs.Value.{values}
 use Rattle.tree.proofs.Logic.{and-left, and-right, and-both}
@@ -32,11 +32,11 @@ use Rattle.cse.proofs.FlatCount.{some-reading}
 use Rattle.cse.proofs.ReciprocalsCount.{AllTrees, all-map, divisors-all, bound-divisors, bound-twice, inverse, roots-reciprocal, reciprocals-are, divided-formed, inverse-formed}
 use Rattle.cse.proofs.SizeCount.{total-size, extract-all-size}
 use Rattle.cse.proofs.ScopeValue.{under, under-le, under-below, name-members-later}
-use Rattle.cse.proofs.ScopeRoom.{deep, deeps, most-down, deeper-op, no-arms, reciprocals-deep}
+use Rattle.cse.proofs.ScopeRoom.{deep, deeps, most-down, deeper-op, no-arms, reciprocals-deep, nests-at-most, limits-rows, limits-nesting}
 use Rattle.cse.proofs.ScopedCount.{Started, started}
 use Rattle.cse.proofs.Refusals.{Only, only-at, Ten, extract-all-ten}
 use Rattle.cse.proofs.Levels.{Most, extract-all-within}
-use Rattle.cse.proofs.NestingLevel.{nesting-op, nesting-level, nesting-is, arms-deeper}
+use Rattle.cse.proofs.NestingLevel.{nesting-op, nesting-level, arms-deeper}
 use Rattle.cse.proofs.CleanDivisors.{all-ops, all-ops-each, divides-plain, clean, All-clean, extract-all-clean, reciprocals-clean, Plain-divisors, all-clean-from, bound-no-switch}
 use Rattle.cse.proofs.ArmNodes.{arms-total, All-arms, Groups, Small-groups, held-small, Given, Columns, group-columns}
 use Rattle.cse.proofs.SwitchArms.{All-operands, as-list, groups-all}
@@ -286,26 +286,11 @@ scope-fine (suc m) start es F h n =
 
 -- ---- the answer
 
-limits-step : (t : Tree) (l : List Tree) → T (within-limits (t ∷ l)) → (nesting t ≤ 8) × T (within-limits l)
-unfolding within-limits occurrences
-limits-step t l h =
-    let a = leb→le (size t + occurrences l) 1024 (and-left (leb (size t + occurrences l) 1024) _ h) in
-    let b = and-right (leb (size t + occurrences l) 1024) _ h in
-    (leb→le (nesting t) 8 (and-left (leb (nesting t) 8) _ b), and-both (leb (occurrences l) 1024) _ (le→leb (occurrences l) 1024 (omega arith)) (and-right (leb (nesting t) 8) _ b))
-
-limits-deep : (l : List Tree) → T (within-limits l) → AllTrees (λ t. deep t ≤ 8) l
-limits-deep [] h = tt
-limits-deep (t ∷ l) h = (let q = limits-step t l h in ((let a = q .0 in let b = nesting-is t in omega arith), limits-deep l (q .1)))
-
-limits-rows : (l : List Tree) → T (within-limits l) → occurrences l ≤ 1024
-unfolding within-limits
-limits-rows l h = leb→le (occurrences l) 1024 (and-left (leb (occurrences l) 1024) _ h)
-
 answer-fine : (es : List Tree) → T (well-formed-all es) → T (holds-all (under 0) es) → T (within-limits es) → Plain-divisors es → Fine (λ (a : Answer). Unit {0}) (answer true es)
 unfolding answer scopes-open scope-rows
 answer-fine es w h l p =
     then-fine (After 0) (λ (a : Answer). Unit {0}) (cse-scope 9 true 0 es)
-    (scope-fine 9 0 es (fit-all (under 0) 8 es w h (all-clean-from es p) (limits-deep es l)) (limits-rows es l) (omega arith)) _
+    (scope-fine 9 0 es (fit-all (under 0) 8 es w h (all-clean-from es p) (nests-at-most 8 es (limits-nesting es l))) (limits-rows es l) (omega arith)) _
     (λ a q. fine-ok (λ (a : Answer). Unit {0}) (as-answer a) tt)
 
 -- For a list within the limits that holds no name of an answer, and each of whose divisors holds a symbol, or no Select or Branch.

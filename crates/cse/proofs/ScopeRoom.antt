@@ -11,11 +11,12 @@ use lib.Dec.{T, leb, leb→le, le→leb}
 use Rattle.tree.specs.Outcome.{Outcome, ok, refused, by, _>>=_}
 use Rattle.tree.specs.Tree.{Tree, Forest, Op, nil, _◂_, fold, folds, operands}
 use Rattle.tree.specs.Kinds.{is-switch}
-use Rattle.tree.specs.Facts.{greatest, first-or-deeper, nesting, all-nodes}
-use Rattle.tree.specs.Rows.{occurrences}
+use Rattle.tree.specs.Facts.{size, greatest, first-or-deeper, nesting, all-nodes}
+use Rattle.tree.specs.Rows.{occurrences, within-limits}
+use Rattle.tree.proofs.Logic.{and-left, and-right, and-both}
 use Rattle.cse.specs.Extract.{State, roots, extract-all, reciprocals}
 use Rattle.cse.specs.Answer.{Match, arm, block}
-use Rattle.cse.specs.Scope.{Group, Work, Scoped, Armed, members, member-names, collect-switches, groups-from, name-members, columns, arms-of-members, scope-arms, fuse-group, fuse-groups, fuse-all, finish, unfused, held, fuse-held, scope-rows, scopes-open, cse-scope}
+use Rattle.cse.specs.Scope.{Group, Work, Scoped, Armed, members, member-names, collect-switches, groups-from, name-members, columns, arms-of-members, scope-arms, fuse-group, fuse-groups, fuse-all, finish, unfused, held, fuse-held, scope-rows, scopes-open, cse-scope, as-answer, answer}
 use Rattle.cse.proofs.Outcomes.{Good}
 use Rattle.cse.proofs.ReciprocalsCount.{AllTrees, all-map, divisors-all, inverse}
 use Rattle.cse.proofs.Levels.{trees-at, Most, μ, all-nodes-most, extract-all-within, reciprocals-within}
@@ -238,3 +239,29 @@ pub scope-opens :
       | false ↦ refused (by 23)
     ]
 scope-opens next es h = sym (scopes-enough (suc scopes-open) (omega arith) true next es h) ∙ (unfold cse-scope in refl)
+
+-- ---- the limits of a list (01, "Expressions and facts")
+
+limits-step : (t : Tree) (l : List Tree) → T (within-limits (t ∷ l)) → (nesting t ≤ 8) × T (within-limits l)
+unfolding within-limits occurrences
+limits-step t l h =
+    let a = leb→le (size t + occurrences l) 1024 (and-left (leb (size t + occurrences l) 1024) _ h) in
+    let b = and-right (leb (size t + occurrences l) 1024) _ h in
+    (leb→le (nesting t) 8 (and-left (leb (nesting t) 8) _ b), and-both (leb (occurrences l) 1024) _ (le→leb (occurrences l) 1024 (omega arith)) (and-right (leb (nesting t) 8) _ b))
+
+pub limits-nesting : (l : List Tree) → T (within-limits l) → AllTrees (λ t. nesting t ≤ 8) l
+limits-nesting [] h = tt
+limits-nesting (t ∷ l) h = (let q = limits-step t l h in (q .0, limits-nesting l (q .1)))
+
+pub limits-rows : (l : List Tree) → T (within-limits l) → occurrences l ≤ scope-rows
+unfolding within-limits scope-rows
+limits-rows l h = leb→le (occurrences l) 1024 (and-left (leb (occurrences l) 1024) _ h)
+
+-- For a list within the limits more than nine open scopes would change nothing,
+pub answer-by-more : (fuel : ℕ) → scopes-open ≤ fuel → (scoped : Bool) (es : List Tree) → T (within-limits es) → answer scoped es ≡ (cse-scope fuel scoped 0 es >>= λ a. ok (as-answer a))
+unfolding answer
+answer-by-more fuel m scoped es h = ap (λ (o : Outcome Scoped). o >>= λ a. ok (as-answer a)) (sym (scopes-enough fuel m scoped 0 es (limits-nesting es h)))
+
+-- and however many can be open, 23 arises only where a scope would hold too much for fusion.
+pub answer-by-held : (fuel : ℕ) → scopes-open ≤ fuel → (es : List Tree) → T (within-limits es) → answer true es ≡ (by-held fuel 0 es >>= λ a. ok (as-answer a))
+answer-by-held fuel m es h = answer-by-more fuel m true es h ∙ ap (λ (o : Outcome Scoped). o >>= λ a. ok (as-answer a)) (held-alone fuel 0 es (limits-rows es h))

@@ -4,16 +4,18 @@ use Prim.Native.Nat.{ℕ, zero, suc, _+_}
 use mathlib.Core.Path.{_≡_, refl}
 use mathlib.Core.Bool.{true, false}
 use mathlib.Core.List.{List, [], _∷_}
+use lib.ListN.{length}
 use Rattle.tree.specs.Outcome.{Outcome, ok, refused, by, _>>=_}
 use Rattle.tree.specs.Bytes.{bytes}
 use Rattle.tree.specs.Kinds.{Neg, Branch, Select, SelectOr}
 use Rattle.tree.specs.Tree.{xname, Tree, Op, nil, _◂_}
-use Rattle.tree.specs.Rows.{row-sym, row-op}
+use Rattle.tree.specs.Rows.{row-sym, row-op, occurrences}
 use Rattle.tree.specs.Layout.{table-words}
 use Rattle.tree.specs.Tokens.{word}
 use Rattle.cse.specs.Answer.{rows}
 use Rattle.cse.specs.AnswerRows.{result-row, let-row}
-use Rattle.cse.specs.Scope.{fuse-held, cse-scope, answer}
+use Rattle.cse.specs.Extract.{extract-all, reciprocals}
+use Rattle.cse.specs.Scope.{held, fuse-held, cse-scope, answer}
 use Rattle.cse.specs.Demand.{well-scoped}
 use Rattle.cse.specs.Call.{extract-call}
 use Rattle.print.specs.Print.{print-call}
@@ -67,6 +69,10 @@ divided (suc n) = num (10 + n) ⊘ divided n
 abbrev twice-divided : ℕ → List Tree
 twice-divided n = v "p" ⊘ divided n ∷ v "q" ⊘ divided n ∷ []
 
+-- a list's occurrences, and how many its scope would hold
+abbrev rows-for : List Tree → Outcome (ℕ × ℕ)
+rows-for es = extract-all true 0 es >>= λ s. ok (occurrences es, occurrences (held (length (s .lets)) (reciprocals true s)))
+
 pub record Examples : Type 0 where
   mixed-scoped : csescoped mixed-sheet ≡ mixed-text
   mixed-by-calls : by-calls true 45 200 mixed-sheet ≡ ok mixed-text
@@ -83,6 +89,7 @@ pub record Examples : Type 0 where
   a-switch-held : numbers-held 1019 (Op Select (num 1 ◂ num 2 ◂ nil)) ≡ ok 2
   no-row-for-a-switch : numbers-held 1020 (Op Select (num 1 ◂ num 2 ◂ nil)) ≡ refused (by 23)
   some-divisors : (answer true (twice-divided 26) >>= λ a. ok (rows a)) ≡ ok 955
+  rows-for-many : rows-for (twice-divided 27) ≡ ok (120, 1038)
   many-divisors-flat : (answer false (twice-divided 27) >>= λ a. ok (a .extracted)) ≡ ok 0
   many-divisors : answer true (twice-divided 27) ≡ refused (by 23)
   work-too-short : extract-call false 65535 131072 few (1 ∷ []) 9 ≡ refused (by 8)
@@ -122,6 +129,7 @@ examples =
       a-switch-held = refl;
       no-row-for-a-switch = refl;
       some-divisors = refl;
+      rows-for-many = refl;
       many-divisors-flat = refl;
       many-divisors = refl;
       work-too-short = refl;
