@@ -8,7 +8,7 @@ use mathlib.Core.List.{List, [], _∷_}
 use lib.ListN.{length}
 use lib.Dec.{T, ltb→lt, lt→ltb}
 use Rattle.tree.specs.Outcome.{ok}
-use Rattle.tree.specs.Tree.{Name, xname, mname, Tree}
+use Rattle.tree.specs.Tree.{Name, xname, Tree}
 use Rattle.tree.specs.Value.{Env, values}
 use Rattle.tree.specs.Facts.{all-nodes, count}
 use Rattle.tree.proofs.Formed.{well-formed}
@@ -132,10 +132,6 @@ New start q = (n : Name) → (T (under start n) → ⊥) → T (q n)
 pub new-x : (start : ℕ) (q : Name → Bool) → New start q → (i : ℕ) → start ≤ i → T (q (xname i))
 unfolding below
 new-x start q new i h = new (xname i) (λ t. let z = ltb→lt i start t in omega arith)
-
-pub new-m : (start : ℕ) (q : Name → Bool) → New start q → (i : ℕ) → start ≤ i → T (q (mname i))
-unfolding below
-new-m start q new i h = new (mname i) (λ t. let z = ltb→lt i start t in omega arith)
 
 -- a scope's roots before fusion
 pub record Begun (start : ℕ) (es : List Tree) (s : State) : Type 0 where
