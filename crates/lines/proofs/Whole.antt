@@ -1,0 +1,1 @@
+-- The lines of a flat answer, one after another, are its text. Assumes nothing.
