@@ -13,7 +13,7 @@ use Rattle.tree.specs.Facts.{size}
 use Rattle.tree.specs.Passes.{tree-ok}
 use Rattle.tree.specs.Tokens.{kind-of, below-of, run-at}
 use Rattle.text.specs.Text.{display}
-use Rattle.cse.specs.Answer.{Let, stmt-text}
+use Rattle.cse.specs.Answer.{Intermediates, Let, Match, end, step, stmt-text}
 use Rattle.cse.specs.AnswerRows.{let-row, result-row}
 use Rattle.emit.specs.Writing.{Writes}
 use Rattle.shapes.specs.Places.{tree-here, Stands}
@@ -69,9 +69,9 @@ closing w = cond (eqb w result-row) (10 ∷ []) (bytes ";\n")
 
 -- a line was written, or measured where `dry`; or there is no tree after its row, and then measuring leaves all as it was
 abbrev pub Wrote : List ℕ → List ℕ → ℕ → Bool → List ℕ → List ℕ → Text → Type 0
-Wrote rows ws at dry old new (writer.Ends next end) =
+Wrote rows ws at dry old new (writer.Ends next last) =
     Stands rows ws (at + 1) × (next ≡ at + 1 + size (tree-here rows ws (at + 1)))
-    × Writes dry old 0 (row-line (getD ws at 0) (tree-here rows ws (at + 1))) new end
+    × Writes dry old 0 (row-line (getD ws at 0) (tree-here rows ws (at + 1))) new last
 Wrote rows ws at dry old new writer.Broken = (Stands rows ws (at + 1) → ⊥) × (dry ≡ true → new ≡ old)
 
 -- ---- all lines from a place on, of at most so many; none where one is missing before the words end
@@ -88,3 +88,9 @@ lines-from (suc n) rows ws at =
       | false ↦ some []
       | true ↦ elim (line-of rows ws at) [ none ↦ none | some s ↦ prepend (s .text) (lines-from n rows ws (s .next)) ]
     ]
+
+-- every statement is a let
+unfoldable pub all-lets : Intermediates → Bool
+all-lets end = true
+all-lets (step (Let n e) l) = all-lets l
+all-lets (step (Match k key ns arms) l) = false
