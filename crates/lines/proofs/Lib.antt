@@ -1,3 +1,5 @@
 pub mod RowLaws
 pub mod LineLaws
 pub mod Whole
+pub mod Flat
+pub mod Room
