@@ -3,3 +3,5 @@ pub mod LineLaws
 pub mod Whole
 pub mod Flat
 pub mod Room
+pub mod Refusing
+pub mod Progress

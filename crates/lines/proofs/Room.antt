@@ -20,7 +20,7 @@ use Rattle.lengths.proofs.Whole.{text-fits, read-fits}
 use Rattle.lines.specs.Line.{row-line, opening, closing}
 use Rattle.lines.proofs.RowLaws.{line-parts}
 
-decimal-short : (n : ℕ) → n < 2 ^ 64 → length (decimal n) ≤ 29
+pub decimal-short : (n : ℕ) → n < 2 ^ 64 → length (decimal n) ≤ 29
 unfolding symbol-ok number-fits name-text
 decimal-short n h = omega (arith, symbol-short (xname n) tt (lt→ltb n (2 ^ 64) h))
 

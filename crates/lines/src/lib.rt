@@ -1,9 +1,11 @@
 // An answer's text line by line: the line of a let or of a result from its rows, and where the next begins. A flat answer can have more text than any array holds, and
-// each of its lines is short, so a program prints them one after another.
+// each of its lines is short, so a program prints them one after another. And the line that a program prints for a refusal.
 ghost use mathlib.Core.Path.{_≡_};
+ghost use mathlib.Core.Bool.{false};
 ghost use Prim.Native.Nat.{_+_, _<_};
 ghost use lib.ListN.{length, getD};
 ghost use Rattle.emit.specs.Writing.{Writes};
+ghost use Rattle.lines.specs.Refusal.{refusal-text};
 ghost use Rattle.lines.specs.Line.{starts-line, line-of, line-answer, bytes-left, opening, closing, Wrote};
 use writer::Text;
 
@@ -97,4 +99,15 @@ pub fn line_at(rows: &[u64], answer: &[u64], at: usize, out: &mut [u8]) -> Line
         return Line::Broken;
     };
     Line::Text(size, next)
+}
+
+// The line for a refusal, by 01's number and the record: as much of it as there is room for, and the place after it.
+pub fn refusal_line(number: u64, record: u64, out: &mut [u8]) -> usize
+    ensures { λ r. ⌜ Writes false (now (out .entry)) 0 (refusal-text number «record») (now (out .exit)) r ⌝ }
+{
+    let a = emit::put_bytes(out, false, 0, b"refused ");
+    let b = emit::put_decimal(out, false, a, number);
+    let c = emit::put_bytes(out, false, b, b" ");
+    let d = emit::put_decimal(out, false, c, record);
+    emit::put_bytes(out, false, d, b"\n")
 }
