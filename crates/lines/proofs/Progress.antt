@@ -49,3 +49,11 @@ pub line-later : (rows ws : List ℕ) (at : ℕ) (s : Spoken) → line-of rows w
 unfolding line-of
 line-later rows ws at s e =
     by-later (starts-line (getD ws at 0)) (run-at ws (at + 1)) (tree-ok (tree-here rows ws (at + 1))) at (row-line (getD ws at 0) (tree-here rows ws (at + 1))) s e
+
+-- for a loop: the next place is further on, and the line is inside what was lent
+pub goes-on :
+    (rows ws : List ℕ) (at : ℕ) (old : List ℕ) (n next : ℕ) (new : List ℕ) → line.Text n next ≡ line-answer (line-of rows ws at) (length old) → new ≡ bytes-left (line-of rows ws at) old
+    → (at < next) × (n ≤ length old)
+goes-on rows ws at old n next new e f =
+    let T = told (line-of rows ws at) old n next new e f in
+    (omega (arith, line-later rows ws at (T .spoken) (T .here), T .place), T .inside)
