@@ -243,7 +243,7 @@ fn main() {
     let mut roots = [0u64; 64];
     let mut work = [0u64; 65536];
     let mut text = [0u8; 131072];
-    let mut table = [0u64; 132864];
+    let mut table = [0u64; 67328];
     let mut out = [0u8; 65536];
     replay(
         &list[..n],
