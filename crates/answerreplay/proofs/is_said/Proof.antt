@@ -1,0 +1,29 @@
+-- `answerreplay::is_said` is safe. Assumes nothing.
+use Rattle.flatsheet.proofs.Steps.{parts-inside}
+use borrow.Author.Needs.{needs}
+use Rattle.answerreplay.proofs.is_said.Statement.{statement}
+use Rattle.answerreplay.proofs.is_said.Tie as tie
+
+pub is-said-spec : {M : Type 1} → statement M
+is-said-spec =
+    tie.close
+    (tie.spec
+    (λ c κs. search needs)
+    (λ c. search needs)
+    (λ c κs. search needs)
+    (λ c. search needs)
+    (λ c κs. parts-inside _ _ _ _ _ _ _ _ _ _ _ (c .before .before .before .before .before .before .before .before .before .before .before .before .before .before .before .before .flat-sheet .ensures) (c .before .before .before .before .answer2 .given .1))
+    (λ c. search needs)
+    (λ c. search needs)
+    (λ c. search needs)
+    (λ c. search needs)
+    (λ c. search needs)
+    (λ c. search needs)
+    (λ c. search needs)
+    (λ c. search needs)
+    (λ c. search needs)
+    (λ c. search needs)
+    (λ c. search needs)
+    (λ c. search needs)
+    (λ c. search needs)
+    (λ c. search needs))

@@ -1,0 +1,79 @@
+// The program `csesheet` (01, "Sheet and printing"): a sheet on standard input, its flat answer on standard output, or one line for a refusal. What is lent is long
+// enough for every sheet: the table for the rows of any flat answer, `out` for any line.
+ghost use Prim.Native.Nat.{_≤_};
+ghost use lib.ListN.{length};
+use flatsheet::Flat;
+use flatsheet::flat_sheet;
+use libc::STDIN_FILENO;
+use libc::STDOUT_FILENO;
+use lines::Line;
+use lines::line_at;
+use lines::refusal_line;
+
+fn say(out: &[u8], n: usize) {
+    if n <= out.len() {
+        io::write_all(STDOUT_FILENO, &out[..n]);
+    }
+}
+
+fn say_refused(number: u64, record: u64) {
+    let mut out = [0u8; 128];
+    let n = refusal_line(number, record, &mut out);
+    say(&out, n);
+}
+
+// The lines of an answer, one after another.
+fn say_lines(rows: &[u64], answer: &[u64], out: &mut [u8]) {
+    let mut at = 0;
+    while at < answer.len() {
+        let Line::Text(n, next) = line_at(rows, answer, at, out) else {
+            return;
+        };
+        say(out, n);
+        at = next;
+    }
+}
+
+// The lines of the answer in the first words of the table.
+fn say_answer(rows: &[u64], end: usize, table: &[u64], count: usize, out: &mut [u8])
+    requires { ⌜ (end ≤ length (now rows)) × (count ≤ length (now table)) ⌝ }
+{
+    say_lines(&rows[..end], &table[..count], out);
+}
+
+// All that is printed for a sheet.
+fn say_sheet(
+    sheet: &[u8],
+    rows: &mut [u64],
+    roots: &mut [u64],
+    work: &mut [u64],
+    text: &mut [u8],
+    table: &mut [u64],
+    out: &mut [u8],
+) {
+    let answer = flat_sheet(sheet, rows, roots, work, text, table);
+    match answer {
+        Flat::Refused(number, record) => say_refused(number, record),
+        Flat::Rows(end, count) => say_answer(rows, end, table, count, out),
+    }
+}
+
+fn main() {
+    let mut sheet = [0u8; 65536];
+    let n = io::read_full(STDIN_FILENO, &mut sheet);
+    let mut rows = [0u64; 35840];
+    let mut roots = [0u64; 64];
+    let mut work = [0u64; 65536];
+    let mut text = [0u8; 131072];
+    let mut table = [0u64; 67328];
+    let mut out = [0u8; 65536];
+    say_sheet(
+        &sheet[..n],
+        &mut rows,
+        &mut roots,
+        &mut work,
+        &mut text,
+        &mut table,
+        &mut out,
+    );
+}

@@ -1,0 +1,169 @@
+-- The lines of an answer whose statements are all lets, one after another, are its text, and each next place is that of the next row (01, "Sheet and printing").
+-- Assumes nothing.
+use Prim.Native.Nat.{ℕ, zero, suc, _+_, _-_, _*_, _/_, _%_, _≤_, _<_}
+use native.Mathlib.Omega.{arith}
+use mathlib.Core.Path.{_≡_, refl, sym, ap, _∙_, subst}
+use mathlib.Core.Bool.{Bool, true, false, cond}
+use mathlib.Core.Option.{Option, none, some}
+use mathlib.Core.List.{List, [], _∷_, _++_, append-assoc}
+use borrow.Author.Tests.{lt-ltb, le-ltb, eq-eqb, ne-eqb}
+use lib.ListN.{length, getD}
+use lib.Dec.{T, eqb, ltb}
+use Rattle.tree.specs.Tree.{Name, xname, Tree}
+use Rattle.tree.specs.Facts.{size}
+use Rattle.tree.specs.Passes.{tree-ok}
+use Rattle.tree.specs.Tokens.{tokens, number-in, run-at}
+use Rattle.text.specs.Text.{display}
+use Rattle.cse.specs.Answer.{Intermediates, Answer, Let, Match, end, step, displays, stmt-text, stmts-texts, lines, answer-text}
+use Rattle.cse.specs.AnswerRows.{result-row, each-words, intermediate-words, intermediates-words, answer-words, intermediates-ok}
+use Rattle.answerlaws.specs.Fitting.{stmts-fitting, numbered-in}
+use Rattle.checked.specs.Check.{rows-in}
+use Rattle.shapes.specs.Places.{tree-here, Stands}
+use Rattle.shapes.proofs.PlaceLaws.{run-is-size}
+use Rattle.shapes.proofs.NodeLaws.{names}
+use Rattle.printlaws.specs.Places.{At, TreeAt, ValuesAt, StmtAt}
+use Rattle.printlaws.specs.Writers.{AnswerAt, ResultsAt}
+use Rattle.printlaws.proofs.PieceLaws.{stmts-cons, stmts-none}
+use Rattle.printlaws.proofs.PlaceLaws.{tree-run, tree-is, each-none, value-in, value-row-is, value-tree, value-others, value-words}
+use Rattle.printlaws.proofs.PartLaws.{LetParts, let-parts, first-stmt, stmts-pass, stmts-fit, after-stmt, stmt-length}
+use Rattle.printlaws.proofs.LoopLaws.{displays-cons}
+use Rattle.lines.specs.Line.{Spoken, starts-line, row-line, line-of, prepend, lines-from, all-lets}
+use Rattle.lines.proofs.RowLaws.{starts-result, starts-let}
+use Rattle.lines.proofs.LineLaws.{line-here}
+
+lines-cons : (s : List ℕ) (l : List (List ℕ)) → lines (s ∷ l) ≡ s ++ (10 ∷ lines l)
+unfolding lines
+lines-cons s l = refl
+
+-- ---- a line and those after it
+
+module _ (rows ws : List ℕ) where
+  abbrev others : ℕ → Option Spoken → Option (List ℕ)
+  others n o = elim o [ none ↦ none | some s ↦ prepend (s .text) (lines-from n rows ws (s .next)) ]
+
+  past : (n at : ℕ) → length ws ≤ at → lines-from n rows ws at ≡ some []
+  unfolding lines-from
+  past zero at h = ap (λ (b : Bool). cond b none (some [])) (le-ltb at (length ws) h)
+  past (suc n) at h = go (ltb at (length ws)) (le-ltb at (length ws) h)
+    where
+      go : (b : Bool) → b ≡ false → _≡_ {A = Option (List ℕ)} (elim b [ false ↦ some [] | true ↦ others n (line-of rows ws at) ]) (some [])
+      go true e = absurd (let z : _≡_ {A = ℕ} 0 1 = cc in omega arith)
+      go false e = refl
+
+  one-more : (n at : ℕ) (s : Spoken) (rest : List ℕ) → at < length ws → line-of rows ws at ≡ some s → lines-from n rows ws (s .next) ≡ some rest → lines-from (suc n) rows ws at ≡ some (s .text ++ rest)
+  unfolding lines-from prepend
+  one-more n at s rest h e f = go (ltb at (length ws)) (lt-ltb at (length ws) h)
+    where
+      go : (b : Bool) → b ≡ true → _≡_ {A = Option (List ℕ)} (elim b [ false ↦ some [] | true ↦ others n (line-of rows ws at) ]) (some (s .text ++ rest))
+      go true i = ap (others n) e ∙ ap (prepend (s .text)) f
+      go false i = absurd (let z : _≡_ {A = ℕ} 0 1 = cc in omega arith)
+
+  abbrev number : List ℕ → ℕ
+  number = number-in (rows-in rows)
+
+  -- ---- the tree that a row has below it
+
+  module _ (at : ℕ) (t : Tree) (h : TreeAt (rows-in rows) ws (at + 1) t) where
+    here : tree-here rows ws (at + 1) ≡ t
+    unfolding tree-here
+    here = tree-is (rows-in rows) ws t h
+
+    runs : length (tokens number t) ≡ size (tree-here rows ws (at + 1))
+    unfolding tree-here
+    runs = run-is-size (names rows) ws (at + 1) (length (tokens number t)) (tree-run (rows-in rows) ws t h)
+
+    stands : Stands rows ws (at + 1)
+    stands = record { run = tree-run (rows-in rows) ws t h ∙ ap some runs; good = subst (λ (x : Tree). T (tree-ok x)) (sym here) (h .passes) }
+
+    line-is : true ≡ starts-line (getD ws at 0) → line-of rows ws at ≡ some (record { text = row-line (getD ws at 0) t; next = at + 1 + length (tokens number t) })
+    line-is b =
+        line-here rows ws at b stands
+        ∙ (ap (λ (x : Tree). some (record { text = row-line (getD ws at 0) x; next = at + 1 + size (tree-here rows ws (at + 1)) })) here
+        ∙ ap (λ (n : ℕ). some (record { text = row-line (getD ws at 0) t; next = at + 1 + n })) (sym runs))
+
+  -- ---- results
+
+  result-line : (w : ℕ) (t : Tree) → w ≡ 36 → row-line w t ≡ display t ++ (10 ∷ [])
+  unfolding row-line
+  result-line w t e = rw (eq-eqb w 36 e)
+
+  results-lines : (vs : List Tree) (n at : ℕ) → ResultsAt (rows-in rows) ws at vs → length ws ≤ at + n → lines-from n rows ws at ≡ some (lines (displays vs))
+  results-lines [] n at h g = past n at (omega (arith, h .last, ap length (each-none (rows-in rows) result-row))) ∙ (unfold displays in (unfold lines in refl))
+  results-lines (t ∷ l) zero at h g = absurd (omega (arith, value-in (rows-in rows) ws t l (h .here)))
+  results-lines (t ∷ l) (suc n) at h g =
+      let r = value-row-is (rows-in rows) ws t l (h .here) in
+      let s : Spoken = record { text = row-line (getD ws at 0) t; next = at + 1 + length (tokens number t) } in
+      let more = results-lines l n (at + 1 + length (tokens number t))
+      (record { here = value-others (rows-in rows) ws t l (h .here); last = omega (arith, value-words (rows-in rows) ws t l (h .here), h .last) }) (omega arith) in
+      let e = one-more n at s (lines (displays l)) (value-in (rows-in rows) ws t l (h .here)) (line-is at t (value-tree (rows-in rows) ws t l (h .here)) (starts-result (getD ws at 0) r)) more in
+      e ∙ ap some (ap (λ (x : List ℕ). x ++ lines (displays l)) (result-line (getD ws at 0) t r) ∙ (append-assoc (display t) (10 ∷ []) (lines (displays l))
+      ∙ (sym (lines-cons (display t) (displays l)) ∙ ap lines (sym (displays-cons t l)))))
+
+  -- ---- lets
+
+  let-line : (w : ℕ) (n : Name) (t : Tree) (made : ℕ) → w % 64 ≡ 29 → w / 64 ≡ 1 + 3 * made → n ≡ xname made → row-line w t ≡ stmt-text (Let n t) ++ (10 ∷ [])
+  unfolding row-line
+  let-line w n t made k c e =
+      let d : w / 64 / 3 ≡ made = omega arith in
+      let o : (w ≡ 36 → ⊥) = (λ q. omega arith) in
+      rw (ne-eqb w 36 o, d, e)
+
+  begins-let : (w made : ℕ) → w % 64 ≡ 29 → w / 64 ≡ 1 + 3 * made → true ≡ starts-line w
+  begins-let w made k c =
+      let d : w / 64 % 3 ≡ 1 = omega arith in
+      let o : (w ≡ 36 → ⊥) = (λ q. omega arith) in
+      sym (eq-eqb (w / 64 % 3) 1 d) ∙ starts-let w o k
+
+  module _ (a : Answer) (h : AnswerAt (rows-in rows) ws a) where
+    abbrev results : List ℕ
+    results = each-words number result-row (a .results)
+
+    abbrev left : Intermediates → List ℕ
+    left l = intermediates-words number l ++ results
+
+    abbrev texts : Intermediates → List (List ℕ)
+    texts l = stmts-texts l ++ displays (a .results)
+
+    only-results : (at : ℕ) → At ws at (left end) → at + length (left end) ≡ length ws → ResultsAt (rows-in rows) ws at (a .results)
+    unfolding intermediates-words
+    only-results at g k = record { here = record { count = refl; passes = h .results; fits = h .results-fit; here = g }; last = k }
+
+    bindings-lines : (l : Intermediates) (n at : ℕ) → T (all-lets l) → T (intermediates-ok l) → T (stmts-fitting (numbered-in (rows-in rows)) l) → At ws at (left l)
+        → at + length (left l) ≡ length ws → length ws ≤ at + n → lines-from n rows ws at ≡ some (lines (texts l))
+    unfolding all-lets
+    bindings-lines end n at t p f g k m =
+        results-lines (a .results) n at (only-results at g k) m ∙ ap (λ (d : List (List ℕ)). some (lines (d ++ displays (a .results)))) (sym stmts-none)
+    bindings-lines (step (Match kind key ns arms) l) n at t p f g k m = absurd t
+    bindings-lines (step (Let x e) l) zero at t p f g k m =
+        absurd (omega (arith, let-parts (rows-in rows) ws x e at (first-stmt (rows-in rows) ws (Let x e) l results p f g) .inside))
+    bindings-lines (step (Let x e) l) (suc n) at t p f g k m =
+        let c = let-parts (rows-in rows) ws x e at (first-stmt (rows-in rows) ws (Let x e) l results p f g) in
+        let s : Spoken = record { text = row-line (getD ws at 0) e; next = at + 1 + length (tokens number e) } in
+        let z : at + length (intermediate-words number (Let x e)) ≡ at + 1 + length (tokens number e) = sym (c .words) in
+        let q = stmt-length (rows-in rows) ws (Let x e) l results p f g in
+        let more = bindings-lines l n (at + 1 + length (tokens number e)) t (stmts-pass (rows-in rows) ws (Let x e) l results p f g) (stmts-fit (rows-in rows) ws (Let x e) l results p f g)
+        (subst (λ (j : ℕ). At ws j (left l)) z (after-stmt (rows-in rows) ws (Let x e) l results p f g)) (omega (arith, z, q, k)) (omega arith) in
+        let b = begins-let (getD ws at 0) (c .made) (c .kind) (c .code) in
+        let y = one-more n at s (lines (texts l)) (c .inside) (line-is at e (c .tree) b) more in
+        y ∙ ap some (ap (λ (r : List ℕ). r ++ lines (texts l)) (let-line (getD ws at 0) x e (c .made) (c .kind) (c .code) (c .name))
+        ∙ (append-assoc (stmt-text (Let x e)) (10 ∷ []) (lines (texts l))
+        ∙ (sym (lines-cons (stmt-text (Let x e)) (texts l)) ∙ ap (λ (d : List (List ℕ)). lines (d ++ displays (a .results))) (sym (stmts-cons (Let x e) l)))))
+
+    append-nil : (l : List ℕ) → l ++ [] ≡ l
+    append-nil [] = refl
+    append-nil (w ∷ l) = ap (λ (r : List ℕ). w ∷ r) (append-nil l)
+
+    words-are : answer-words number a ≡ left (a .inters)
+    unfolding answer-words
+    words-are = refl
+
+    text-is : answer-text a ≡ lines (texts (a .inters))
+    unfolding answer-text
+    text-is = refl
+
+    -- no line is missing, and the last ends where the rows do
+    pub lines-are : (n : ℕ) → T (all-lets (a .inters)) → length ws ≤ n → lines-from n rows ws 0 ≡ some (answer-text a)
+    lines-are n t m =
+        let e = h .words ∙ words-are in
+        bindings-lines (a .inters) n 0 t (h .parts) (h .parts-fit) (record { rest = []; words = e ∙ sym (append-nil (left (a .inters))) }) (omega (arith, ap length e)) (omega arith)
+        ∙ ap some (sym text-is)
