@@ -3,7 +3,7 @@
 ghost use mathlib.Core.Bool.{false};
 ghost use lib.ListN.{length};
 ghost use Rattle.cse.specs.Call.{extract-call, table-after};
-ghost use Rattle.extract.specs.Extracting.{extraction-answer};
+ghost use Rattle.extract.specs.Answers.{extraction-answer};
 ghost use Rattle.cextract.specs.Calls.{Extracts};
 use extract::Extraction;
 use extract::cse;
