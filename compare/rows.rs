@@ -26,21 +26,39 @@ impl Rows {
         Rows::default()
     }
 
+    /// Rows that are there already.
+    pub fn of(words: Vec<u64>) -> Rows {
+        let mut rows = Rows::default();
+        for row in words.chunks_exact(WIDTH) {
+            let named = || row[3..3 + row[2] as usize].iter().map(|b| *b as u8 as char).collect();
+            rows.note((row[0] == 0).then(named));
+        }
+        rows.words = words;
+        rows
+    }
+
+    /// Notes what the next row names; its number.
+    fn note(&mut self, name: Option<String>) -> usize {
+        let row = self.names.len();
+        if let Some(name) = &name {
+            self.first.entry(name.clone()).or_insert(row as u64);
+        }
+        self.names.push(name);
+        row
+    }
+
     /// Adds a row; its number.
     fn put(&mut self, name: Option<String>, kind: u64, default: u64, fields: &[u64]) -> usize {
         let mut row = vec![kind, default, fields.len() as u64];
         row.extend(fields);
         row.resize(WIDTH, 0);
         self.words.extend(row);
-        self.names.push(name);
-        self.names.len() - 1
+        self.note(name)
     }
 
     pub fn put_symbol(&mut self, name: &str) -> usize {
         let fields: Vec<u64> = name.bytes().map(u64::from).collect();
-        let row = self.put(Some(name.to_string()), 0, 0, &fields);
-        self.first.entry(name.to_string()).or_insert(row as u64);
-        row
+        self.put(Some(name.to_string()), 0, 0, &fields)
     }
 
     pub fn put_constant(&mut self, n: i64) -> usize {
