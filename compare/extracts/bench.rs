@@ -12,7 +12,7 @@ use std::time::{Duration, Instant};
 
 const SEED: u64 = 20_261_117;
 const SIZES: [usize; 11] = [50, 100, 200, 300, 400, 500, 600, 700, 800, 900, 1000];
-const FAMILIES: [Family; 3] = [Family::Small, Family::Grown, Family::Products];
+const FAMILIES: [Family; 3] = [Family::Derivatives, Family::Grown, Family::Switches];
 /// A list is run until so much time has passed, and at least so often; the fastest run counts.
 const TIME: Duration = Duration::from_millis(150);
 const LEAST: usize = 5;
@@ -26,7 +26,7 @@ struct Row {
 }
 
 pub fn run() {
-    println!("{:10} {:>11} {:>6} {:>12} {:>12} {:>6} {:>14} {:>14}", "family", "occurrences", "rounds", "port, us", "source, us", "ratio", "port, us/round", "source, us/round");
+    println!("{:11} {:>11} {:>6} {:>12} {:>12} {:>6} {:>14} {:>14}", "family", "occurrences", "rounds", "port, us", "source, us", "ratio", "port, us/round", "source, us/round");
     let mut all = Vec::new();
     for family in FAMILIES {
         let mut r = Random(SEED);
@@ -86,7 +86,7 @@ fn measured(r: &mut Random, family: Family, most: usize) -> Row {
         rounds: (given.extracted + 1) as f64,
     };
     println!(
-        "{:10} {:>11} {:>6} {:>12.1} {:>12.1} {:>6.2} {:>14.2} {:>14.2}",
+        "{:11} {:>11} {:>6} {:>12.1} {:>12.1} {:>6.2} {:>14.2} {:>14.2}",
         format!("{family:?}"),
         row.occurrences,
         row.rounds,

@@ -19,6 +19,7 @@ pub enum Family {
     Chains,
     Stairs,
     Doubled,
+    Derivatives,
 }
 
 use Family::*;
@@ -26,8 +27,8 @@ use Family::*;
 /// A list of at most so many occurrences, and mostly not many fewer.
 pub fn list(r: &mut Random, most: usize) -> Vec<T> {
     let family = *r.pick(&[
-        Small, Small, Small, Small, Small, Products, Products, Switches, Switches, Divisions, Divisions, Regrouped, Grown, Grown, Grown, Grown, Grown, Chains,
-        Stairs, Doubled,
+        Small, Small, Small, Products, Products, Switches, Switches, Divisions, Divisions, Regrouped, Grown, Grown, Grown, Grown, Grown, Chains,
+        Stairs, Doubled, Derivatives, Derivatives,
     ]);
     of_family(r, family, most)
 }
@@ -49,13 +50,14 @@ pub fn of_family(r: &mut Random, family: Family, most: usize) -> Vec<T> {
             filled(r, most, |r| vec![r.pick(&chains).clone()])
         }
         Stairs => {
-            let stairs = stairs(r);
+            let stairs = stairs(r, most * 9 / 20);
             filled(r, most, |r| {
                 let p = sym(["p", "q"][r.below(2)]);
                 vec![op(DIV, vec![p, r.pick(&stairs).clone()])]
             })
         }
         Doubled => doubled(r, most),
+        Derivatives => filled(r, most, derivatives),
     };
     joined(r, es, most)
 }
@@ -135,21 +137,62 @@ fn chains(r: &mut Random, longest: usize) -> Vec<T> {
     all
 }
 
-/// Divisors without a symbol, each of which divides in the next: their reciprocals grow.
-fn stairs(r: &mut Random) -> Vec<T> {
+/// Divisors without a symbol, each of which divides in the next. Each is bound as it was counted, so that
+/// the answer of two of the last is far longer than the list.
+fn stairs(r: &mut Random, longest: usize) -> Vec<T> {
     let mut t = num(2);
     let mut all = vec![t.clone()];
-    for n in 0..4 + r.below(16) {
-        t = op(DIV, vec![num(3 + n as i64 % 2), t]);
-        if r.chance(30) {
-            t = op(ADD, vec![t.clone(), all[r.below(all.len())].clone()]);
-        }
-        if size(&t) > 120 {
-            break;
-        }
+    // texts that come before the text they stand in, after it, or either
+    let way = r.below(3);
+    let most = if r.chance(50) { longest } else { longest / 8 };
+    while size(&t) + 2 < most {
+        let n = all.len() as i64;
+        t = match r.below(30) {
+            0 => op(ADD, vec![num(n), t]),
+            1 => op(8, vec![t]),
+            _ => op(DIV, vec![num([7, 100 + n, r.below(9) as i64][way]), t]),
+        };
         all.push(t.clone());
     }
+    // the last three as often as all others
+    let last = all[all.len().saturating_sub(3)..].to_vec();
+    let more = all.len();
+    all.extend(last.into_iter().cycle().take(more));
     all
+}
+
+/// What a generator of derivatives gives: sums of products of a few sines, cosines and lengths.
+fn derivatives(r: &mut Random) -> Vec<T> {
+    let angle = |r: &mut Random| op(8 + r.below(2), vec![sym(["a", "b", "c"][r.below(3)])]);
+    let place = |r: &mut Random| sym(["p", "q", "y"][r.below(3)]);
+    let turned = |r: &mut Random| {
+        let (x, y) = (place(r), place(r));
+        let (s, c) = (angle(r), angle(r));
+        op(ADD + r.below(2), vec![op(MUL, vec![x, c]), op(MUL, vec![y, s])])
+    };
+    let length = |r: &mut Random| {
+        let (x, y) = (turned(r), place(r));
+        let square = |t: T| op(7, vec![t, num(2)]);
+        op(22, vec![op(ADD, vec![square(x), square(y)])])
+    };
+    let mut sum = turned(r);
+    for _ in 0..1 + r.below(4) {
+        let mut term = angle(r);
+        for _ in 0..1 + r.below(3) {
+            let factor = match r.below(6) {
+                0 => turned(r),
+                1 => num([2, -1, 3][r.below(3)]),
+                2 | 3 => place(r),
+                _ => angle(r),
+            };
+            term = op(MUL, vec![term, factor]);
+        }
+        if r.chance(25) {
+            term = op(DIV, vec![term, length(r)]);
+        }
+        sum = op(ADD + r.below(2), vec![sum, term]);
+    }
+    vec![sum]
 }
 
 /// Sums of a tree with itself.
