@@ -14,7 +14,7 @@ const SEED: u64 = 20_261_117;
 const SIZES: [usize; 11] = [50, 100, 200, 300, 400, 500, 600, 700, 800, 900, 1000];
 const FAMILIES: [Family; 3] = [Family::Derivatives, Family::Grown, Family::Switches];
 /// A list is run until so much time has passed, and at least so often; the fastest run counts.
-const TIME: Duration = Duration::from_millis(150);
+const TIME: Duration = Duration::from_millis(300);
 const LEAST: usize = 5;
 
 /// Times of one list, in microseconds.
@@ -69,16 +69,18 @@ fn measured(r: &mut Random, family: Family, most: usize) -> Row {
     let call = plain_call(r, &list, &given);
     let difference = port.difference(&call, &expected(&call, true, &given));
     assert_eq!(difference, None, "the answers are the same");
-    let port_time = fastest(|| {
-        port.time = Duration::ZERO;
-        port.extract(&call);
-        port.time
-    });
-    let source_time = fastest(|| {
-        let began = Instant::now();
-        std::hint::black_box(cse::cse(&es));
-        began.elapsed()
-    });
+    let (port_time, source_time) = fastest(
+        || {
+            port.time = Duration::ZERO;
+            port.extract(&call);
+            port.time
+        },
+        || {
+            let began = Instant::now();
+            std::hint::black_box(cse::cse(&es));
+            began.elapsed()
+        },
+    );
     let row = Row {
         occurrences: crate::words_of(&list, &es).len() as f64,
         port: port_time,
@@ -99,16 +101,16 @@ fn measured(r: &mut Random, family: Family, most: usize) -> Row {
     row
 }
 
-/// Microseconds of the fastest run.
-fn fastest(mut run: impl FnMut() -> Duration) -> f64 {
+/// Microseconds of the fastest run of each, the two in turn.
+fn fastest(mut port: impl FnMut() -> Duration, mut source: impl FnMut() -> Duration) -> (f64, f64) {
     let began = Instant::now();
-    let mut best = Duration::MAX;
+    let mut best = (Duration::MAX, Duration::MAX);
     let mut runs = 0;
     while runs < LEAST || began.elapsed() < TIME {
-        best = best.min(run());
+        best = (best.0.min(port()), best.1.min(source()));
         runs += 1;
     }
-    best.as_secs_f64() * 1e6
+    (best.0.as_secs_f64() * 1e6, best.1.as_secs_f64() * 1e6)
 }
 
 /// The slope of a round's time over the occurrences, both as logarithms, by least squares.
