@@ -176,10 +176,13 @@ pub enum Kind {
 
 use Kind::*;
 
-const KINDS: [Kind; 27] = [
-    Neg, Add, Sub, Mul, Div, Pow, Sin, Cos, Tan, Asin, Acos, Atan, Atan2, Sinh, Cosh, Tanh, Exp, Ln, Log2, Log10, Sqrt, Abs, Heaviside, Clamp, Branch, Select,
-    SelectOr,
-];
+impl Kind {
+    /// All operations by number, from 2 on.
+    pub const ALL: [Kind; 27] = [
+        Neg, Add, Sub, Mul, Div, Pow, Sin, Cos, Tan, Asin, Acos, Atan, Atan2, Sinh, Cosh, Tanh, Exp, Ln, Log2, Log10, Sqrt, Abs, Heaviside, Clamp, Branch,
+        Select, SelectOr,
+    ];
+}
 
 /// A node of the list that made it.
 #[derive(Clone, Copy, Debug, PartialEq, Eq)]
@@ -430,7 +433,7 @@ impl Answer<'_> {
             1 => Tree::Constant((below / 2) as i64),
             kind => {
                 let operands = (0..below).map(|_| self.tree(words)).collect();
-                Tree::Operation(KINDS[kind as usize - 2], operands)
+                Tree::Operation(Kind::ALL[kind as usize - 2], operands)
             }
         }
     }

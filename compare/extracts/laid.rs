@@ -146,14 +146,19 @@ fn expression(words: &[u64], n: usize, share: bool, made: &mut HashMap<usize, E>
 /// Whether the rows and roots are what some sheet loads as: the sheet is written from them, read by the
 /// reading of the paper, and what it reads compared.
 pub fn could_be_loaded(words: &[u64], roots: &[u64]) -> bool {
-    let records: Option<Vec<Vec<u8>>> = words.chunks(WIDTH).map(record).collect();
-    let Some(mut records) = records else {
+    let Some(sheet) = sheet(words, roots) else {
         return false;
     };
-    records.extend(roots.iter().map(|n| format!("Root,{n}").into_bytes()));
-    let sheet = records.join(&b"\r\n"[..]);
     let read = reading::load(reading::ROWS * WIDTH, reading::ROOTS, &sheet);
     read.is_ok_and(|table| table.words() == words && table.roots == roots)
+}
+
+/// The rows and then the roots as a sheet, where each row has the form of a record.
+pub fn sheet(words: &[u64], roots: &[u64]) -> Option<Vec<u8>> {
+    let records: Option<Vec<Vec<u8>>> = words.chunks(WIDTH).map(record).collect();
+    let mut records = records?;
+    records.extend(roots.iter().map(|n| format!("Root,{n}").into_bytes()));
+    Some(records.join(&b"\r\n"[..]))
 }
 
 /// A row as a record, where it has the form of one.

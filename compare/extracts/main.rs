@@ -15,12 +15,14 @@ mod fmt;
 mod laid;
 mod large;
 mod lists;
+mod paddlecrook;
 mod port;
 mod random;
 mod reading;
 mod rows;
 mod tree;
 mod words;
+mod wrapped;
 
 // cse.rs and fmt.rs look for these at the top of the crate
 pub use arael::{E, Expr, FuncKind, symbol};
@@ -28,6 +30,7 @@ pub(crate) use arael::{as_exact_int, expand_func};
 
 use answers::{EVENTS, Event, Events};
 use laid::List;
+use paddlecrook::Extractor;
 use port::{BAD_COEFFICIENT, BAD_ROWS, Call, Expected, FEW_ROWS, NO_ANSWER, Port, SHORT_WORK, TEXT, WORK, nothing};
 use random::Random;
 use rows::{Rows, WIDTH};
@@ -36,8 +39,10 @@ use tree::T;
 
 const SEED: u64 = 20_261_115;
 const WRONG: usize = 5_000;
-/// Of a hundred lists so many are lent again with something to be refused.
+/// Of a hundred lists so many are lent again with something to be refused, and so many go through the wrapper
+/// for generators too.
 const REFUSED: usize = 12;
+const WRAPPED: usize = 5;
 
 /// How often the source is run on a list. Hash order is new in each run. A tie that stays hidden in these
 /// runs does no harm where the port agrees; where it doesn't, many more runs tell.
@@ -164,11 +169,14 @@ fn shorten(r: &mut Random, c: &mut Call) {
 struct Tally {
     small: usize,
     large: usize,
+    /// lists of at least 900 occurrences
+    near: usize,
     tied: usize,
     differ: usize,
     /// calls by the number that is expected
     numbers: [usize; 256],
     damaged: usize,
+    wrapped: usize,
     events: [usize; EVENTS.len()],
     kinds: [bool; words::KINDS],
     shared: usize,
@@ -190,10 +198,12 @@ impl Tally {
         Tally {
             small: 0,
             large: 0,
+            near: 0,
             tied: 0,
             differ: 0,
             numbers: [0; 256],
             damaged: 0,
+            wrapped: 0,
             events: [0; EVENTS.len()],
             kinds: [false; words::KINDS],
             shared: 0,
@@ -228,17 +238,22 @@ impl Tally {
             self.tied += 1;
             return true;
         }
+        let lent = format!("lent work {}, text {}, table {}, answer {}", c.work, c.text, c.table, c.answer);
+        self.report(&format!("{difference}; {lent}"), es, given);
+        false
+    }
+
+    fn report(&mut self, difference: &str, es: &[E], given: &Given) {
         self.differ += 1;
         if self.differ <= 10 {
             let text: Vec<String> = es.iter().map(E::to_string).collect();
-            println!("DIFFERS: {difference}: {}", text.join("; "));
-            println!("  lent: work {}, text {}, table {}, answer {}; source: {}", c.work, c.text, c.table, c.answer, given.printed.replace('\n', "; "));
+            println!("DIFFERS: {difference}: {}\n  source: {}", text.join("; "), given.printed.replace('\n', "; "));
         }
-        false
     }
 
     fn mark(&mut self, list: &List, es: &[E], given: &Given) {
         let trees = words_of(list, es);
+        self.near += usize::from(trees.len() >= 900);
         for w in &trees {
             self.kinds[(w % words::BELOW) as usize] = true;
         }
@@ -259,12 +274,12 @@ impl Tally {
 
     fn say(&self, port: &Port, began: Instant) -> bool {
         println!(
-            "{} small lists and {} large, {} differ; {} left out because hash order decides",
-            self.small, self.large, self.differ, self.tied
+            "{} small lists and {} large, {} of them of 900 occurrences or more, {} differ; {} left out because hash order decides",
+            self.small, self.large, self.near, self.differ, self.tied
         );
         let numbers = [0, SHORT_WORK, BAD_ROWS, BAD_COEFFICIENT, FEW_ROWS, NO_ANSWER];
         let called: Vec<String> = numbers.iter().map(|n| format!("{n}: {}", self.numbers[*n as usize])).collect();
-        println!("  calls by the number returned: {}; with damaged rows {}", called.join(", "), self.damaged);
+        println!("  calls by the number returned: {}; with damaged rows {}; lists by the wrapper too {}", called.join(", "), self.damaged, self.wrapped);
         let events: Vec<String> = FLAT.iter().map(|e| format!("{} {}", EVENTS[*e as usize], self.events[*e as usize])).collect();
         let kinds = self.kinds.iter().filter(|met| **met).count();
         println!(
@@ -284,7 +299,7 @@ impl Tally {
             self.source.as_secs_f64() * 1e6 / self.runs as f64
         );
         let met = numbers.iter().all(|n| self.numbers[*n as usize] > 0) && FLAT.iter().all(|e| self.events[*e as usize] > 0);
-        let rare = [self.shared, self.unreached, self.rootless, self.damaged];
+        let rare = [self.shared, self.unreached, self.rootless, self.damaged, self.wrapped];
         self.differ == 0 && met && kinds == words::KINDS && !rare.contains(&0)
     }
 }
@@ -333,15 +348,16 @@ fn compare(small_lists: usize, large_lists: usize) {
     let began = Instant::now();
     let mut r = Random(SEED);
     let mut port = Port::new();
+    let mut extractor = Extractor::new();
     let mut tally = Tally::new();
     while tally.small < small_lists {
         let trees = small(&mut r);
-        tally.small += usize::from(hold_one(&mut r, &mut port, &mut tally, &trees, RUNS));
+        tally.small += usize::from(hold_one(&mut r, &mut port, &mut extractor, &mut tally, &trees, RUNS));
     }
     while tally.large < large_lists {
         let most = large::MOST - if r.chance(60) { r.below(8) } else { r.below(400) };
         let trees = large::list(&mut r, most);
-        tally.large += usize::from(hold_one(&mut r, &mut port, &mut tally, &trees, RUNS_OF_LARGE));
+        tally.large += usize::from(hold_one(&mut r, &mut port, &mut extractor, &mut tally, &trees, RUNS_OF_LARGE));
     }
     if !tally.say(&port, began) {
         std::process::exit(1);
@@ -349,7 +365,7 @@ fn compare(small_lists: usize, large_lists: usize) {
 }
 
 /// Whether the list was compared.
-fn hold_one(r: &mut Random, port: &mut Port, tally: &mut Tally, trees: &[T], runs: usize) -> bool {
+fn hold_one(r: &mut Random, port: &mut Port, extractor: &mut Extractor, tally: &mut Tally, trees: &[T], runs: usize) -> bool {
     let list = laid(r, trees);
     let es = laid::expressions(&list, r.chance(50));
     let Some(given) = tally.settled(&list, &es, runs) else {
@@ -363,6 +379,12 @@ fn hold_one(r: &mut Random, port: &mut Port, tally: &mut Tally, trees: &[T], run
     tally.mark(&list, &es, &given);
     if r.chance(REFUSED) {
         hold_refused(r, port, tally, &list, &es, &given);
+    }
+    if loadable && r.chance(WRAPPED) {
+        tally.wrapped += 1;
+        if let Some(difference) = wrapped::difference(extractor, &list, &given) {
+            tally.report(&difference, &es, &given);
+        }
     }
     true
 }
@@ -399,6 +421,7 @@ fn hold_refused(r: &mut Random, port: &mut Port, tally: &mut Tally, list: &List,
 fn self_test() {
     let mut r = Random(SEED);
     let mut port = Port::new();
+    let mut extractor = Extractor::new();
     let mut tally = Tally::new();
     let (mut tried, mut noticed) = (0, 0);
     while tried < WRONG {
@@ -417,11 +440,29 @@ fn self_test() {
         spoil(&mut r, &mut should);
         noticed += usize::from(port.difference(&c, &should).is_some());
         tried += 1;
+        if r.chance(50) {
+            assert_eq!(wrapped::difference(&mut extractor, &list, &given), None, "a true one: {}", given.printed);
+            let wrong = spoiled(&mut r, given);
+            noticed += usize::from(wrapped::difference(&mut extractor, &list, &wrong).is_some());
+            tried += 1;
+        }
     }
-    println!("of {WRONG} wrong expectations {noticed} are noticed");
-    if noticed != WRONG {
+    println!("of {tried} wrong expectations {noticed} are noticed");
+    if noticed != tried {
         std::process::exit(1);
     }
+}
+
+/// What the source gives made wrong.
+fn spoiled(r: &mut Random, given: Given) -> Given {
+    let mut wrong = given;
+    match r.below(if wrong.number == 0 { 4 } else { 1 }) {
+        0 => wrong.number ^= 1,
+        1 => wrong.extracted += 1,
+        2 => wrong.words.push(0),
+        _ => wrong.printed.push('a'),
+    }
+    wrong
 }
 
 /// The number, a word of the answer or of its rows, or a byte of its text made another, or one more or fewer
