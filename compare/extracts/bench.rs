@@ -26,12 +26,16 @@ struct Row {
 }
 
 pub fn run() {
-    println!("{:11} {:>11} {:>6} {:>12} {:>12} {:>6} {:>14} {:>14}", "family", "occurrences", "rounds", "port, us", "source, us", "ratio", "port, us/round", "source, us/round");
+    println!(
+        "{:11} {:>11} {:>6} {:>12} {:>12} {:>6} {:>14} {:>16}",
+        "family", "occurrences", "rounds", "port, us", "source, us", "ratio", "port, us/round", "source, us/round"
+    );
     let mut all = Vec::new();
     for family in FAMILIES {
         let mut r = Random(SEED);
         let rows: Vec<Row> = SIZES.iter().map(|most| measured(&mut r, family, *most)).collect();
-        println!("  a round's time grows as occurrences to the power {:.2} in the port, {:.2} in the source", power(&rows, |w| w.port), power(&rows, |w| w.source));
+        let (port, source) = (power(&rows, |w| w.port), power(&rows, |w| w.source));
+        println!("  a round's time grows as occurrences to the power {port:.2} in the port, {source:.2} in the source");
         all.extend(rows);
     }
     let mut ratios: Vec<f64> = all.iter().map(|w| w.port / w.source).collect();
@@ -88,7 +92,7 @@ fn measured(r: &mut Random, family: Family, most: usize) -> Row {
         rounds: (given.extracted + 1) as f64,
     };
     println!(
-        "{:11} {:>11} {:>6} {:>12.1} {:>12.1} {:>6.2} {:>14.2} {:>14.2}",
+        "{:11} {:>11} {:>6} {:>12.1} {:>12.1} {:>6.2} {:>14.2} {:>16.2}",
         format!("{family:?}"),
         row.occurrences,
         row.rounds,
