@@ -1,0 +1,128 @@
+-- What the flat form answers and leaves, by what unfolding, the rounds and the end answer (01, "Turned down": Extract). Assumes nothing.
+use Prim.Native.Nat.{ℕ, _≤_}
+use mathlib.Core.Path.{_≡_, refl, sym, _∙_, ap, subst}
+use mathlib.Core.Bool.{Bool, true, false, _||_}
+use mathlib.Core.List.{List}
+use lib.ListN.{length, take}
+use lib.Seq.{length-take-le}
+use lib.Dec.{T, ltb}
+use Rattle.tree.specs.Outcome.{Refusal, Outcome, ok, refused, by}
+use Rattle.tree.specs.Layout.{table-of, laid-out}
+use Rattle.cse.specs.Call.{Extracted, work-words, work-bytes, extract-call, table-after}
+use Rattle.checked.specs.Check.{rows-in}
+use Rattle.renaming.proofs.RowNames.{tree-words}
+use Rattle.finish.specs.Answers.{finish-outcome, finishing}
+use Rattle.finish.specs.declared.Finished.{Finished}
+use Rattle.finish.specs.declared.Finished.the-variants as finished
+use Rattle.extractlaws.specs.Parts.{extract-from}
+use Rattle.extractlaws.proofs.Ending.{call-short, call-enough, from-nine}
+use Rattle.extractlaws.proofs.Flat.{flat-ten}
+use Rattle.extractlaws.proofs.Finishing.{flat-finishes, flat-counts}
+use Rattle.extract.specs.Answers.{extraction-answer, Lists}
+use Rattle.extract.specs.declared.Extraction.{Extraction}
+use Rattle.extract.specs.declared.Extraction.the-variants as extraction
+use Rattle.extract.specs.declared.Listed.{Listed}
+use Rattle.extract.specs.declared.Listed.the-variants as listed
+
+-- what a function answers and leaves in the table, from what the definition gives
+abbrev pub Answers-by : Outcome Extracted → List ℕ → Extraction → List ℕ → Type 0
+Answers-by o old r new = (r ≡ extraction-answer o) × (new ≡ table-after o old)
+
+pub refuses : (o : Outcome Extracted) (i : Refusal) → o ≡ refused i → (old : List ℕ) → Answers-by o old (extraction.Refused (i .number)) old
+unfolding extraction-answer table-after
+refuses o i e old = subst (λ (o : Outcome Extracted). Answers-by o old (extraction.Refused (i .number)) old) (sym e) (refl, refl)
+
+-- ---- by what the end answers, from the outcome that it has
+
+module _ (o : Outcome Extracted) (old : List ℕ) (made : ℕ) (counts : (x : Extracted) → o ≡ ok x → x .extracted ≡ made) (new : List ℕ) where
+  abbrev By : Finished → Type 0
+  By (finished.Rows n) = Answers-by o old (extraction.Rows n made) new
+  By (finished.Refused q) = Answers-by o old (extraction.Refused q) new
+  By finished.Broken = ⊥
+  By finished.NoRoom = ⊥
+
+  by-outcome : (p : Outcome Extracted) → o ≡ p → new ≡ finish-outcome p old .table → By (finish-outcome p old .answer)
+  unfolding finish-outcome extraction-answer table-after
+  by-outcome (ok x) e t =
+      subst (λ (o : Outcome Extracted). Answers-by o old (extraction.Rows (length (x .words)) made) new) (sym e) (ap (extraction.Rows (length (x .words))) (sym (counts x e)), t)
+  by-outcome (refused i) e t = subst (λ (o : Outcome Extracted). Answers-by o old (extraction.Refused (i .number)) new) (sym e) (refl, t)
+
+  pub ends-by : (f : Finished) → f ≡ finish-outcome o old .answer → new ≡ finish-outcome o old .table → By f
+  ends-by f e t = subst By (sym e) (by-outcome o refl t)
+
+-- ---- the flat form
+
+pub is-nine : (rows roots table : List ℕ) → laid-out rows roots ≡ false → Answers-by (extract-from false rows roots (length table)) table (extraction.Refused 9) table
+is-nine rows roots table e = refuses (extract-from false rows roots (length table)) (by 9) (from-nine false 0 0 rows roots (length table) e) table
+
+module _ (rows roots table : List ℕ) (h : T (laid-out rows roots)) (ws : List ℕ) (same : ws ≡ tree-words (table-of rows roots)) where
+  abbrev lent : ℕ
+  lent = length table
+
+  abbrev outcome : Outcome Extracted
+  outcome = extract-from false rows roots lent
+
+  module _ (r : Listed) (tokens places : List ℕ) (lists : Lists (rows-in rows) false 0 ws r tokens places) where
+    pub stops-at-10 : r ≡ listed.Refused → Answers-by outcome table (extraction.Refused 10) table
+    stops-at-10 e =
+        let l = subst (λ (q : Listed). Lists (rows-in rows) false 0 ws q tokens places) e lists in
+        refuses outcome (by 10) (flat-ten rows roots lent h ws same (l .0) (l .1)) table
+
+  module _ (r : Listed) (tokens places : List ℕ) (lists : Lists (rows-in rows) false 0 ws r tokens places) (n m d : ℕ) (is-listed : r ≡ listed.Words n m d) where
+    l : Lists (rows-in rows) false 0 ws (listed.Words n m d) tokens places
+    l = subst (λ (q : Listed). Lists (rows-in rows) false 0 ws q tokens places) is-listed lists
+
+    pub words-there : n ≤ length tokens
+    words-there = l .3
+
+    pub words-long : n ≡ length (take n tokens)
+    words-long = sym (length-take-le n tokens words-there)
+
+    pub places-there : d ≤ length places
+    places-there = l .4
+
+    pub places-long : d ≡ length (take d places)
+    places-long = sym (length-take-le d places places-there)
+
+    abbrev vs : List ℕ
+    vs = take n tokens
+
+    abbrev ds : List ℕ
+    ds = take d places
+
+    counts : (x : Extracted) → outcome ≡ ok x → x .extracted ≡ m
+    counts = flat-counts rows roots table h ws same n m d tokens places l
+
+    module _ (f : Finished) (new : List ℕ) (given : (f ≡ finishing vs (length roots) ds table .answer) × (new ≡ finishing vs (length roots) ds table .table)) where
+      ended : By outcome table m counts new f
+      ended =
+          let same-end = flat-finishes rows roots table h ws same n m d tokens places l in
+          ends-by outcome table m counts new f (given .0 ∙ ap (λ (z : _). z .answer) same-end) (given .1 ∙ ap (λ (z : _). z .table) same-end)
+
+      pub ends-in-rows : (q : ℕ) → f ≡ finished.Rows q → Answers-by outcome table (extraction.Rows q m) new
+      ends-in-rows q e = subst (By outcome table m counts new) e ended
+
+      pub ends-refused : (q : ℕ) → f ≡ finished.Refused q → Answers-by outcome table (extraction.Refused q) new
+      ends-refused q e = subst (By outcome table m counts new) e ended
+
+      pub never-broken : f ≡ finished.Broken → ⊥
+      never-broken e = subst (By outcome table m counts new) e ended
+
+      pub never-roomless : f ≡ finished.NoRoom → ⊥
+      never-roomless e = subst (By outcome table m counts new) e ended
+
+-- ---- the whole
+
+module _ (rows roots : List ℕ) (words bytes : ℕ) (table : List ℕ) where
+  abbrev call : Outcome Extracted
+  call = extract-call false words bytes rows roots (length table)
+
+  abbrev short : Bool
+  short = ltb words work-words || ltb bytes work-bytes
+
+  pub is-eight : short ≡ true → Answers-by call table (extraction.Refused 8) table
+  is-eight e = refuses call (by 8) (call-short false words bytes rows roots (length table) e) table
+
+  pub is-rest :
+      short ≡ false → (r : Extraction) (new : List ℕ) → Answers-by (extract-from false rows roots (length table)) table r new → Answers-by call table r new
+  is-rest e r new h = subst (λ (o : Outcome Extracted). Answers-by o table r new) (sym (call-enough false words bytes rows roots (length table) e)) h

@@ -1,0 +1,52 @@
+-- `extract::extract_flat` meets its contract. Assumes nothing.
+use native.Mathlib.Omega.{arith}
+use lib.ListN.{length}
+use Rattle.extractlaws.proofs.Starting.{start-short}
+use Rattle.extractlaws.proofs.Unfolding.{unfold-tokens, unfold-refused}
+use Rattle.extractlaws.proofs.Flat.{flat-extractable, flat-symbols}
+use Rattle.extract.proofs.Ends.{is-nine, stops-at-10, words-there, words-long, places-there, places-long, ends-in-rows, ends-refused, never-broken, never-roomless}
+use borrow.Author.Needs.{needs}
+use Rattle.extract.proofs.extract_flat.Statement.{statement}
+use Rattle.extract.proofs.extract_flat.Tie as tie
+
+pub extract-flat-spec : {M : Type 1} → statement M
+extract-flat-spec =
+    tie.close
+    (tie.spec
+    (λ c κs. search needs)
+    (λ c. search needs)
+    (λ c. search needs)
+    (λ c. search needs)
+    (λ c. let s = c .before .before .before .before .before .before .before .before .before .before .before in let a = s .args in let x = c .before .before .before .before .«unfold» in is-nine (a .rows .now) (a .roots .now) (a .table .now) (unfold-refused (length (a .tokens .now)) (a .rows .now) (a .roots .now) (s .pre .0) (a .tokens .now) (x .result) _ (x .ensures) _ (c .enum-told .given .1)))
+    (λ c. search needs)
+    (λ c κs. let s = c .before .before .before .before .before .before .before .before .before .before .before .before .before .before .before in let a = s .args in let x = c .before .before .before .before .before .before .before .before .«unfold» in let t = c .before .before .before .before .unfolded .given in let u = unfold-tokens (length (a .tokens .now)) (a .rows .now) (a .roots .now) (s .pre .0) (a .tokens .now) (x .result) _ (x .ensures) (t .0 .0) (t .1) in let f = start-short (a .rows .now) (a .roots .now) (u .0) in ((flat-extractable (a .rows .now) (a .roots .now) 0 (u .0) _ (u .2), flat-symbols (a .rows .now) (a .roots .now) 0 (u .0) _ (u .2)), ((omega (arith, u .1, f), omega (arith, u .1, f, s .pre .0, x .kept .1 .1 .0), omega arith), (omega (arith, s .pre .1), omega arith))))
+    (λ c. search needs)
+    (λ c. search needs)
+    (λ c. search needs)
+    (λ c. search needs)
+    (λ c. let s = c .before .before .before .before .before .before .before .before .before .before .before .before .before .before .before .before .before .before .before .before .before .before .before in let a = s .args in let x = c .before .before .before .before .before .before .before .before .before .before .before .before .before .before .before .before .«unfold» in let t = c .before .before .before .before .before .before .before .before .before .before .before .before .unfolded .given in let u = unfold-tokens (length (a .tokens .now)) (a .rows .now) (a .roots .now) (s .pre .0) (a .tokens .now) (x .result) _ (x .ensures) (t .0 .0) (t .1) in let y = c .before .before .before .before .before .before .before .extract-and-list in stops-at-10 (a .rows .now) (a .roots .now) (a .table .now) (u .0) _ (u .2) (y .result) _ _ (y .ensures) (c .enum-told2 .given .1))
+    (λ c. let s = c .before .before .before .before .before .before .before .before .before .before .before .before .before .before .before .before .before .before .before .before .before .before .before .before in let a = s .args in let x = c .before .before .before .before .before .before .before .before .before .before .before .before .before .before .before .before .before .«unfold» in let t = c .before .before .before .before .before .before .before .before .before .before .before .before .before .unfolded .given in let u = unfold-tokens (length (a .tokens .now)) (a .rows .now) (a .roots .now) (s .pre .0) (a .tokens .now) (x .result) _ (x .ensures) (t .0 .0) (t .1) in let y = c .before .before .before .before .before .before .before .before .extract-and-list in let l = c .before .listed .given in words-there (a .rows .now) (a .roots .now) (a .table .now) (u .0) _ (u .2) (y .result) _ _ (y .ensures) (l .0 .0) (l .0 .1 .0) (l .0 .1 .1 .0) (l .1))
+    (λ c. let s = c .before .before .before .before .before .before .before .before .before .before .before .before .before .before .before .before .before .before .before .before .before .before .before .before .before in let a = s .args in let x = c .before .before .before .before .before .before .before .before .before .before .before .before .before .before .before .before .before .before .«unfold» in let t = c .before .before .before .before .before .before .before .before .before .before .before .before .before .before .unfolded .given in let u = unfold-tokens (length (a .tokens .now)) (a .rows .now) (a .roots .now) (s .pre .0) (a .tokens .now) (x .result) _ (x .ensures) (t .0 .0) (t .1) in let y = c .before .before .before .before .before .before .before .before .before .extract-and-list in let l = c .before .before .listed .given in words-long (a .rows .now) (a .roots .now) (a .table .now) (u .0) _ (u .2) (y .result) _ _ (y .ensures) (l .0 .0) (l .0 .1 .0) (l .0 .1 .1 .0) (l .1))
+    (λ c. let s = c .before .before .before .before .before .before .before .before .before .before .before .before .before .before .before .before .before .before .before .before .before .before .before .before .before in let a = s .args in let x = c .before .before .before .before .before .before .before .before .before .before .before .before .before .before .before .before .before .before .«unfold» in let t = c .before .before .before .before .before .before .before .before .before .before .before .before .before .before .unfolded .given in let u = unfold-tokens (length (a .tokens .now)) (a .rows .now) (a .roots .now) (s .pre .0) (a .tokens .now) (x .result) _ (x .ensures) (t .0 .0) (t .1) in let y = c .before .before .before .before .before .before .before .before .before .extract-and-list in let l = c .before .before .listed .given in places-there (a .rows .now) (a .roots .now) (a .table .now) (u .0) _ (u .2) (y .result) _ _ (y .ensures) (l .0 .0) (l .0 .1 .0) (l .0 .1 .1 .0) (l .1))
+    (λ c. let s = c .before .before .before .before .before .before .before .before .before .before .before .before .before .before .before .before .before .before .before .before .before .before .before .before .before .before in let a = s .args in let x = c .before .before .before .before .before .before .before .before .before .before .before .before .before .before .before .before .before .before .before .«unfold» in let t = c .before .before .before .before .before .before .before .before .before .before .before .before .before .before .before .unfolded .given in let u = unfold-tokens (length (a .tokens .now)) (a .rows .now) (a .roots .now) (s .pre .0) (a .tokens .now) (x .result) _ (x .ensures) (t .0 .0) (t .1) in let y = c .before .before .before .before .before .before .before .before .before .before .extract-and-list in let l = c .before .before .before .listed .given in places-long (a .rows .now) (a .roots .now) (a .table .now) (u .0) _ (u .2) (y .result) _ _ (y .ensures) (l .0 .0) (l .0 .1 .0) (l .0 .1 .1 .0) (l .1))
+    (λ c κs. search needs)
+    (λ c. search needs)
+    (λ c. search needs)
+    (λ c. search needs)
+    (λ c. search needs)
+    (λ c. search needs)
+    (λ c. search needs)
+    (λ c. search needs)
+    (λ c. let s = c .before .before .before .before .before .before .before .before .before .before .before .before .before .before .before .before .before .before .before .before .before .before .before .before .before .before .before .before .before .before .before .before .before in let a = s .args in let x = c .before .before .before .before .before .before .before .before .before .before .before .before .before .before .before .before .before .before .before .before .before .before .before .before .before .before .«unfold» in let t = c .before .before .before .before .before .before .before .before .before .before .before .before .before .before .before .before .before .before .before .before .before .before .unfolded .given in let u = unfold-tokens (length (a .tokens .now)) (a .rows .now) (a .roots .now) (s .pre .0) (a .tokens .now) (x .result) _ (x .ensures) (t .0 .0) (t .1) in let y = c .before .before .before .before .before .before .before .before .before .before .before .before .before .before .before .before .before .extract-and-list in let l = c .before .before .before .before .before .before .before .before .before .before .listed .given in let z = c .before .before .before .before .before .finish in ends-in-rows (a .rows .now) (a .roots .now) (a .table .now) (u .0) _ (u .2) (y .result) _ _ (y .ensures) (l .0 .0) (l .0 .1 .0) (l .0 .1 .1 .0) (l .1) (z .result) _ (z .ensures) (c .before .finished .given .0 .0) (c .before .finished .given .1))
+    (λ c. search needs)
+    (λ c. search needs)
+    (λ c. search needs)
+    (λ c. let s = c .before .before .before .before .before .before .before .before .before .before .before .before .before .before .before .before .before .before .before .before .before .before .before .before .before .before .before .before .before .before .before .before .before in let a = s .args in let x = c .before .before .before .before .before .before .before .before .before .before .before .before .before .before .before .before .before .before .before .before .before .before .before .before .before .before .«unfold» in let t = c .before .before .before .before .before .before .before .before .before .before .before .before .before .before .before .before .before .before .before .before .before .before .unfolded .given in let u = unfold-tokens (length (a .tokens .now)) (a .rows .now) (a .roots .now) (s .pre .0) (a .tokens .now) (x .result) _ (x .ensures) (t .0 .0) (t .1) in let y = c .before .before .before .before .before .before .before .before .before .before .before .before .before .before .before .before .before .extract-and-list in let l = c .before .before .before .before .before .before .before .before .before .before .listed .given in let z = c .before .before .before .before .before .finish in ends-refused (a .rows .now) (a .roots .now) (a .table .now) (u .0) _ (u .2) (y .result) _ _ (y .ensures) (l .0 .0) (l .0 .1 .0) (l .0 .1 .1 .0) (l .1) (z .result) _ (z .ensures) (c .before .finished2 .given .0 .0) (c .before .finished2 .given .1))
+    (λ c. search needs)
+    (λ c. search needs)
+    (λ c. search needs)
+    (λ c. let s = c .before .before .before .before .before .before .before .before .before .before .before .before .before .before .before .before .before .before .before .before .before .before .before .before .before .before .before .before .before .before .before .before in let a = s .args in let x = c .before .before .before .before .before .before .before .before .before .before .before .before .before .before .before .before .before .before .before .before .before .before .before .before .before .«unfold» in let t = c .before .before .before .before .before .before .before .before .before .before .before .before .before .before .before .before .before .before .before .before .before .unfolded .given in let u = unfold-tokens (length (a .tokens .now)) (a .rows .now) (a .roots .now) (s .pre .0) (a .tokens .now) (x .result) _ (x .ensures) (t .0 .0) (t .1) in let y = c .before .before .before .before .before .before .before .before .before .before .before .before .before .before .before .before .extract-and-list in let l = c .before .before .before .before .before .before .before .before .before .listed .given in let z = c .before .before .before .before .finish in absurd (never-broken (a .rows .now) (a .roots .now) (a .table .now) (u .0) _ (u .2) (y .result) _ _ (y .ensures) (l .0 .0) (l .0 .1 .0) (l .0 .1 .1 .0) (l .1) (z .result) _ (z .ensures) (c .enum-told3 .given .1)))
+    (λ c. search needs)
+    (λ c. search needs)
+    (λ c. search needs)
+    (λ c. let s = c .before .before .before .before .before .before .before .before .before .before .before .before .before .before .before .before .before .before .before .before .before .before .before .before .before .before .before .before .before .before .before .before in let a = s .args in let x = c .before .before .before .before .before .before .before .before .before .before .before .before .before .before .before .before .before .before .before .before .before .before .before .before .before .«unfold» in let t = c .before .before .before .before .before .before .before .before .before .before .before .before .before .before .before .before .before .before .before .before .before .unfolded .given in let u = unfold-tokens (length (a .tokens .now)) (a .rows .now) (a .roots .now) (s .pre .0) (a .tokens .now) (x .result) _ (x .ensures) (t .0 .0) (t .1) in let y = c .before .before .before .before .before .before .before .before .before .before .before .before .before .before .before .before .extract-and-list in let l = c .before .before .before .before .before .before .before .before .before .listed .given in let z = c .before .before .before .before .finish in absurd (never-roomless (a .rows .now) (a .roots .now) (a .table .now) (u .0) _ (u .2) (y .result) _ _ (y .ensures) (l .0 .0) (l .0 .1 .0) (l .0 .1 .1 .0) (l .1) (z .result) _ (z .ensures) (c .enum-told4 .given .1))))

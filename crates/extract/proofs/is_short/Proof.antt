@@ -1,0 +1,11 @@
+-- `extract::is_short` meets its contract. Assumes nothing.
+use Rattle.extractlaws.proofs.Listing.{short-words, long-words}
+use Rattle.extract.proofs.is_short.Statement.{statement}
+use Rattle.extract.proofs.is_short.Tie as tie
+
+pub is-short-spec : {M : Type 1} → statement M
+is-short-spec =
+    tie.close
+    (tie.spec
+    (λ c. short-words (c .before .args .words) (c .before .args .bytes) (c .if1 .taken))
+    (λ c. long-words (c .before .args .words) (c .before .args .bytes) (c .if1 .left)))

@@ -1,0 +1,136 @@
+// The public operation Extract in the flat form, `cse` of the source (01, "Turned down": Extract): node rows and roots in, rows of the answer out. What the
+// scoped form does too stands in functions of its own: 8, and the rounds with the divisors that they leave to bind.
+ghost use mathlib.Core.Path.{_≡_};
+ghost use mathlib.Core.Bool.{false, _||_};
+ghost use Prim.Native.Nat.{_≤_};
+ghost use lib.ListN.{length, take};
+ghost use lib.Dec.{T, ltb};
+ghost use Rattle.checked.specs.Check.{rows-in};
+ghost use Rattle.renaming.specs.Names.{is-number, symbols-pass};
+ghost use Rattle.kept.specs.Sound.{extractable};
+ghost use Rattle.cse.specs.Call.{work-words, work-bytes, extract-call, table-after};
+ghost use Rattle.extractlaws.specs.Parts.{extract-from};
+ghost use Rattle.extract.specs.Answers.{extraction-answer, Lists};
+use finish::Finished;
+use finish::finish;
+use rounds::Rounds;
+use rounds::extract_all;
+use tobind::ToBind;
+use tobind::divisors_to_bind;
+use unfold::Unfolded;
+use unfold::unfold;
+
+// The work area's fixed length, in words of 64 bits and bytes of text.
+const WORK_WORDS: usize = 65536;
+
+const WORK_BYTES: usize = 131072;
+
+// The most words of a list's trees, and so the most places.
+const MOST: usize = 1024;
+
+const SHORT_WORK: u64 = 8;
+
+const BAD_ROWS: u64 = 9;
+
+const BAD_COEFFICIENT: u64 = 10;
+
+// No refusal has this number. It stands where an answer of a step never comes up, which the proofs show.
+const NEVER: u64 = 0;
+
+pub enum Extraction {
+    // How many rows the answer has, and the extraction count.
+    Rows(usize, usize),
+    // 01's number of the refusal.
+    Refused(u64),
+}
+
+pub enum Listed {
+    // How many words there are after the rounds, how many bindings were made, and how many divisors are to be bound.
+    Words(usize, usize, usize),
+    // A rebuilt coefficient is no constant: 10.
+    Refused,
+}
+
+// 8: whether the work area is shorter than its fixed length.
+fn is_short(words: usize, bytes: usize) -> bool
+    ensures { λ r. ⌜ r ≡ (ltb words work-words || ltb bytes work-bytes) ⌝ }
+{
+    if words < WORK_WORDS {
+        return true;
+    }
+    bytes < WORK_BYTES
+}
+
+// The rounds on the first `len` words, and then the places of the divisors to bind. That these can't be listed never comes up: rounds keep words that print takes.
+fn extract_and_list(
+    rows: &[u64],
+    tokens: &mut [u64],
+    len: usize,
+    scoped: bool,
+    first: u64,
+    text: &mut [u8],
+    places: &mut [u64],
+) -> Listed
+    requires { ⌜ T (extractable (rows-in (now rows)) first (take len (now tokens))) × T (symbols-pass (is-number (rows-in (now rows))) (take len (now tokens))) ⌝ }
+    requires { ⌜ (len ≤ 1024) × (len ≤ length (now tokens)) × (first ≤ 549755813888) ⌝ }
+    requires { ⌜ (131072 ≤ length (now text)) × (1024 ≤ length (now places)) ⌝ }
+    ensures { λ r. ⌜ Lists (rows-in (now (rows .entry))) scoped first (take len (now (tokens .entry))) r (now (tokens .exit)) (now (places .exit)) ⌝ }
+{
+    let rounds = extract_all(rows, tokens, len, scoped, first, text);
+    let Rounds::Done(words, made) = rounds else {
+        return Listed::Refused;
+    };
+    let listed = divisors_to_bind(rows, &tokens[..words], scoped, text, places);
+    let ToBind::Count(divisors) = listed else {
+        return Listed::Refused;
+    };
+    Listed::Words(words, made, divisors)
+}
+
+// The flat form after 8, with the part of the work area that holds the words of the trees.
+fn extract_flat(
+    rows: &[u64],
+    roots: &[u64],
+    tokens: &mut [u64],
+    text: &mut [u8],
+    table: &mut [u64],
+) -> Extraction
+    requires { ⌜ (1024 ≤ length (now tokens)) × (131072 ≤ length (now text)) ⌝ }
+    ensures { λ r. ⌜ (r ≡ extraction-answer (extract-from false (now (rows .entry)) (now (roots .entry)) (length (now (table .entry)))))
+        × (now (table .exit) ≡ table-after (extract-from false (now (rows .entry)) (now (roots .entry)) (length (now (table .entry)))) (now (table .entry))) ⌝ }
+{
+    let mut places = [0u64; MOST];
+    let unfolded = unfold(rows, roots, tokens);
+    let Unfolded::Tokens(len) = unfolded else {
+        return Extraction::Refused(BAD_ROWS);
+    };
+    let listed = extract_and_list(rows, tokens, len, false, 0, text, &mut places);
+    let Listed::Words(words, made, divisors) = listed else {
+        return Extraction::Refused(BAD_COEFFICIENT);
+    };
+    let finished = finish(&tokens[..words], roots.len(), &places[..divisors], table);
+    match finished {
+        Finished::Rows(n) => Extraction::Rows(n, made),
+        Finished::Refused(number) => Extraction::Refused(number),
+        Finished::Broken => Extraction::Refused(NEVER),
+        Finished::NoRoom => Extraction::Refused(NEVER),
+    }
+}
+
+// The flat answer's rows in front of what stands in the table, and the extraction count; or 8, 9, 10 or 12, with nothing written to the table. What is left in
+// the work area is free.
+pub fn cse(
+    rows: &[u64],
+    roots: &[u64],
+    work: &mut [u64],
+    text: &mut [u8],
+    table: &mut [u64],
+) -> Extraction
+    ensures { λ r. ⌜ (r ≡ extraction-answer (extract-call false (length (now (work .entry))) (length (now (text .entry))) (now (rows .entry)) (now (roots .entry)) (length (now (table .entry)))))
+        × (now (table .exit) ≡ table-after (extract-call false (length (now (work .entry))) (length (now (text .entry))) (now (rows .entry)) (now (roots .entry)) (length (now (table .entry)))) (now (table .entry))) ⌝ }
+{
+    if is_short(work.len(), text.len()) {
+        return Extraction::Refused(SHORT_WORK);
+    }
+    extract_flat(rows, roots, &mut work[..MOST], text, table)
+}

@@ -1,0 +1,103 @@
+-- That the end of the flat form finds its trees and has room for them, what it comes to, and the work area's two lengths (01, "Turned down": Extract). Assumes
+-- nothing.
+use Prim.Native.Nat.{ℕ, _+_, _≤_}
+use native.Mathlib.Omega.{arith}
+use mathlib.Core.Path.{_≡_, refl, sym, _∙_, ap, ap₂, subst}
+use mathlib.Core.Bool.{Bool, true, false, not, _&&_, _||_}
+use mathlib.Core.Option.{Option}
+use mathlib.Core.List.{List, [], _∷_}
+use lib.ListN.{length, take, drop}
+use lib.Seq.{length-take-le}
+use lib.Dec.{T, leb, ltb, le→leb, nltb→le}
+use Rattle.tree.specs.Outcome.{Outcome, ok}
+use Rattle.tree.specs.Layout.{table-of, laid-out}
+use Rattle.tree.specs.Tokens.{read, numbered, trees-in, run-at}
+use Rattle.tree.proofs.Logic.{and-both}
+use Rattle.tree.proofs.Tests.{is-true}
+use Rattle.words.specs.Words.{some-trees}
+use Rattle.cse.specs.Call.{Extracted, work-words, work-bytes}
+use Rattle.checked.specs.Check.{rows-in}
+use Rattle.renaming.proofs.RowNames.{tree-words}
+use Rattle.reciprocals.proofs.Parts.{All-there}
+use Rattle.reciprocal.specs.Bindings.{all-there}
+use Rattle.finishlaws.specs.Final.{final-rows}
+use Rattle.finish.specs.Answers.{finish-outcome, finish-by, at-least, trees-there, room-for, finishing}
+use Rattle.extractlaws.specs.Parts.{extract-from, Rounds-listed}
+use Rattle.extractlaws.proofs.Ending.{final-counts}
+use Rattle.extractlaws.proofs.Flat.{to-bind, flat-rest, flat-complete, flat-results, flat-short, flat-room, flat-there, flat-made}
+
+-- a tree at each place
+there-so : (base l : List ℕ) → All-there base l → T (all-there base l)
+unfolding all-there some-trees
+there-so base [] h = tt
+there-so base (p ∷ l) h =
+    and-both (some-trees (run-at base p)) (all-there base l) (subst (λ (o : Option ℕ). T (some-trees o)) (sym (h .0 .1)) tt) (there-so base l (h .1))
+
+module _ (rows roots table : List ℕ) (h : T (laid-out rows roots)) (ws : List ℕ) (same : ws ≡ tree-words (table-of rows roots)) where
+  abbrev lent : ℕ
+  lent = length table
+
+  abbrev outcome : Outcome Extracted
+  outcome = extract-from false rows roots lent
+
+  module _ (n m d : ℕ) (tokens places : List ℕ) (l : Rounds-listed (rows-in rows) false 0 ws n m d tokens places) where
+    abbrev vs : List ℕ
+    vs = take n tokens
+
+    abbrev ds : List ℕ
+    ds = take d places
+
+    ds-are : ds ≡ to-bind rows roots lent h ws same vs (l .0)
+    ds-are = l .2
+
+    are-there : trees-there vs (length roots) ds ≡ true
+    unfolding trees-there at-least
+    are-there =
+        is-true (at-least (length roots) (trees-in vs) && all-there vs ds)
+        (and-both (at-least (length roots) (trees-in vs)) (all-there vs ds)
+        (subst (λ (o : Option ℕ). T (at-least (length roots) o)) (sym (flat-complete rows roots lent h ws same vs (l .0))) (le→leb (length roots) _ (flat-results rows roots lent h ws same vs (l .0))))
+        (subst (λ (ps : List ℕ). T (all-there vs ps)) (sym ds-are) (there-so vs (to-bind rows roots lent h ws same vs (l .0)) (flat-there rows roots lent h ws same vs (l .0)))))
+
+    has-room : room-for vs (length roots) ds ≡ true
+    unfolding room-for
+    has-room =
+        let e = ap length ds-are in
+        is-true (leb (length vs) 1024 && leb (length (drop (length roots) (read numbered vs)) + length ds) 1024)
+        (and-both (leb (length vs) 1024) (leb (length (drop (length roots) (read numbered vs)) + length ds) 1024) (le→leb (length vs) 1024 (flat-short rows roots lent h ws same vs (l .0)))
+        (le→leb (length (drop (length roots) (read numbered vs)) + length ds) 1024 (omega (arith, e, flat-room rows roots lent h ws same vs (l .0)))))
+
+    outcome-is : outcome ≡ final-rows lent (length roots) ds vs
+    outcome-is = flat-rest rows roots lent h ws same vs (l .0) ∙ ap (λ (ps : List ℕ). final-rows lent (length roots) ps vs) (sym ds-are)
+
+    pub flat-finishes : finishing vs (length roots) ds table ≡ finish-outcome outcome table
+    unfolding finishing finish-by
+    flat-finishes =
+        ap₂ (λ (a b : Bool). finish-by a b (final-rows lent (length roots) ds vs) table) are-there has-room
+        ∙ ap (λ (o : Outcome Extracted). finish-outcome o table) (sym outcome-is)
+
+    pub flat-counts : (x : Extracted) → outcome ≡ ok x → x .extracted ≡ m
+    flat-counts x e = final-counts lent (length roots) ds vs x (sym outcome-is ∙ e) ∙ sym (flat-made rows roots lent h ws same vs (l .0)) ∙ sym (l .1)
+
+-- ---- the work area
+
+or-left : (a b : Bool) → (a || b) ≡ false → a ≡ false
+or-left true b e = e
+or-left false b e = refl
+
+or-right : (a b : Bool) → (a || b) ≡ false → b ≡ false
+or-right true b e = absurd (let z : _≡_ {A = ℕ} 0 1 = cc in omega arith)
+or-right false b e = e
+
+less-not : (m n : ℕ) → ltb m n ≡ false → n ≤ m
+less-not m n e = nltb→le m n (subst (λ (b : Bool). T (not b)) (sym e) tt)
+
+module _ (words bytes : ℕ) (e : (ltb words work-words || ltb bytes work-bytes) ≡ false) where
+  pub enough-words : 65536 ≤ words
+  enough-words = less-not words 65536 (or-left (ltb words 65536) (ltb bytes 131072) e)
+
+  pub enough-bytes : 131072 ≤ bytes
+  enough-bytes = less-not bytes 131072 (or-right (ltb words 65536) (ltb bytes 131072) e)
+
+-- the front of the work area
+pub front-long : (work : List ℕ) → 65536 ≤ length work → 1024 ≡ length (take 1024 work)
+front-long work h = sym (length-take-le 1024 work (omega (arith, h)))

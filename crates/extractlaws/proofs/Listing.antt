@@ -1,0 +1,163 @@
+-- What the rounds and the list of divisors to bind come to, by what each answers (01, "Extraction", "Reciprocals"). Assumes nothing.
+use Prim.Native.Nat.{ℕ, zero, suc, _≤_, _<_}
+use native.Mathlib.Omega.{arith}
+use types.Run
+use denote.Enum.Declared
+use mathlib.Core.Path.{_≡_, refl, sym, _∙_, ap, ap₂, subst}
+use mathlib.Core.Logic.{inl, inr}
+use mathlib.Core.Bool.{Bool, true, false, _&&_, _||_}
+use mathlib.Core.Option.{Option}
+use mathlib.Core.List.{List, [], _∷_, _++_}
+use lib.ListN.{length, take, drop, length-append}
+use lib.Seq.{take-at, length-take-le}
+use lib.Dec.{T, ltb, lt→ltb}
+use Rattle.tree.specs.Bytes.{every}
+use Rattle.tree.specs.Rows.{Row}
+use Rattle.tree.specs.Tokens.{read, numbered, name-in, trees-in}
+use Rattle.tree.proofs.Logic.{and-both}
+use Rattle.tree.proofs.Tests.{is-true}
+use Rattle.cse.specs.Call.{work-words, work-bytes}
+use Rattle.checked.specs.Check.{word-ok}
+use Rattle.words.specs.Words.{some-trees}
+use Rattle.renaming.specs.Names.{is-number, symbols-pass}
+use Rattle.renaming.specs.Places.{divisors-to-bind}
+use Rattle.kept.specs.Sound.{extractable}
+use Rattle.kept.proofs.Steps.{ready-of}
+use Rattle.rounds.specs.Rounds.{all-rounds, rounds-answer, Leaves-words}
+use Rattle.rounds.specs.declared.Rounds.{Rounds}
+use Rattle.rounds.specs.declared.Rounds.the-variants as rounds
+use Rattle.rounds.proofs.Rounds as rounds-enum
+use Rattle.tobind.specs.Answers.{to-bind-short, to-bind-by, to-bind-answer}
+use Rattle.tobind.specs.declared.ToBind.{ToBind}
+use Rattle.tobind.specs.declared.ToBind.the-variants as tobind
+use Rattle.tobind.proofs.ToBind as tobind-enum
+use Rattle.extractlaws.proofs.Unfolding.{not-less}
+use Rattle.extractlaws.proofs.Rounding.{Rounded, rounded}
+use Rattle.extractlaws.proofs.Leaving.{Left, rounds-leave, left-complete, left-words, left-short}
+use Rattle.extractlaws.specs.Parts.{Rounds-listed, Rounds-refused}
+
+-- ---- 8
+
+pub short-words : (w b : ℕ) → w < 65536 → true ≡ (ltb w work-words || ltb b work-bytes)
+short-words w b h = go (ltb w 65536) (lt→ltb w 65536 h)
+  where
+    go : (c : Bool) → T c → true ≡ (c || ltb b work-bytes)
+    go true t = refl
+    go false t = absurd t
+
+pub long-words : (w b : ℕ) → 65536 ≤ w → ltb b 131072 ≡ (ltb w work-words || ltb b work-bytes)
+long-words w b h = ap (λ (c : Bool). c || ltb b work-bytes) (sym (not-less w 65536 h))
+
+-- ---- words in front
+
+take-most : (n : ℕ) (l : List ℕ) → length (take n l) ≤ length l
+take-most zero l = omega arith
+take-most (suc n) [] = omega arith
+take-most (suc n) (x ∷ l) = omega (arith, take-most n l)
+
+module _ (rows : List Row) (old : List ℕ) (len : ℕ) (scoped : Bool) (first text : ℕ) where
+  abbrev ws : List ℕ
+  ws = take len old
+
+  -- what the caller gives
+  pub record Given : Type 0 where
+    pub good : T (extractable rows first ws)
+    pub pass : T (symbols-pass (is-number rows) ws)
+    pub few : len ≤ 1024
+    pub there : len ≤ length old
+    pub low : first ≤ 549755813888
+    pub bytes : 131072 ≤ text
+
+  pub given-so : T (extractable rows first ws) × T (symbols-pass (is-number rows) ws) → (len ≤ 1024) × (len ≤ length old) × (first ≤ 549755813888) → 131072 ≤ text → Given
+  given-so (g, p) (f, t, l) b = record { good = g; pass = p; few = f; there = t; low = l; bytes = b }
+
+  module _ (g : Given) (r : Rounds) (out : List ℕ) (given : (r ≡ rounds-answer rows old len scoped first text) × Leaves-words rows old len scoped first text out) where
+    after-rounds : Rounded rows scoped first ws r out
+    after-rounds = rounded rows old len scoped first text (g .few) (g .there) (g .low) (g .bytes) (g .good) r out given
+
+    -- ---- rounds that are not done are refused
+
+    not-done : (q : Rounds) → Rounded rows scoped first ws q out → Run.OneOf (1 ∷ 2 ∷ 3 ∷ []) (Declared.tagOf rounds-enum.the-type q) → Rounds-refused rows scoped first ws
+    not-done (rounds.Done n m) h (inl e) = absurd (omega arith)
+    not-done (rounds.Done n m) h (inr (inl e)) = absurd (omega arith)
+    not-done (rounds.Done n m) h (inr (inr e)) = absurd (omega arith)
+    not-done rounds.Refused h e = h
+    not-done rounds.Broken h e = absurd h
+    not-done rounds.NoRoom h e = absurd h
+
+    pub rounds-refused : Run.OneOf (1 ∷ 2 ∷ 3 ∷ []) (Declared.tagOf rounds-enum.the-type r) → Rounds-refused rows scoped first ws
+    rounds-refused k = not-done r after-rounds k
+
+    module _ (n m : ℕ) (is-done : r ≡ rounds.Done n m) where
+      abbrev pub vs : List ℕ
+      vs = take n out
+
+      done : Rounded rows scoped first ws (rounds.Done n m) out
+      done = subst (λ (q : Rounds). Rounded rows scoped first ws q out) is-done after-rounds
+
+      pub vs-long : n ≡ length vs
+      vs-long = done .1
+
+      pub vs-there : n ≤ length out
+      vs-there = omega (arith, vs-long, take-most n out)
+
+      left : Left rows scoped (length (read numbered ws)) first ws vs
+      unfolding all-rounds
+      left = rounds-leave rows scoped (length (read numbered ws)) first ws refl (ready-of rows first ws (g .good)) (g .pass) vs (done .0)
+
+      vs-few : length vs ≤ 1024
+      vs-few = omega (arith, left-short rows scoped (length (read numbered ws)) first ws vs left, length-take-le len old (g .there), g .few)
+
+      -- ---- the divisors are listed
+
+      abbrev new : List ℕ
+      new = divisors-to-bind vs (name-in rows) scoped
+
+      module _ (places : List ℕ) (lent : 1024 ≤ length places) (bytes : ℕ) (kept : bytes ≡ text) (b : ToBind) (now : List ℕ)
+          (bound : (b ≡ to-bind-answer rows vs scoped bytes places .answer) × (now ≡ to-bind-answer rows vs scoped bytes places .places)) where
+        has-room : to-bind-short (length vs) (length places) bytes ≡ false
+        unfolding to-bind-short
+        has-room =
+            none (ltb 1024 (length vs)) (ltb (length places) (length vs)) (ltb bytes 131072) (not-less 1024 (length vs) vs-few)
+            (not-less (length places) (length vs) (omega (arith, vs-few, lent))) (not-less bytes 131072 (omega (arith, kept, g .bytes)))
+          where
+            none : (x y z : Bool) → x ≡ false → y ≡ false → z ≡ false → (x || (y || z)) ≡ false
+            none x y z e f h = rw (e, f, h)
+
+        writable : (some-trees (trees-in vs) && every (word-ok rows) vs) ≡ true
+        unfolding some-trees
+        writable =
+            let k = length (read numbered ws) in
+            is-true (some-trees (trees-in vs) && every (word-ok rows) vs)
+            (and-both (some-trees (trees-in vs)) (every (word-ok rows) vs)
+            (subst (λ (o : Option ℕ). T (some-trees o)) (sym (left-complete rows scoped k first ws vs left)) tt) (left-words rows scoped k first ws vs left))
+
+        lists-them : to-bind-answer rows vs scoped bytes places ≡ to-bind-by false true new places
+        unfolding to-bind-answer
+        lists-them = ap₂ (λ (x y : Bool). to-bind-by x y new places) has-room writable
+
+        counted : b ≡ tobind.Count (length new)
+        unfolding to-bind-by
+        counted = bound .0 ∙ ap (λ (z : _). z .answer) lists-them
+
+        placed : now ≡ new ++ drop (length new) places
+        unfolding to-bind-by
+        placed = bound .1 ∙ ap (λ (z : _). z .places) lists-them
+
+        pub never-unlisted : Run.OneOf (1 ∷ 2 ∷ []) (Declared.tagOf tobind-enum.the-type b) → ⊥
+        never-unlisted k = go (subst (λ (q : ToBind). Run.OneOf (1 ∷ 2 ∷ []) (Declared.tagOf tobind-enum.the-type q)) counted k)
+          where
+            go : Run.OneOf (1 ∷ 2 ∷ []) (Declared.tagOf tobind-enum.the-type (tobind.Count (length new))) → ⊥
+            go (inl e) = omega arith
+            go (inr e) = omega arith
+
+        pub all-listed : (d : ℕ) → b ≡ tobind.Count d → Rounds-listed rows scoped first ws n m d out now
+        all-listed d e =
+            let s : d ≡ length new = let z = sym e ∙ counted in cc in
+            let long = ap length placed in (
+              done .0,
+              done .2,
+              ap (take d) placed ∙ take-at new (drop (length new) places) d (sym s),
+              vs-there,
+              omega (arith, s, long, length-append new (drop (length new) places)),
+            )

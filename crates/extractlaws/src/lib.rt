@@ -1,0 +1,1 @@
+// No code: what extract's steps have of one another stands in proofs/.

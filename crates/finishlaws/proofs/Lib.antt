@@ -1,0 +1,13 @@
+pub mod Flat
+pub mod Entering
+pub mod Trees
+pub mod Ending
+pub mod Putting
+pub mod Rows
+pub mod Taking
+pub mod Marking
+pub mod Needing
+pub mod Ordering
+pub mod Deciding
+pub mod Writing
+pub mod Starting

@@ -1,0 +1,100 @@
+-- The order of the bindings by the marked needs is that of `topo_sort_intermediates` (01, "Order"). Assumes nothing.
+use Prim.Native.Nat.{ℕ, zero, suc, _+_, _-_, _≤_, _<_}
+use native.Mathlib.Omega.{arith}
+use mathlib.Core.Path.{_≡_, refl, sym, _∙_, ap, ap₂, subst}
+use mathlib.Core.Bool.{Bool, true, false}
+use mathlib.Core.Option.{some}
+use mathlib.Core.List.{List, [], _∷_, _++_, reverse, reverseAux}
+use borrow.Author.Tests.{eqb-true, eqb-false}
+use lib.Dec.{T, eqb}
+use lib.ListN.{length, getD, take, drop, replicate, length-drop, length-reverse}
+use lib.Seq.{take-at}
+use Rattle.tree.specs.Outcome.{ok, refused, by}
+use Rattle.tree.specs.Tree.{xname, Tree, Op, nil}
+use Rattle.tree.specs.Tokens.{tokens, trees-in}
+use Rattle.tree.proofs.TokenCode.{coded, all-coded}
+use Rattle.cse.specs.Answer.{Intermediate, Let, names, free}
+use Rattle.cse.specs.Order.{meets, needs, nothing, at-each, positions-taken, topo-sort-intermediates}
+use Rattle.cse.proofs.OrderLaws.{All, taken-ok}
+use Rattle.bits.specs.Bits.{yes}
+use Rattle.order.specs.Needs.{table-of, rows-from, order-answer, order-written, all-or-ring}
+use Rattle.order.specs.declared.Ordered.{Ordered}
+use Rattle.order.specs.declared.Ordered.the-variants as ordered
+use Rattle.order.proofs.Sorted.{sorted-all, sorted-ring}
+use Rattle.words.specs.Words.{number}
+use Rattle.renaming.proofs.Coded.{is-alone, first-fits, rest-fits}
+use Rattle.reciprocals.proofs.Parts.{All-there}
+use Rattle.needs.specs.Marks.{holds-name}
+use Rattle.needs.proofs.NameLaws.{reads-name}
+use Rattle.finishlaws.specs.Final.{final-trees}
+use Rattle.finishlaws.specs.Entries.{final-run}
+use Rattle.finishlaws.specs.Ready.{marks, binding-run, final-order, In-order, Positions}
+use Rattle.finishlaws.proofs.Entering.{By-number}
+use Rattle.finishlaws.proofs.Trees.{final-fit, final-count, binds-count, lets-by-number}
+use Rattle.finishlaws.proofs.Ending.{lets}
+use Rattle.finishlaws.proofs.Marking.{marked-yes}
+use Rattle.finishlaws.proofs.Needing.{marked-needs}
+
+-- ---- positions
+
+all-getD : (P : ℕ → Type 0) (l : List ℕ) → All P l → (q : ℕ) → q < length l → P (getD l q 0)
+all-getD P [] h q i = absurd (omega arith)
+all-getD P (j ∷ l) h zero i = h .0
+all-getD P (j ∷ l) h (suc q) i = all-getD P l (h .1) q (omega arith)
+
+all-turned : (P : ℕ → Type 0) (a b : List ℕ) → All P a → All P b → All P (reverseAux a b)
+all-turned P [] b g h = h
+all-turned P (j ∷ a) b g h = all-turned P a (j ∷ b) (g .1) (g .0, h)
+
+rows-count : (needs : List ℕ) (count j n : ℕ) → length (rows-from needs count j n) ≡ n
+unfolding rows-from
+rows-count needs count j zero = refl
+rows-count needs count j (suc n) = ap suc (rows-count needs count (suc j) n)
+
+table-count : (needs : List ℕ) (count : ℕ) → length (table-of needs count) ≡ count
+unfolding table-of
+table-count needs count = rows-count needs count 0 count
+
+fits-at : (l : List Tree) → T (all-coded is-alone l) → (i : ℕ) → i < length l → T (coded is-alone (getD l i (Op 0 nil)))
+fits-at [] h i g = absurd (omega arith)
+fits-at (t ∷ l) h zero g = first-fits is-alone t l h
+fits-at (t ∷ l) h (suc i) g = fits-at l (rest-fits is-alone t l h) i (omega arith)
+
+module _ (k m : ℕ) (places ws : List ℕ) (complete : trees-in ws ≡ some m) (there : All-there ws places) (enough : k ≤ m) (count : ℕ) (many : count ≡ (m - k) + length places)
+    (few : count ≤ 1024) where
+  abbrev F : List Tree
+  F = final-trees k places ws
+
+  abbrev pub bindings : List Intermediate
+  bindings = lets k F
+
+  pub bindings-count : length bindings ≡ count
+  bindings-count = omega (arith, binds-count 0 (drop k F), length-drop k F, final-count k m places ws complete there)
+
+  module _ (words : ℕ) (wide : words ≡ 16384) where
+    abbrev bits : List ℕ
+    bits = marks (binding-run k places ws) count (replicate words 0)
+
+    marked-reads : (j i : ℕ) → j < length bindings → i < length bindings → yes bits j i ≡ meets (names (getD bindings i nothing)) (free (getD bindings j nothing))
+    unfolding binding-run final-run
+    marked-reads j i h g =
+        let tree : ℕ → Tree = λ n. getD F (k + n) (Op 0 nil) in
+        let fit = fits-at F (final-fit k m places ws complete there) (k + j) (omega (arith, bindings-count, final-count k m places ws complete there)) in
+        marked-yes (binding-run k places ws) words count wide few j i (omega (arith, bindings-count)) (omega (arith, bindings-count))
+        ∙ (sym (reads-name number is-alone i (xname j) (tree j) (tree i) fit)
+        ∙ sym (ap₂ (λ (a b : Intermediate). meets (names a) (free b)) (lets-by-number F k i g) (lets-by-number F k j h)))
+
+    marked-table : table-of bits count ≡ needs bindings bindings
+    marked-table = ap (table-of bits) (sym bindings-count) ∙ marked-needs bits bindings marked-reads
+
+    pub marked-ring : (length (positions-taken (table-of bits count)) ≡ count → ⊥) → topo-sort-intermediates bindings ≡ refused (by 11)
+    marked-ring h = sorted-ring bindings (table-of bits count) marked-table (λ e. h (e ∙ bindings-count))
+
+    pub marked-all :
+        length (positions-taken (table-of bits count)) ≡ count → topo-sort-intermediates bindings ≡ ok (at-each bindings (reverse (positions-taken (table-of bits count))))
+    marked-all h = sorted-all bindings (table-of bits count) marked-table (h ∙ sym bindings-count)
+
+    pub marked-positions : (q : ℕ) → q < length (reverse (positions-taken (table-of bits count))) → getD (reverse (positions-taken (table-of bits count))) q 0 < count
+    marked-positions q h =
+        let table = table-of bits count in
+        omega (arith, table-count bits count, all-getD (λ j. j < length table) (reverse (positions-taken table)) (all-turned (λ j. j < length table) (positions-taken table) [] (taken-ok table .inside) tt) q h)

@@ -1,0 +1,3 @@
+pub mod Final
+pub mod Entries
+pub mod Ready

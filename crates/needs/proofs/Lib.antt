@@ -1,0 +1,5 @@
+pub mod Turns
+pub mod MarkLaws
+pub mod Inside
+pub mod NameLaws
+pub mod ReadNames

@@ -1,0 +1,12 @@
+pub mod DivisionsMost
+pub mod Larger
+pub mod FlatRows
+pub mod FlatTrees
+pub mod Trees
+pub mod Steps
+pub mod Fusing
+pub mod Passed
+pub mod FlatText
+pub mod Printed
+pub mod ByCalls
+pub mod Enough
