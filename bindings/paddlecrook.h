@@ -1,4 +1,4 @@
-/* Paddlecrook for C: common subexpressions of a list of formulas, proved right (crates/capi, cextract, ctext, creplace).
+/* Paddlecrook for C: common subexpressions of a list of formulas, by proved functions.
  *
  * A slice passes as a pointer and a count of elements. No pointer is null, also where the count is 0; what is lent to one call doesn't overlap, but
  * for slices that are only read; words are aligned as uint64_t. Nothing is kept between calls, and nothing is allocated.
@@ -6,7 +6,7 @@
  * Each function returns 0, or the number of a refusal (README.md has them all). Refused, a call leaves every output as it was, but for what its
  * own comment says; accepted, it leaves output past its answer as it was.
  *
- * Link with the archives that `rt staticlib` writes: libcapi.a, libcextract.a, libctext.a, libcreplace.a.
+ * Link with libpaddlecrook.a, which bindings/build makes.
  */
 #ifndef PADDLECROOK_H
 #define PADDLECROOK_H

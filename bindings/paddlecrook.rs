@@ -1,14 +1,15 @@
 //! Paddlecrook for Rust: a list of formulas in, straight code out in which each repeated subexpression is
-//! computed once. The work is done by the proved functions of crates/capi, cextract and ctext; this file lends
-//! them memory of the right length and takes their answers apart.
+//! computed once. The work is done by proved functions; this file lends them memory of the right length and
+//! takes their answers apart.
 //!
-//! For a program or a generator as it stands: `mod paddlecrook;`, and `rustc -L target/staticlib`.
+//! For a program or a generator as it stands: `mod paddlecrook;`, and `rustc -L` with the folder of
+//! libpaddlecrook.a, which bindings/build makes.
 #![allow(dead_code)]
 use std::fmt;
 
 mod c {
     //! A slice passes as a pointer and a length. paddlecrook.h says what each function does.
-    #[link(name = "capi", kind = "static")]
+    #[link(name = "paddlecrook", kind = "static")]
     unsafe extern "C" {
         pub fn cse_load(
             sheet: *const u8,
@@ -20,10 +21,7 @@ mod c {
             answer: *mut u64,
             answer_len: usize,
         ) -> u64;
-    }
 
-    #[link(name = "cextract", kind = "static")]
-    unsafe extern "C" {
         pub fn cse_extract(
             rows: *const u64,
             rows_len: usize,
@@ -38,10 +36,7 @@ mod c {
             answer: *mut u64,
             answer_len: usize,
         ) -> u64;
-    }
 
-    #[link(name = "ctext", kind = "static")]
-    unsafe extern "C" {
         pub fn cse_print(
             rows: *const u64,
             rows_len: usize,

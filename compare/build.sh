@@ -26,11 +26,11 @@ gather() {
     done
 }
 
-# PROGRAM CRATE...: the port's crates as static libraries, and the program, linked with them
+# PROGRAM FUNCTION...: the crates that export the functions as static libraries, and the program, linked with them
 link() {
-    local program=$1 libraries=()
+    local program=$1 libraries=() crate
     shift
-    for crate; do
+    for crate in $(for function; do grep -l "extern \"C\" fn $function(" crates/*/src/lib.rt; done | cut -d/ -f2 | sort -u); do
         rt staticlib "$crate" >"$out/staticlib.log" 2>&1 || { cat "$out/staticlib.log"; exit 1; }
         libraries+=(-l "static=$crate")
     done
