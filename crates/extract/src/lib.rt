@@ -47,7 +47,7 @@ pub enum Extraction {
     Refused(u64),
 }
 
-pub enum Listed {
+enum Listed {
     // How many words there are after the rounds, how many bindings were made, and how many divisors are to be bound.
     Words(usize, usize, usize),
     // A rebuilt coefficient is no constant: 10.
