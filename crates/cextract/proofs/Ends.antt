@@ -9,7 +9,7 @@ use lib.Dec.{leb}
 use lib.ListN.{length, drop, set}
 use Rattle.extract.specs.declared.Extraction.{Extraction}
 use Rattle.extract.specs.declared.Extraction.the-variants as extraction
-use Rattle.cextract.specs.Calls.{returned, answer-after, Extracts-to, Extracts-by, Extracts}
+use Rattle.cextract.specs.Calls.{returned, answer-after, Extracts-by, Extracts}
 
 module _ (x : Extraction) (rows table answer : List ℕ) where
   pub no-room : length answer < 2 → Extracts x rows table answer 255 table answer
