@@ -29,6 +29,44 @@ size-is k f = ap suc (same f)
     same nil = refl
     same (t ◂ f) = ap (λ (m : ℕ). size t + m) (same f)
 
+-- ---- the nodes in arms of a tree's switches outside arms
+
+unfoldable mutual
+  unfolding sizes-of
+
+  pub arm-nodes : Tree → ℕ
+  arm-nodes (Sym n) = 0
+  arm-nodes (Const c) = 0
+  arm-nodes (Op k f) = elim (is-switch k) [ true ↦ arm-nodes-first f | false ↦ arm-nodes-each f ]
+
+  pub arm-nodes-each : Forest → ℕ
+  arm-nodes-each nil = 0
+  arm-nodes-each (t ◂ f) = arm-nodes t + arm-nodes-each f
+
+  pub arm-nodes-first : Forest → ℕ
+  arm-nodes-first nil = 0
+  arm-nodes-first (t ◂ f) = arm-nodes t + sizes-of f
+
+mutual
+  unfolding arm-nodes sizes-of
+
+  pub arm-nodes-size : (t : Tree) → arm-nodes t ≤ size t
+  arm-nodes-size (Sym n) = omega arith
+  arm-nodes-size (Const c) = omega arith
+  arm-nodes-size (Op k f) = go (is-switch k) (arm-nodes-each-size f) (arm-nodes-first-size f)
+    where
+      go : (b : Bool) → arm-nodes-each f ≤ sizes-of f → arm-nodes-first f ≤ sizes-of f → elim b as (λ _. ℕ) [ true ↦ arm-nodes-first f | false ↦ arm-nodes-each f ] ≤ size (Op k f)
+      go true g h = (let q = size-is k f in omega arith)
+      go false g h = (let q = size-is k f in omega arith)
+
+  arm-nodes-each-size : (f : Forest) → arm-nodes-each f ≤ sizes-of f
+  arm-nodes-each-size nil = omega arith
+  arm-nodes-each-size (t ◂ f) = (let a = arm-nodes-size t in let b = arm-nodes-each-size f in omega arith)
+
+  arm-nodes-first-size : (f : Forest) → arm-nodes-first f ≤ sizes-of f
+  arm-nodes-first-size nil = omega arith
+  arm-nodes-first-size (t ◂ f) = (let a = arm-nodes-size t in omega arith)
+
 -- ---- the switches outside arms
 
 unfoldable pub rest-sizes : Forest → ℕ
@@ -42,27 +80,36 @@ arms-size (Sym n) = 0
 arms-size (Const c) = 0
 arms-size (Op k f) = elim (is-switch k) [ true ↦ rest-sizes f | false ↦ 0 ]
 
--- the arms of a tree's switches outside arms stand apart, so that they have no more nodes than the tree
 mutual
-  unfolding outer sizes-of arms-size sum-of
+  unfolding outer arm-nodes arms-size sum-of
 
-  outer-arms : (t : Tree) → sum-of arms-size (outer t) ≤ size t
-  outer-arms (Sym n) = omega arith
-  outer-arms (Const c) = omega arith
-  outer-arms (Op k f) = go (is-switch k) (outer-of-arms f) (outer-first-arms f)
+  outer-arm-nodes : (t : Tree) → sum-of arms-size (outer t) ≤ arm-nodes t
+  outer-arm-nodes (Sym n) = omega arith
+  outer-arm-nodes (Const c) = omega arith
+  outer-arm-nodes (Op k f) = go (is-switch k) (outer-of-arm-nodes f) (outer-first-arm-nodes f)
     where
-      go : (b : Bool) → sum-of arms-size (outer-of f) ≤ sizes-of f → rest-sizes f + sum-of arms-size (outer-first f) ≤ sizes-of f
-          → elim b as (λ _. ℕ) [ true ↦ rest-sizes f | false ↦ 0 ] + sum-of arms-size (elim b as (λ _. List Tree) [ true ↦ outer-first f | false ↦ outer-of f ]) ≤ size (Op k f)
-      go true g h = (let q = size-is k f in omega arith)
-      go false g h = (let q = size-is k f in omega arith)
+      go : (b : Bool) → sum-of arms-size (outer-of f) ≤ arm-nodes-each f → rest-sizes f + sum-of arms-size (outer-first f) ≤ arm-nodes-first f
+          → elim b as (λ _. ℕ) [ true ↦ rest-sizes f | false ↦ 0 ] + sum-of arms-size (elim b as (λ _. List Tree) [ true ↦ outer-first f | false ↦ outer-of f ])
+          ≤ elim b as (λ _. ℕ) [ true ↦ arm-nodes-first f | false ↦ arm-nodes-each f ]
+      go true g h = h
+      go false g h = omega arith
 
-  outer-first-arms : (f : Forest) → rest-sizes f + sum-of arms-size (outer-first f) ≤ sizes-of f
-  outer-first-arms nil = omega arith
-  outer-first-arms (q ◂ f) = (let a = outer-arms q in omega arith)
+  outer-first-arm-nodes : (f : Forest) → rest-sizes f + sum-of arms-size (outer-first f) ≤ arm-nodes-first f
+  outer-first-arm-nodes nil = omega arith
+  outer-first-arm-nodes (q ◂ f) = (let a = outer-arm-nodes q in omega arith)
 
-  outer-of-arms : (f : Forest) → sum-of arms-size (outer-of f) ≤ sizes-of f
-  outer-of-arms nil = omega arith
-  outer-of-arms (t ◂ f) = (let a = outer-arms t in let b = outer-of-arms f in let c = sum-append arms-size (outer t) (outer-of f) in omega arith)
+  outer-of-arm-nodes : (f : Forest) → sum-of arms-size (outer-of f) ≤ arm-nodes-each f
+  outer-of-arm-nodes nil = omega arith
+  outer-of-arm-nodes (t ◂ f) = (let a = outer-arm-nodes t in let b = outer-of-arm-nodes f in let c = sum-append arms-size (outer t) (outer-of f) in omega arith)
+
+all-outer-arm-nodes : (l : List Tree) → sum-of arms-size (all-outer l) ≤ sum-of arm-nodes l
+unfolding all-outer sum-of
+all-outer-arm-nodes [] = omega arith
+all-outer-arm-nodes (t ∷ l) = (let a = outer-arm-nodes t in let b = all-outer-arm-nodes l in let c = sum-append arms-size (outer t) (all-outer l) in omega arith)
+
+-- the arms of a tree's switches outside arms stand apart, so that they have no more nodes than the tree
+outer-arms : (t : Tree) → sum-of arms-size (outer t) ≤ size t
+outer-arms t = (let a = outer-arm-nodes t in let b = arm-nodes-size t in omega arith)
 
 distinct-sum : (v : Tree → ℕ) (seen l : List Tree) → sum-of v (distinct seen l) ≤ sum-of v l
 unfolding distinct sum-of
@@ -99,9 +146,12 @@ switches-total (Op k (q ◂ f) ∷ l) = go (is-switch k) (switches-total l)
     go true h = (let a = operands-total f in omega arith)
     go false h = omega arith
 
-collected-total : (rs : List Tree) → arms-total (collect-switches rs) ≤ sum-of arms-size (all-outer rs)
+collected-outer : (rs : List Tree) → arms-total (collect-switches rs) ≤ sum-of arms-size (all-outer rs)
 unfolding collect-switches
-collected-total rs = (let a = switches-total (distinct [] (all-outer rs)) in let b = distinct-sum arms-size [] (all-outer rs) in omega arith)
+collected-outer rs = (let a = switches-total (distinct [] (all-outer rs)) in let b = distinct-sum arms-size [] (all-outer rs) in omega arith)
+
+pub collected-total : (rs : List Tree) → arms-total (collect-switches rs) ≤ sum-of arm-nodes rs
+collected-total rs = (let a = collected-outer rs in let b = all-outer-arm-nodes rs in omega arith)
 
 -- ---- what a scope holds has all its switches outside arms, and so all their arms
 
@@ -152,7 +202,7 @@ occurrences-append (t ∷ l) r = (let a = occurrences-append l r in omega arith)
 held-total : (x : ℕ) (s : State) → arms-total (collect-switches (roots s)) ≤ occurrences (held x s)
 unfolding held
 held-total x s =
-    (let a = collected-total (roots s) in
+    (let a = collected-outer (roots s) in
     let b : sum-of arms-size (all-outer (roots s)) ≤ occurrences (s .results) + occurrences (held-bindings x (s .lets)) =
     (unfold roots in before-arms (s .results) (bound (s .lets)) (occurrences (held-bindings x (s .lets))) (held-bindings-arms x (s .lets))) in
     let c = occurrences-append (s .results) (held-bindings x (s .lets)) in
@@ -220,6 +270,11 @@ groups-small : (N : ℕ) (gs : List Group) → groups-total gs ≤ N → Small-g
 unfolding groups-total
 groups-small N [] h = tt
 groups-small N (g ∷ gs) h = (omega arith, groups-small N gs (omega arith))
+
+pub collected-small : (N : ℕ) (rs : List Tree) → sum-of arm-nodes rs ≤ N → Small-groups N (groups-from [] (collect-switches rs))
+collected-small N rs h =
+    groups-small N (groups-from [] (collect-switches rs))
+    (let a = from-total [] (collect-switches rs) in let b = collected-total rs in let c : groups-total [] ≡ 0 = (unfold groups-total in refl) in omega arith)
 
 -- the arms of each group are no larger than what the scope holds
 pub held-small : (N x : ℕ) (s : State) → occurrences (held x s) ≤ N → Small-groups N (groups-from [] (collect-switches (roots s)))
