@@ -1,2 +1,4 @@
 pub mod Naming
 pub mod Fusing
+pub mod Whole
+pub mod Places
