@@ -5,3 +5,6 @@ pub mod Places
 pub mod Sizes
 pub mod Switchless
 pub mod Outer
+pub mod Untouched
+pub mod Sorting
+pub mod Rows

@@ -54,7 +54,7 @@ first-of (x ∷ l) (suc j) d a after e = first-of l j d a after e
 
 -- ---- the statements of a scope
 
-module _ (k first : ℕ) (ts ds : List Tree) (gs : List Numbered) (d : Intermediate) (e : Tree) where
+module _ (k first : ℕ) (ts ds : List Tree) (gs : List Numbered) where
   abbrev n : ℕ
   n = next-number k first ts
 
@@ -87,45 +87,46 @@ module _ (k first : ℕ) (ts ds : List Tree) (gs : List Numbered) (d : Intermedi
         matches-count gs,
       )
 
-  pub let-stmt :
-      (j : ℕ) → j < length (drop k ts)
-      → getD (scope-stmts k first ts ds gs) j d ≡ Let (xname (first + j)) (settled-fused ds n steps (getD ts (k + j) e))
-  unfolding scope-stmts
-  let-stmt j h =
-      let f : Tree → Tree = settled-fused ds n steps in
-      let l = map f (drop k ts) in
-      List·getD-append bound-lets (bound-reciprocals ++ group-matches gs) d j (omega (arith, lets-are-many))
-      ∙ (let-at first l j d (f e) (omega (arith, length-map (drop k ts) f))
-      ∙ ap (Let (xname (first + j))) (List·getD-map f (drop k ts) j e ∙ ap f (getD-drop k ts j e)))
+  module _ (d : Intermediate) (e : Tree) where
+    pub let-stmt :
+        (j : ℕ) → j < length (drop k ts)
+        → getD (scope-stmts k first ts ds gs) j d ≡ Let (xname (first + j)) (settled-fused ds n steps (getD ts (k + j) e))
+    unfolding scope-stmts
+    let-stmt j h =
+        let f : Tree → Tree = settled-fused ds n steps in
+        let l = map f (drop k ts) in
+        List·getD-append bound-lets (bound-reciprocals ++ group-matches gs) d j (omega (arith, lets-are-many))
+        ∙ (let-at first l j d (f e) (omega (arith, length-map (drop k ts) f))
+        ∙ ap (Let (xname (first + j))) (List·getD-map f (drop k ts) j e ∙ ap f (getD-drop k ts j e)))
 
-  after-lets : (j : ℕ) → getD (scope-stmts k first ts ds gs) (length (drop k ts) + j) d ≡ getD (bound-reciprocals ++ group-matches gs) j d
-  unfolding scope-stmts
-  after-lets j =
-      ap (λ (i : ℕ). getD (bound-lets ++ (bound-reciprocals ++ group-matches gs)) (i + j) d) (sym lets-are-many)
-      ∙ getD-append-add bound-lets (bound-reciprocals ++ group-matches gs) j d
+    after-lets : (j : ℕ) → getD (scope-stmts k first ts ds gs) (length (drop k ts) + j) d ≡ getD (bound-reciprocals ++ group-matches gs) j d
+    unfolding scope-stmts
+    after-lets j =
+        ap (λ (i : ℕ). getD (bound-lets ++ (bound-reciprocals ++ group-matches gs)) (i + j) d) (sym lets-are-many)
+        ∙ getD-append-add bound-lets (bound-reciprocals ++ group-matches gs) j d
 
-  -- a reciprocal is settled by the divisors after its own, and then by all members
-  pub reciprocal-stmt :
-      (j : ℕ) → j < length ds
-      → getD (scope-stmts k first ts ds gs) (length (drop k ts) + j) d
-      ≡ Let (xname (n + j)) (settled-fused (drop (suc j) ds) (suc (n + j)) steps (reciprocal (getD ds j e)))
-  unfolding settled-fused
-  reciprocal-stmt j h =
-      let f : Tree → Tree = fused-tree steps in
-      let rs = settled-reciprocals ds n in
-      let c = reciprocals-count ds n in
-      let here = settle-tree (drop (suc j) ds) (suc (n + j)) (reciprocal (getD ds j e)) in
-      after-lets j
-      ∙ (List·getD-append bound-reciprocals (group-matches gs) d j (omega (arith, reciprocals-are-many))
-      ∙ (let-at n (map f rs) j d (f e) (omega (arith, length-map rs f, c))
-      ∙ ap (Let (xname (n + j)))
-      (List·getD-map f rs j e
-      ∙ ap f (first-of rs j e here (drop (suc j) rs) (reciprocal-of j ds n (getD ds j e) (drop (suc j) ds) (drop-cons ds j e h))))))
+    -- a reciprocal is settled by the divisors after its own, and then by all members
+    pub reciprocal-stmt :
+        (j : ℕ) → j < length ds
+        → getD (scope-stmts k first ts ds gs) (length (drop k ts) + j) d
+        ≡ Let (xname (n + j)) (settled-fused (drop (suc j) ds) (suc (n + j)) steps (reciprocal (getD ds j e)))
+    unfolding settled-fused
+    reciprocal-stmt j h =
+        let f : Tree → Tree = fused-tree steps in
+        let rs = settled-reciprocals ds n in
+        let c = reciprocals-count ds n in
+        let here = settle-tree (drop (suc j) ds) (suc (n + j)) (reciprocal (getD ds j e)) in
+        after-lets j
+        ∙ (List·getD-append bound-reciprocals (group-matches gs) d j (omega (arith, reciprocals-are-many))
+        ∙ (let-at n (map f rs) j d (f e) (omega (arith, length-map rs f, c))
+        ∙ ap (Let (xname (n + j)))
+        (List·getD-map f rs j e
+        ∙ ap f (first-of rs j e here (drop (suc j) rs) (reciprocal-of j ds n (getD ds j e) (drop (suc j) ds) (drop-cons ds j e h))))))
 
-  pub match-stmt :
-      (j : ℕ) (g : Numbered) (after : List Numbered) → drop j gs ≡ g ∷ after
-      → getD (scope-stmts k first ts ds gs) (length (drop k ts) + (length ds + j)) d ≡ group-match g after
-  match-stmt j g after q =
-      after-lets (length ds + j)
-      ∙ (ap (λ (i : ℕ). getD (bound-reciprocals ++ group-matches gs) (i + j) d) (sym reciprocals-are-many)
-      ∙ (getD-append-add bound-reciprocals (group-matches gs) j d ∙ match-at gs j d g after q))
+    pub match-stmt :
+        (j : ℕ) (g : Numbered) (after : List Numbered) → drop j gs ≡ g ∷ after
+        → getD (scope-stmts k first ts ds gs) (length (drop k ts) + (length ds + j)) d ≡ group-match g after
+    match-stmt j g after q =
+        after-lets (length ds + j)
+        ∙ (ap (λ (i : ℕ). getD (bound-reciprocals ++ group-matches gs) (i + j) d) (sym reciprocals-are-many)
+        ∙ (getD-append-add bound-reciprocals (group-matches gs) j d ∙ match-at gs j d g after q))
