@@ -8,3 +8,4 @@ pub mod Outer
 pub mod Untouched
 pub mod Sorting
 pub mod Rows
+pub mod Words
