@@ -9,3 +9,5 @@ pub mod Untouched
 pub mod Sorting
 pub mod Rows
 pub mod Words
+pub mod Members
+pub mod Walking
