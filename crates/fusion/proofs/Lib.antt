@@ -11,3 +11,4 @@ pub mod Rows
 pub mod Words
 pub mod Members
 pub mod Walking
+pub mod Groups
