@@ -7,6 +7,7 @@ use lib.ListN.{length}
 use Rattle.tree.specs.Outcome.{Outcome, Refusal, ok, refused, _>>=_}
 use Rattle.tree.specs.Tree.{Tree}
 use Rattle.cse.specs.Scope.{Group, members, Scoped, Armed, scope-arms}
+use Rattle.cse.proofs.OrderLaws.{All, all-map}
 use Rattle.cse.proofs.Outcomes.{Good, good-ok, then-good, any-good}
 use Rattle.fusion.specs.Settled.{Numbered, group-columns, Walked, numbered-groups}
 use Rattle.fusion.specs.Words.{numbers-from, all-numbers}
@@ -112,3 +113,38 @@ module _ (scope : ℕ → List Tree → Outcome Scoped) where
         (arms-forth (next + length (members g)) (group-columns g)) _
         (λ a h. then-good (λ (r : Walked). a .next ≤ r .next) (λ (l : Walked). next ≤ l .next) (numbered-groups scope (a .next) gs) (groups-forth (a .next) gs) _
         (λ r e. good-ok (λ (l : Walked). next ≤ l .next) _ (omega (arith, h, e))))
+
+    -- every member's number is one of those between
+    abbrev Between : ℕ → Walked → Type 0
+    Between next l = (next ≤ l .next) × All (λ (j : ℕ). (next ≤ j) × (j < l .next)) (all-numbers (l .groups))
+
+    from-between : (n k low high : ℕ) → low ≤ n → n + k ≤ high → All (λ (j : ℕ). (low ≤ j) × (j < high)) (numbers-from n k)
+    unfolding numbers-from
+    from-between n zero low high a b = tt
+    from-between n (suc k) low high a b = ((a, omega (arith, b)), from-between (suc n) k low high (omega (arith, a)) (omega (arith, b)))
+
+    all-append : (P : ℕ → Type 0) (a b : List ℕ) → All P a → All P b → All P (a ++ b)
+    all-append P [] b h g = g
+    all-append P (x ∷ a) b h g = (h .0, all-append P a b (h .1) g)
+
+    pub numbers-between :
+        (next : ℕ) (gs : List Group)
+        → Good (λ (l : Walked). (next ≤ l .next) × All (λ (j : ℕ). (next ≤ j) × (j < l .next)) (all-numbers (l .groups))) (numbered-groups scope next gs)
+    unfolding numbered-groups all-numbers first-group
+    numbers-between next [] = good-ok (Between next) (record { groups = []; next = next; extracted = 0 }) (omega arith, tt)
+    numbers-between next (g ∷ gs) =
+        let m = length (members g) in
+        then-good (λ (a : Armed). next + m ≤ a .next) (Between next) (scope-arms scope (next + m) (group-columns g)) (arms-forth (next + m) (group-columns g))
+        (λ a. numbered-groups scope (a .next) gs >>= λ r. ok (first-group g next a r))
+        (λ a h. then-good (Between (a .next)) (Between next) (numbered-groups scope (a .next) gs) (numbers-between (a .next) gs) (λ r. ok (first-group g next a r))
+        (λ r e. good-ok (Between next) (first-group g next a r) (placed a r h e)))
+      where
+        placed : (a : Armed) (r : Walked) → next + length (members g) ≤ a .next → Between (a .next) r → Between next (first-group g next a r)
+        placed a r h e =
+            let m = length (members g) in
+            let b = e .0 in
+            let P : ℕ → Type 0 = λ (j : ℕ). (next ≤ j) × (j < r .next) in (
+              omega (arith, h, b),
+              all-append P (numbers-from next m) (all-numbers (r .groups)) (from-between next m next (r .next) (omega arith) (omega (arith, h, b)))
+                  (all-map (λ (j : ℕ). (a .next ≤ j) × (j < r .next)) P (λ j q. let u = q .0 in let v = q .1 in (omega (arith, h, u), v)) (all-numbers (r .groups)) (e .1)),
+            )

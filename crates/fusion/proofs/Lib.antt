@@ -9,6 +9,7 @@ pub mod Untouched
 pub mod Sorting
 pub mod Rows
 pub mod Words
+pub mod Runs
 pub mod Members
 pub mod Walking
 pub mod Groups
