@@ -1,17 +1,19 @@
 -- Which trees are without switches (specs, Switchless): those of which no switch is collected, and those of words none of which is a switch's. Assumes nothing.
 use Prim.Native.Nat.{ℕ, zero, suc, _+_, _≤_}
 use native.Mathlib.Omega.{arith}
-use mathlib.Core.Path.{_≡_, refl, sym, _∙_, ap}
+use mathlib.Core.Path.{_≡_, refl, _∙_, ap, subst}
 use mathlib.Core.Bool.{Bool, true, false, not, _&&_}
+use mathlib.Core.Option.{some}
 use mathlib.Core.List.{List, [], _∷_, _++_}
 use lib.ListN.{length, take, drop, length-append, length-take}
-use lib.Dec.{T, leb, le→leb}
+use lib.Seq.{length-take-le}
+use lib.Dec.{T, leb, leb→le, le→leb}
 use Rattle.tree.specs.Tree.{Name, Tree, Forest, Sym, Const, Op, nil, _◂_, operands, forest}
 use Rattle.tree.specs.Kinds.{is-switch}
 use Rattle.tree.specs.Facts.{outer, outer-of, outer-first}
-use Rattle.tree.specs.Tokens.{kind-of, below-of, takes, tree-of-word, read, numbered}
+use Rattle.tree.specs.Tokens.{kind-of, below-of, takes, tree-of-word, read, trees-in, numbered}
 use Rattle.tree.proofs.Logic.{and-left, and-right, and-both}
-use Rattle.tree.proofs.TokenLaws.{Word, a-symbol, a-constant, an-operation, word-is, operation-takes, symbol-tree, constant-tree, operation-tree}
+use Rattle.tree.proofs.TokenLaws.{Word, a-symbol, a-constant, an-operation, word-is, leaf-takes, operation-takes, symbol-tree, constant-tree, operation-tree, complete-tail, complete-length}
 use Rattle.cse.specs.Scope.{Switch, switches}
 use Rattle.outside.specs.Part.{has-arms}
 use Rattle.fusion.specs.Switchless.{switch-node, switchless, switchless-each, all-switchless, no-switch-words}
@@ -62,6 +64,40 @@ mutual
       let a : length (switches (outer t)) ≡ 0 = omega (arith, e, h) in
       let b : length (switches (outer-of f)) ≡ 0 = omega (arith, e, h) in
       and-both (switchless t) (switchless-each f) (none-outside t a) (none-outside-each f b)
+
+-- and the other way round
+no-switch-here :
+    (s : Switch) (x y : List Tree) (b : Bool) → T (not b) → switches y ≡ []
+    → _≡_ {A = List Switch} (elim b as (λ _. List Switch) [ true ↦ s ∷ switches (elim b as (λ _. List Tree) [ true ↦ x | false ↦ y ]) | false ↦ switches (elim b as (λ _. List Tree) [ true ↦ x | false ↦ y ]) ]) []
+no-switch-here s x y true h e = absurd h
+no-switch-here s x y false h e = e
+
+nothing-below : (b : Bool) → switches (elim b as (λ _. List Tree) [ true ↦ [] | false ↦ [] ]) ≡ []
+unfolding switches
+nothing-below true = refl
+nothing-below false = refl
+
+node-none : (k : ℕ) (f : Forest) → T (not (switch-node (Op k f))) → switches (outer-of f) ≡ [] → switches (outer (Op k f)) ≡ []
+unfolding outer switches switch-node
+node-none k nil h e = nothing-below (is-switch k)
+node-none k (q ◂ f) h e =
+    no-switch-here (record { tree = Op k (q ◂ f); kind = k; key = q; arms = operands f }) (outer-first (q ◂ f)) (outer-of (q ◂ f)) (is-switch k) h e
+
+mutual
+  unfolding switchless outer switches
+
+  pub switchless-none : (t : Tree) → T (switchless t) → switches (outer t) ≡ []
+  switchless-none (Sym n) h = refl
+  switchless-none (Const c) h = refl
+  switchless-none (Op k f) h =
+      node-none k f (and-left (not (switch-node (Op k f))) (switchless-each f) h) (switchless-none-each f (and-right (not (switch-node (Op k f))) (switchless-each f) h))
+
+  switchless-none-each : (f : Forest) → T (switchless-each f) → switches (outer-of f) ≡ []
+  switchless-none-each nil h = refl
+  switchless-none-each (t ◂ f) h =
+      let a = switchless-none t (and-left (switchless t) (switchless-each f) h) in
+      let b = switchless-none-each f (and-right (switchless t) (switchless-each f) h) in
+      switches-append (outer t) (outer-of f) ∙ (ap (λ (l : List Switch). l ++ switches (outer-of f)) a ∙ b)
 
 -- ---- by words
 
@@ -115,3 +151,73 @@ no-switch-read (w ∷ ws) h =
     and-both (switchless (tree-of-word numbered w (take (takes w) rs))) (all-switchless (drop (takes w) rs))
     (made-switchless w (take (takes w) rs) (omega (arith, length-take (takes w) rs)) (and-left (not (has-arms w)) (no-switch-words ws) h) (all-take (takes w) rs g))
     (all-drop (takes w) rs g)
+
+-- and the other way round, where no word lacks an operand
+all-parts : (n : ℕ) (l : List Tree) → T (all-switchless (take n l)) → T (all-switchless (drop n l)) → T (all-switchless l)
+unfolding all-switchless
+all-parts zero l a b = b
+all-parts (suc n) [] a b = tt
+all-parts (suc n) (t ∷ l) a b =
+    and-both (switchless t) (all-switchless l) (and-left (switchless t) (all-switchless (take n l)) a) (all-parts n l (and-right (switchless t) (all-switchless (take n l)) a) b)
+
+all-below : (l : List Tree) → T (switchless-each (forest l)) → T (all-switchless l)
+unfolding all-switchless switchless forest
+all-below [] h = tt
+all-below (t ∷ l) h =
+    and-both (switchless t) (all-switchless l) (and-left (switchless t) (switchless-each (forest l)) h) (all-below l (and-right (switchless t) (switchless-each (forest l)) h))
+
+no-arms : (w : ℕ) → T (not (is-switch (kind-of w) && leb 1 (below-of w))) → T (not (has-arms w))
+unfolding has-arms
+no-arms w h = h
+
+-- a node's word and what is below it
+node-parts : (w : ℕ) (l : List Tree) → length l ≡ takes w → T (switchless (tree-of-word numbered w l)) → T (not (has-arms w)) × T (all-switchless l)
+node-parts w l e h = go (word-is w)
+  where
+    bare : (l : List Tree) → length l ≡ 0 → T (all-switchless l)
+    bare [] e = (unfold all-switchless in tt)
+    bare (t ∷ l) e = absurd (omega arith)
+
+    no-kind : (k : ℕ) (b : Bool) → k ≤ 1 → T (not (is-switch k && b))
+    no-kind zero b h = tt
+    no-kind (suc zero) b h = tt
+    no-kind (suc (suc k)) b h = absurd (omega arith)
+
+    leaf : kind-of w ≤ 1 → T (not (has-arms w)) × T (all-switchless l)
+    leaf k = (no-arms w (no-kind (kind-of w) (leb 1 (below-of w)) k), bare l (omega (arith, e, leaf-takes w k)))
+
+    denied : (b : Bool) → (T b → ⊥) → T (not b)
+    denied true f = f tt
+    denied false f = tt
+
+    neither : (s : Bool) (n : ℕ) → (1 ≤ n → T (not s)) → T (not (s && leb 1 n))
+    neither true n f = denied (leb 1 n) (λ t. f (leb→le 1 n t))
+    neither false n f = tt
+
+    head : (k : ℕ) (l : List Tree) → T (switchless (Op k (forest l))) → 1 ≤ length l → T (not (is-switch k))
+    head k [] h m = absurd (omega arith)
+    head k (t ∷ l) h m = and-left (not (is-switch k)) (switchless-each (t ◂ forest l)) (unfold switchless in unfold switch-node in unfold forest in h)
+
+    tail : (k : ℕ) (l : List Tree) → T (switchless (Op k (forest l))) → T (all-switchless l)
+    tail k l h = all-below l (and-right (not (switch-node (Op k (forest l)))) (switchless-each (forest l)) (unfold switchless in h))
+
+    go : Word w → T (not (has-arms w)) × T (all-switchless l)
+    go (a-symbol k) = leaf (omega (arith, k))
+    go (a-constant k) = leaf (omega (arith, k))
+    go (an-operation k) =
+        let g : T (switchless (Op (kind-of w) (forest l))) = subst (λ (t : Tree). T (switchless t)) (operation-tree numbered w l k) h in
+        (no-arms w (neither (is-switch (kind-of w)) (below-of w) (λ m. head (kind-of w) l g (omega (arith, m, e, operation-takes w k)))), tail (kind-of w) l g)
+
+pub read-no-switch : (ws : List ℕ) (m : ℕ) → trees-in ws ≡ some m → T (all-switchless (read numbered ws)) → T (no-switch-words ws)
+unfolding no-switch-words read all-switchless
+read-no-switch [] m e h = tt
+read-no-switch (w ∷ ws) m e h =
+    let rs = read numbered ws in
+    let t = complete-tail w ws m e in
+    let c = complete-length numbered ws (t .trees) (t .are) in
+    let below = take (takes w) rs in
+    let l : length below ≡ takes w = (let b = t .enough in length-take-le (takes w) rs (omega (arith, b, c))) in
+    let p = node-parts w below l (and-left (switchless (tree-of-word numbered w below)) (all-switchless (drop (takes w) rs)) h) in
+    and-both (not (has-arms w)) (no-switch-words ws) (p .0)
+    (read-no-switch ws (t .trees) (t .are)
+    (all-parts (takes w) rs (p .1) (and-right (switchless (tree-of-word numbered w below)) (all-switchless (drop (takes w) rs)) h)))

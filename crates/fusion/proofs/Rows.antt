@@ -15,7 +15,7 @@ use Rattle.renaming.specs.Rounds.{next-number}
 use Rattle.reciprocals.proofs.Parts.{settle-tree, reciprocal, settled-reciprocals}
 use Rattle.fusion.specs.Settled.{Step, fused-tree, Numbered, Walked, numbered-groups, all-steps, group-match, group-matches}
 use Rattle.fusion.specs.Whole.{settled-fused, lets-from, scope-groups, scope-stmts, scope-work, settled-scope}
-use Rattle.fusion.specs.Rows.{scoped-rows, match-rows, rows-of, scope-rows}
+use Rattle.fusion.specs.Rows.{scoped-rows, match-rows, rows-of, settled-rows}
 use Rattle.fusion.proofs.Places.{stmts-count}
 use Rattle.fusion.proofs.Sizes.{fused-size, settled-size, fused-nodes, settled-fused-nodes}
 use Rattle.fusion.proofs.Sorting.{rows-each, block-rows, rows-append, Same-rows, sorted-same}
@@ -49,8 +49,8 @@ module _ (k first : ℕ) (ts ds : List Tree) (gs : List Numbered) where
   abbrev steps : List Step
   steps = all-steps gs
 
-  pub all-rows : rows-each (scope-stmts k first ts ds gs) + value-rows (map (settled-fused ds n steps) (take k ts)) ≡ scope-rows k first ts ds gs
-  unfolding scope-stmts scope-rows
+  pub all-rows : rows-each (scope-stmts k first ts ds gs) + value-rows (map (settled-fused ds n steps) (take k ts)) ≡ settled-rows k first ts ds gs
+  unfolding scope-stmts settled-rows
   all-rows =
       let a = map (settled-fused ds n steps) (drop k ts) in
       let b = map (fused-tree steps) (settled-reciprocals ds n) in
@@ -67,7 +67,7 @@ module _ (k first : ℕ) (ts ds : List Tree) (gs : List Numbered) where
 -- ---- of the answer
 
 pub record Measured (x k first : ℕ) (ts ds : List Tree) (l : Walked) (a : Scoped) : Type 0 where
-  pub rows : scoped-rows a ≡ scope-rows k first ts ds (l .groups)
+  pub rows : scoped-rows a ≡ settled-rows k first ts ds (l .groups)
   pub stmts : length (a .inters) ≡ length (drop k ts) + (length ds + length (l .groups))
   pub results : a .results ≡ map (settled-fused ds (next-number k first ts) (all-steps (l .groups))) (take k ts)
   pub next : a .next ≡ l .next
@@ -158,9 +158,9 @@ both-parts (suc k) [] = refl
 both-parts (suc k) (t ∷ l) = omega (arith, both-parts k l)
 
 -- the rows of the trees from before anything was settled
-pub scope-rows-bound : (k first : ℕ) (ts ds : List Tree) (gs : List Numbered) → scope-rows k first ts ds gs ≤ rows-of ts + rows-of (map reciprocal ds) + match-rows-most gs
-unfolding scope-rows rows-of
-scope-rows-bound k first ts ds gs =
+pub settled-rows-bound : (k first : ℕ) (ts ds : List Tree) (gs : List Numbered) → settled-rows k first ts ds gs ≤ rows-of ts + rows-of (map reciprocal ds) + match-rows-most gs
+unfolding settled-rows rows-of
+settled-rows-bound k first ts ds gs =
     let m = next-number k first ts in
     let f : Tree → Tree = settled-fused ds m (all-steps gs) in
     let rs = settled-reciprocals ds m in

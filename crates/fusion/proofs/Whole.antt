@@ -131,21 +131,52 @@ module _ (k first : ℕ) (ts ds : List Tree) (within : k ≤ length ts) where
 
 -- ---- after rounds
 
+numbers-length : (i : ℕ) (l : List Tree) → length (by-number i l) ≡ length l
+unfolding by-number
+numbers-length i [] = refl
+numbers-length i (e ∷ l) = ap suc (numbers-length (suc i) l)
+
+lets-length : (k first : ℕ) (ts : List Tree) → length (state-of k first ts .lets) ≡ length (drop k ts)
+unfolding state-of
+lets-length k first ts = numbers-length first (drop k ts)
+
+-- with the divisors of the trees
+divided : (shown : Tree → List ℕ) (k first : ℕ) (ts : List Tree) → reciprocals-on shown true k first ts ≡ bind-each-on (divisors-of shown ts) (next-number k first ts) ts
+unfolding reciprocals-on divisors-of
+divided shown k first ts = refl
+
+-- whatever comes after reciprocals, given the count of extractions and the state, is done on the trees that rounds leave
+module _ (end : ℕ → State → Outcome Scoped) where
+  pub rounds-then :
+      (shown : Tree → List ℕ) (next : ℕ) (es : List Tree) → let k = length es in
+      (extract-all-by shown true next es >>= λ s. end (length (s .lets)) (reciprocals-by shown true s))
+      ≡ (rounds-on shown (all-operations es) true k next es >>= λ ts.
+      end (length (drop k ts)) (state-of k next (bind-each-on (divisors-of shown ts) (next-number k next ts) ts)))
+  rounds-then shown next es =
+      let k = length es in
+      let o = rounds-on shown (all-operations es) true k next es in
+      let whole : State → Outcome Scoped = λ s. end (length (s .lets)) (reciprocals-by shown true s) in
+      ap (λ (o : Outcome State). o >>= whole) (extract-all-on shown true next es)
+      ∙ (then-then o (λ ts. ok (state-of k next ts)) whole
+      ∙ then-same (λ (ts : List Tree). k ≤ length ts) o (λ ts. whole (state-of k next ts))
+      (λ ts. end (length (drop k ts)) (state-of k next (bind-each-on (divisors-of shown ts) (next-number k next ts) ts)))
+      (rounds-on-length shown (all-operations es) true k next es (omega arith))
+      (λ ts h. ap₂ end (lets-length k next ts) (reciprocals-on-state shown true k next ts h ∙ ap (state-of k next) (divided shown k next ts))))
+
+  -- the same with the texts of trees
+  pub by-text :
+      (next : ℕ) (es : List Tree)
+      → (extract-all true next es >>= λ s. end (length (s .lets)) (reciprocals true s))
+      ≡ (extract-all-by display true next es >>= λ s. end (length (s .lets)) (reciprocals-by display true s))
+  by-text next es =
+      ap (λ (o : Outcome State). o >>= λ s. end (length (s .lets)) (reciprocals true s)) (sym (extract-all-text true next es)) ∙ same-end (extract-all-by display true next es)
+    where
+      same-end : (o : Outcome State)
+          → (o >>= λ s. end (length (s .lets)) (reciprocals true s)) ≡ (o >>= λ s. end (length (s .lets)) (reciprocals-by display true s))
+      same-end (ok s) = ap (end (length (s .lets))) (sym (reciprocals-text true s))
+      same-end (refused r) = refl
+
 module _ (scope : ℕ → List Tree → Outcome Scoped) where
-  numbers-length : (i : ℕ) (l : List Tree) → length (by-number i l) ≡ length l
-  unfolding by-number
-  numbers-length i [] = refl
-  numbers-length i (e ∷ l) = ap suc (numbers-length (suc i) l)
-
-  lets-length : (k first : ℕ) (ts : List Tree) → length (state-of k first ts .lets) ≡ length (drop k ts)
-  unfolding state-of
-  lets-length k first ts = numbers-length first (drop k ts)
-
-  -- with the divisors of the trees
-  divided : (shown : Tree → List ℕ) (k first : ℕ) (ts : List Tree) → reciprocals-on shown true k first ts ≡ bind-each-on (divisors-of shown ts) (next-number k first ts) ts
-  unfolding reciprocals-on divisors-of
-  divided shown k first ts = refl
-
   -- the scope of some trees, as texts by `shown` have it
   pub scoped-is :
       (shown : Tree → List ℕ) (next : ℕ) (es : List Tree) → let k = length es in
@@ -153,28 +184,16 @@ module _ (scope : ℕ → List Tree → Outcome Scoped) where
       ≡ (rounds-on shown (all-operations es) true k next es >>= λ ts. settled-scope scope (length (drop k ts)) k next ts (divisors-of shown ts))
   scoped-is shown next es =
       let k = length es in
-      let o = rounds-on shown (all-operations es) true k next es in
-      let whole : State → Outcome Scoped = λ s. (fuse-all scope (length (s .lets)) (reciprocals-by shown true s) >>= λ w. finish w) in
-      ap (λ (o : Outcome State). o >>= whole) (extract-all-on shown true next es)
-      ∙ (then-then o (λ ts. ok (state-of k next ts)) whole
-      ∙ then-same (λ (ts : List Tree). k ≤ length ts) o (λ ts. whole (state-of k next ts)) (λ ts. settled-scope scope (length (drop k ts)) k next ts (divisors-of shown ts))
-      (rounds-on-length shown (all-operations es) true k next es (omega arith))
-      (λ ts h.
-      ap₂ (λ (x : ℕ) (s : State). fuse-all scope x s >>= λ w. finish w) (lets-length k next ts)
-      (reciprocals-on-state shown true k next ts h ∙ ap (state-of k next) (divided shown k next ts))
-      ∙ scope-is k next ts (divisors-of shown ts) h scope (length (drop k ts))))
+      let end : ℕ → State → Outcome Scoped = λ x s. (fuse-all scope x s >>= λ w. finish w) in
+      rounds-then end shown next es
+      ∙ then-same (λ (ts : List Tree). k ≤ length ts) (rounds-on shown (all-operations es) true k next es)
+      (λ ts. end (length (drop k ts)) (state-of k next (bind-each-on (divisors-of shown ts) (next-number k next ts) ts)))
+      (λ ts. settled-scope scope (length (drop k ts)) k next ts (divisors-of shown ts)) (rounds-on-length shown (all-operations es) true k next es (omega arith))
+      (λ ts h. scope-is k next ts (divisors-of shown ts) h scope (length (drop k ts)))
 
   -- and as `cse_scope` has it
   pub scope-settled :
       (next : ℕ) (es : List Tree) → let k = length es in
       (extract-all true next es >>= λ s. fuse-all scope (length (s .lets)) (reciprocals true s) >>= λ w. finish w)
       ≡ (rounds-on display (all-operations es) true k next es >>= λ ts. settled-scope scope (length (drop k ts)) k next ts (divisors-of display ts))
-  scope-settled next es =
-      ap (λ (o : Outcome State). o >>= λ s. fuse-all scope (length (s .lets)) (reciprocals true s) >>= λ w. finish w) (sym (extract-all-text true next es))
-      ∙ (same-end (extract-all-by display true next es) ∙ scoped-is display next es)
-    where
-      same-end : (o : Outcome State)
-          → (o >>= λ s. fuse-all scope (length (s .lets)) (reciprocals true s) >>= λ w. finish w)
-          ≡ (o >>= λ s. fuse-all scope (length (s .lets)) (reciprocals-by display true s) >>= λ w. finish w)
-      same-end (ok s) = ap (λ (t : State). fuse-all scope (length (s .lets)) t >>= λ w. finish w) (sym (reciprocals-text true s))
-      same-end (refused r) = refl
+  scope-settled next es = by-text (λ x s. fuse-all scope x s >>= λ w. finish w) next es ∙ scoped-is display next es

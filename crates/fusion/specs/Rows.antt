@@ -29,9 +29,9 @@ unfolding occurrences
 rows-of l = length l + occurrences l
 
 -- lets, reciprocals, matches and results
-unfoldable pub scope-rows : ℕ → ℕ → List Tree → List Tree → List Numbered → ℕ
+unfoldable pub settled-rows : ℕ → ℕ → List Tree → List Tree → List Numbered → ℕ
 unfolding rows-of match-rows settled-fused fused-tree all-steps next-number
-scope-rows k first ts ds gs =
+settled-rows k first ts ds gs =
     let n = next-number k first ts in
     let steps = all-steps gs in
     rows-of (map (settled-fused ds n steps) (drop k ts)) + (rows-of (map (fused-tree steps) (settled-reciprocals ds n)) + match-rows gs)
