@@ -1,10 +1,10 @@
 -- Groups numbered one after another, as a loop takes them (specs, Settled): one group more, which groups they are, and where their numbers lie. Assumes nothing.
 use Prim.Native.Nat.{ℕ, zero, suc, _+_, _≤_, _<_}
 use native.Mathlib.Omega.{arith}
-use mathlib.Core.Path.{_≡_, refl, sym, _∙_, ap}
+use mathlib.Core.Path.{_≡_, refl, _∙_, ap}
 use mathlib.Core.List.{List, [], _∷_, _++_, map}
 use lib.ListN.{length}
-use Rattle.tree.specs.Outcome.{Outcome, Refusal, ok, refused, _>>=_}
+use Rattle.tree.specs.Outcome.{Outcome, ok, refused, _>>=_}
 use Rattle.tree.specs.Tree.{Tree}
 use Rattle.cse.specs.Scope.{Group, members, Scoped, Armed, scope-arms}
 use Rattle.cse.proofs.OrderLaws.{All, all-map}

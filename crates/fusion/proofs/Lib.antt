@@ -5,6 +5,7 @@ pub mod Places
 pub mod Sizes
 pub mod Switchless
 pub mod Outer
+pub mod Held
 pub mod Untouched
 pub mod Sorting
 pub mod Rows

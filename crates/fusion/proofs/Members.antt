@@ -1,11 +1,11 @@
 -- The steps of all groups as flat lists of places and numbers (specs, Words), and those of the groups after one as what is left of these lists. Assumes nothing.
-use Prim.Native.Nat.{ℕ, zero, suc, _+_, _≤_}
+use Prim.Native.Nat.{ℕ, zero, suc, _+_}
 use native.Mathlib.Omega.{arith}
 use mathlib.Core.Path.{_≡_, refl, sym, _∙_, ap, ap₂}
 use mathlib.Core.List.{List, [], _∷_, _++_, map}
 use lib.ListN.{length, drop, length-append, length-map}
 use Rattle.tree.specs.Tree.{Tree}
-use Rattle.cse.specs.Scope.{Switch, Group, members}
+use Rattle.cse.specs.Scope.{Switch, members}
 use Rattle.renaming.specs.Places.{numbered-at}
 use Rattle.fusion.specs.Settled.{Step, member-steps, Numbered, group-steps, all-steps}
 use Rattle.fusion.specs.Words.{steps-at, numbers-from, all-numbers}

@@ -1,10 +1,10 @@
 -- Members replaced one after another in everything are steps at each tree (01, "Scoped fusion"). Assumes nothing.
-use Prim.Native.Nat.{ℕ, zero, suc, _+_}
+use Prim.Native.Nat.{ℕ, suc, _+_}
 use native.Mathlib.Omega.{arith}
 use mathlib.Core.Path.{_≡_, refl, sym, _∙_, ap, ap₂}
 use mathlib.Core.List.{List, [], _∷_, _++_, map}
 use lib.ListN.{length}
-use Rattle.tree.specs.Tree.{Name, mname, Tree}
+use Rattle.tree.specs.Tree.{mname, Tree}
 use Rattle.rewrite.specs.Rewrite.{replace-outside-arms}
 use Rattle.cse.specs.Answer.{Intermediate, Let, Match}
 use Rattle.cse.specs.Scope.{Switch, replace-in-results, replace-in-stmts, Work, name-members}

@@ -1,9 +1,9 @@
 -- Each statement of a scope by its position (specs, Whole): lets by number, reciprocals by number, matches in the groups' order. Assumes nothing.
-use Prim.Native.Nat.{ℕ, zero, suc, _+_, _<_, _≤_}
+use Prim.Native.Nat.{ℕ, zero, suc, _+_, _<_}
 use native.Mathlib.Omega.{arith}
 use mathlib.Core.Path.{_≡_, refl, sym, _∙_, ap, ap₂}
 use mathlib.Core.List.{List, [], _∷_, _++_, map}
-use lib.ListN.{length, getD, take, drop, length-append, length-map, length-drop, List·getD-append, List·getD-map}
+use lib.ListN.{length, getD, drop, length-append, length-map, List·getD-append, List·getD-map}
 use lib.Seq.{getD-append-add, getD-drop, drop-cons}
 use Rattle.tree.specs.Tree.{xname, Tree}
 use Rattle.cse.specs.Answer.{Intermediate, Let}

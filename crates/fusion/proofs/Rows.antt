@@ -4,21 +4,21 @@ use native.Mathlib.Omega.{arith}
 use mathlib.Core.Path.{_≡_, refl, _∙_, ap, subst}
 use mathlib.Core.List.{List, [], _∷_, _++_, map}
 use lib.ListN.{length, take, drop, length-map}
-use Rattle.tree.specs.Outcome.{Outcome, Refusal, ok, refused, _>>=_}
-use Rattle.tree.specs.Tree.{Name, xname, Tree}
+use Rattle.tree.specs.Outcome.{Outcome, ok, refused, _>>=_}
+use Rattle.tree.specs.Tree.{Tree}
 use Rattle.tree.specs.Facts.{size}
 use Rattle.tree.specs.Rows.{occurrences}
-use Rattle.cse.specs.Answer.{Intermediate, Intermediates, Arms, Let, Match, arm, block, value-rows, stmt-rows, stmts-rows, arms-rows, rows}
+use Rattle.cse.specs.Answer.{Intermediate, Arms, arm, block, value-rows, stmt-rows, arms-rows, rows}
 use Rattle.cse.specs.Order.{topo-sort-intermediates}
 use Rattle.cse.specs.Scope.{Switch, members, member-names, Scoped, finish, as-answer}
 use Rattle.renaming.specs.Rounds.{next-number}
-use Rattle.reciprocals.proofs.Parts.{settle-tree, reciprocal, settled-reciprocals}
+use Rattle.reciprocals.proofs.Parts.{reciprocal, settled-reciprocals}
 use Rattle.fusion.specs.Settled.{Step, fused-tree, Numbered, Walked, numbered-groups, all-steps, group-match, group-matches}
 use Rattle.fusion.specs.Whole.{settled-fused, lets-from, scope-groups, scope-stmts, scope-work, settled-scope}
 use Rattle.fusion.specs.Rows.{scoped-rows, match-rows, rows-of, settled-rows}
 use Rattle.fusion.proofs.Places.{stmts-count}
 use Rattle.fusion.proofs.Sizes.{fused-size, settled-size, fused-nodes, settled-fused-nodes}
-use Rattle.fusion.proofs.Sorting.{rows-each, block-rows, rows-append, Same-rows, sorted-same}
+use Rattle.fusion.proofs.Sorting.{rows-each, block-rows, rows-append, sorted-same}
 
 -- ---- before they are ordered
 

@@ -1,7 +1,7 @@
 -- One tree at a place, settled and fused by itself (specs, Words): its words become those of the tree that it becomes. Assumes nothing.
-use Prim.Native.Nat.{ℕ, zero, suc, _+_, _≤_, _<_}
+use Prim.Native.Nat.{ℕ, _≤_}
 use native.Mathlib.Omega.{arith}
-use mathlib.Core.Path.{_≡_, refl, sym, _∙_, ap}
+use mathlib.Core.Path.{_≡_, refl, _∙_, ap}
 use mathlib.Core.Option.{Option, none, some}
 use mathlib.Core.List.{List, [], _∷_, _++_, append-nil, map}
 use lib.ListN.{length, getD, take, drop}
@@ -15,7 +15,7 @@ use Rattle.words.proofs.Rewriting.{segment}
 use Rattle.renaming.specs.Places.{numbered-at}
 use Rattle.settle.specs.Steps.{settled-words}
 use Rattle.reciprocals.proofs.Parts.{All-there, tree-there}
-use Rattle.fusion.specs.Settled.{Step, fused-tree}
+use Rattle.fusion.specs.Settled.{fused-tree}
 use Rattle.fusion.specs.Whole.{settled-fused}
 use Rattle.fusion.specs.Words.{fused-words, steps-at}
 use Rattle.fusion.proofs.Words.{fused-words-are, settled-then-fused}

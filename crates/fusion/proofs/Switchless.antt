@@ -1,24 +1,21 @@
 -- Fusion leaves a tree without switches as it is (specs, Switchless): its steps look for switches alone (01, "Scoped fusion"). Assumes nothing.
-use Prim.Native.Nat.{ℕ, zero, suc, _+_}
-use native.Mathlib.Omega.{arith}
+use Prim.Native.Nat.{ℕ, suc, _+_}
 use mathlib.Core.Path.{_≡_, refl, sym, _∙_, ap, ap₂, subst}
-use mathlib.Core.Bool.{Bool, true, false, not, _&&_}
+use mathlib.Core.Bool.{Bool, true, false, not}
 use mathlib.Core.List.{List, [], _∷_, _++_, map}
-use lib.ListN.{length, length-append}
+use lib.ListN.{length}
 use lib.Dec.{T}
-use Rattle.tree.specs.Outcome.{Outcome, ok, refused, _>>=_}
-use Rattle.tree.specs.Tree.{Name, mname, Tree, Forest, Sym, Const, Op, nil, _◂_, eq-tree, operands}
+use Rattle.tree.specs.Outcome.{Outcome, ok, _>>=_}
+use Rattle.tree.specs.Tree.{Name, mname, Tree, Forest, Sym, Const, Op, nil, _◂_, eq-tree}
 use Rattle.tree.specs.Kinds.{is-switch}
-use Rattle.tree.specs.Facts.{outer, outer-of, outer-first}
-use Rattle.tree.proofs.Logic.{and-left, and-right, and-both}
+use Rattle.tree.proofs.Logic.{and-left, and-right}
 use Rattle.tree.proofs.TreeLaws.{eq-tree-sound}
 use Rattle.rewrite.specs.Rewrite.{replace-outside-arms, replace-operands, replace-key}
-use Rattle.rewrite.proofs.Names.{holds-all}
-use Rattle.cse.specs.Scope.{Switch, Group, switches, collect-switches, groups-from, members, Scoped, Armed, scope-arms}
+use Rattle.cse.specs.Scope.{Switch, Group, collect-switches, groups-from, members, Scoped, scope-arms}
 use Rattle.cse.proofs.Outcomes.{Good, good-ok, then-good, any-good}
 use Rattle.cse.proofs.Symbols.{holds-all-by}
-use Rattle.cse.proofs.SwitchLaws.{Fair, Fair-group, Fair-groups, All-like, members-like, groups-fair}
-use Rattle.fusion.specs.Settled.{Step, fused-tree, member-steps, Numbered, group-columns, Walked, numbered-groups, group-steps, all-steps}
+use Rattle.cse.proofs.SwitchLaws.{Fair, Fair-groups, All-like, members-like, groups-fair}
+use Rattle.fusion.specs.Settled.{Step, fused-tree, member-steps, group-columns, Walked, numbered-groups, group-steps, all-steps}
 use Rattle.fusion.specs.Whole.{settled-roots, scope-groups}
 use Rattle.fusion.specs.Switchless.{switch-node, switchless, switchless-each, all-switchless}
 

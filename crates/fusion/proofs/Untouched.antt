@@ -1,8 +1,8 @@
 -- A reciprocal whose divisor holds no switch is settled and not fused (specs, Whole, Switchless): settling brings no switch in. Assumes nothing.
-use Prim.Native.Nat.{ℕ, zero, suc, _+_, _<_}
+use Prim.Native.Nat.{ℕ, suc, _+_, _<_}
 use mathlib.Core.Path.{_≡_, _∙_, ap}
 use mathlib.Core.Bool.{Bool, true, false, not, _&&_}
-use mathlib.Core.List.{List, [], _∷_, map}
+use mathlib.Core.List.{List, [], _∷_}
 use lib.ListN.{length, getD, drop}
 use lib.Dec.{T, eqb}
 use Rattle.tree.specs.Tree.{Name, xname, Tree, Forest, Sym, Const, Op, nil, _◂_}
@@ -12,7 +12,7 @@ use Rattle.rewrite.specs.Rewrite.{divides-by, replace-divisor, replace-divisors
 use Rattle.cse.specs.Answer.{Intermediate, Let}
 use Rattle.renaming.specs.Rounds.{next-number}
 use Rattle.reciprocals.proofs.Parts.{settle-tree, reciprocal}
-use Rattle.fusion.specs.Settled.{Step, fused-tree, Numbered, all-steps}
+use Rattle.fusion.specs.Settled.{Step, Numbered, all-steps}
 use Rattle.fusion.specs.Whole.{settled-fused, scope-stmts}
 use Rattle.fusion.specs.Switchless.{switch-node, switchless, switchless-each}
 use Rattle.fusion.proofs.Places.{reciprocal-stmt}

@@ -1,15 +1,12 @@
 -- The arms' scopes and the groups one after another, as a loop takes them (specs, Settled): what was done, and then what is to come. Assumes nothing.
-use Prim.Native.Nat.{ℕ, zero, suc, _+_, _≤_, _<_}
+use Prim.Native.Nat.{ℕ, _+_}
 use native.Mathlib.Omega.{arith}
-use mathlib.Core.Path.{_≡_, refl, sym, _∙_, ap, ap₂}
-use mathlib.Core.List.{List, [], _∷_, _++_, append-assoc, map}
-use lib.ListN.{length}
-use Rattle.tree.specs.Outcome.{Outcome, Refusal, ok, refused, _>>=_}
+use mathlib.Core.Path.{_≡_, refl, _∙_, ap}
+use mathlib.Core.List.{List, [], _∷_, _++_}
+use Rattle.tree.specs.Outcome.{Outcome, ok, refused, _>>=_}
 use Rattle.tree.specs.Tree.{Tree}
 use Rattle.cse.specs.Answer.{Arms, no-arm, arm, block}
-use Rattle.cse.specs.Scope.{Group, members, Scoped, Armed, scope-arms}
-use Rattle.cse.proofs.Outcomes.{Good, good-ok, then-good, any-good}
-use Rattle.fusion.specs.Settled.{Numbered, group-columns, Walked, numbered-groups}
+use Rattle.cse.specs.Scope.{Scoped, Armed, scope-arms}
 
 -- ---- arms
 

@@ -1,9 +1,9 @@
 -- Fused words are the words of the fused trees (specs, Words), no more of them and as many trees. Assumes nothing.
-use Prim.Native.Nat.{ℕ, zero, suc, _+_, _*_, _/_, _%_, _≤_, _<_}
+use Prim.Native.Nat.{ℕ, suc, _+_, _*_, _/_, _%_, _≤_, _<_}
 use native.Mathlib.Omega.{arith}
 use mathlib.Core.Path.{_≡_, refl, sym, _∙_, ap, ap₂, subst}
 use mathlib.Core.Option.{Option, none, some}
-use mathlib.Core.List.{List, [], _∷_, _++_, map}
+use mathlib.Core.List.{List, [], _∷_, map}
 use lib.ListN.{length, getD, drop}
 use lib.Seq.{drop-cons}
 use lib.Dec.{T}
@@ -16,7 +16,6 @@ use Rattle.words.proofs.Chains.{readable, name-readable, rewritten-trees, rewri
 use Rattle.words.proofs.Rewriting.{rewritten-short}
 use Rattle.divisor.proofs.Chaining.{divisor-readable}
 use Rattle.outside.proofs.Chaining.{outside-readable}
-use Rattle.outside.proofs.Replacing.{outside-size}
 use Rattle.settle.proofs.Settling.{x-word, x-word-name}
 use Rattle.settle.specs.Steps.{settled-words}
 use Rattle.renaming.specs.Places.{numbered-at}

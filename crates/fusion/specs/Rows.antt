@@ -5,7 +5,7 @@ use lib.ListN.{length, take, drop}
 use Rattle.tree.specs.Tree.{Tree}
 use Rattle.tree.specs.Facts.{size}
 use Rattle.tree.specs.Rows.{occurrences}
-use Rattle.cse.specs.Answer.{Intermediate, block, value-rows, stmt-rows, stmts-rows, arms-rows}
+use Rattle.cse.specs.Answer.{block, value-rows, stmts-rows, arms-rows}
 use Rattle.cse.specs.Scope.{members, Scoped}
 use Rattle.renaming.specs.Rounds.{next-number}
 use Rattle.reciprocals.proofs.Parts.{settled-reciprocals}

@@ -1,12 +1,12 @@
 -- Scoped fusion in settled form (01, "Scoped fusion"): which number each member of each group is named by, the arms' scopes in order, and each tree once, with all the
 -- members replaced that come after it. Nothing is rewritten in between, so that no copies of the trees need be kept. Assumes nothing.
-use Prim.Native.Nat.{ℕ, zero, suc, _+_}
+use Prim.Native.Nat.{ℕ, suc, _+_}
 use mathlib.Core.List.{List, [], _∷_, _++_, map}
 use lib.ListN.{length}
 use Rattle.tree.specs.Outcome.{Outcome, ok, _>>=_}
 use Rattle.tree.specs.Tree.{mname, Tree}
 use Rattle.rewrite.specs.Rewrite.{replace-outside-arms}
-use Rattle.cse.specs.Answer.{Intermediate, Arms, Let, Match}
+use Rattle.cse.specs.Answer.{Intermediate, Let, Match}
 use Rattle.cse.specs.Scope.{Switch, Group, members, member-names, columns, arms-of-members, Work, Scoped, Armed, scope-arms}
 
 -- ---- one member after another replaced by its name

@@ -36,3 +36,9 @@ unfoldable pub no-switch-words : List ℕ → Bool
 unfolding has-arms
 no-switch-words [] = true
 no-switch-words (w ∷ ws) = not (has-arms w) && no-switch-words ws
+
+-- those of some trees in which there is a switch
+unfoldable pub with-switches : List Tree → List Tree
+unfolding switchless
+with-switches [] = []
+with-switches (t ∷ l) = elim (switchless t) [ true ↦ with-switches l | false ↦ t ∷ with-switches l ]
