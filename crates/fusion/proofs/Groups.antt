@@ -36,6 +36,9 @@ groups-step g n a (ok x) rest = go (rest (x .next))
     go (refused r) = refl
 groups-step g n a (refused r) rest = refl
 
+abbrev pub group-of : Numbered → Group
+group-of g = g .group
+
 module _ (scope : ℕ → List Tree → Outcome Scoped) where
   pub numbered-append :
       (next : ℕ) (gs hs : List Group)
@@ -79,9 +82,6 @@ module _ (scope : ℕ → List Tree → Outcome Scoped) where
       last (refused x) = refl
 
   -- ---- which groups they are
-
-  abbrev pub group-of : Numbered → Group
-  group-of g = g .group
 
   pub groups-kept : (next : ℕ) (gs : List Group) → Good (λ (l : Walked). map group-of (l .groups) ≡ gs) (numbered-groups scope next gs)
   unfolding numbered-groups

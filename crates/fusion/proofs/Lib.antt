@@ -14,3 +14,4 @@ pub mod Runs
 pub mod Members
 pub mod Walking
 pub mod Groups
+pub mod Totals
