@@ -1,0 +1,17 @@
+pub mod Naming
+pub mod Fusing
+pub mod Whole
+pub mod Places
+pub mod Sizes
+pub mod Switchless
+pub mod Outer
+pub mod Held
+pub mod Untouched
+pub mod Sorting
+pub mod Rows
+pub mod Words
+pub mod Runs
+pub mod Members
+pub mod Walking
+pub mod Groups
+pub mod Totals

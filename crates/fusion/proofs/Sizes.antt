@@ -1,0 +1,41 @@
+-- No step of fusion or of settling makes a tree larger, so that fused words fit where the words before did (01, "Reciprocals", "Scoped fusion"). Assumes nothing.
+use Prim.Native.Nat.{ℕ, suc, _≤_}
+use native.Mathlib.Omega.{arith}
+use mathlib.Core.List.{List, [], _∷_, map}
+use Rattle.tree.specs.Tree.{xname, mname, Tree}
+use Rattle.tree.specs.Facts.{size}
+use Rattle.tree.specs.Rows.{occurrences}
+use Rattle.rewrite.specs.Rewrite.{replace-divisor, replace-outside-arms}
+use Rattle.rewrite.proofs.DivisorCount.{divisor-size}
+use Rattle.outside.proofs.Replacing.{outside-size}
+use Rattle.reciprocals.proofs.Parts.{settle-tree}
+use Rattle.fusion.specs.Settled.{Step, fused-tree}
+use Rattle.fusion.specs.Whole.{settled-fused}
+
+pub fused-size : (steps : List Step) (t : Tree) → size (fused-tree steps t) ≤ size t
+unfolding fused-tree
+fused-size [] t = omega arith
+fused-size (s ∷ l) t =
+    let u = replace-outside-arms (s .member) (mname (s .number)) t in
+    omega (arith, outside-size (s .member) (mname (s .number)) t, fused-size l u)
+
+pub settled-size : (ds : List Tree) (n : ℕ) (t : Tree) → size (settle-tree ds n t) ≤ size t
+settled-size [] n t = omega arith
+settled-size (d ∷ l) n t = omega (arith, divisor-size d (xname n) t, settled-size l (suc n) (replace-divisor d (xname n) t))
+
+pub settled-fused-size : (ds : List Tree) (n : ℕ) (steps : List Step) (t : Tree) → size (settled-fused ds n steps t) ≤ size t
+unfolding settled-fused
+settled-fused-size ds n steps t = omega (arith, fused-size steps (settle-tree ds n t), settled-size ds n t)
+
+-- ---- of several trees
+
+pub no-more-nodes : (f : Tree → Tree) → ((t : Tree) → size (f t) ≤ size t) → (l : List Tree) → occurrences (map f l) ≤ occurrences l
+unfolding occurrences
+no-more-nodes f h [] = omega arith
+no-more-nodes f h (t ∷ l) = omega (arith, h t, no-more-nodes f h l)
+
+pub fused-nodes : (steps : List Step) (l : List Tree) → occurrences (map (fused-tree steps) l) ≤ occurrences l
+fused-nodes steps l = no-more-nodes (fused-tree steps) (fused-size steps) l
+
+pub settled-fused-nodes : (ds : List Tree) (n : ℕ) (steps : List Step) (l : List Tree) → occurrences (map (settled-fused ds n steps) l) ≤ occurrences l
+settled-fused-nodes ds n steps l = no-more-nodes (settled-fused ds n steps) (settled-fused-size ds n steps) l

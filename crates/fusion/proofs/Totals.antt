@@ -1,0 +1,129 @@
+-- How many members and groups a scope has (01, "Scoped fusion"): each switch collected is a member of one group, and there are no more than nodes. Assumes nothing.
+use Prim.Native.Nat.{ℕ, suc, _+_, _≤_}
+use native.Mathlib.Omega.{arith}
+use mathlib.Core.Path.{_≡_, refl, _∙_, ap}
+use mathlib.Core.Bool.{Bool, true, false}
+use mathlib.Core.List.{List, [], _∷_, _++_, map}
+use lib.ListN.{length, length-append}
+use Rattle.tree.specs.Outcome.{Outcome, ok, refused}
+use Rattle.tree.specs.Tree.{Tree, Forest, Sym, Const, Op, nil, _◂_, operands}
+use Rattle.tree.specs.Kinds.{is-switch}
+use Rattle.tree.specs.Facts.{size, outer, outer-of, outer-first, all-outer}
+use Rattle.tree.specs.Rows.{occurrences}
+use Rattle.tree.proofs.FactLaws.{size-one}
+use Rattle.rewrite.proofs.Measure.{sum-each, size-op}
+use Rattle.cse.specs.Extract.{among, distinct}
+use Rattle.cse.specs.Scope.{Switch, Group, switches, collect-switches, joins, place, groups-from, members, Scoped}
+use Rattle.cse.proofs.Outcomes.{Good}
+use Rattle.fusion.specs.Settled.{member-steps, Numbered, Walked, numbered-groups, group-steps, all-steps}
+use Rattle.fusion.specs.Whole.{settled-roots, scope-groups}
+use Rattle.fusion.proofs.Members.{steps-count}
+use Rattle.fusion.proofs.Groups.{group-of, groups-kept}
+
+-- ---- members of groups
+
+abbrev pub members-total : List Group → ℕ
+members-total [] = 0
+members-total (g ∷ l) = length (members g) + members-total l
+
+pub groups-few : (gs : List Group) → length gs ≤ members-total gs
+unfolding members
+groups-few [] = omega arith
+groups-few (g ∷ l) = omega (arith, groups-few l)
+
+placed-total : (s : Switch) (gs : List Group) → members-total (place s gs) ≡ suc (members-total gs)
+unfolding place members
+placed-total s [] = refl
+placed-total s (g ∷ l) = go (joins (g .first) s) (placed-total s l)
+  where
+    go : (b : Bool) → members-total (place s l) ≡ suc (members-total l)
+        → members-total (elim b as (λ _. List Group) [ true ↦ record { first = g .first; others = g .others ++ (s ∷ []) } ∷ l | false ↦ g ∷ place s l ])
+        ≡ suc (members-total (g ∷ l))
+    go true h = omega (arith, length-append (g .others) (s ∷ []))
+    go false h = omega (arith, h)
+
+grouped-total : (gs : List Group) (l : List Switch) → members-total (groups-from gs l) ≡ members-total gs + length l
+unfolding groups-from
+grouped-total gs [] = omega arith
+grouped-total gs (s ∷ l) = omega (arith, grouped-total (place s gs) l, placed-total s gs)
+
+-- ---- their steps
+
+steps-total : (l : List Numbered) → length (all-steps l) ≡ members-total (map group-of l)
+unfolding all-steps group-steps
+steps-total [] = refl
+steps-total (g ∷ l) =
+    let s = members (g .group) in
+    omega (arith, length-append (member-steps (g .start) s) (all-steps l), steps-count (g .start) s, steps-total l)
+
+-- as many as the switches collected
+pub scope-steps :
+    (scope : ℕ → List Tree → Outcome Scoped) (next : ℕ) (ds : List Tree) (n : ℕ) (ts : List Tree)
+    → Good (λ (l : Walked). length (all-steps (l .groups)) ≡ length (collect-switches (settled-roots ds n ts))) (numbered-groups scope next (scope-groups ds n ts))
+scope-steps scope next ds n ts =
+    let all = collect-switches (settled-roots ds n ts) in
+    weaker (λ (l : Walked). map group-of (l .groups) ≡ scope-groups ds n ts) (λ (l : Walked). length (all-steps (l .groups)) ≡ length all)
+    (numbered-groups scope next (scope-groups ds n ts)) (groups-kept scope next (scope-groups ds n ts))
+    (λ l e. steps-total (l .groups) ∙ (ap members-total e ∙ whole))
+  where
+    whole : members-total (scope-groups ds n ts) ≡ length (collect-switches (settled-roots ds n ts))
+    whole = (unfold scope-groups in omega (arith, grouped-total [] (collect-switches (settled-roots ds n ts))))
+
+    weaker : {A : Type 0} (P Q : A → Type 0) (o : Outcome A) → Good P o → ((a : A) → P a → Q a) → Good Q o
+    weaker P Q (ok a) h f = (unfold Good in f a (unfold Good in h))
+    weaker P Q (refused r) h f = (unfold Good in tt)
+
+-- ---- no more switches than nodes
+
+switches-few : (l : List Tree) → length (switches l) ≤ length l
+unfolding switches
+switches-few [] = omega arith
+switches-few (Sym n ∷ l) = omega (arith, switches-few l)
+switches-few (Const c ∷ l) = omega (arith, switches-few l)
+switches-few (Op k nil ∷ l) = omega (arith, switches-few l)
+switches-few (Op k (q ◂ f) ∷ l) = go (is-switch k) (switches-few l)
+  where
+    go : (b : Bool) → length (switches l) ≤ length l
+        → length {A = Switch} (elim b as (λ _. List Switch) [ true ↦ record { tree = Op k (q ◂ f); kind = k; key = q; arms = operands f } ∷ switches l | false ↦ switches l ]) ≤ suc (length l)
+    go true h = omega (arith, h)
+    go false h = omega (arith, h)
+
+distinct-few : (seen l : List Tree) → length (distinct seen l) ≤ length l
+unfolding distinct
+distinct-few seen [] = omega arith
+distinct-few seen (t ∷ l) = go (among t seen) (distinct-few seen l) (distinct-few (t ∷ seen) l)
+  where
+    go : (b : Bool) → length (distinct seen l) ≤ length l → length (distinct (t ∷ seen) l) ≤ length l
+        → length {A = Tree} (elim b as (λ _. List Tree) [ true ↦ distinct seen l | false ↦ t ∷ distinct (t ∷ seen) l ]) ≤ suc (length l)
+    go true h g = omega (arith, h)
+    go false h g = omega (arith, g)
+
+outer-node : (k : ℕ) (f : Forest) (b : Bool) → length (outer-first f) ≤ sum-each size f → length (outer-of f) ≤ sum-each size f
+    → length {A = Tree} (elim b as (λ _. List Tree) [ true ↦ outer-first f | false ↦ outer-of f ]) ≤ sum-each size f
+outer-node k f true p q = p
+outer-node k f false p q = q
+
+mutual
+  unfolding outer sum-each
+
+  pub outer-few : (t : Tree) → length (outer t) ≤ size t
+  outer-few (Sym n) = omega (arith, size-one (Sym n))
+  outer-few (Const c) = omega (arith, size-one (Const c))
+  outer-few (Op k f) = omega (arith, size-op k f, outer-node k f (is-switch k) (outer-first-few f) (outer-of-few f))
+
+  outer-of-few : (f : Forest) → length (outer-of f) ≤ sum-each size f
+  outer-of-few nil = omega arith
+  outer-of-few (t ◂ f) = omega (arith, length-append (outer t) (outer-of f), outer-few t, outer-of-few f)
+
+  outer-first-few : (f : Forest) → length (outer-first f) ≤ sum-each size f
+  outer-first-few nil = omega arith
+  outer-first-few (t ◂ f) = omega (arith, outer-few t)
+
+all-outer-few : (l : List Tree) → length (all-outer l) ≤ occurrences l
+unfolding all-outer occurrences
+all-outer-few [] = omega arith
+all-outer-few (t ∷ l) = omega (arith, length-append (outer t) (all-outer l), outer-few t, all-outer-few l)
+
+pub collected-few : (rs : List Tree) → length (collect-switches rs) ≤ occurrences rs
+unfolding collect-switches
+collected-few rs = omega (arith, switches-few (distinct [] (all-outer rs)), distinct-few [] (all-outer rs), all-outer-few rs)

@@ -1,0 +1,1 @@
+// No code: scoped fusion in settled form stands in specs/, and that it is fusion in proofs/.
