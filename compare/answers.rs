@@ -1,10 +1,9 @@
-//! The source's answers to a list: what it prints, the rows that this takes, how many bindings
-//! extraction made, or the number of the refusal that stands for its panic.
-use crate::arael::{E, Expr, OutsideConstants, take_ones};
-use crate::cse::{Arm, Intermediate, children, cse, cse_scoped};
-use std::any::Any;
+//! The source's answers to a list, where all runs agree: what it prints, the rows that this takes, how
+//! many bindings extraction made, or the number of the refusal; and what came about on the way.
+use crate::arael::{E, Expr};
+use crate::asked::{Answer, asked, text};
+use crate::cse::{Arm, Intermediate, children};
 use std::collections::HashMap;
-use std::panic::{AssertUnwindSafe, catch_unwind, resume_unwind, set_hook, take_hook};
 
 /// How often a list is run. Hash order is new in each run, so a tie that it decides stays hidden
 /// once in 2^47 lists.
@@ -50,18 +49,6 @@ pub const EVENTS: [&str; 10] = [
 
 pub type Events = [bool; EVENTS.len()];
 
-type Answer = (Vec<Intermediate>, Vec<E>);
-
-fn flat(es: &[E]) -> Answer {
-    let (lets, results) = cse(es);
-    (
-        lets.into_iter()
-            .map(|(name, expr)| Intermediate::Let { name, expr })
-            .collect(),
-        results,
-    )
-}
-
 /// The outcome that all runs agree on, or none where hash order decides.
 pub fn settled(scoped: bool, es: &[E]) -> Option<(Outcome, Events)> {
     let first = once(scoped, es);
@@ -71,62 +58,36 @@ pub fn settled(scoped: bool, es: &[E]) -> Option<(Outcome, Events)> {
 }
 
 fn once(scoped: bool, es: &[E]) -> (Outcome, Events) {
-    take_ones();
-    let run = catch_unwind(AssertUnwindSafe(|| {
-        if scoped { cse_scoped(es) } else { flat(es) }
-    }));
-    let reciprocals = take_ones();
-    match run {
-        Ok(answer) => given(scoped, &answer, reciprocals),
-        Err(payload) => match refusal(payload.as_ref()) {
-            Some(n) => (Outcome::Refused(n), Events::default()),
-            None => resume_unwind(payload),
+    match asked(es, scoped) {
+        Ok(answer) => given(scoped, &answer),
+        Err(number) => (Outcome::Refused(number), Events::default()),
+    }
+}
+
+fn given(scoped: bool, a: &Answer) -> (Outcome, Events) {
+    let (extracted, events) = met(scoped, a);
+    (
+        Outcome::Given {
+            rows: block_rows(&a.inters, &a.results),
+            extracted,
+            text: text(a),
         },
-    }
+        events,
+    )
 }
 
-/// 10 is thrown by the stand-in as the coefficient is rebuilt, 11 by the source's sort: the first
-/// of them that the source reaches ends it. Any other panic is a fault.
-fn refusal(payload: &(dyn Any + Send)) -> Option<usize> {
-    if payload.is::<OutsideConstants>() {
-        return Some(10);
-    }
-    let said = payload.downcast_ref::<String>()?;
-    said.contains("dependency cycle among intermediates")
-        .then_some(11)
-}
-
-/// Has the panics that stand for refusals say nothing.
-pub fn hush() {
-    let loud = take_hook();
-    set_hook(Box::new(move |info| {
-        if refusal(info.payload()).is_none() {
-            loud(info);
-        }
-    }));
-}
-
-fn given(scoped: bool, (inters, results): &Answer, reciprocals: usize) -> (Outcome, Events) {
-    let mut text = String::new();
-    inters.iter().for_each(|it| text += &format!("{it}\n"));
-    results.iter().for_each(|e| text += &format!("{e}\n"));
+/// The extraction count, and what came about.
+pub fn met(scoped: bool, a: &Answer) -> (usize, Events) {
     let mut look = Look {
         scoped,
         ..Look::default()
     };
-    look.block(inters, results, 0);
-    let extracted = look.lets - reciprocals;
+    look.block(&a.inters, &a.results, 0);
+    let extracted = look.lets - a.reciprocals;
     look.see(Event::Extraction, extracted > 0);
     look.see(Event::SecondExtraction, extracted > 1);
-    look.see(Event::Reciprocal, reciprocals > 0);
-    (
-        Outcome::Given {
-            rows: block_rows(inters, results),
-            extracted,
-            text,
-        },
-        look.events,
-    )
+    look.see(Event::Reciprocal, a.reciprocals > 0);
+    (extracted, look.events)
 }
 
 // ---- rows: one for each occurrence, let, match, match name, arm or default, result or arm value

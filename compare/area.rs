@@ -42,6 +42,28 @@ impl<A: Filler> Area<A> {
         (self.all[GUARD..].as_mut_ptr(), lent)
     }
 
+    /// The same, with some elements to be read.
+    pub fn lend_with(&mut self, elements: &[A]) -> (*mut A, usize) {
+        self.lend(elements.len());
+        self.all[GUARD..GUARD + elements.len()].copy_from_slice(elements);
+        (self.all[GUARD..].as_mut_ptr(), elements.len())
+    }
+
+    /// Lends so many elements, with what earlier calls left in them.
+    pub fn lend_used(&mut self, lent: usize) -> (*mut A, usize) {
+        self.lent = lent;
+        self.all.resize(lent + 2 * GUARD, A::filler(lent));
+        for i in (0..GUARD).chain(GUARD + lent..2 * GUARD + lent) {
+            self.all[i] = A::filler(i);
+        }
+        (self.all[GUARD..].as_mut_ptr(), lent)
+    }
+
+    /// The first elements that are lent.
+    pub fn front(&self, count: usize) -> &[A] {
+        &self.all[GUARD..GUARD + count.min(self.lent)]
+    }
+
     /// The first place that isn't what it should be: what was written from a place on, or else as
     /// it was filled.
     pub fn differs(&self, from: usize, written: &[A]) -> Option<i64> {

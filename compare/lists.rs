@@ -1,36 +1,12 @@
 //! Random lists with a fixed seed: small alphabets, so that parts repeat, and several ways of
 //! growing a list, each aimed at steps that chance alone would rarely reach.
+use crate::random::Random;
 use crate::tree::*;
 
 /// Limits of a list: its occurrences, and how deep its arms nest.
 const MOST: usize = 30;
 const MOST_HUGE: usize = 80;
-const DEEPEST: usize = 8;
-
-/// splitmix64
-pub struct Random(pub u64);
-
-impl Random {
-    fn next(&mut self) -> u64 {
-        self.0 = self.0.wrapping_add(0x9e3779b97f4a7c15);
-        let mut z = self.0;
-        z = (z ^ (z >> 30)).wrapping_mul(0xbf58476d1ce4e5b9);
-        z = (z ^ (z >> 27)).wrapping_mul(0x94d049bb133111eb);
-        z ^ (z >> 31)
-    }
-
-    pub fn below(&mut self, n: usize) -> usize {
-        (self.next() % n as u64) as usize
-    }
-
-    pub fn chance(&mut self, percent: usize) -> bool {
-        self.below(100) < percent
-    }
-
-    fn pick<'a, A>(&mut self, l: &'a [A]) -> &'a A {
-        &l[self.below(l.len())]
-    }
-}
+pub const DEEPEST: usize = 8;
 
 /// A list within the limits.
 pub fn list(r: &mut Random) -> Vec<T> {
@@ -59,15 +35,15 @@ pub fn list(r: &mut Random) -> Vec<T> {
 // ---- growing: operations over earlier trees, then some of these as roots
 
 /// The leaves and the kinds to grow from; a kind listed twice comes twice as often.
-struct Soil {
-    symbols: &'static [&'static str],
-    constants: &'static [i64],
-    kinds: &'static [usize],
+pub struct Soil {
+    pub symbols: &'static [&'static str],
+    pub constants: &'static [i64],
+    pub kinds: &'static [usize],
 }
 
 const SWITCH_KINDS: [usize; 3] = [BRANCH, SELECT, SELECT_OR];
 
-const ANY: Soil = Soil {
+pub const ANY: Soil = Soil {
     symbols: &["a", "b"],
     constants: &[2],
     kinds: &[
@@ -76,31 +52,31 @@ const ANY: Soil = Soil {
     ],
 };
 
-const SWITCHES: Soil = Soil {
+pub const SWITCHES: Soil = Soil {
     symbols: &["a", "b", "i"],
     constants: &[1],
     kinds: &[SELECT, SELECT, SELECT_OR, SELECT_OR, BRANCH, BRANCH, ADD, 8],
 };
 
-const DIVISIONS: Soil = Soil {
+pub const DIVISIONS: Soil = Soil {
     symbols: &["p", "q"],
     constants: &[1, 2, 3],
     kinds: &[DIV, DIV, DIV, ADD, 8, SELECT],
 };
 
-const TEXTS: Soil = Soil {
+pub const TEXTS: Soil = Soil {
     symbols: &["a", "b"],
     constants: &[-1, 0],
     kinds: &[NEG, NEG, ADD, 4, 4, MUL, DIV, 7, 7, 9],
 };
 
-const MIXED: Soil = Soil {
+pub const MIXED: Soil = Soil {
     symbols: &["a", "b", "i"],
     constants: &[-1, 2],
     kinds: &[MUL, MUL, DIV, NEG, ADD, SELECT, SELECT_OR, BRANCH, 24],
 };
 
-fn arity(r: &mut Random, kind: usize) -> usize {
+pub fn arity(r: &mut Random, kind: usize) -> usize {
     match kind {
         ADD..=7 | ATAN2 => 2,
         CLAMP | BRANCH => 3,
@@ -111,7 +87,7 @@ fn arity(r: &mut Random, kind: usize) -> usize {
 }
 
 /// One of the trees, the latest more often.
-fn one(r: &mut Random, pool: &[T]) -> T {
+pub fn one(r: &mut Random, pool: &[T]) -> T {
     let from = if r.chance(60) {
         pool.len().saturating_sub(4)
     } else {
@@ -145,7 +121,7 @@ fn grown(r: &mut Random, soil: &Soil) -> Vec<T> {
 
 // ---- rivals: two trees of much the same worth, each used twice or three times
 
-fn rivals(r: &mut Random) -> Vec<T> {
+pub fn rivals(r: &mut Random) -> Vec<T> {
     let mut pool = vec![
         sym("a"),
         sym("b"),
@@ -214,7 +190,7 @@ fn product(r: &mut Random, mut parts: Vec<T>, signs: usize) -> T {
     parts.remove(0)
 }
 
-fn products(r: &mut Random) -> Vec<T> {
+pub fn products(r: &mut Random) -> Vec<T> {
     let mut factors: Vec<T> = (0..2 + r.below(2)).map(|_| factor(r)).collect();
     match r.below(6) {
         0 => factors.push(num(1)),
@@ -254,7 +230,7 @@ fn huge(r: &mut Random) -> Vec<T> {
 
 // ---- one text, several trees: sums and products that differ in their grouping alone
 
-fn regrouped(r: &mut Random) -> Vec<T> {
+pub fn regrouped(r: &mut Random) -> Vec<T> {
     let kind = *r.pick(&[ADD, MUL]);
     let leaf = |r: &mut Random| {
         if r.chance(70) {
@@ -283,7 +259,7 @@ fn regrouped(r: &mut Random) -> Vec<T> {
 
 // ---- tangles: switches on equal keys, of which one feeds another's arm or key
 
-fn tangled(r: &mut Random) -> Vec<T> {
+pub fn tangled(r: &mut Random) -> Vec<T> {
     let kind = *r.pick(&SWITCH_KINDS);
     let key = if r.chance(75) {
         sym("i")
@@ -354,7 +330,7 @@ fn clashing(r: &mut Random) -> Vec<T> {
 
 // ---- trees without a symbol, which are never extracted: switches among them, as divisors and keys
 
-fn divided(r: &mut Random) -> Vec<T> {
+pub fn divided(r: &mut Random) -> Vec<T> {
     let mut pool = vec![num(2), num(3), num(-7)];
     for _ in 0..2 + r.below(3) {
         let kind = *r.pick(&[DIV, DIV, ADD, MUL, NEG, SELECT, SELECT_OR, BRANCH]);

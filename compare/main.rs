@@ -9,9 +9,11 @@
 
 mod answers;
 mod arael;
+mod asked;
 mod cse;
 mod fmt;
 mod lists;
+mod random;
 mod theorems;
 mod tree;
 
@@ -49,7 +51,7 @@ fn main() {
     let spoil = words[0] == "--spoil";
     words.drain(..usize::from(spoil));
     let count = words[0].parse().expect("a number of lists");
-    answers::hush();
+    asked::hush();
     let mut tally = Tally::default();
     let mut cases = gather(count, &mut tally);
     if spoil {
@@ -64,7 +66,7 @@ fn main() {
 
 /// Lists until there are enough, none twice. Of those in which nothing happens one in ten is kept.
 fn gather(count: usize, tally: &mut Tally) -> Vec<Case> {
-    let mut r = lists::Random(SEED);
+    let mut r = random::Random(SEED);
     let mut seen = HashSet::new();
     let mut cases = Vec::new();
     while cases.len() < count {

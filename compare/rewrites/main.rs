@@ -7,11 +7,13 @@
 
 mod arael;
 mod area;
+mod asked;
 mod cse;
 mod fmt;
 mod lists;
 mod pairs;
 mod port;
+mod random;
 mod tree;
 mod words;
 
@@ -20,10 +22,10 @@ pub use arael::{E, Expr, FuncKind, symbol};
 pub(crate) use arael::{as_exact_int, expand_func};
 
 use arael::OutsideConstants;
-use lists::Random;
+use random::Random;
 use pairs::Pair;
 use port::{BROKEN, Call, Expected, NO_ANSWER, NO_ROOM, Port, REFUSED, Rewriting};
-use std::panic::{AssertUnwindSafe, catch_unwind, resume_unwind, set_hook, take_hook};
+use std::panic::{AssertUnwindSafe, catch_unwind, resume_unwind};
 use std::time::{Duration, Instant};
 
 const SEED: u64 = 20_261_115;
@@ -36,21 +38,11 @@ const LAME_SUM: u64 = 67;
 
 fn main() {
     let words: Vec<String> = std::env::args().skip(1).collect();
-    hush();
+    asked::hush();
     match words[0].as_str() {
         "--self-test" => self_test(),
         pairs => compare(pairs.parse().expect("a number of pairs")),
     }
-}
-
-/// Has the panics that stand for refusal 10 say nothing.
-fn hush() {
-    let loud = take_hook();
-    set_hook(Box::new(move |info| {
-        if !info.payload().is::<OutsideConstants>() {
-            loud(info);
-        }
-    }));
 }
 
 // ---- what the source gives

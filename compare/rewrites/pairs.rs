@@ -3,7 +3,7 @@
 //! constants about the limit.
 use crate::arael::{E, Expr};
 use crate::cse::children;
-use crate::lists::Random;
+use crate::random::Random;
 use crate::tree::{DIV, MUL, NEG, SELECT, SELECT_OR, expr};
 
 /// One to three expressions, and a tree to look for.

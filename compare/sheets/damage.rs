@@ -1,7 +1,8 @@
 //! Damaged copies of good sheets: bytes, fields, records, line ends, numbers, names and constants
 //! changed, limits crossed, and too little lent.
-use crate::good::{Random, Sheet};
+use crate::good::Sheet;
 use crate::port::{ENOUGH, Lent};
+use crate::random::Random;
 use crate::reading::{BYTES, ROOTS, ROWS, WIDTH};
 
 /// A copy of a good sheet with one to three faults, and what is lent with it.

@@ -5,14 +5,18 @@
 //! noticed; or `--stored FILE`, which prints the stored list in FILE with its answers worked out by
 //! the reading.
 
+#![allow(dead_code)]
+
+mod area;
 mod damage;
 mod good;
 mod port;
+mod random;
 mod reading;
 mod stored;
 
-use good::Random;
 use port::{ENOUGH, Expected, Lent, NO_ANSWER, Port, expected};
+use random::Random;
 use std::time::{Duration, Instant};
 
 const SEED: u64 = 20_261_115;

@@ -1,5 +1,5 @@
-//! The calls of the port, and what each should return and leave in memory. What is lent stands in
-//! the middle of a filled area, so that a write outside it shows.
+//! The calls of the port, and what each should return and leave in memory.
+use crate::area::Area;
 use crate::reading;
 
 unsafe extern "C" {
@@ -15,9 +15,6 @@ unsafe extern "C" {
         answer_len: usize,
     ) -> u64;
 }
-
-/// Words before and after what is lent.
-const GUARD: usize = 40;
 
 /// What the exported function returns where the answer has no room for two words.
 pub const NO_ANSWER: u64 = 255;
@@ -69,64 +66,29 @@ pub fn expected(lent: Lent, sheet: &[u8]) -> Expected {
     given
 }
 
-/// No word of a row, of a root or of an answer is as large as what fills the memory.
-pub fn filler(i: usize) -> u64 {
-    (1 << 63) + i as u64
-}
-
-/// A part lent, with its guards.
-struct Area {
-    words: Vec<u64>,
-    lent: usize,
-}
-
-impl Area {
-    fn filled(&mut self, lent: usize) -> (*mut u64, usize) {
-        self.lent = lent;
-        self.words.clear();
-        self.words.extend((0..lent + 2 * GUARD).map(filler));
-        (self.words[GUARD..].as_mut_ptr(), lent)
-    }
-
-    /// The first word that isn't what it should be: the front's, or else as it was filled.
-    fn differs(&self, front: &[u64]) -> Option<usize> {
-        let should = |i: usize| {
-            let place = i.wrapping_sub(GUARD);
-            front.get(place).copied().unwrap_or(filler(i))
-        };
-        let fits = front.len() <= self.lent;
-        let wrong = (0..self.words.len()).find(|i| self.words[*i] != should(*i));
-        if fits { wrong } else { Some(GUARD + self.lent) }
-    }
-}
-
 /// Memory for calls, used again and again.
 pub struct Port {
-    rows: Area,
-    roots: Area,
-    answer: Area,
+    rows: Area<u64>,
+    roots: Area<u64>,
+    answer: Area<u64>,
     pub time: std::time::Duration,
 }
 
 impl Port {
     pub fn new() -> Port {
-        let area = || Area {
-            words: Vec::new(),
-            lent: 0,
-        };
         Port {
-            rows: area(),
-            roots: area(),
-            answer: area(),
+            rows: Area::new(),
+            roots: Area::new(),
+            answer: Area::new(),
             time: Default::default(),
         }
     }
 
     /// Calls the port; the number that it returns.
     pub fn call(&mut self, lent: Lent, sheet: &[u8]) -> u64 {
-        let (rows, rows_len) = self.rows.filled(lent.words);
-        let (roots, roots_len) = self.roots.filled(lent.places);
-        let (answer, answer_len) = self.answer.filled(lent.answer);
+        let (rows, rows_len) = self.rows.lend(lent.words);
+        let (roots, roots_len) = self.roots.lend(lent.places);
+        let (answer, answer_len) = self.answer.lend(lent.answer);
         let began = std::time::Instant::now();
         // the three areas and the sheet are apart, and as long as is said
         let number = unsafe {
@@ -156,9 +118,9 @@ impl Port {
             ("roots", &self.roots, &given.roots),
             ("answer", &self.answer, &given.answer),
         ];
-        let wrong = |(name, area, front): (&str, &Area, &Vec<u64>)| {
-            let i = area.differs(front)?;
-            Some(format!("{name}: word {} differs", i as i64 - GUARD as i64))
+        let wrong = |(name, area, front): (&str, &Area<u64>, &Vec<u64>)| {
+            let i = area.differs(0, front)?;
+            Some(format!("{name}: word {i} differs"))
         };
         parts.into_iter().find_map(wrong)
     }

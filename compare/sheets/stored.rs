@@ -7,8 +7,10 @@
 //! `*NNNNN:piece` is the piece so many times, with `#` for the number of the turn. A line that
 //! begins with `#` says what follows it.
 use crate::damage;
-use crate::good::{self, Random};
-use crate::port::{ENOUGH, Lent, filler};
+use crate::area::Filler;
+use crate::good;
+use crate::port::{ENOUGH, Lent};
+use crate::random::Random;
 use crate::reading;
 
 /// After this line the sheets are random, made anew from a seed.
@@ -56,8 +58,8 @@ pub fn renewed(list: &str) -> String {
 }
 
 fn answered(lent: Lent, recipe: &str) -> String {
-    let mut rows: Vec<u64> = (0..lent.words).map(filler).collect();
-    let mut roots: Vec<u64> = (0..lent.places).map(filler).collect();
+    let mut rows: Vec<u64> = (0..lent.words).map(u64::filler).collect();
+    let mut roots: Vec<u64> = (0..lent.places).map(u64::filler).collect();
     let (number, count, more) = match reading::load(lent.words, lent.places, &expanded(recipe)) {
         Ok(table) => {
             let words = table.words();

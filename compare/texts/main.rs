@@ -7,11 +7,14 @@
 
 mod arael;
 mod area;
+mod asked;
 mod cse;
 mod fmt;
 mod lists;
 mod port;
 mod printed;
+mod random;
+mod rows;
 mod stored;
 mod tree;
 mod trees;
@@ -21,10 +24,10 @@ mod words;
 pub use arael::{E, Expr, FuncKind, symbol};
 pub(crate) use arael::{as_exact_int, expand_func};
 
-use lists::Random;
+use random::Random;
 use port::{BROKEN, Call, Expected, NO_ANSWER, Port, Writer};
 use std::time::{Duration, Instant};
-use trees::Rows;
+use rows::Rows;
 use words::{BELOW, KINDS, NAMES};
 
 const SEED: u64 = 20_261_115;
@@ -34,7 +37,7 @@ const DAMAGED: usize = 5;
 
 fn main() {
     let words: Vec<String> = std::env::args().skip(1).collect();
-    printed::hush();
+    asked::hush();
     match words[0].as_str() {
         "--self-test" => self_test(),
         "--stored" => print!("{}", stored::list()),

@@ -3,7 +3,7 @@ use crate::area::Area;
 use std::time::{Duration, Instant};
 
 unsafe extern "C" {
-    // crates/ctext: a slice is a pointer and a length
+    // crates/ctext and crates/cprint: a slice is a pointer and a length
     fn cse_text(
         rows: *const u64,
         rows_len: usize,

@@ -1,144 +1,25 @@
 //! The source's own answers to random lists, laid out as answer rows (AnswerRows.antt in
 //! crates/cse/specs) and printed by the port: the text is that of `Display` for `Intermediate` and
 //! `Expr`, a line feed after each binding and each result.
-use crate::arael::{E, OutsideConstants};
-use crate::cse::{Arm, Intermediate, Switch, cse, cse_scoped};
-use crate::lists::{self, Random};
+use crate::arael::E;
+use crate::asked::{Answer, asked, text};
+use crate::cse::{Intermediate, Switch};
+use crate::lists;
 use crate::port::{Call, Expected, NO_ANSWER, Port, Writer};
+use crate::random::Random;
+use crate::rows::{RESULT, Rows, laid_out};
 use crate::tree::Maker;
-use crate::trees::Rows;
-use crate::words::{self, BELOW};
+use crate::words::BELOW;
 use crate::{nothing, spoil};
-use std::any::Any;
-use std::panic::{AssertUnwindSafe, catch_unwind, resume_unwind, set_hook, take_hook};
 use std::time::{Duration, Instant};
 
 const SEED: u64 = 20_261_116;
 /// Of a hundred answers so many are damaged too.
 const DAMAGED: usize = 5;
 
-/// Kinds of rows beside those of expressions. A match's is 30 for a sign switch, 31 for an index
-/// switch, 32 for one with a default.
-const LET: u64 = 29;
-const SIGN: u64 = 30;
-const INDEX: u64 = 31;
-const INDEX_OR: u64 = 32;
-const NAME: u64 = 33;
-const ARM: u64 = 34;
-const VALUE: u64 = 35;
-const RESULT: u64 = 36;
-
 /// 01's numbers: words that are no answer's rows, and a text longer than what is lent.
 const NOT_LAID_OUT: u64 = 13;
 const TOO_LONG: u64 = 14;
-
-pub struct Answer {
-    pub inters: Vec<Intermediate>,
-    pub results: Vec<E>,
-}
-
-// ---- the source's answers
-
-/// The panics that stand for refusals.
-fn is_refusal(payload: &(dyn Any + Send)) -> bool {
-    let cycle = |said: &String| said.contains("dependency cycle among intermediates");
-    payload.is::<OutsideConstants>() || payload.downcast_ref().is_some_and(cycle)
-}
-
-/// Has them say nothing.
-pub fn hush() {
-    let loud = take_hook();
-    set_hook(Box::new(move |info| {
-        if !is_refusal(info.payload()) {
-            loud(info);
-        }
-    }));
-}
-
-/// The answer in one form, or none where the list is refused.
-pub fn asked(es: &[E], scoped: bool) -> Option<Answer> {
-    let ask = || {
-        if scoped {
-            let (inters, results) = cse_scoped(es);
-            return Answer { inters, results };
-        }
-        let (lets, results) = cse(es);
-        let inters = lets.into_iter().map(|(name, expr)| Intermediate::Let { name, expr }).collect();
-        Answer { inters, results }
-    };
-    match catch_unwind(AssertUnwindSafe(ask)) {
-        Ok(answer) => Some(answer),
-        Err(payload) if is_refusal(payload.as_ref()) => None,
-        Err(payload) => resume_unwind(payload),
-    }
-}
-
-pub fn text(a: &Answer) -> String {
-    let inters = a.inters.iter().map(|it| format!("{it}\n"));
-    inters.chain(a.results.iter().map(|e| format!("{e}\n"))).collect()
-}
-
-// ---- answer rows
-
-struct Layout<'a> {
-    rows: &'a Rows,
-    words: Vec<u64>,
-}
-
-impl Layout<'_> {
-    fn put(&mut self, kind: u64, below: u64) {
-        self.words.push(kind + BELOW * below);
-    }
-
-    fn code(&self, name: &str) -> u64 {
-        words::symbol_code(name, &|name| self.rows.number(name))
-    }
-
-    fn tree(&mut self, e: &E) {
-        words::put(e, &|name| self.rows.number(name), &mut self.words);
-    }
-
-    fn each(&mut self, kind: u64, es: &[E]) {
-        for e in es {
-            self.put(kind, 0);
-            self.tree(e);
-        }
-    }
-
-    fn intermediate(&mut self, it: &Intermediate) {
-        match it {
-            Intermediate::Let { name, expr } => {
-                self.put(LET, self.code(name));
-                self.tree(expr);
-            }
-            Intermediate::Match { switch, names, arms, default } => {
-                let kind = match (switch, default) {
-                    (Switch::Sign(_), _) => SIGN,
-                    (_, None) => INDEX,
-                    (_, Some(_)) => INDEX_OR,
-                };
-                let all: Vec<&Arm> = arms.iter().chain(default).collect();
-                self.put(kind, (1 + names.len() + all.len()) as u64);
-                self.tree(switch.expr());
-                names.iter().for_each(|name| self.put(NAME, self.code(name)));
-                all.into_iter().for_each(|arm| self.arm(arm));
-            }
-        }
-    }
-
-    fn arm(&mut self, arm: &Arm) {
-        self.put(ARM, (arm.inters.len() + arm.values.len()) as u64);
-        arm.inters.iter().for_each(|it| self.intermediate(it));
-        self.each(VALUE, &arm.values);
-    }
-}
-
-pub fn laid_out(rows: &Rows, a: &Answer) -> Vec<u64> {
-    let mut layout = Layout { rows, words: Vec::new() };
-    a.inters.iter().for_each(|it| layout.intermediate(it));
-    layout.each(RESULT, &a.results);
-    layout.words
-}
 
 /// One list, or two or three together, with node rows for its symbols.
 fn list(r: &mut Random) -> (Rows, Vec<E>) {
@@ -347,6 +228,7 @@ pub fn compare(count: usize) -> bool {
     let none = Answer {
         inters: Vec::new(),
         results: Vec::new(),
+        reciprocals: 0,
     };
     let empty = call(&mut r, &Rows::new(), laid_out(&Rows::new(), &none), 0);
     tally.hold(&mut port, &empty, &expected(&empty, ""), "no roots");
@@ -354,8 +236,8 @@ pub fn compare(count: usize) -> bool {
         let (rows, es) = list(&mut r);
         for scoped in [false, true] {
             match asked(&es, scoped) {
-                Some(answer) => tally.hold_answer(&mut r, &mut port, &rows, &answer),
-                None => tally.refused += 1,
+                Ok(answer) => tally.hold_answer(&mut r, &mut port, &rows, &answer),
+                Err(_) => tally.refused += 1,
             }
         }
     }
@@ -368,7 +250,7 @@ pub fn noticed(r: &mut Random, port: &mut Port, wrong: usize) -> usize {
     let mut noticed = 0;
     while tried < wrong {
         let (rows, es) = list(r);
-        let Some(answer) = asked(&es, tried % 2 == 0) else {
+        let Ok(answer) = asked(&es, tried % 2 == 0) else {
             continue;
         };
         let text = text(&answer);

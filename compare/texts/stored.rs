@@ -5,10 +5,13 @@
 //! bar, and its text; after each word there is a space. A line that begins with an exclamation mark
 //! has an answer's rows, and a tilde for each line feed of its text.
 use crate::arael::E;
-use crate::lists::{self, Random};
+use crate::asked::{self, asked};
+use crate::lists;
+use crate::random::Random;
 use crate::printed::{self, FORMS};
 use crate::tree::Maker;
-use crate::trees::{self, Rows, num, op, sym};
+use crate::rows::{Rows, laid_out};
+use crate::trees::{self, num, op, sym};
 use crate::words::{self, KINDS};
 
 const SEED: u64 = 1;
@@ -24,7 +27,9 @@ const SYMBOLS: [&str; 13] = [
 
 pub fn list() -> String {
     let mut rows = Rows::new();
-    SYMBOLS.iter().for_each(|name| rows.put_symbol(name));
+    for name in SYMBOLS {
+        rows.put_symbol(name);
+    }
     let mut text = format!("{}\n", spaced(&rows.words));
     for e in seats().into_iter().chain(nests()) {
         text += &line(&rows, &e);
@@ -50,16 +55,16 @@ fn answers(rows: &Rows) -> String {
         let trees = lists::list(&mut r);
         let mut maker = Maker::new(false);
         let es: Vec<E> = trees.iter().map(|t| maker.make(t)).collect();
-        let Some(answer) = printed::asked(&es, true) else {
+        let Ok(answer) = asked(&es, true) else {
             continue;
         };
         let mut forms = [false; FORMS.len()];
         printed::mark(&answer.inters, false, &mut forms);
         let wanted = forms.iter().zip(met).any(|(here, n)| *here && n < OF_EACH_FORM);
-        let said = printed::text(&answer);
+        let said = asked::text(&answer);
         if wanted && said.len() <= SHORT_ANSWER {
             met.iter_mut().zip(forms).for_each(|(n, here)| *n += usize::from(here));
-            let words = spaced(&printed::laid_out(rows, &answer));
+            let words = spaced(&laid_out(rows, &answer));
             text += &format!("!{words}|{}\n", said.replace('\n', "~"));
         }
     }

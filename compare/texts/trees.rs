@@ -1,7 +1,8 @@
 //! Random trees for their texts, from a fixed seed: every kind at every place of an operand, deep
 //! nests, names and constants at the edges of what is allowed; and node rows that hold the names.
 use crate::arael::{E, Expr};
-use crate::lists::Random;
+use crate::random::Random;
+use crate::rows::{Rows, name};
 use crate::tree::{SELECT, SELECT_OR, expr};
 use crate::words::KINDS;
 
@@ -23,94 +24,12 @@ pub fn pick<A: Clone>(r: &mut Random, l: &[A]) -> A {
 
 // ---- node rows
 
-/// A row is so many words: kind, default flag, how many fields, and the fields.
-pub const WIDTH: usize = 35;
-
-/// The symbols of a list by their rows; in other rows there are constants and operations.
-pub struct Rows {
-    pub names: Vec<Option<String>>,
-    pub words: Vec<u64>,
-}
-
-impl Rows {
-    pub fn new() -> Rows {
-        Rows {
-            names: Vec::new(),
-            words: Vec::new(),
-        }
-    }
-
-    fn put(&mut self, name: Option<String>, kind: u64, fields: &[u64]) {
-        let mut row = vec![kind, 0, fields.len() as u64];
-        row.extend(fields);
-        row.resize(WIDTH, 0);
-        self.words.extend(row);
-        self.names.push(name);
-    }
-
-    pub fn put_symbol(&mut self, name: &str) {
-        let fields: Vec<u64> = name.bytes().map(u64::from).collect();
-        self.put(Some(name.to_string()), 0, &fields);
-    }
-
-    /// A constant, or an operation on earlier rows.
-    pub fn put_other(&mut self, r: &mut Random) {
-        let before = self.names.len();
-        if before == 0 || r.chance(50) {
-            self.put(None, 1, &[r.below(2) as u64, 1 + r.below(100) as u64]);
-        } else {
-            self.put(None, 3, &[r.below(before) as u64, r.below(before) as u64]);
-        }
-    }
-
-    /// The number of a symbol: that of the first row with its name.
-    pub fn number(&self, name: &str) -> u64 {
-        let row = self.names.iter().position(|n| n.as_deref() == Some(name));
-        row.expect("a symbol of the rows") as u64
-    }
-
-    fn symbols(&self) -> Vec<String> {
-        self.names.iter().flatten().cloned().collect()
-    }
-}
-
-const FIRST: &[u8] = b"abcxyzABCXYZmx____";
-const LATER: &[u8] = b"abcxyzABCXYZmx____0123456789";
-
-/// Names that are nearly those of an answer, which no symbol of a list has.
-const NEARLY: [&str; 8] = ["__x", "__m", "__x1a", "_x1", "__X1", "__m_0", "x", "__mm2"];
-
-fn made_by_an_answer(name: &str) -> bool {
-    let digits = |head| {
-        let rest: Option<&str> = name.strip_prefix(head);
-        rest.is_some_and(|d| !d.is_empty() && d.bytes().all(|b| b.is_ascii_digit()))
-    };
-    digits("__x") || digits("__m")
-}
-
-pub fn name(r: &mut Random) -> String {
-    loop {
-        if r.chance(10) {
-            return pick(r, &NEARLY).to_string();
-        }
-        let length = if r.chance(30) { 32 - r.below(3) } else { 1 + r.below(12) };
-        let mut bytes = vec![pick(r, FIRST)];
-        bytes.extend((1..length).map(|_| pick(r, LATER)));
-        let name = String::from_utf8(bytes).unwrap();
-        if !made_by_an_answer(&name) {
-            return name;
-        }
-    }
-}
-
 pub fn rows(r: &mut Random) -> Rows {
     let mut rows = Rows::new();
-    let name = name(r);
-    rows.put_symbol(&name);
+    rows.put_symbol(&name(r));
     for _ in 0..r.below(8) {
         if r.chance(70) {
-            let name = self::name(r);
-            rows.put_symbol(&name);
+            rows.put_symbol(&name(r));
         } else {
             rows.put_other(r);
         }

@@ -1,4 +1,3 @@
 pub mod Whole
-pub mod Constants
 pub mod Exactness
 pub mod Wholeness

@@ -1,25 +1,20 @@
--- How much the arms of a scope's switches hold: the switches outside arms have their arms in separate places, so all of them together are no larger than the
--- scope; and one arm of each member of a group is part of that. Assumes nothing.
+-- How much the arms of a scope's switches hold: the switches outside arms have their arms in separate places, so all of them together are no larger than what
+-- the scope holds for fusion; and one arm of each member of a group is part of that. Assumes nothing.
 use Prim.Native.Nat.{ℕ, zero, suc, _+_, _≤_}
-use mathlib.Core.Path.{_≡_, refl, _∙_, ap, subst}
-use mathlib.Core.Bool.{Bool, true, false, _&&_}
+use mathlib.Core.Path.{_≡_, refl, ap}
+use mathlib.Core.Bool.{Bool, true, false}
 use mathlib.Core.List.{List, [], _∷_, _++_}
 use native.Mathlib.Omega.{arith}
 use lib.ListN.{length}
-use lib.Dec.{T, eqb}
-use Rattle.tree.specs.Tree.{Name, xname, Tree, Forest, Sym, Const, Op, nil, _◂_, folds, operands}
-use Rattle.tree.specs.Kinds.{Mul, Div, is-switch}
+use lib.Dec.{T}
+use Rattle.tree.specs.Tree.{Tree, Forest, Sym, Const, Op, nil, _◂_, folds, operands}
+use Rattle.tree.specs.Kinds.{is-switch}
 use Rattle.tree.specs.Facts.{total, size, outer, outer-of, outer-first, all-outer}
 use Rattle.tree.specs.Rows.{occurrences}
-use Rattle.tree.proofs.Logic.{and-right}
-use Rattle.rewrite.specs.Rewrite.{divides-by, replace-divisor, replace-divisors, dividend}
 use Rattle.rewrite.proofs.Measure.{sum-of, sum-append}
-use Rattle.rewrite.proofs.DivisorCount.{divisor-size}
-use Rattle.cse.specs.Extract.{State, roots, among, distinct, replace-divisor-each, bind-reciprocal, bind-reciprocals, reciprocals}
-use Rattle.cse.specs.Scope.{Switch, Group, switches, collect-switches, joins, place, groups-from, members, first-arms, rest-arms, columns, arms-of-members}
-use Rattle.cse.proofs.ReciprocalsCount.{AllTrees, bound-divisors, inverse, roots-reciprocal, reciprocals-are}
-
--- ---- the nodes in arms of a tree's switches outside arms
+use Rattle.cse.specs.Extract.{Binding, State, bound, roots, among, distinct}
+use Rattle.cse.specs.Scope.{Switch, Group, switches, collect-switches, joins, place, groups-from, members, first-arms, rest-arms, columns, arms-of-members, some-switch, holds-switch, held-bindings, held}
+use Rattle.cse.proofs.ReciprocalsCount.{AllTrees}
 
 unfoldable pub sizes-of : Forest → ℕ
 unfolding size
@@ -34,117 +29,6 @@ size-is k f = ap suc (same f)
     same nil = refl
     same (t ◂ f) = ap (λ (m : ℕ). size t + m) (same f)
 
-unfoldable mutual
-  unfolding sizes-of
-
-  pub arm-nodes : Tree → ℕ
-  arm-nodes (Sym n) = 0
-  arm-nodes (Const c) = 0
-  arm-nodes (Op k f) = elim (is-switch k) [ true ↦ arm-nodes-first f | false ↦ arm-nodes-each f ]
-
-  pub arm-nodes-each : Forest → ℕ
-  arm-nodes-each nil = 0
-  arm-nodes-each (t ◂ f) = arm-nodes t + arm-nodes-each f
-
-  pub arm-nodes-first : Forest → ℕ
-  arm-nodes-first nil = 0
-  arm-nodes-first (t ◂ f) = arm-nodes t + sizes-of f
-
-mutual
-  unfolding arm-nodes sizes-of
-
-  pub arm-nodes-size : (t : Tree) → arm-nodes t ≤ size t
-  arm-nodes-size (Sym n) = omega arith
-  arm-nodes-size (Const c) = omega arith
-  arm-nodes-size (Op k f) = go (is-switch k) (arm-nodes-each-size f) (arm-nodes-first-size f)
-    where
-      go : (b : Bool) → arm-nodes-each f ≤ sizes-of f → arm-nodes-first f ≤ sizes-of f → elim b as (λ _. ℕ) [ true ↦ arm-nodes-first f | false ↦ arm-nodes-each f ] ≤ size (Op k f)
-      go true g h = (let q = size-is k f in omega arith)
-      go false g h = (let q = size-is k f in omega arith)
-
-  arm-nodes-each-size : (f : Forest) → arm-nodes-each f ≤ sizes-of f
-  arm-nodes-each-size nil = omega arith
-  arm-nodes-each-size (t ◂ f) = (let a = arm-nodes-size t in let b = arm-nodes-each-size f in omega arith)
-
-  arm-nodes-first-size : (f : Forest) → arm-nodes-first f ≤ sizes-of f
-  arm-nodes-first-size nil = omega arith
-  arm-nodes-first-size (t ◂ f) = (let a = arm-nodes-size t in omega arith)
-
--- no replaced divisor raises it
-module _ (d : Tree) (n : Name) where
-  sizes-divided : (f : Forest) → sizes-of (replace-divisors d n f) ≤ sizes-of f
-  unfolding replace-divisors sizes-of
-  sizes-divided nil = omega arith
-  sizes-divided (t ◂ f) = (let a = divisor-size d n t in let b = sizes-divided f in omega arith)
-
-  arm-nodes-step :
-      (k : ℕ) (f : Forest) (b c : Bool) → (T b → T (divides-by d f)) → (T (divides-by d f) → (arm-nodes-each (dividend d n f) ≤ arm-nodes-each f) × (arm-nodes-each (dividend d n f) ≤ arm-nodes-first f))
-      → arm-nodes-each (replace-divisors d n f) ≤ arm-nodes-each f → arm-nodes-first (replace-divisors d n f) ≤ arm-nodes-first f → (c ≡ is-switch k)
-      → arm-nodes (elim b [ true ↦ Op Mul (dividend d n f) | false ↦ Op k (replace-divisors d n f) ]) ≤ elim c as (λ _. ℕ) [ true ↦ arm-nodes-first f | false ↦ arm-nodes-each f ]
-  unfolding arm-nodes
-  arm-nodes-step k f true true t g h i e = g (t tt) .1
-  arm-nodes-step k f true false t g h i e = g (t tt) .0
-  arm-nodes-step k f false true t g h i e =
-      subst (λ (b : Bool). elim b as (λ _. ℕ) [ true ↦ arm-nodes-first (replace-divisors d n f) | false ↦ arm-nodes-each (replace-divisors d n f) ] ≤ arm-nodes-first f) e i
-  arm-nodes-step k f false false t g h i e =
-      subst (λ (b : Bool). elim b as (λ _. ℕ) [ true ↦ arm-nodes-first (replace-divisors d n f) | false ↦ arm-nodes-each (replace-divisors d n f) ] ≤ arm-nodes-each f) e h
-
-  mutual
-    unfolding replace-divisor arm-nodes divides-by
-
-    pub arm-nodes-divided : (t : Tree) → arm-nodes (replace-divisor d n t) ≤ arm-nodes t
-    arm-nodes-divided (Sym s) = omega arith
-    arm-nodes-divided (Const c) = omega arith
-    arm-nodes-divided (Op k f) =
-        arm-nodes-step k f (eqb k Div && divides-by d f) (is-switch k) (and-right (eqb k Div) (divides-by d f)) (λ t. arm-nodes-dividend f t) (arm-nodes-each-divided f) (arm-nodes-first-divided f) refl
-
-    arm-nodes-each-divided : (f : Forest) → arm-nodes-each (replace-divisors d n f) ≤ arm-nodes-each f
-    arm-nodes-each-divided nil = omega arith
-    arm-nodes-each-divided (t ◂ f) = (let a = arm-nodes-divided t in let b = arm-nodes-each-divided f in omega arith)
-
-    arm-nodes-first-divided : (f : Forest) → arm-nodes-first (replace-divisors d n f) ≤ arm-nodes-first f
-    arm-nodes-first-divided nil = omega arith
-    arm-nodes-first-divided (t ◂ f) = (let a = arm-nodes-divided t in let b = sizes-divided f in omega arith)
-
-    arm-nodes-dividend : (f : Forest) → T (divides-by d f) → (arm-nodes-each (dividend d n f) ≤ arm-nodes-each f) × (arm-nodes-each (dividend d n f) ≤ arm-nodes-first f)
-    arm-nodes-dividend nil t = absurd t
-    arm-nodes-dividend (a ◂ f) t = (let q = arm-nodes-divided a in (omega arith, omega arith))
-
--- ---- the same of a scope's roots after its reciprocals, where the bound divisors have none
-
-divided-arm-nodes : (d : Tree) (n : Name) (l : List Tree) → sum-of arm-nodes (replace-divisor-each d n l) ≤ sum-of arm-nodes l
-unfolding replace-divisor-each sum-of
-divided-arm-nodes d n [] = omega arith
-divided-arm-nodes d n (t ∷ l) = (let a = arm-nodes-divided d n t in let b = divided-arm-nodes d n l in omega arith)
-
-inverse-arm-nodes : (d : Tree) → sum-of arm-nodes (inverse d ∷ []) ≡ arm-nodes d
-unfolding inverse arm-nodes sum-of
-inverse-arm-nodes d = omega arith
-
-each-arm-nodes : (ds : List Tree) (s : State) → AllTrees (λ d. arm-nodes d ≤ 0) ds → sum-of arm-nodes (roots (bind-reciprocals ds s)) ≤ sum-of arm-nodes (roots s)
-unfolding bind-reciprocals
-each-arm-nodes [] s h = omega arith
-each-arm-nodes (d ∷ ds) s h =
-    (let a = each-arm-nodes ds (bind-reciprocal d s) (h .1) in
-    let b : sum-of arm-nodes (roots (bind-reciprocal d s)) ≡ sum-of arm-nodes (replace-divisor-each d (xname (s .next)) (roots s)) + sum-of arm-nodes (inverse d ∷ []) =
-    ap (sum-of arm-nodes) (roots-reciprocal d s) ∙ sum-append arm-nodes (replace-divisor-each d (xname (s .next)) (roots s)) (inverse d ∷ []) in
-    let c = divided-arm-nodes d (xname (s .next)) (roots s) in
-    let e = inverse-arm-nodes d in
-    let z = h .0 in
-    omega arith)
-
-sum-arm-nodes : (l : List Tree) → sum-of arm-nodes l ≤ sum-of size l
-unfolding sum-of
-sum-arm-nodes [] = omega arith
-sum-arm-nodes (t ∷ l) = (let a = arm-nodes-size t in let b = sum-arm-nodes l in omega arith)
-
-pub reciprocals-arm-nodes : (scoped : Bool) (s : State) → AllTrees (λ d. arm-nodes d ≤ 0) (bound-divisors scoped s) → sum-of arm-nodes (roots (reciprocals scoped s)) ≤ sum-of size (roots s)
-reciprocals-arm-nodes scoped s h =
-    (let a = each-arm-nodes (bound-divisors scoped s) s h in
-    let b = ap (λ (u : State). sum-of arm-nodes (roots u)) (reciprocals-are scoped s) in
-    let c = sum-arm-nodes (roots s) in
-    omega arith)
-
 -- ---- the switches outside arms
 
 unfoldable pub rest-sizes : Forest → ℕ
@@ -158,32 +42,27 @@ arms-size (Sym n) = 0
 arms-size (Const c) = 0
 arms-size (Op k f) = elim (is-switch k) [ true ↦ rest-sizes f | false ↦ 0 ]
 
+-- the arms of a tree's switches outside arms stand apart, so that they have no more nodes than the tree
 mutual
-  unfolding outer arm-nodes arms-size sum-of
+  unfolding outer sizes-of arms-size sum-of
 
-  outer-arm-nodes : (t : Tree) → sum-of arms-size (outer t) ≤ arm-nodes t
-  outer-arm-nodes (Sym n) = omega arith
-  outer-arm-nodes (Const c) = omega arith
-  outer-arm-nodes (Op k f) = go (is-switch k) (outer-of-arm-nodes f) (outer-first-arm-nodes f)
+  outer-arms : (t : Tree) → sum-of arms-size (outer t) ≤ size t
+  outer-arms (Sym n) = omega arith
+  outer-arms (Const c) = omega arith
+  outer-arms (Op k f) = go (is-switch k) (outer-of-arms f) (outer-first-arms f)
     where
-      go : (b : Bool) → sum-of arms-size (outer-of f) ≤ arm-nodes-each f → rest-sizes f + sum-of arms-size (outer-first f) ≤ arm-nodes-first f
-          → elim b as (λ _. ℕ) [ true ↦ rest-sizes f | false ↦ 0 ] + sum-of arms-size (elim b as (λ _. List Tree) [ true ↦ outer-first f | false ↦ outer-of f ])
-          ≤ elim b as (λ _. ℕ) [ true ↦ arm-nodes-first f | false ↦ arm-nodes-each f ]
-      go true g h = h
-      go false g h = omega arith
+      go : (b : Bool) → sum-of arms-size (outer-of f) ≤ sizes-of f → rest-sizes f + sum-of arms-size (outer-first f) ≤ sizes-of f
+          → elim b as (λ _. ℕ) [ true ↦ rest-sizes f | false ↦ 0 ] + sum-of arms-size (elim b as (λ _. List Tree) [ true ↦ outer-first f | false ↦ outer-of f ]) ≤ size (Op k f)
+      go true g h = (let q = size-is k f in omega arith)
+      go false g h = (let q = size-is k f in omega arith)
 
-  outer-first-arm-nodes : (f : Forest) → rest-sizes f + sum-of arms-size (outer-first f) ≤ arm-nodes-first f
-  outer-first-arm-nodes nil = omega arith
-  outer-first-arm-nodes (q ◂ f) = (let a = outer-arm-nodes q in omega arith)
+  outer-first-arms : (f : Forest) → rest-sizes f + sum-of arms-size (outer-first f) ≤ sizes-of f
+  outer-first-arms nil = omega arith
+  outer-first-arms (q ◂ f) = (let a = outer-arms q in omega arith)
 
-  outer-of-arm-nodes : (f : Forest) → sum-of arms-size (outer-of f) ≤ arm-nodes-each f
-  outer-of-arm-nodes nil = omega arith
-  outer-of-arm-nodes (t ◂ f) = (let a = outer-arm-nodes t in let b = outer-of-arm-nodes f in let c = sum-append arms-size (outer t) (outer-of f) in omega arith)
-
-all-outer-arm-nodes : (l : List Tree) → sum-of arms-size (all-outer l) ≤ sum-of arm-nodes l
-unfolding all-outer sum-of
-all-outer-arm-nodes [] = omega arith
-all-outer-arm-nodes (t ∷ l) = (let a = outer-arm-nodes t in let b = all-outer-arm-nodes l in let c = sum-append arms-size (outer t) (all-outer l) in omega arith)
+  outer-of-arms : (f : Forest) → sum-of arms-size (outer-of f) ≤ sizes-of f
+  outer-of-arms nil = omega arith
+  outer-of-arms (t ◂ f) = (let a = outer-arms t in let b = outer-of-arms f in let c = sum-append arms-size (outer t) (outer-of f) in omega arith)
 
 distinct-sum : (v : Tree → ℕ) (seen l : List Tree) → sum-of v (distinct seen l) ≤ sum-of v l
 unfolding distinct sum-of
@@ -220,9 +99,64 @@ switches-total (Op k (q ◂ f) ∷ l) = go (is-switch k) (switches-total l)
     go true h = (let a = operands-total f in omega arith)
     go false h = omega arith
 
-pub collected-total : (rs : List Tree) → arms-total (collect-switches rs) ≤ sum-of arm-nodes rs
+collected-total : (rs : List Tree) → arms-total (collect-switches rs) ≤ sum-of arms-size (all-outer rs)
 unfolding collect-switches
-collected-total rs = (let a = switches-total (distinct [] (all-outer rs)) in let b = distinct-sum arms-size [] (all-outer rs) in let c = all-outer-arm-nodes rs in omega arith)
+collected-total rs = (let a = switches-total (distinct [] (all-outer rs)) in let b = distinct-sum arms-size [] (all-outer rs) in omega arith)
+
+-- ---- what a scope holds has all its switches outside arms, and so all their arms
+
+no-switch-no-arms : (l : List Tree) → (T (some-switch (switches l)) → ⊥) → sum-of arms-size l ≤ 0
+unfolding switches some-switch sum-of arms-size rest-sizes
+no-switch-no-arms [] h = omega arith
+no-switch-no-arms (Sym n ∷ l) h = (let a = no-switch-no-arms l h in omega arith)
+no-switch-no-arms (Const c ∷ l) h = (let a = no-switch-no-arms l h in omega arith)
+no-switch-no-arms (Op k nil ∷ l) h = go (is-switch k) (no-switch-no-arms l h)
+  where
+    go : (b : Bool) → sum-of arms-size l ≤ 0 → elim b as (λ _. ℕ) [ true ↦ 0 | false ↦ 0 ] + sum-of arms-size l ≤ 0
+    go true g = omega arith
+    go false g = omega arith
+no-switch-no-arms (Op k (q ◂ f) ∷ l) h = go (is-switch k) h (λ g. no-switch-no-arms l g)
+  where
+    go : (b : Bool)
+        → (T (some-switch (elim b as (λ _. List Switch) [ true ↦ record { tree = Op k (q ◂ f); kind = k; key = q; arms = operands f } ∷ switches l | false ↦ switches l ])) → ⊥)
+        → ((T (some-switch (switches l)) → ⊥) → sum-of arms-size l ≤ 0) → elim b as (λ _. ℕ) [ true ↦ sizes-of f | false ↦ 0 ] + sum-of arms-size l ≤ 0
+    go true h g = absurd (h tt)
+    go false h g = (let a = g h in omega arith)
+
+-- trees before others: their arms are within them
+before-arms : (l r : List Tree) (N : ℕ) → sum-of arms-size (all-outer r) ≤ N → sum-of arms-size (all-outer (l ++ r)) ≤ occurrences l + N
+unfolding all-outer occurrences
+before-arms [] r N h = omega arith
+before-arms (t ∷ l) r N h = (let a = outer-arms t in let b = before-arms l r N h in let c = sum-append arms-size (outer t) (all-outer (l ++ r)) in omega arith)
+
+held-bindings-arms : (x : ℕ) (l : List Binding) → sum-of arms-size (all-outer (bound l)) ≤ occurrences (held-bindings x l)
+unfolding held-bindings holds-switch bound all-outer occurrences sum-of
+held-bindings-arms x [] = omega arith
+held-bindings-arms zero (b ∷ l) = go (some-switch (switches (outer (b .expr)))) (no-switch-no-arms (outer (b .expr))) (held-bindings-arms zero l)
+  where
+    go : (c : Bool) → ((T c → ⊥) → sum-of arms-size (outer (b .expr)) ≤ 0) → sum-of arms-size (all-outer (bound l)) ≤ occurrences (held-bindings zero l)
+        → sum-of arms-size (outer (b .expr) ++ all-outer (bound l)) ≤ occurrences (elim c [ true ↦ b .expr ∷ held-bindings zero l | false ↦ held-bindings zero l ])
+    go true h g = (let a = outer-arms (b .expr) in let c = sum-append arms-size (outer (b .expr)) (all-outer (bound l)) in omega arith)
+    go false h g = (let a = h (λ z. z) in let c = sum-append arms-size (outer (b .expr)) (all-outer (bound l)) in omega arith)
+held-bindings-arms (suc x) (b ∷ l) =
+    (let a = outer-arms (b .expr) in
+    let g = held-bindings-arms x l in
+    let c = sum-append arms-size (outer (b .expr)) (all-outer (bound l)) in
+    omega arith)
+
+pub occurrences-append : (l r : List Tree) → occurrences (l ++ r) ≡ occurrences l + occurrences r
+unfolding occurrences
+occurrences-append [] r = omega arith
+occurrences-append (t ∷ l) r = (let a = occurrences-append l r in omega arith)
+
+held-total : (x : ℕ) (s : State) → arms-total (collect-switches (roots s)) ≤ occurrences (held x s)
+unfolding held
+held-total x s =
+    (let a = collected-total (roots s) in
+    let b : sum-of arms-size (all-outer (roots s)) ≤ occurrences (s .results) + occurrences (held-bindings x (s .lets)) =
+    (unfold roots in before-arms (s .results) (bound (s .lets)) (occurrences (held-bindings x (s .lets))) (held-bindings-arms x (s .lets))) in
+    let c = occurrences-append (s .results) (held-bindings x (s .lets)) in
+    omega arith)
 
 -- ---- groups and columns: N bounds the arms of each group, and each arm has a property
 
@@ -287,16 +221,26 @@ unfolding groups-total
 groups-small N [] h = tt
 groups-small N (g ∷ gs) h = (omega arith, groups-small N gs (omega arith))
 
-pub collected-small : (N : ℕ) (rs : List Tree) → sum-of arm-nodes rs ≤ N → Small-groups N (groups-from [] (collect-switches rs))
-collected-small N rs h =
-    groups-small N (groups-from [] (collect-switches rs))
-    (let a = from-total [] (collect-switches rs) in let b = collected-total rs in let c : groups-total [] ≡ 0 = (unfold groups-total in refl) in omega arith)
+-- the arms of each group are no larger than what the scope holds
+pub held-small : (N x : ℕ) (s : State) → occurrences (held x s) ≤ N → Small-groups N (groups-from [] (collect-switches (roots s)))
+held-small N x s h =
+    groups-small N (groups-from [] (collect-switches (roots s)))
+    (let a = from-total [] (collect-switches (roots s)) in let b = held-total x s in let c : groups-total [] ≡ 0 = (unfold groups-total in refl) in omega arith)
 
--- lists of trees, each with a property of its own and all of them with the trees' one
+-- and whatever they are, there is a number that is large enough
+pub some-small : (rs : List Tree) → Small-groups (arms-total (collect-switches rs)) (groups-from [] (collect-switches rs))
+some-small rs =
+    groups-small (arms-total (collect-switches rs)) (groups-from [] (collect-switches rs))
+    (let a = from-total [] (collect-switches rs) in let c : groups-total [] ≡ 0 = (unfold groups-total in refl) in omega arith)
+
+-- what an arm's scope is given: trees with a property, at most N nodes, and not nothing
+abbrev pub Given : (Tree → Type 0) → ℕ → List Tree → Type 0
+Given P N l = AllTrees P l × (occurrences l ≤ N) × (1 ≤ length l)
+
 module _ (P : Tree → Type 0) (N : ℕ) where
   abbrev pub Columns : List (List Tree) → Type 0
   Columns [] = Unit {0}
-  Columns (l ∷ ls) = (AllTrees P l × (occurrences l ≤ N)) × Columns ls
+  Columns (l ∷ ls) = Given P N l × Columns ls
 
   abbrev All-lists : List (List Tree) → Type 0
   All-lists [] = Unit {0}
@@ -318,13 +262,14 @@ module _ (P : Tree → Type 0) (N : ℕ) where
   rest-columns ([] ∷ ls) h = (let q = rest-columns ls (h .1) in ((tt, q .0), (let a = q .1 in omega arith)))
   rest-columns ((t ∷ ts) ∷ ls) h = (let q = rest-columns ls (h .1) in ((h .0 .1, q .0), (let a = q .1 in omega arith)))
 
-  columns-all : (n : ℕ) (ls : List (List Tree)) → All-lists ls → lists-total ls ≤ N → Columns (columns n ls)
+  -- as many columns as the first list is long, so that none is empty
+  columns-all : (ts : List Tree) (ls : List (List Tree)) → All-lists (ts ∷ ls) → lists-total (ts ∷ ls) ≤ N → Columns (columns (length ts) (ts ∷ ls))
   unfolding columns
-  columns-all zero ls h g = tt
-  columns-all (suc n) ls h g =
-      let a = first-column ls h in
-      let b = rest-columns ls h in
-      ((a .0, (let c = a .1 in omega arith)), columns-all n (rest-arms ls) (b .0) (let c = b .1 in omega arith))
+  columns-all [] ls h g = tt
+  columns-all (t ∷ ts) ls h g =
+      let a = first-column ((t ∷ ts) ∷ ls) h in
+      let b = rest-columns ((t ∷ ts) ∷ ls) h in
+      ((a .0, (let c = a .1 in omega arith), (unfold first-arms in omega arith)), (unfold rest-arms in columns-all ts (rest-arms ls) (b .0) (let c = b .1 in omega arith)))
 
   of-members : (l : List Switch) → All-arms P l → All-lists (arms-of-members l) × (lists-total (arms-of-members l) ≡ arms-total l)
   unfolding arms-of-members lists-total arms-total
@@ -332,6 +277,7 @@ module _ (P : Tree → Type 0) (N : ℕ) where
   of-members (s ∷ l) h = (let q = of-members l (h .1) in ((h .0, q .0), ap (λ (m : ℕ). occurrences (s .arms) + m) (q .1)))
 
   pub group-columns : (g : Group) → All-arms P (members g) → arms-total (members g) ≤ N → Columns (columns (length (g .first .arms)) (arms-of-members (members g)))
+  unfolding members arms-of-members
   group-columns g h m =
       let q = of-members (members g) h in
-      columns-all (length (g .first .arms)) (arms-of-members (members g)) (q .0) (let a = q .1 in omega arith)
+      columns-all (g .first .arms) (arms-of-members (g .others)) (q .0) (let a = q .1 in omega arith)

@@ -9,19 +9,19 @@ use native.Mathlib.Omega.{arith}
 use lib.IntN.{ℤ, pos, negsuc}
 use lib.Dec.{T, eqb, leb, eqb→eq, le→leb}
 use Rattle.tree.specs.Outcome.{Outcome, ok, refused, _>>=_}
-use Rattle.tree.specs.Tree.{Name, xname, Tree, Forest, Sym, Const, Op, nil, _◂_, fold, folds, eq-tree, eq-int}
+use Rattle.tree.specs.Tree.{Name, xname, Tree, Forest, Sym, Const, Op, nil, _◂_, fold, folds, operands, eq-tree, eq-int}
 use Rattle.tree.specs.Kinds.{Neg, Mul, Div, is-switch}
 use Rattle.tree.specs.Facts.{size, cost, has-symbol, some-of, nodes, nodes-of, all-nodes, outer, outer-of, outer-first, all-outer, outside, count, uses, uses-outside}
 use Rattle.tree.proofs.Logic.{and-left, and-right, and-both}
 use Rattle.rewrite.specs.Rewrite.{Factors, one, flatten-mul-factors, flatten-operands, flatten-after, times, negated, constant-of, nested-product, with-coefficient, built, build-mul-from-factors, remove-each, is-mul, match-factors, each-operand, replace-within, replace, divides-by, replace-divisor, replace-divisors, dividend}
 use Rattle.rewrite.proofs.Measure.{count-cons, one-self}
 use Rattle.cse.specs.Extract.{State, roots, is-candidate, best, extract, extract-all, divisor-of, divisors, replace-divisor-each, bind-reciprocal, bind-reciprocals, reciprocals}
+use Rattle.cse.specs.Scope.{Switch, switches, some-switch, holds-switch}
 use Rattle.cse.proofs.RoundsGood.{extract-all-good}
 use Rattle.cse.proofs.Outcomes.{Good, then-good, good-ok, good-at}
 use Rattle.cse.proofs.RoundsCount.{Replaced, extracted, none-fits, candidate-facts, begin-roots}
 use Rattle.cse.proofs.ReciprocalsCount.{AllTrees, all-map, divisors-all, bound-divisors, bound-twice, bound-outside, inverse, roots-reciprocal, reciprocals-are}
 use Rattle.cse.proofs.Levels.{trees-append, trees-at, All-left, left-each}
-use Rattle.cse.proofs.ArmNodes.{arm-nodes, arm-nodes-each, arm-nodes-first}
 
 -- ---- trees each of whose operations passes a test of its kind and operands
 
@@ -615,45 +615,77 @@ light s e d u o c h =
     (and-both (has-symbol d) _ h
     (and-both (leb 2 (count d (all-nodes (roots s)))) _ (le→leb 2 (count d (all-nodes (roots s))) (omega arith)) (le→leb 1 (count d (all-outer (roots s))) b))))
 
-no-arm-nodes-op : (k : ℕ) (f : Forest) (b : Bool) → T (not b) → arm-nodes-each f ≤ 0 → elim b as (λ _. ℕ) [ true ↦ arm-nodes-first f | false ↦ arm-nodes-each f ] ≤ 0
-no-arm-nodes-op k f true t h = absurd t
-no-arm-nodes-op k f false t h = h
-
-mutual
-  unfolding arm-nodes no-switch all-ops
-
-  no-arm-nodes : (t : Tree) → T (no-switch t) → arm-nodes t ≤ 0
-  no-arm-nodes (Sym n) h = omega arith
-  no-arm-nodes (Const c) h = omega arith
-  no-arm-nodes (Op k f) h =
-      no-arm-nodes-op k f (is-switch k) (and-left (not (is-switch k)) (all-ops-each (λ k f. not (is-switch k)) f) h)
-      (no-arm-nodes-each f (and-right (not (is-switch k)) (all-ops-each (λ k f. not (is-switch k)) f) h))
-
-  no-arm-nodes-each : (f : Forest) → T (all-ops-each (λ k f. not (is-switch k)) f) → arm-nodes-each f ≤ 0
-  no-arm-nodes-each nil h = omega arith
-  no-arm-nodes-each (t ◂ f) h =
-      (let a = no-arm-nodes t (and-left (no-switch t) (all-ops-each (λ k f. not (is-switch k)) f) h) in
-      let b = no-arm-nodes-each f (and-right (no-switch t) (all-ops-each (λ k f. not (is-switch k)) f) h) in
-      omega arith)
-
 -- a plain one that is a leaf or has no symbol
-plain-arm-nodes : (d : Tree) → T (plain d) → (1 ≤ cost d → T (has-symbol d) → ⊥) → arm-nodes d ≤ 0
-plain-arm-nodes (Sym n) p h = (unfold arm-nodes in omega arith)
-plain-arm-nodes (Const c) p h = (unfold arm-nodes in omega arith)
-plain-arm-nodes (Op k f) p h = go (has-symbol (Op k f)) (λ t. h (unfold cost in omega arith) t) (unfold plain in p)
+plain-no-switch : (d : Tree) → T (plain d) → (1 ≤ cost d → T (has-symbol d) → ⊥) → T (no-switch d)
+plain-no-switch (Sym n) p h = (unfold no-switch all-ops in tt)
+plain-no-switch (Const c) p h = (unfold no-switch all-ops in tt)
+plain-no-switch (Op k f) p h = go (has-symbol (Op k f)) (λ t. h (unfold cost in omega arith) t) (unfold plain in p)
   where
-    go : (b : Bool) → (T b → ⊥) → T (b || no-switch (Op k f)) → arm-nodes (Op k f) ≤ 0
+    go : (b : Bool) → (T b → ⊥) → T (b || no-switch (Op k f)) → T (no-switch (Op k f))
     go true g t = absurd (g tt)
-    go false g t = no-arm-nodes (Op k f) t
+    go false g t = t
 
-pub bound-arm-nodes : (s : State) → best true (roots s) ≡ none → All-clean (roots s) → AllTrees (λ d. arm-nodes d ≤ 0) (bound-divisors true s)
-bound-arm-nodes s e h = both (bound-divisors true s) (bound-twice true s) (bound-outside true s)
+pub bound-no-switch : (s : State) → best true (roots s) ≡ none → All-clean (roots s) → AllTrees (λ d. T (no-switch d)) (bound-divisors true s)
+bound-no-switch s e h = both (bound-divisors true s) (bound-twice true s) (bound-outside true s)
   where
-    at : (d : Tree) → 2 ≤ count d (divisors (all-nodes (roots s))) → 1 ≤ count d (divisors (outside true (roots s))) → arm-nodes d ≤ 0
+    at : (d : Tree) → 2 ≤ count d (divisors (all-nodes (roots s))) → 1 ≤ count d (divisors (outside true (roots s))) → T (no-switch d)
     at d u o =
-        plain-arm-nodes d (trees-at (λ d. T (plain d)) d (divisors (all-nodes (roots s))) (plain-divisors (all-nodes (roots s)) (nodes-clean (roots s) h)) (omega arith))
+        plain-no-switch d (trees-at (λ d. T (plain d)) d (divisors (all-nodes (roots s))) (plain-divisors (all-nodes (roots s)) (nodes-clean (roots s) h)) (omega arith))
         (light s e d u (unfold outside in o))
 
-    both : (l : List Tree) → AllTrees (λ d. 2 ≤ count d (divisors (all-nodes (roots s)))) l → AllTrees (λ d. 1 ≤ count d (divisors (outside true (roots s)))) l → AllTrees (λ d. arm-nodes d ≤ 0) l
+    both : (l : List Tree) → AllTrees (λ d. 2 ≤ count d (divisors (all-nodes (roots s)))) l → AllTrees (λ d. 1 ≤ count d (divisors (outside true (roots s)))) l → AllTrees (λ d. T (no-switch d)) l
     both [] u o = tt
     both (d ∷ l) u o = (at d (u .0) (o .0), both l (u .1) (o .1))
+
+-- ---- a tree without a switch, and so without one outside arms, stays so where divisors are replaced
+
+pub divided-no-switch : (d : Tree) (n : Name) (e : Tree) → T (no-switch e) → T (no-switch (replace-divisor d n e))
+divided-no-switch d n e h = divisor-for d n e .1 h
+
+pub inverse-no-switch : (d : Tree) → T (no-switch d) → T (no-switch (inverse d))
+unfolding inverse no-switch all-ops
+inverse-no-switch d h = and-both (no-switch d) true h tt
+
+among-none : (l : List Tree) → AllTrees (λ t. T (no-switch t)) l → T (some-switch (switches l)) → ⊥
+unfolding switches some-switch no-switch all-ops
+among-none [] h t = t
+among-none (Sym n ∷ l) h t = among-none l (h .1) t
+among-none (Const c ∷ l) h t = among-none l (h .1) t
+among-none (Op k nil ∷ l) h t = among-none l (h .1) t
+among-none (Op k (q ◂ f) ∷ l) h t = go (is-switch k) (and-left (not (is-switch k)) _ (h .0)) t (λ u. among-none l (h .1) u)
+  where
+    go : (b : Bool) → T (not b)
+        → T (some-switch (elim b as (λ _. List Switch) [ true ↦ record { tree = Op k (q ◂ f); kind = k; key = q; arms = operands f } ∷ switches l | false ↦ switches l ]))
+        → (T (some-switch (switches l)) → ⊥) → ⊥
+    go true n t g = n
+    go false n t g = g t
+
+mutual
+  unfolding outer no-switch all-ops
+
+  outer-none : (t : Tree) → T (no-switch t) → AllTrees (λ t. T (no-switch t)) (outer t)
+  outer-none (Sym n) h = (h, tt)
+  outer-none (Const c) h = (h, tt)
+  outer-none (Op k f) h = (h, go (is-switch k) (outer-first-none f r) (outer-of-none f r))
+    where
+      r : T (all-ops-each (λ k f. not (is-switch k)) f)
+      r = and-right (not (is-switch k)) (all-ops-each (λ k f. not (is-switch k)) f) h
+
+      go : (b : Bool) → AllTrees (λ t. T (no-switch t)) (outer-first f) → AllTrees (λ t. T (no-switch t)) (outer-of f)
+          → AllTrees (λ t. T (no-switch t)) (elim b [ true ↦ outer-first f | false ↦ outer-of f ])
+      go true g i = g
+      go false g i = i
+
+  outer-of-none : (f : Forest) → T (all-ops-each (λ k f. not (is-switch k)) f) → AllTrees (λ t. T (no-switch t)) (outer-of f)
+  outer-of-none nil h = tt
+  outer-of-none (t ◂ f) h =
+      trees-append (λ t. T (no-switch t)) (outer t) (outer-of f) (outer-none t (and-left (no-switch t) (all-ops-each (λ k f. not (is-switch k)) f) h))
+      (outer-of-none f (and-right (no-switch t) (all-ops-each (λ k f. not (is-switch k)) f) h))
+
+  outer-first-none : (f : Forest) → T (all-ops-each (λ k f. not (is-switch k)) f) → AllTrees (λ t. T (no-switch t)) (outer-first f)
+  outer-first-none nil h = tt
+  outer-first-none (t ◂ f) h = outer-none t (and-left (no-switch t) (all-ops-each (λ k f. not (is-switch k)) f) h)
+
+pub none-outside : (e : Tree) → T (no-switch e) → T (holds-switch e) → ⊥
+unfolding holds-switch
+none-outside e h t = among-none (outer e) (outer-none e h) t

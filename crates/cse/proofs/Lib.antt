@@ -29,6 +29,8 @@ pub mod Levels
 pub mod NestingLevel
 pub mod CleanDivisors
 pub mod ArmNodes
+pub mod SwitchArms
+pub mod HeldRows
 pub mod RoomEnough
 pub mod RowCount
 pub mod AnyTable

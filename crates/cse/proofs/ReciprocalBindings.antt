@@ -82,11 +82,11 @@ Past P x [] = Unit {0}
 Past P zero (b ∷ l) = P (b .expr) × Past P zero l
 Past P (suc x) (b ∷ l) = Past P x l
 
-past-none : (P : Tree → Type 0) (l : List Binding) → Past P (length l) l
+pub past-none : (P : Tree → Type 0) (l : List Binding) → Past P (length l) l
 past-none P [] = tt
 past-none P (b ∷ l) = past-none P l
 
-past-append : (P : Tree → Type 0) (x : ℕ) (l : List Binding) (b : Binding) → Past P x l → P (b .expr) → Past P x (l ++ (b ∷ []))
+pub past-append : (P : Tree → Type 0) (x : ℕ) (l : List Binding) (b : Binding) → Past P x l → P (b .expr) → Past P x (l ++ (b ∷ []))
 past-append P zero [] b h p = (p, tt)
 past-append P (suc x) [] b h p = tt
 past-append P zero (a ∷ l) b h p = (h .0, past-append P zero l b (h .1) p)

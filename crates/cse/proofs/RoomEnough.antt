@@ -1,18 +1,17 @@
--- Refusal 23 never arises on a list each of whose divisors holds a symbol, or no switch: no bound divisor holds a switch then, so each arm's scope is no larger
--- than the list, and a level further in. Nine inputs of 1,024 rows are then the most that are open, and these fit. Assumes nothing.
-use Prim.Native.Nat.{ℕ, zero, suc, _+_, _-_, _*_, _≤_}
+-- Refusal 23 never arises on a list each of whose divisors holds a symbol, or no switch: no bound divisor holds a switch then, so a scope holds no more for
+-- fusion than its input, and each arm's scope is no larger than that, and a level further in. Assumes nothing.
+use Prim.Native.Nat.{ℕ, zero, suc, _+_, _≤_}
 use mathlib.Core.Path.{_≡_, refl, sym, ap, subst}
 use mathlib.Core.Logic.{_⊎_, inl, inr}
-use mathlib.Core.Bool.{Bool, true, false, cond}
+use mathlib.Core.Bool.{Bool, true, false}
 use mathlib.Core.List.{List, [], _∷_, reverse}
 use native.Mathlib.Omega.{arith}
-use native.Mathlib.Nat.{mul-suc}
 use lib.ListN.{length}
-use lib.Dec.{T, eqb, leb, leb→le, le→leb}
+use lib.Dec.{T, eqb, leb, le→leb}
 use Rattle.tree.specs.Outcome.{Refusal, Outcome, ok, refused, by, _>>=_}
-use Rattle.tree.specs.Tree.{Name, xname, Tree, Forest, Sym, Const, Op, nil, _◂_, fold, folds, operands}
+use Rattle.tree.specs.Tree.{Name, xname, Tree, Forest, Op, nil, _◂_, fold, operands}
 use Rattle.tree.specs.Kinds.{is-switch, arity-ok}
-use Rattle.tree.specs.Facts.{size, nesting, greatest, first-or-deeper, outer, outer-of, outer-first, all-outer, all-nodes, all-operations, count}
+use Rattle.tree.specs.Facts.{size, all-nodes, count}
 use Rattle.tree.specs.Rows.{occurrences, within-limits}
 use Rattle.tree.specs.Value.{values}
 use Rattle.tree.proofs.Logic.{and-left, and-right, and-both}
@@ -22,10 +21,10 @@ use Rattle.rewrite.proofs.Counts.{all-append}
 use Rattle.rewrite.proofs.Names.{holds, holds-each, holds-all, below, weaken, weaken-all}
 use Rattle.rewrite.proofs.Counts.{counted-formed, all-nodes-formed}
 use Rattle.rewrite.proofs.Measure.{sum-of}
-use Rattle.cse.specs.Extract.{State, roots, among, distinct, rounds, divisors, extract-all, replace-divisor-each, bind-reciprocal, bind-reciprocals, reciprocals}
+use Rattle.cse.specs.Extract.{State, roots, divisors, extract-all, replace-divisor-each, bind-reciprocal, bind-reciprocals, reciprocals}
 use Rattle.cse.specs.Answer.{Intermediate, Answer}
 use Rattle.cse.specs.Order.{needs, positions-taken, at-each, topo-sort-intermediates}
-use Rattle.cse.specs.Scope.{Group, Work, Scoped, Armed, members, switches, collect-switches, groups-from, name-members, columns, arms-of-members, scope-arms, fuse-group, fuse-groups, fuse-all, unfused, finish, cse-scope, area-rows, as-answer, answer}
+use Rattle.cse.specs.Scope.{Group, Work, Scoped, Armed, members, collect-switches, groups-from, name-members, columns, arms-of-members, scope-arms, fuse-group, fuse-groups, fuse-all, unfused, finish, held, fuse-held, cse-scope, scope-rows, scopes-open, as-answer, answer}
 use Rattle.cse.proofs.Outcomes.{good-at}
 use Rattle.cse.proofs.RoundsCount.{made-before, below-made, extract-all-end}
 use Rattle.cse.proofs.RoundsValue.{reciprocals-keep, roots-known}
@@ -33,21 +32,17 @@ use Rattle.cse.proofs.FlatCount.{some-reading}
 use Rattle.cse.proofs.ReciprocalsCount.{AllTrees, all-map, divisors-all, bound-divisors, bound-twice, inverse, roots-reciprocal, reciprocals-are, divided-formed, inverse-formed}
 use Rattle.cse.proofs.SizeCount.{total-size, extract-all-size}
 use Rattle.cse.proofs.ScopeValue.{under, under-le, under-below, name-members-later}
-use Rattle.cse.proofs.ScopeRoom.{scope-in, scope-opens}
+use Rattle.cse.proofs.ScopeRoom.{deep, deeps, most-down, deeper-op, no-arms, reciprocals-deep, nests-at-most, limits-rows, limits-nesting}
 use Rattle.cse.proofs.ScopedCount.{Started, started}
 use Rattle.cse.proofs.Refusals.{Only, only-at, Ten, extract-all-ten}
-use Rattle.cse.proofs.Levels.{trees-append, trees-at, Most, μ, all-nodes-most, extract-all-within, reciprocals-within}
-use Rattle.cse.proofs.NestingLevel.{nesting-op, nesting-level, nesting-is, arms-deeper}
-use Rattle.cse.proofs.CleanDivisors.{all-ops, all-ops-each, divides-plain, clean, All-clean, extract-all-clean, reciprocals-clean, Plain-divisors, all-clean-from, bound-arm-nodes}
-use Rattle.cse.proofs.ArmNodes.{arms-total, arm-nodes, reciprocals-arm-nodes, All-arms, Groups, groups-arms, Small-groups, collected-small, Columns, group-columns}
+use Rattle.cse.proofs.Levels.{Most, extract-all-within}
+use Rattle.cse.proofs.NestingLevel.{nesting-op, nesting-level, arms-deeper}
+use Rattle.cse.proofs.CleanDivisors.{all-ops, all-ops-each, divides-plain, clean, All-clean, extract-all-clean, reciprocals-clean, Plain-divisors, all-clean-from, bound-no-switch}
+use Rattle.cse.proofs.ArmNodes.{arms-total, All-arms, Groups, Small-groups, held-small, Given, Columns, group-columns}
+use Rattle.cse.proofs.SwitchArms.{All-operands, as-list, groups-all}
+use Rattle.cse.proofs.HeldRows.{held-rows}
 
 -- ---- what a scope's input has
-
-abbrev deep : Tree → ℕ
-deep t = μ nesting-op nesting-level t
-
-abbrev deeps : Forest → List ℕ
-deeps f = folds (λ n. 0) (λ c. 0) nesting-op f
 
 -- well-formed, over known names, with plain divisors, and arms that nest less than D deep
 module _ (p : Name → Bool) where
@@ -55,11 +50,7 @@ module _ (p : Name → Bool) where
   Fit zero t = ⊥
   Fit (suc m) t = T (well-formed t) × T (holds p t) × T (clean t) × (deep t ≤ m)
 
-  abbrev All-operands : ℕ → Forest → Type 0
-  All-operands D nil = Unit {0}
-  All-operands D (t ◂ f) = Fit D t × All-operands D f
-
-  each-fit : (m : ℕ) (f : Forest) → T (well-formed-each f) → T (holds-each p f) → T (all-ops-each divides-plain f) → Most m (deeps f) → All-operands (suc m) f
+  each-fit : (m : ℕ) (f : Forest) → T (well-formed-each f) → T (holds-each p f) → T (all-ops-each divides-plain f) → Most m (deeps f) → All-operands (Fit (suc m)) f
   unfolding well-formed holds fold clean all-ops
   each-fit m nil w h s d = tt
   each-fit m (t ◂ f) w h s d = (
@@ -67,31 +58,14 @@ module _ (p : Name → Bool) where
     each-fit m f (and-right (well-formed t) (well-formed-each f) w) (and-right (holds p t) (holds-each p f) h) (and-right (clean t) (all-ops-each divides-plain f) s) (d .1),
   )
 
-  most-down : (M N : ℕ) → M ≤ N → (ls : List ℕ) → Most M ls → Most N ls
-  most-down M N h [] g = tt
-  most-down M N h (l ∷ ls) g = ((let a = g .0 in omega arith), most-down M N h ls (g .1))
-
-  operands-fit : (m k : ℕ) (f : Forest) → Fit (suc m) (Op k f) → All-operands (suc m) f
+  operands-fit : (m k : ℕ) (f : Forest) → Fit (suc m) (Op k f) → All-operands (Fit (suc m)) f
   unfolding well-formed holds fold clean all-ops
   operands-fit m k f F =
       each-fit m f (and-right (arity-ok k (operand-count f)) (well-formed-each f) (F .0)) (F .1)
       (and-right (divides-plain k f) (all-ops-each divides-plain f) (F .2))
       (most-down (nesting-op k (deeps f)) m (F .3) (deeps f) (nesting-level .parts k (deeps f)))
 
-  as-list : (D : ℕ) (f : Forest) → All-operands D f → AllTrees (Fit D) (operands f)
-  unfolding operands
-  as-list D nil h = tt
-  as-list D (t ◂ f) h = (h .0, as-list D f (h .1))
-
   -- a switch's arms
-  deeper-op : (m n : ℕ) (ls : List ℕ) (b : Bool) → T b → cond b (first-or-deeper (n ∷ ls)) (greatest (n ∷ ls)) ≤ m → first-or-deeper (n ∷ ls) ≤ m
-  deeper-op m n ls true t h = h
-  deeper-op m n ls false t h = absurd t
-
-  no-arms : (n l : ℕ) (ls : List ℕ) → first-or-deeper (n ∷ (l ∷ ls)) ≤ 0 → ⊥
-  unfolding first-or-deeper
-  no-arms n l ls h = omega arith
-
   arms-fit : (m k : ℕ) (q : Tree) (f : Forest) → T (is-switch k) → Fit (suc m) (Op k (q ◂ f)) → AllTrees (Fit m) (operands f)
   unfolding well-formed holds fold clean all-ops
   arms-fit zero k q nil t F = (unfold operands in tt)
@@ -100,65 +74,15 @@ module _ (p : Name → Bool) where
       let d = deeper-op (suc m) (deep q) (deeps f) (is-switch k) t (F .3) in
       let w = and-right (arity-ok k (operand-count (q ◂ f))) (well-formed-each (q ◂ f)) (F .0) in
       let c = and-right (divides-plain k (q ◂ f)) (all-ops-each divides-plain (q ◂ f)) (F .2) in
-      as-list (suc m) f
+      as-list (Fit (suc m)) f
       (each-fit m f (and-right (well-formed q) (well-formed-each f) w) (and-right (holds p q) (holds-each p f) (F .1)) (and-right (clean q) (all-ops-each divides-plain f) c) (arms-deeper (suc m) (deep q) (deeps f) d m refl))
-
-  -- ---- the nodes outside arms, and the switches among them
 
   module _ (m : ℕ) where
     abbrev Root : Tree → Type 0
     Root t = Fit (suc m) t
 
-    outer-step : (b : Bool) (x y : List Tree) → AllTrees Root x → AllTrees Root y → AllTrees Root (elim b [ true ↦ x | false ↦ y ])
-    outer-step true x y g h = g
-    outer-step false x y g h = h
-
-    mutual
-      unfolding outer
-
-      outer-fit : (t : Tree) → Root t → AllTrees Root (outer t)
-      outer-fit (Sym n) F = (F, tt)
-      outer-fit (Const c) F = (F, tt)
-      outer-fit (Op k f) F = (F, outer-step (is-switch k) (outer-first f) (outer-of f) (outer-first-fit f (operands-fit m k f F)) (outer-of-fit f (operands-fit m k f F)))
-
-      outer-of-fit : (f : Forest) → All-operands (suc m) f → AllTrees Root (outer-of f)
-      outer-of-fit nil h = tt
-      outer-of-fit (t ◂ f) h = trees-append Root (outer t) (outer-of f) (outer-fit t (h .0)) (outer-of-fit f (h .1))
-
-      outer-first-fit : (f : Forest) → All-operands (suc m) f → AllTrees Root (outer-first f)
-      outer-first-fit nil h = tt
-      outer-first-fit (t ◂ f) h = outer-fit t (h .0)
-
-    all-outer-fit : (l : List Tree) → AllTrees Root l → AllTrees Root (all-outer l)
-    unfolding all-outer
-    all-outer-fit [] h = tt
-    all-outer-fit (t ∷ l) h = trees-append Root (outer t) (all-outer l) (outer-fit t (h .0)) (all-outer-fit l (h .1))
-
-    distinct-fit : (seen l : List Tree) → AllTrees Root l → AllTrees Root (distinct seen l)
-    unfolding distinct
-    distinct-fit seen [] h = tt
-    distinct-fit seen (t ∷ l) h = go (among t seen) (distinct-fit seen l (h .1)) (distinct-fit (t ∷ seen) l (h .1))
-      where
-        go : (b : Bool) → AllTrees Root (distinct seen l) → AllTrees Root (distinct (t ∷ seen) l) → AllTrees Root (elim b [ true ↦ distinct seen l | false ↦ t ∷ distinct (t ∷ seen) l ])
-        go true g k = g
-        go false g k = (h .0, k)
-
-    switches-fit : (l : List Tree) → AllTrees Root l → All-arms (Fit m) (switches l)
-    unfolding switches
-    switches-fit [] h = tt
-    switches-fit (Sym n ∷ l) h = switches-fit l (h .1)
-    switches-fit (Const c ∷ l) h = switches-fit l (h .1)
-    switches-fit (Op k nil ∷ l) h = switches-fit l (h .1)
-    switches-fit (Op k (q ◂ f) ∷ l) h = go (is-switch k) (λ t. arms-fit m k q f t (h .0)) (switches-fit l (h .1))
-      where
-        go : (b : Bool) → (T b → AllTrees (Fit m) (operands f)) → All-arms (Fit m) (switches l)
-            → All-arms (Fit m) (elim b [ true ↦ record { tree = Op k (q ◂ f); kind = k; key = q; arms = operands f } ∷ switches l | false ↦ switches l ])
-        go true g k = (g tt, k)
-        go false g k = k
-
     groups-fit : (rs : List Tree) → AllTrees Root rs → Groups (Fit m) (groups-from [] (collect-switches rs))
-    unfolding collect-switches
-    groups-fit rs h = groups-arms (Fit m) [] (switches (distinct [] (all-outer rs))) tt (switches-fit (distinct [] (all-outer rs)) (distinct-fit [] (all-outer rs) (all-outer-fit rs h)))
+    groups-fit rs h = groups-all (Fit (suc m)) (Fit m) (operands-fit m) (arms-fit m) rs h
 
     fit-all :
         (l : List Tree) → T (well-formed-all l) → T (holds-all p l) → All-clean l → AllTrees (λ t. deep t ≤ m) l → AllTrees Root l
@@ -201,10 +125,6 @@ reciprocals-formed scoped s h =
     (all-map (λ d. 2 ≤ count d (divisors (all-nodes (roots s)))) (λ d. T (well-formed d))
     (λ d q. counted-formed d (all-nodes (roots s)) (all-nodes-formed (roots s) h) (let c = divisors-all d (roots s) in omega arith)) (bound-divisors scoped s) (bound-twice scoped s)) h)
 
-inverse-deep : (m : ℕ) (d : Tree) → deep d ≤ m → deep (inverse d) ≤ m
-unfolding inverse fold greatest
-inverse-deep m d h = omega arith
-
 total-is : (l : List Tree) → total-size l ≡ occurrences l
 unfolding sum-of occurrences
 total-is [] = refl
@@ -242,13 +162,13 @@ finish-fine start w h = go (eqb (length (positions-taken (needs (w .inters) (w .
 -- ---- arms and groups
 
 module _ (N D : ℕ) (scope : ℕ → List Tree → Outcome Scoped)
-    (ih : (start : ℕ) (es : List Tree) → AllTrees (Fit (under start) D) es → occurrences es ≤ N → Fine (After start) (scope start es)) where
+    (ih : (start : ℕ) (es : List Tree) → Given (Fit (under start) D) N es → Fine (After start) (scope start es)) where
   arms-fine : (low start : ℕ) → low ≤ start → (ls : List (List Tree)) → Columns (Fit (under low) D) N ls → Fine (λ (a : Armed). start ≤ a .next) (scope-arms scope start ls)
   unfolding scope-arms
   arms-fine low start h [] c = fine-ok (λ (a : Armed). start ≤ a .next) _ (omega arith)
   arms-fine low start h (es ∷ ls) c =
       then-fine (After start) (λ (a : Armed). start ≤ a .next) (scope start es)
-      (ih start es (fit-more (under low) (under start) (under-le low start h) D es (c .0 .0)) (c .0 .1)) _
+      (ih start es (fit-more (under low) (under start) (under-le low start h) D es (c .0 .0), c .0 .1, c .0 .2)) _
       (λ a g. then-fine (λ (r : Armed). a .next ≤ r .next) (λ (r : Armed). start ≤ r .next) (scope-arms scope (a .next) ls) (arms-fine low (a .next) (omega arith) ls (c .1)) _
       (λ r k. fine-ok (λ (r : Armed). start ≤ r .next) _ (omega arith)))
 
@@ -310,77 +230,67 @@ module _ (start m : ℕ) (es : List Tree) (F : AllTrees (Fit (under start) (suc 
         (reciprocals-formed true s (extract-all-end true start es formed made s e .0 .formed))
         (weaken-all (below (λ s. true) start (t .next)) (under (t .next)) (under-below (λ s. true) start (t .next) (after .later)) (roots t) (roots-known some-reading (λ s. true) start (λ n. 0) vs t after))
         (reciprocals-clean true s clean-roots)
-        (reciprocals-within nesting-op nesting-level m true s
-        (λ d c. inverse-deep m d (trees-at (λ x. deep x ≤ m) d (all-nodes (roots s)) (all-nodes-most nesting-op nesting-level m (roots s) shallow) (let q = divisors-all d (roots s) in omega arith))) shallow)
+        (reciprocals-deep m s shallow)
 
-    roots-arm-nodes : sum-of arm-nodes (roots t) ≤ occurrences es
-    roots-arm-nodes =
-        (let a = reciprocals-arm-nodes true s (bound-arm-nodes s (extract-all-end true start es formed made s e .1) clean-roots) in
+    -- it holds no more for fusion than its input
+    held-within : occurrences (held (length (s .lets)) t) ≤ occurrences es
+    held-within =
+        (let a = held-rows s (bound-no-switch s (extract-all-end true start es formed made s e .1) clean-roots) in
         let b = extract-all-size true start es formed made s e in
         let c = total-is es in
+        let d = total-is (roots s) in
         omega arith)
 
     fused-fine :
-        (N : ℕ) → occurrences es ≤ N → (scope : ℕ → List Tree → Outcome Scoped)
-        → ((start : ℕ) (es : List Tree) → AllTrees (Fit (under start) m) es → occurrences es ≤ N → Fine (After start) (scope start es))
-        → Fine (After start) (fuse-all scope (length (s .lets)) (reciprocals true s) >>= λ w. finish w)
-    unfolding fuse-all
-    fused-fine N h scope ih =
-        then-fine (λ (w : Work). t .next ≤ w .next) (After start) (fuse-groups scope (groups-from [] (collect-switches (roots t))) (unfused (length (s .lets)) t))
-        (groups-fine N m scope ih (t .next) (groups-from [] (collect-switches (roots t))) (unfused (length (s .lets)) t) (unfold unfused in omega arith)
-        (groups-fit (under (t .next)) m (roots t) roots-fit) (collected-small N (roots t) (let q = roots-arm-nodes in omega arith))) _
-        (λ w h. finish-fine start w (let q = after .later in omega arith))
+        (scope : ℕ → List Tree → Outcome Scoped) → occurrences es ≤ scope-rows
+        → ((start : ℕ) (es : List Tree) → Given (Fit (under start) m) scope-rows es → Fine (After start) (scope start es))
+        → Fine (After start) (fuse-held scope (length (s .lets)) (reciprocals true s))
+    unfolding fuse-held fuse-all
+    fused-fine scope h ih = go (leb (occurrences (held x t)) scope-rows) (le→leb (occurrences (held x t)) scope-rows (let q = held-within in omega arith))
+      where
+        x : ℕ
+        x = length (s .lets)
 
--- an empty scope
-empty-fine : (room start : ℕ) → Fine (After start) (scope-in room start [])
-unfolding cse-scope extract-all rounds all-operations reciprocals roots fuse-all fuse-groups collect-switches groups-from finish occurrences
-empty-fine room start = go (leb 0 room) (le→leb 0 room (omega arith))
-  where
-    go : (b : Bool) → T b → Fine {A = Scoped} (After start) (elim b [ true ↦ finish (unfused 0 (record { results = []; lets = []; next = start })) | false ↦ refused (by 23) ])
-    go true t = finish-fine start (unfused 0 (record { results = []; lets = []; next = start })) (unfold unfused in omega arith)
-    go false t = absurd t
+        fused : Fine (After start) (fuse-groups scope (groups-from [] (collect-switches (roots t))) (unfused x t) >>= λ w. finish w)
+        fused =
+            then-fine (λ (w : Work). t .next ≤ w .next) (After start) (fuse-groups scope (groups-from [] (collect-switches (roots t))) (unfused x t))
+            (groups-fine scope-rows m scope ih (t .next) (groups-from [] (collect-switches (roots t))) (unfused x t) (unfold unfused in omega arith)
+            (groups-fit (under (t .next)) m (roots t) roots-fit) (held-small scope-rows x t (let q = held-within in omega arith))) _
+            (λ w h. finish-fine start w (let q = after .later in omega arith))
 
--- Inputs of at most N rows whose arms nest less than D deep: N times D rows are room enough.
-scope-fine : (N D room start : ℕ) (es : List Tree) → N * D ≤ room → AllTrees (Fit (under start) D) es → occurrences es ≤ N → Fine (After start) (scope-in room start es)
-scope-fine N zero room start [] r F h = empty-fine room start
-scope-fine N zero room start (e ∷ es) r F h = absurd (F .0)
-scope-fine N (suc m) room start es r F h =
-    subst (Fine (After start)) (sym (scope-opens room start es))
-    (fits (leb (occurrences es) room) (le→leb (occurrences es) room (let q = mul-suc N m in omega arith)) (extract-all true start es) refl (extract-all-ten true start es)
-    (λ n l G k. scope-fine N m (room - occurrences es) n l (let q = mul-suc N m in omega arith) G k))
+        go : (b : Bool) → T b
+            → Fine {A = Scoped} (After start)
+            (elim b [ true ↦ (fuse-groups scope (groups-from [] (collect-switches (roots t))) (unfused x t) >>= λ w. finish w) | false ↦ refused (by 23) ])
+        go true q = fused
+        go false q = absurd q
+
+-- An input of at most 1,024 occurrences whose arms nest less than D deep, where so many scopes can be open. Where none can be, nothing is given.
+scope-fine :
+    (D start : ℕ) (es : List Tree) → AllTrees (Fit (under start) D) es → occurrences es ≤ scope-rows → 1 ≤ D + length es → Fine (After start) (cse-scope D true start es)
+unfolding cse-scope
+scope-fine zero start [] F h n = absurd (omega arith)
+scope-fine zero start (e ∷ es) F h n = absurd (F .0)
+scope-fine (suc m) start es F h n =
+    fits (leb (occurrences es) scope-rows) (le→leb (occurrences es) scope-rows h) (extract-all true start es) refl (extract-all-ten true start es)
+    (λ n l G. scope-fine m n l (G .0) (G .1) (let z = G .2 in omega arith))
   where
     inner : ℕ → List Tree → Outcome Scoped
-    inner n l = scope-in (room - occurrences es) n l
+    inner n l = cse-scope m true n l
 
     fits : (b : Bool) → T b → (o : Outcome State) → extract-all true start es ≡ o → Only Ten o
-        → ((n : ℕ) (l : List Tree) → AllTrees (Fit (under n) m) l → occurrences l ≤ N → Fine (After n) (inner n l))
-        → Fine {A = Scoped} (After start) (elim b [ true ↦ (o >>= λ s. fuse-all inner (length (s .lets)) (reciprocals true s) >>= λ w. finish w) | false ↦ refused (by 23) ])
-    fits true t (ok s) e T10 ih = fused-fine start m es F s e N h inner ih
+        → ((n : ℕ) (l : List Tree) → Given (Fit (under n) m) scope-rows l → Fine (After n) (inner n l))
+        → Fine {A = Scoped} (After start) (elim b [ true ↦ (o >>= λ s. fuse-held inner (length (s .lets)) (reciprocals true s)) | false ↦ refused (by 23) ])
+    fits true t (ok s) e T10 ih = fused-fine start m es F s e inner h ih
     fits true t (refused i) e T10 ih = (unfold Fine in inl (only-at Ten {A = State} (refused i) i refl T10))
     fits false t o e T10 ih = absurd t
 
 -- ---- the answer
 
-limits-step : (t : Tree) (l : List Tree) → T (within-limits (t ∷ l)) → (nesting t ≤ 8) × T (within-limits l)
-unfolding within-limits occurrences
-limits-step t l h =
-    let a = leb→le (size t + occurrences l) 1024 (and-left (leb (size t + occurrences l) 1024) _ h) in
-    let b = and-right (leb (size t + occurrences l) 1024) _ h in
-    (leb→le (nesting t) 8 (and-left (leb (nesting t) 8) _ b), and-both (leb (occurrences l) 1024) _ (le→leb (occurrences l) 1024 (omega arith)) (and-right (leb (nesting t) 8) _ b))
-
-limits-deep : (l : List Tree) → T (within-limits l) → AllTrees (λ t. deep t ≤ 8) l
-limits-deep [] h = tt
-limits-deep (t ∷ l) h = (let q = limits-step t l h in ((let a = q .0 in let b = nesting-is t in omega arith), limits-deep l (q .1)))
-
-limits-rows : (l : List Tree) → T (within-limits l) → occurrences l ≤ 1024
-unfolding within-limits
-limits-rows l h = leb→le (occurrences l) 1024 (and-left (leb (occurrences l) 1024) _ h)
-
 answer-fine : (es : List Tree) → T (well-formed-all es) → T (holds-all (under 0) es) → T (within-limits es) → Plain-divisors es → Fine (λ (a : Answer). Unit {0}) (answer true es)
-unfolding answer area-rows
+unfolding answer scopes-open scope-rows
 answer-fine es w h l p =
-    then-fine (After 0) (λ (a : Answer). Unit {0}) (scope-in 9362 0 es)
-    (scope-fine 1024 9 9362 0 es (omega arith) (fit-all (under 0) 8 es w h (all-clean-from es p) (limits-deep es l)) (limits-rows es l)) _
+    then-fine (After 0) (λ (a : Answer). Unit {0}) (cse-scope 9 true 0 es)
+    (scope-fine 9 0 es (fit-all (under 0) 8 es w h (all-clean-from es p) (nests-at-most 8 es (limits-nesting es l))) (limits-rows es l) (omega arith)) _
     (λ a q. fine-ok (λ (a : Answer). Unit {0}) (as-answer a) tt)
 
 -- For a list within the limits that holds no name of an answer, and each of whose divisors holds a symbol, or no Select or Branch.

@@ -1,7 +1,7 @@
 -- In both answers each name is bound once, and used only later and inside its scope: the first clause of demand 3.
 -- A scope makes the numbers from its start up to its next, each of its arms later ones, and an arm reads from outside only what its input reads.
 -- Assumes nothing.
-use Prim.Native.Nat.{ℕ, _+_, _-_, zero, suc, _≤_, _<_}
+use Prim.Native.Nat.{ℕ, _+_, zero, suc, _≤_, _<_}
 use mathlib.Core.Path.{_≡_, refl, sym, _∙_, ap, subst}
 use mathlib.Core.Logic.{inl, inr}
 use mathlib.Core.Bool.{Bool, true, false, not, _&&_, _||_}
@@ -16,7 +16,7 @@ use Rattle.cse.specs.Extract.{Binding, State, extract-all, reciprocals, 
 use Rattle.cse.specs.Answer.{Intermediate, Arms, Answer, Let, Match, arm, block, names, symbols, all-symbols, free, free-stmts, free-arms, elem}
 use Rattle.cse.specs.Order.{needs, member, positions-taken, nothing, at-each, topo-sort-intermediates}
 use Rattle.cse.proofs.OrderLaws.{member-cases, member-later, member-here, All, Distinct, Ordered, Taken, taken-ok, none-missing}
-use Rattle.cse.specs.Scope.{Switch, Group, Work, Scoped, Armed, members, collect-switches, groups-from, replace-in-stmts, name-members, member-names, columns, arms-of-members, scope-arms, fuse-group, fuse-groups, fuse-all, binds, unfused, finish, cse-scope, area-rows, as-answer, answer}
+use Rattle.cse.specs.Scope.{Switch, Group, Work, Scoped, Armed, members, collect-switches, groups-from, replace-in-stmts, name-members, member-names, columns, arms-of-members, scope-arms, fuse-group, fuse-groups, fuse-all, binds, unfused, finish, cse-scope, scope-rows, scopes-open, fuse-held, as-answer, answer}
 use Rattle.tree.specs.Value.{Reading, Env, values}
 use Rattle.cse.specs.Demand.{bound-stmt, bound-stmts, bound-arms, all-different, known, in-scope, stmt-in-scope, arms-in-scope, well-scoped}
 use Rattle.tree.proofs.Logic.{and-left, and-right, and-both}
@@ -27,7 +27,7 @@ use Rattle.cse.proofs.ReadLaws.{needs-length, name-place, place-name, b
 use Rattle.cse.proofs.SwitchLaws.{outside-holds, results-hold, Fair-group, Fair-groups, groups-fair, first-key-known, All-hold, group-columns-known}
 use Rattle.cse.proofs.ScopeValue.{under, under-le, under-m, under-below, names-to-come, all-names-append, one-named, names-kept, name-members-later, names-made, hold-more, bind-names, numbered-elem}
 use Rattle.cse.proofs.RoundsNames.{Lets-hold, Held, All-held, roots-held, extract-all-held, reciprocals-held}
-use Rattle.cse.proofs.ScopeRoom.{or-no-room}
+use Rattle.cse.proofs.ScopeRoom.{or-no-room, or-not-held}
 
 -- ---- names made from a number on and below another
 
@@ -757,28 +757,29 @@ module _ (start : ℕ) (es : List Tree) where
     scoped-step :
         (o : Outcome State) → Modeled some-reading (λ s. true) start ρ (values some-reading ρ es) o
         → ((p : Name → Bool) → T (holds-all p es) → All-held (outside p start) start (outside-x p) o)
-        → Named start es (o >>= λ s. fuse-all scope (length (s .lets)) (reciprocals true s) >>= λ w. finish w)
+        → Named start es (o >>= λ s. fuse-held scope (length (s .lets)) (reciprocals true s))
     unfolding Modeled All-held Named Mod
     scoped-step (refused i) M H = tt
     scoped-step (ok s) M H =
         let t = reciprocals true s in
         let N : Mod t = reciprocals-keep some-reading (λ s. true) start ρ (values some-reading ρ es) true s M in
-        then-finished start es (t .next) (from t N) (fuse-all scope (length (s .lets)) t)
-        (λ p h. fused-held (length (s .lets)) t N p (reciprocals-held (outside p start) start (outside-x p) true s (H p h))) (fused-staged (length (s .lets)) t N)
+        or-not-held (Named start es) tt scope (length (s .lets)) t
+        (then-finished start es (t .next) (from t N) (fuse-all scope (length (s .lets)) t)
+        (λ p h. fused-held (length (s .lets)) t N p (reciprocals-held (outside p start) start (outside-x p) true s (H p h))) (fused-staged (length (s .lets)) t N))
 
   outside-all : (p : Name → Bool) → T (holds-all p es) → T (holds-all (outside p start) es)
   unfolding outside
   outside-all p h = weaken-all p (outside p start) (λ n t. or-left (p n) (not (under start n)) t) es h
 
-scope-names : (fuel room : ℕ) (scoped : Bool) (start : ℕ) (es : List Tree) → T (holds-all (under start) es) → Named start es (cse-scope fuel room scoped start es)
+scope-names : (fuel : ℕ) (scoped : Bool) (start : ℕ) (es : List Tree) → T (holds-all (under start) es) → Named start es (cse-scope fuel scoped start es)
 unfolding cse-scope Named
-scope-names zero room scoped start es h = tt
-scope-names (suc fuel) room false start es h =
+scope-names zero scoped start es h = tt
+scope-names (suc fuel) false start es h =
     flat-step start es (extract-all false start es) (extract-all-keeps some-reading (λ s. true) start (ρ start es) false es h)
     (λ p g. extract-all-held (outside p start) start (outside-x start es p) false es (outside-all start es p g))
-scope-names (suc fuel) room true start es h =
-    or-no-room (Named start es) tt (leb (occurrences es) room) _
-    (scoped-step start es (λ n l. cse-scope fuel (room - occurrences es) true n l) (λ n l g. scope-names fuel (room - occurrences es) true n l g) (extract-all true start es)
+scope-names (suc fuel) true start es h =
+    or-no-room (Named start es) tt (leb (occurrences es) scope-rows) _
+    (scoped-step start es (λ n l. cse-scope fuel true n l) (λ n l g. scope-names fuel true n l g) (extract-all true start es)
     (extract-all-keeps some-reading (λ s. true) start (ρ start es) true es h)
     (λ p g. extract-all-held (outside p start) start (outside-x start es p) true es (outside-all start es p g)))
 
@@ -809,4 +810,4 @@ as-well es (ok x) h a e = subst (λ (b : Answer). T (well-scoped es b)) (answer-
 -- In each answer each name is bound once, and used only later and inside its scope, for a list that holds no name of an answer.
 pub answer-well-scoped : (scoped : Bool) (es : List Tree) → T (holds-all (under 0) es) → (a : Answer) → answer scoped es ≡ ok a → T (well-scoped es a)
 unfolding answer
-answer-well-scoped scoped es h a e = as-well es (cse-scope (suc area-rows) area-rows scoped 0 es) (scope-names (suc area-rows) area-rows scoped 0 es h) a e
+answer-well-scoped scoped es h a e = as-well es (cse-scope scopes-open scoped 0 es) (scope-names scopes-open scoped 0 es h) a e

@@ -1,6 +1,6 @@
 -- Both answers have the input's values: the second clause of demand 3. One environment serves a whole scope: it holds each `__xN`'s expression's
 -- value and each `__mN`'s switch's value, and every statement leaves it as it is. The depth of nesting is the induction's measure. Assumes nothing.
-use Prim.Native.Nat.{ℕ, _+_, _-_, zero, suc, _%_, _≤_, _<_}
+use Prim.Native.Nat.{ℕ, _+_, zero, suc, _%_, _≤_, _<_}
 use mathlib.Core.Path.{_≡_, refl, sym, _∙_, ap, ap₂, subst}
 use mathlib.Core.Logic.{_⊎_, inl, inr}
 use mathlib.Core.Bool.{Bool, true, false, not, _&&_, cond}
@@ -16,7 +16,7 @@ use Rattle.cse.specs.Answer.{Intermediate, Arms, Answer, Let, Match, arm
 use Rattle.cse.specs.Order.{needs, positions-taken, nothing, at-each, topo-sort-intermediates}
 use Rattle.cse.proofs.OrderLaws.{All, Taken, taken-ok}
 use Rattle.rewrite.specs.Rewrite.{replace-outside-arms}
-use Rattle.cse.specs.Scope.{Switch, Group, Work, Scoped, Armed, members, collect-switches, groups-from, replace-in-results, replace-in-stmts, name-members, member-names, columns, arms-of-members, scope-arms, fuse-group, fuse-groups, fuse-all, binds, unfused, finish, cse-scope, area-rows, as-answer, answer}
+use Rattle.cse.specs.Scope.{Switch, Group, Work, Scoped, Armed, members, collect-switches, groups-from, replace-in-results, replace-in-stmts, name-members, member-names, columns, arms-of-members, scope-arms, fuse-group, fuse-groups, fuse-all, binds, unfused, finish, cse-scope, scope-rows, scopes-open, fuse-held, as-answer, answer}
 use Rattle.tree.specs.Value.{Reading, Env, value, values, choice}
 use Rattle.cse.specs.Read.{set, set-each, arm-count, read-stmt, read-stmts, read-arm, answer-values}
 use Rattle.tree.proofs.Logic.{and-left, and-right}
@@ -27,7 +27,7 @@ use Rattle.cse.proofs.RoundsValue.{let-names, Numbered, Binds, Model, M
 use Rattle.cse.proofs.Symbols.{decide, elem-cases, elem-here, elem-later, elem-left, elem-right, holds-by, holds-at, holds-all-at, Sub, sub-left, sub-right, sub-append, no-elem, all-names}
 use Rattle.cse.proofs.ReadLaws.{needs-length, Like, set-apart, set-at, Fits, set-fits, set-each-fits, read-apart, stmt-like, free-back, sorted-reads}
 use Rattle.cse.proofs.SwitchLaws.{outside-holds, results-hold, Fair-group, Fair-groups, groups-fair, Like-first, All-like, members-like, first-key-known, All-hold, group-columns-known, length-columns, length-values, switch-value, values-each, picked, All-long, column-at, column-past}
-use Rattle.cse.proofs.ScopeRoom.{or-no-room}
+use Rattle.cse.proofs.ScopeRoom.{or-no-room, or-not-held}
 
 -- ---- names with numbers below k, and the list's symbols
 
@@ -621,21 +621,22 @@ module _ (R : Reading) where
 
       scoped-step :
           (o : Outcome State) → ((ρ : Env) → Modeled R inp start ρ (values R ρ es) o)
-          → Reads start es (o >>= λ s. fuse-all scope (length (s .lets)) (reciprocals true s) >>= λ w. finish w)
+          → Reads start es (o >>= λ s. fuse-held scope (length (s .lets)) (reciprocals true s))
       unfolding Modeled Reads
       scoped-step (refused i) M = tt
       scoped-step (ok s) M =
           let t = reciprocals true s in
           let N : (ρ : Env) → Model R inp start ρ (values R ρ es) t = λ ρ. reciprocals-keep R inp start ρ (values R ρ es) true s (M ρ) in
-          then-finished (t .next) (N (λ n. 0) .later) (fuse-all scope (length (s .lets)) t) (λ ρ. fused (length (s .lets)) t ρ (N ρ))
+          or-not-held (Reads start es) tt scope (length (s .lets)) t
+          (then-finished (t .next) (N (λ n. 0) .later) (fuse-all scope (length (s .lets)) t) (λ ρ. fused (length (s .lets)) t ρ (N ρ)))
 
-  scope-reads : (fuel room : ℕ) (scoped : Bool) (start : ℕ) (es : List Tree) → T (holds-all (under start) es) → Reads start es (cse-scope fuel room scoped start es)
+  scope-reads : (fuel : ℕ) (scoped : Bool) (start : ℕ) (es : List Tree) → T (holds-all (under start) es) → Reads start es (cse-scope fuel scoped start es)
   unfolding cse-scope Reads
-  scope-reads zero room scoped start es h = tt
-  scope-reads (suc fuel) room false start es h = flat-step start es (extract-all false start es) (λ ρ. extract-all-keeps R inp start ρ false es (unfold inp in h))
-  scope-reads (suc fuel) room true start es h =
-      or-no-room (Reads start es) tt (leb (occurrences es) room) _
-      (scoped-step start es (λ n l. cse-scope fuel (room - occurrences es) true n l) (λ n l g. scope-reads fuel (room - occurrences es) true n l g) (extract-all true start es)
+  scope-reads zero scoped start es h = tt
+  scope-reads (suc fuel) false start es h = flat-step start es (extract-all false start es) (λ ρ. extract-all-keeps R inp start ρ false es (unfold inp in h))
+  scope-reads (suc fuel) true start es h =
+      or-no-room (Reads start es) tt (leb (occurrences es) scope-rows) _
+      (scoped-step start es (λ n l. cse-scope fuel true n l) (λ n l g. scope-reads fuel true n l g) (extract-all true start es)
       (λ ρ. extract-all-keeps R inp start ρ true es (unfold inp in h)))
 
   -- ---- the answer
@@ -652,4 +653,4 @@ module _ (R : Reading) where
   pub answer-keeps-values :
       (scoped : Bool) (es : List Tree) → T (holds-all (under 0) es) → (a : Answer) → answer scoped es ≡ ok a → (ρ : Env) → answer-values R ρ a ≡ values R ρ es
   unfolding answer
-  answer-keeps-values scoped es h a e ρ = as-read es (cse-scope (suc area-rows) area-rows scoped 0 es) (scope-reads (suc area-rows) area-rows scoped 0 es h) a e ρ
+  answer-keeps-values scoped es h a e ρ = as-read es (cse-scope scopes-open scoped 0 es) (scope-reads scopes-open scoped 0 es h) a e ρ

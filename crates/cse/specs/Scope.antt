@@ -1,5 +1,5 @@
 -- `cse_scope` in both forms, `cse` and `cse_scoped` (01, "Scoped fusion"). Assumes nothing.
-use Prim.Native.Nat.{ℕ, zero, suc, _+_, _-_}
+use Prim.Native.Nat.{ℕ, zero, suc, _+_}
 use mathlib.Core.Bool.{Bool, true, false, _&&_}
 use mathlib.Core.List.{List, [], _∷_, _++_}
 use lib.ListN.{length}
@@ -7,7 +7,7 @@ use lib.Dec.{eqb, leb}
 use Rattle.tree.specs.Outcome.{Outcome, ok, refused, by, _>>=_}
 use Rattle.tree.specs.Tree.{Name, mname, Tree, Sym, Const, Op, nil, _◂_, eq-tree, operands}
 use Rattle.tree.specs.Kinds.{is-switch}
-use Rattle.tree.specs.Facts.{all-outer}
+use Rattle.tree.specs.Facts.{outer, all-outer}
 use Rattle.tree.specs.Rows.{occurrences}
 use Rattle.rewrite.specs.Rewrite.{replace-outside-arms}
 use Rattle.cse.specs.Extract.{Binding, State, extract-all, reciprocals, distinct, roots}
@@ -169,23 +169,60 @@ unfoldable pub finish : Work → Outcome Scoped
 unfolding topo-sort-intermediates
 finish w = topo-sort-intermediates (w .inters) >>= λ l. ok (record { inters = l; results = w .results; next = w .next; extracted = w .extracted })
 
--- The work area's rows for the inputs of open scopes, one for each occurrence: seven words of 64 bits a row, of 65,536 (01's limit is 131,072 words of 32 bits).
--- Nine inputs of 1,024 occurrences fit, and a list whose arms nest 8 deep opens no more; a switch in a bound divisor alone can make inputs outgrow the list (RoomEnough).
-unfoldable pub area-rows : ℕ
-area-rows = 9362
+-- ---- rows of the work area, and scopes within scopes
 
--- A scope's input takes its rows of the room that its caller leaves, and its arms' scopes have the rest: "the part of the work area after its caller's last
--- used row". Refusal 23, which 01 lacks, is for an input that does not fit. The flat form opens one scope, of at most 1,024 rows, and needs no such test.
--- The first argument bounds how deep scopes nest. Each has a row at least, so one more than the room is enough, and where it ends decides nothing (ScopeRoom).
-unfoldable pub cse-scope : ℕ → ℕ → Bool → ℕ → List Tree → Outcome Scoped
-unfolding extract-all reciprocals unfused fuse-all finish occurrences
-cse-scope zero room scoped next es = refused (by 23)
-cse-scope (suc fuel) room false next es = extract-all false next es >>= λ s. finish (unfused (length (s .lets)) (reciprocals false s))
-cse-scope (suc fuel) room true next es =
-    elim (leb (occurrences es) room) [
+-- How many scopes can be open at once: arms nest at most 8 deep, and each arm's scope stands inside its caller's.
+unfoldable pub scopes-open : ℕ
+scopes-open = 9
+
+-- Each open scope has a part of the work area of its own, with a row of seven words of 64 bits for an occurrence: nine parts of 1,024 rows are 64,512 of the
+-- area's 65,536 words (01's limit is 131,072 words of 32 bits).
+unfoldable pub scope-rows : ℕ
+scope-rows = 1024
+
+unfoldable pub some-switch : List Switch → Bool
+some-switch [] = false
+some-switch (s ∷ l) = true
+
+-- a tree with a switch outside arms
+unfoldable pub holds-switch : Tree → Bool
+unfolding some-switch switches outer
+holds-switch e = some-switch (switches (outer e))
+
+-- Of a scope's bindings those that it holds while switches are fused: the first x, which rounds made, and of the others, the reciprocals, those with a switch
+-- outside arms. Another reciprocal is made from its divisor when it is needed, and so has no row.
+unfoldable pub held-bindings : ℕ → List Binding → List Tree
+unfolding holds-switch
+held-bindings x [] = []
+held-bindings zero (b ∷ l) = elim (holds-switch (b .expr)) [ true ↦ b .expr ∷ held-bindings zero l | false ↦ held-bindings zero l ]
+held-bindings (suc x) (b ∷ l) = b .expr ∷ held-bindings x l
+
+-- and its results
+unfoldable pub held : ℕ → State → List Tree
+unfolding held-bindings
+held x s = s .results ++ held-bindings x (s .lets)
+
+-- fusion and the order of statements, where what the scope holds has no more occurrences than the scope has rows, and else refusal 23
+unfoldable pub fuse-held : (ℕ → List Tree → Outcome Scoped) → ℕ → State → Outcome Scoped
+unfolding fuse-all finish held occurrences scope-rows
+fuse-held scope x s =
+    elim (leb (occurrences (held x s)) scope-rows) [
+      | true ↦ (fuse-all scope x s >>= λ w. finish w)
+      | false ↦ refused (by 23)
+    ]
+
+-- "an arm scope works in the part of the work area after its caller's last used row": each scope in a part of its own. Refusal 23, which 01 lacks, is for an
+-- input with more occurrences than a part has rows, and for a scope that would hold more for fusion. The flat form opens one scope and fuses nothing, so that
+-- it needs no such test. The first argument says how many more scopes can be open; where it ends decides nothing for a list whose arms nest at most 8 deep
+-- (ScopeRoom).
+unfoldable pub cse-scope : ℕ → Bool → ℕ → List Tree → Outcome Scoped
+unfolding extract-all reciprocals unfused fuse-held finish occurrences scope-rows
+cse-scope zero scoped next es = refused (by 23)
+cse-scope (suc fuel) false next es = extract-all false next es >>= λ s. finish (unfused (length (s .lets)) (reciprocals false s))
+cse-scope (suc fuel) true next es =
+    elim (leb (occurrences es) scope-rows) [
       | true ↦ (extract-all true next es >>= λ s.
-          fuse-all (λ n l. cse-scope fuel (room - occurrences es) true n l) (length (s .lets)) (reciprocals true s) >>= λ w.
-          finish w)
+          fuse-held (λ n l. cse-scope fuel true n l) (length (s .lets)) (reciprocals true s))
       | false ↦ refused (by 23)
     ]
 
@@ -195,5 +232,5 @@ as-answer a = record { inters = block (a .inters); results = a .results; extract
 
 -- the answer of `cse` (false) and of `cse_scoped` (true), or refusal 10, 11 or 23
 unfoldable pub answer : Bool → List Tree → Outcome Answer
-unfolding cse-scope area-rows as-answer
-answer scoped es = cse-scope (suc area-rows) area-rows scoped 0 es >>= λ a. ok (as-answer a)
+unfolding cse-scope scopes-open as-answer
+answer scoped es = cse-scope scopes-open scoped 0 es >>= λ a. ok (as-answer a)

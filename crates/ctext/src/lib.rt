@@ -1,12 +1,7 @@
-// Texts of trees and of answers for programs in other languages. A slice goes in as a pointer and a length; an answer comes back as a number, and its places in a slice that
-// the caller lends, since an enum cannot pass.
-ghost use lib.ListN.{length};
-ghost use Rattle.print.specs.Print.{print-call, buffer-after};
-ghost use Rattle.printer.specs.Printing.{printed};
+// Texts of trees for programs in other languages. A slice goes in as a pointer and a length; an answer comes back as a number, and its places in a slice that the
+// caller lends, since an enum cannot pass.
 ghost use Rattle.writer.specs.Answers.{write-answer};
-ghost use Rattle.ctext.specs.Calls.{Calls, Prints};
-use printer::Printed;
-use printer::print;
+ghost use Rattle.ctext.specs.Calls.{Calls};
 use writer::Text;
 use writer::write_tree;
 
@@ -39,24 +34,5 @@ pub extern "C" fn cse_text(
             0
         }
         Text::Broken => BROKEN,
-    }
-}
-
-// The text of an answer from its rows. 0 where it was written: said[0] is how many bytes it has. Otherwise 01's number, 13 or 14.
-#[no_mangle]
-pub extern "C" fn cse_print(rows: &[u64], answer: &[u64], out: &mut [u8], said: &mut [u64]) -> u64
-    ensures { λ r. ⌜ Prints (printed (print-call (now (rows .entry)) (now (answer .entry)) (length (now (out .entry)))))
-        (buffer-after (print-call (now (rows .entry)) (now (answer .entry)) (length (now (out .entry)))) (now (out .entry)))
-        (now (out .entry)) (now (said .entry)) r (now (out .exit)) (now (said .exit)) ⌝ }
-{
-    if said.len() < 1 {
-        return NO_ANSWER;
-    }
-    match print(rows, answer, out) {
-        Printed::Bytes(n) => {
-            said[0] = n as u64;
-            0
-        }
-        Printed::Refused(q) => q,
     }
 }

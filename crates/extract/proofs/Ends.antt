@@ -3,21 +3,23 @@ use Prim.Native.Nat.{ℕ, _≤_}
 use mathlib.Core.Path.{_≡_, refl, sym, _∙_, ap, subst}
 use mathlib.Core.Bool.{Bool, true, false, _||_}
 use mathlib.Core.List.{List}
-use lib.ListN.{length, take}
+use lib.ListN.{length, take, drop}
 use lib.Seq.{length-take-le}
 use lib.Dec.{T, ltb}
 use Rattle.tree.specs.Outcome.{Refusal, Outcome, ok, refused, by}
 use Rattle.tree.specs.Layout.{table-of, laid-out}
+use Rattle.tree.specs.Tokens.{read, numbered}
 use Rattle.cse.specs.Call.{Extracted, work-words, work-bytes, extract-call, table-after}
 use Rattle.checked.specs.Check.{rows-in}
 use Rattle.renaming.proofs.RowNames.{tree-words}
-use Rattle.finish.specs.Answers.{finish-outcome, finishing}
+use Rattle.finishlaws.specs.Final.{final-rows}
+use Rattle.finish.specs.Answers.{finish-outcome, trees-there, room-for, finishing}
 use Rattle.finish.specs.declared.Finished.{Finished}
 use Rattle.finish.specs.declared.Finished.the-variants as finished
 use Rattle.extractlaws.specs.Parts.{extract-from}
-use Rattle.extractlaws.proofs.Ending.{call-short, call-enough, from-nine}
+use Rattle.extractlaws.proofs.Ending.{call-short, call-enough, from-nine, final-counts}
 use Rattle.extractlaws.proofs.Flat.{flat-ten}
-use Rattle.extractlaws.proofs.Finishing.{flat-finishes, flat-counts}
+use Rattle.extractlaws.proofs.Finishing.{finishes, flat-trees-there, flat-room-for, flat-bindings, flat-outcome}
 use Rattle.extract.specs.Answers.{extraction-answer, Lists}
 use Rattle.extract.specs.declared.Extraction.{Extraction}
 use Rattle.extract.specs.declared.Extraction.the-variants as extraction
@@ -32,23 +34,43 @@ pub refuses : (o : Outcome Extracted) (i : Refusal) → o ≡ refused i → (old
 unfolding extraction-answer table-after
 refuses o i e old = subst (λ (o : Outcome Extracted). Answers-by o old (extraction.Refused (i .number)) old) (sym e) (refl, refl)
 
--- ---- by what the end answers, from the outcome that it has
+-- ---- the end, by what it answers
 
-module _ (o : Outcome Extracted) (old : List ℕ) (made : ℕ) (counts : (x : Extracted) → o ≡ ok x → x .extracted ≡ made) (new : List ℕ) where
-  abbrev By : Finished → Type 0
-  By (finished.Rows n) = Answers-by o old (extraction.Rows n made) new
-  By (finished.Refused q) = Answers-by o old (extraction.Refused q) new
-  By finished.Broken = ⊥
-  By finished.NoRoom = ⊥
+module _ (ws : List ℕ) (k : ℕ) (places table : List ℕ) (made : ℕ) where
+  abbrev final : Outcome Extracted
+  final = final-rows (length table) k places ws
 
-  by-outcome : (p : Outcome Extracted) → o ≡ p → new ≡ finish-outcome p old .table → By (finish-outcome p old .answer)
-  unfolding finish-outcome extraction-answer table-after
-  by-outcome (ok x) e t =
-      subst (λ (o : Outcome Extracted). Answers-by o old (extraction.Rows (length (x .words)) made) new) (sym e) (ap (extraction.Rows (length (x .words))) (sym (counts x e)), t)
-  by-outcome (refused i) e t = subst (λ (o : Outcome Extracted). Answers-by o old (extraction.Refused (i .number)) new) (sym e) (refl, t)
+  module _ (there : T (trees-there ws k places) × T (room-for ws k places)) (count : made ≡ length (drop k (read numbered ws))) (f : Finished) (new : List ℕ)
+      (given : (f ≡ finishing ws k places table .answer) × (new ≡ finishing ws k places table .table)) where
+    abbrev By : Finished → Type 0
+    By (finished.Rows n) = Answers-by final table (extraction.Rows n made) new
+    By (finished.Refused q) = Answers-by final table (extraction.Refused q) new
+    By finished.Broken = ⊥
+    By finished.NoRoom = ⊥
 
-  pub ends-by : (f : Finished) → f ≡ finish-outcome o old .answer → new ≡ finish-outcome o old .table → By f
-  ends-by f e t = subst By (sym e) (by-outcome o refl t)
+    by-outcome : (o : Outcome Extracted) → final ≡ o → new ≡ finish-outcome o table .table → By (finish-outcome o table .answer)
+    unfolding finish-outcome extraction-answer table-after
+    by-outcome (ok x) e t =
+        subst (λ (o : Outcome Extracted). Answers-by o table (extraction.Rows (length (x .words)) made) new) (sym e)
+        (ap (extraction.Rows (length (x .words))) (count ∙ sym (final-counts (length table) k places ws x e)), t)
+    by-outcome (refused i) e t = subst (λ (o : Outcome Extracted). Answers-by o table (extraction.Refused (i .number)) new) (sym e) (refl, t)
+
+    ended : By f
+    ended =
+        let e = finishes ws k places table (there .0) (there .1) in
+        subst By (sym (given .0 ∙ ap (λ (z : _). z .answer) e)) (by-outcome final refl (given .1 ∙ ap (λ (z : _). z .table) e))
+
+    pub ends-in-rows : (n : ℕ) → f ≡ finished.Rows n → Answers-by final table (extraction.Rows n made) new
+    ends-in-rows n e = subst By e ended
+
+    pub ends-refused : (q : ℕ) → f ≡ finished.Refused q → Answers-by final table (extraction.Refused q) new
+    ends-refused q e = subst By e ended
+
+    pub never-broken : f ≡ finished.Broken → ⊥
+    never-broken e = subst By e ended
+
+    pub never-roomless : f ≡ finished.NoRoom → ⊥
+    never-roomless e = subst By e ended
 
 -- ---- the flat form
 
@@ -84,32 +106,14 @@ module _ (rows roots table : List ℕ) (h : T (laid-out rows roots)) (ws : List 
     pub places-long : d ≡ length (take d places)
     places-long = sym (length-take-le d places places-there)
 
-    abbrev vs : List ℕ
-    vs = take n tokens
+    pub finish-there : T (trees-there (take n tokens) (length roots) (take d places)) × T (room-for (take n tokens) (length roots) (take d places))
+    finish-there = (flat-trees-there rows roots lent h ws same n m d tokens places l, flat-room-for rows roots lent h ws same n m d tokens places l)
 
-    abbrev ds : List ℕ
-    ds = take d places
+    pub finish-counts : m ≡ length (drop (length roots) (read numbered (take n tokens)))
+    finish-counts = flat-bindings rows roots lent h ws same n m d tokens places l
 
-    counts : (x : Extracted) → outcome ≡ ok x → x .extracted ≡ m
-    counts = flat-counts rows roots table h ws same n m d tokens places l
-
-    module _ (f : Finished) (new : List ℕ) (given : (f ≡ finishing vs (length roots) ds table .answer) × (new ≡ finishing vs (length roots) ds table .table)) where
-      ended : By outcome table m counts new f
-      ended =
-          let same-end = flat-finishes rows roots table h ws same n m d tokens places l in
-          ends-by outcome table m counts new f (given .0 ∙ ap (λ (z : _). z .answer) same-end) (given .1 ∙ ap (λ (z : _). z .table) same-end)
-
-      pub ends-in-rows : (q : ℕ) → f ≡ finished.Rows q → Answers-by outcome table (extraction.Rows q m) new
-      ends-in-rows q e = subst (By outcome table m counts new) e ended
-
-      pub ends-refused : (q : ℕ) → f ≡ finished.Refused q → Answers-by outcome table (extraction.Refused q) new
-      ends-refused q e = subst (By outcome table m counts new) e ended
-
-      pub never-broken : f ≡ finished.Broken → ⊥
-      never-broken e = subst (By outcome table m counts new) e ended
-
-      pub never-roomless : f ≡ finished.NoRoom → ⊥
-      never-roomless e = subst (By outcome table m counts new) e ended
+    pub ends-so : (r : Extraction) (new : List ℕ) → Answers-by (final-rows lent (length roots) (take d places) (take n tokens)) table r new → Answers-by outcome table r new
+    ends-so r new a = subst (λ (o : Outcome Extracted). Answers-by o table r new) (sym (flat-outcome rows roots lent h ws same n m d tokens places l)) a
 
 -- ---- the whole
 

@@ -3,12 +3,15 @@
 ghost use mathlib.Core.Path.{_≡_};
 ghost use mathlib.Core.Bool.{false, _||_};
 ghost use Prim.Native.Nat.{_≤_};
-ghost use lib.ListN.{length, take};
+ghost use lib.ListN.{length, take, drop};
 ghost use lib.Dec.{T, ltb};
+ghost use Rattle.tree.specs.Tokens.{read, numbered};
 ghost use Rattle.checked.specs.Check.{rows-in};
 ghost use Rattle.renaming.specs.Names.{is-number, symbols-pass};
 ghost use Rattle.kept.specs.Sound.{extractable};
 ghost use Rattle.cse.specs.Call.{work-words, work-bytes, extract-call, table-after};
+ghost use Rattle.finishlaws.specs.Final.{final-rows};
+ghost use Rattle.finish.specs.Answers.{trees-there, room-for};
 ghost use Rattle.extractlaws.specs.Parts.{extract-from};
 ghost use Rattle.extract.specs.Answers.{extraction-answer, Lists};
 use finish::Finished;
@@ -44,7 +47,7 @@ pub enum Extraction {
     Refused(u64),
 }
 
-pub enum Listed {
+enum Listed {
     // How many words there are after the rounds, how many bindings were made, and how many divisors are to be bound.
     Words(usize, usize, usize),
     // A rebuilt coefficient is no constant: 10.
@@ -87,6 +90,28 @@ fn extract_and_list(
     Listed::Words(words, made, divisors)
 }
 
+// The end of the flat form, with the number of bindings that rounds made. That the trees aren't there, or have no room, never comes up.
+fn finish_flat(
+    tokens: &[u64],
+    results: usize,
+    places: &[u64],
+    made: usize,
+    table: &mut [u64],
+) -> Extraction
+    requires { ⌜ T (trees-there (now tokens) results (now places)) × T (room-for (now tokens) results (now places)) ⌝ }
+    requires { ⌜ made ≡ length (drop results (read numbered (now tokens))) ⌝ }
+    ensures { λ r. ⌜ (r ≡ extraction-answer (final-rows (length (now (table .entry))) results (now (places .entry)) (now (tokens .entry))))
+        × (now (table .exit) ≡ table-after (final-rows (length (now (table .entry))) results (now (places .entry)) (now (tokens .entry))) (now (table .entry))) ⌝ }
+{
+    let finished = finish(tokens, results, places, table);
+    match finished {
+        Finished::Rows(n) => Extraction::Rows(n, made),
+        Finished::Refused(number) => Extraction::Refused(number),
+        Finished::Broken => Extraction::Refused(NEVER),
+        Finished::NoRoom => Extraction::Refused(NEVER),
+    }
+}
+
 // The flat form after 8, with the part of the work area that holds the words of the trees.
 fn extract_flat(
     rows: &[u64],
@@ -108,13 +133,13 @@ fn extract_flat(
     let Listed::Words(words, made, divisors) = listed else {
         return Extraction::Refused(BAD_COEFFICIENT);
     };
-    let finished = finish(&tokens[..words], roots.len(), &places[..divisors], table);
-    match finished {
-        Finished::Rows(n) => Extraction::Rows(n, made),
-        Finished::Refused(number) => Extraction::Refused(number),
-        Finished::Broken => Extraction::Refused(NEVER),
-        Finished::NoRoom => Extraction::Refused(NEVER),
-    }
+    finish_flat(
+        &tokens[..words],
+        roots.len(),
+        &places[..divisors],
+        made,
+        table,
+    )
 }
 
 // The flat answer's rows in front of what stands in the table, and the extraction count; or 8, 9, 10 or 12, with nothing written to the table. What is left in

@@ -3,19 +3,18 @@
 use Prim.Native.Nat.{ℕ, _+_, _≤_}
 use native.Mathlib.Omega.{arith}
 use mathlib.Core.Path.{_≡_, refl, sym, _∙_, ap, ap₂, subst}
-use mathlib.Core.Bool.{Bool, true, false, not, _&&_, _||_}
+use mathlib.Core.Bool.{Bool, true, false, not, _||_}
 use mathlib.Core.Option.{Option}
 use mathlib.Core.List.{List, [], _∷_}
 use lib.ListN.{length, take, drop}
 use lib.Seq.{length-take-le}
 use lib.Dec.{T, leb, ltb, le→leb, nltb→le}
-use Rattle.tree.specs.Outcome.{Outcome, ok}
 use Rattle.tree.specs.Layout.{table-of, laid-out}
 use Rattle.tree.specs.Tokens.{read, numbered, trees-in, run-at}
 use Rattle.tree.proofs.Logic.{and-both}
 use Rattle.tree.proofs.Tests.{is-true}
 use Rattle.words.specs.Words.{some-trees}
-use Rattle.cse.specs.Call.{Extracted, work-words, work-bytes}
+use Rattle.cse.specs.Call.{work-words, work-bytes}
 use Rattle.checked.specs.Check.{rows-in}
 use Rattle.renaming.proofs.RowNames.{tree-words}
 use Rattle.reciprocals.proofs.Parts.{All-there}
@@ -23,7 +22,6 @@ use Rattle.reciprocal.specs.Bindings.{all-there}
 use Rattle.finishlaws.specs.Final.{final-rows}
 use Rattle.finish.specs.Answers.{finish-outcome, finish-by, at-least, trees-there, room-for, finishing}
 use Rattle.extractlaws.specs.Parts.{extract-from, Rounds-listed}
-use Rattle.extractlaws.proofs.Ending.{final-counts}
 use Rattle.extractlaws.proofs.Flat.{to-bind, flat-rest, flat-complete, flat-results, flat-short, flat-room, flat-there, flat-made}
 
 -- a tree at each place
@@ -33,13 +31,7 @@ there-so base [] h = tt
 there-so base (p ∷ l) h =
     and-both (some-trees (run-at base p)) (all-there base l) (subst (λ (o : Option ℕ). T (some-trees o)) (sym (h .0 .1)) tt) (there-so base l (h .1))
 
-module _ (rows roots table : List ℕ) (h : T (laid-out rows roots)) (ws : List ℕ) (same : ws ≡ tree-words (table-of rows roots)) where
-  abbrev lent : ℕ
-  lent = length table
-
-  abbrev outcome : Outcome Extracted
-  outcome = extract-from false rows roots lent
-
+module _ (rows roots : List ℕ) (lent : ℕ) (h : T (laid-out rows roots)) (ws : List ℕ) (same : ws ≡ tree-words (table-of rows roots)) where
   module _ (n m d : ℕ) (tokens places : List ℕ) (l : Rounds-listed (rows-in rows) false 0 ws n m d tokens places) where
     abbrev vs : List ℕ
     vs = take n tokens
@@ -50,33 +42,34 @@ module _ (rows roots table : List ℕ) (h : T (laid-out rows roots)) (ws : List 
     ds-are : ds ≡ to-bind rows roots lent h ws same vs (l .0)
     ds-are = l .2
 
-    are-there : trees-there vs (length roots) ds ≡ true
+    -- no word lacks an operand, the results are there, and a tree stands at each place
+    pub flat-trees-there : T (trees-there vs (length roots) ds)
     unfolding trees-there at-least
-    are-there =
-        is-true (at-least (length roots) (trees-in vs) && all-there vs ds)
-        (and-both (at-least (length roots) (trees-in vs)) (all-there vs ds)
+    flat-trees-there =
+        and-both (at-least (length roots) (trees-in vs)) (all-there vs ds)
         (subst (λ (o : Option ℕ). T (at-least (length roots) o)) (sym (flat-complete rows roots lent h ws same vs (l .0))) (le→leb (length roots) _ (flat-results rows roots lent h ws same vs (l .0))))
-        (subst (λ (ps : List ℕ). T (all-there vs ps)) (sym ds-are) (there-so vs (to-bind rows roots lent h ws same vs (l .0)) (flat-there rows roots lent h ws same vs (l .0)))))
+        (subst (λ (ps : List ℕ). T (all-there vs ps)) (sym ds-are) (there-so vs (to-bind rows roots lent h ws same vs (l .0)) (flat-there rows roots lent h ws same vs (l .0))))
 
-    has-room : room-for vs (length roots) ds ≡ true
+    pub flat-room-for : T (room-for vs (length roots) ds)
     unfolding room-for
-    has-room =
+    flat-room-for =
         let e = ap length ds-are in
-        is-true (leb (length vs) 1024 && leb (length (drop (length roots) (read numbered vs)) + length ds) 1024)
-        (and-both (leb (length vs) 1024) (leb (length (drop (length roots) (read numbered vs)) + length ds) 1024) (le→leb (length vs) 1024 (flat-short rows roots lent h ws same vs (l .0)))
-        (le→leb (length (drop (length roots) (read numbered vs)) + length ds) 1024 (omega (arith, e, flat-room rows roots lent h ws same vs (l .0)))))
+        and-both (leb (length vs) 1024) (leb (length (drop (length roots) (read numbered vs)) + length ds) 1024) (le→leb (length vs) 1024 (flat-short rows roots lent h ws same vs (l .0)))
+        (le→leb (length (drop (length roots) (read numbered vs)) + length ds) 1024 (omega (arith, e, flat-room rows roots lent h ws same vs (l .0))))
 
-    outcome-is : outcome ≡ final-rows lent (length roots) ds vs
-    outcome-is = flat-rest rows roots lent h ws same vs (l .0) ∙ ap (λ (ps : List ℕ). final-rows lent (length roots) ps vs) (sym ds-are)
+    pub flat-bindings : m ≡ length (drop (length roots) (read numbered vs))
+    flat-bindings = l .1 ∙ flat-made rows roots lent h ws same vs (l .0)
 
-    pub flat-finishes : finishing vs (length roots) ds table ≡ finish-outcome outcome table
-    unfolding finishing finish-by
-    flat-finishes =
-        ap₂ (λ (a b : Bool). finish-by a b (final-rows lent (length roots) ds vs) table) are-there has-room
-        ∙ ap (λ (o : Outcome Extracted). finish-outcome o table) (sym outcome-is)
+    pub flat-outcome : extract-from false rows roots lent ≡ final-rows lent (length roots) ds vs
+    flat-outcome = flat-rest rows roots lent h ws same vs (l .0) ∙ ap (λ (ps : List ℕ). final-rows lent (length roots) ps vs) (sym ds-are)
 
-    pub flat-counts : (x : Extracted) → outcome ≡ ok x → x .extracted ≡ m
-    flat-counts x e = final-counts lent (length roots) ds vs x (sym outcome-is ∙ e) ∙ sym (flat-made rows roots lent h ws same vs (l .0)) ∙ sym (l .1)
+-- where the trees are there and have room, the end is that of the definition
+pub finishes :
+    (ws : List ℕ) (k : ℕ) (places table : List ℕ) → T (trees-there ws k places) → T (room-for ws k places)
+    → finishing ws k places table ≡ finish-outcome (final-rows (length table) k places ws) table
+unfolding finishing finish-by
+finishes ws k places table g h =
+    ap₂ (λ (a b : Bool). finish-by a b (final-rows (length table) k places ws) table) (is-true (trees-there ws k places) g) (is-true (room-for ws k places) h)
 
 -- ---- the work area
 

@@ -2,20 +2,14 @@
 use Prim.Native.Nat.{ℕ}
 use mathlib.Core.Bool.{Bool, true, false, _&&_, cond}
 use mathlib.Core.List.{List}
-use lib.ListN.{length, getD}
-use lib.Dec.{eqb, leb, ltb}
+use lib.ListN.{length}
+use lib.Dec.{eqb, leb}
 use Rattle.tree.specs.Bytes.{every}
 use Rattle.tree.specs.Kinds.{kind-at, Select}
 use Rattle.tree.specs.Symbol.{is-name}
 use Rattle.kinds.specs.Numbers.{kind-number}
-
--- each number below n; with n 1, each word 0
-abbrev pub below : ℕ → List ℕ → Bool
-below n l = every (λ k. ltb k n) l
-
--- a constant's sign and size; no minus zero
-unfoldable pub constant-test : List ℕ → Bool
-constant-test f = eqb (length f) 2 && (ltb (getD f 1 0) 1000000000000000 && (cond (eqb (getD f 0 0) 0) true (eqb (getD f 0 0) 1 && ltb 0 (getD f 1 0))))
+use Rattle.bounds.specs.Below.{below}
+use Rattle.constants.specs.Constant.{constant-test}
 
 unfoldable pub operation-test : ℕ → Bool → List ℕ → ℕ → Bool
 unfolding kind-at every

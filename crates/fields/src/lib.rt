@@ -1,6 +1,8 @@
-// The fields of a node row: the tests of constants and operands, and of a whole row's fields. Each takes any words.
+// The fields of a node row, by its kind. Any words will do.
 ghost use mathlib.Core.Path.{_≡_};
-ghost use Rattle.fields.specs.Tests.{below, constant-test, operation-test, plain-test, fields-test};
+ghost use Rattle.fields.specs.Tests.{operation-test, plain-test, fields-test};
+use bounds::all_below;
+use constants::constant_ok;
 use kinds::operand_counts;
 use names::is_name;
 
@@ -10,40 +12,6 @@ const SYM: u64 = 0;
 const CONST: u64 = 1;
 
 const SELECT: u64 = 27;
-
-// Operands and roots name earlier rows: each number is below a bound. Words that are all below 1 are 0.
-pub fn all_below(numbers: &[u64], bound: u64) -> bool
-    ensures { λ r. ⌜ r ≡ below bound (now (numbers .entry)) ⌝ }
-{
-    let mut i = 0;
-    while i < numbers.len() {
-        if numbers[i] >= bound {
-            return false;
-        }
-        i += 1;
-    }
-    true
-}
-
-pub fn constant_ok(fields: &[u64]) -> bool
-    ensures { λ r. ⌜ r ≡ constant-test (now (fields .entry)) ⌝ }
-{
-    if fields.len() != 2 {
-        return false;
-    }
-    let sign = fields[0];
-    let size = fields[1];
-    if size >= 1000000000000000 {
-        return false;
-    }
-    if sign == 0 {
-        return true;
-    }
-    if sign != 1 {
-        return false;
-    }
-    size > 0
-}
 
 fn operation_ok(kind: u64, default: bool, operands: &[u64], i: u64) -> bool
     ensures { λ r. ⌜ r ≡ operation-test kind default (now (operands .entry)) i ⌝ }

@@ -6,7 +6,7 @@ use mathlib.Core.Bool.{Bool, true, false, _&&_, cond}
 use mathlib.Core.Option.{Option, none, some}
 use mathlib.Core.List.{List, _++_}
 use borrow.Author.Tests.{lt-ltb, le-ltb, le-leb, lt-leb}
-use lib.Dec.{T, leb, ltb}
+use lib.Dec.{leb, ltb}
 use lib.ListN.{length, drop, length-drop}
 use Rattle.tree.specs.Outcome.{Outcome, ok, refused, by}
 use Rattle.tree.specs.Tokens.{read, numbered, trees-in}
@@ -14,7 +14,7 @@ use Rattle.tree.proofs.TokenLaws.{complete-length}
 use Rattle.cse.specs.Call.{Extracted}
 use Rattle.reciprocal.specs.Bindings.{all-there}
 use Rattle.finishlaws.specs.Final.{final-rows}
-use Rattle.finishlaws.specs.Ready.{There, lent-rows}
+use Rattle.finishlaws.specs.Ready.{lent-rows}
 use Rattle.finish.specs.Answers.{Finishing, finish-outcome, finish-by, at-least, trees-there, room-for, finishing}
 use Rattle.finish.specs.declared.Finished.{Finished}
 use Rattle.finish.specs.declared.Finished.the-variants as finished

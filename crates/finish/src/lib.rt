@@ -3,7 +3,7 @@
 ghost use mathlib.Core.Path.{_≡_};
 ghost use mathlib.Core.List.{_++_};
 ghost use Prim.Native.Nat.{_+_, _-_, _≤_, _<_};
-ghost use lib.ListN.{length, getD, take, drop};
+ghost use lib.ListN.{length, take, drop};
 ghost use Rattle.needs.specs.Marks.{with-needs};
 ghost use Rattle.finishlaws.specs.Entries.{final-run, entry-row, entry-tree, entry, entries};
 ghost use Rattle.finishlaws.specs.Final.{final-rows};

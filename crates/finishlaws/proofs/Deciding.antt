@@ -1,11 +1,11 @@
 -- What the order answers decides the end: all bindings are taken, and the entries in that order are the rows, or some aren't, and 11 is the refusal. Assumes nothing.
-use Prim.Native.Nat.{ℕ, zero, suc, _+_, _-_, _*_, _≤_, _<_}
+use Prim.Native.Nat.{ℕ, _+_, _-_, _*_, _≤_, _<_}
 use native.Mathlib.Omega.{arith}
 use mathlib.Core.Path.{_≡_, refl, sym, _∙_, ap, subst}
-use mathlib.Core.Bool.{Bool, true, false, _&&_}
-use mathlib.Core.List.{List, _++_, reverse}
+use mathlib.Core.Bool.{Bool, true, false}
+use mathlib.Core.List.{List, reverse}
 use borrow.Author.Tests.{eqb-true, eqb-false, le-leb}
-use lib.Dec.{eqb, leb}
+use lib.Dec.{eqb}
 use lib.ListN.{length, getD, take, drop, replicate, length-reverse, length-replicate}
 use lib.Seq.{take-at}
 use Rattle.tree.specs.Outcome.{refused, by}

@@ -2,18 +2,18 @@
 -- Assumes nothing.
 use Prim.Native.Nat.{ℕ, _+_, _-_, _≤_, _<_}
 use native.Mathlib.Omega.{arith}
-use mathlib.Core.Path.{_≡_, refl, sym, _∙_, ap, ap₂}
-use mathlib.Core.Bool.{Bool, cond}
+use mathlib.Core.Path.{_≡_, sym, _∙_, ap, ap₂}
+use mathlib.Core.Bool.{cond}
 use mathlib.Core.Option.{some}
-use mathlib.Core.List.{List, _++_}
+use mathlib.Core.List.{List}
 use lib.Dec.{ltb}
 use lib.ListN.{length, getD, take, drop, length-drop}
 use Rattle.tree.specs.Outcome.{Outcome, ok, refused, by, _>>=_}
 use Rattle.tree.specs.Tree.{Tree}
 use Rattle.tree.specs.Tokens.{read, numbered, trees-in}
 use Rattle.tree.proofs.TokenLaws.{complete-length}
-use Rattle.cse.specs.Answer.{Intermediate, Answer, block, rows}
-use Rattle.cse.specs.AnswerRows.{result-row, each-words, intermediates-words, answer-words}
+use Rattle.cse.specs.Answer.{Intermediate, Answer}
+use Rattle.cse.specs.AnswerRows.{answer-words}
 use Rattle.cse.specs.Order.{at-each, topo-sort-intermediates}
 use Rattle.cse.specs.Scope.{Scoped, binds, unfused, finish, as-answer}
 use Rattle.cse.specs.Call.{Extracted}
@@ -21,7 +21,7 @@ use Rattle.cse.proofs.RowCount.{answer-long}
 use Rattle.words.specs.Words.{number}
 use Rattle.renaming.specs.Rounds.{by-number, next-number, state-of}
 use Rattle.reciprocals.proofs.Parts.{All-there}
-use Rattle.finishlaws.specs.Final.{final-trees, final-words, final-scope, rows-or-12, final-rows}
+use Rattle.finishlaws.specs.Final.{final-trees, final-scope, rows-or-12, final-rows}
 use Rattle.finishlaws.specs.Entries.{entries}
 use Rattle.finishlaws.specs.Ready.{lent-rows}
 use Rattle.finishlaws.proofs.Entering.{entries-are}

@@ -3,7 +3,7 @@ use Prim.Native.Nat.{ℕ}
 use mathlib.Core.Path.{_≡_, refl}
 use mathlib.Core.Bool.{false}
 use mathlib.Core.List.{List}
-use Rattle.tree.specs.Outcome.{Outcome, ok, _>>=_}
+use Rattle.tree.specs.Outcome.{ok, _>>=_}
 use Rattle.tree.proofs.TokenCode.{unnumbered}
 use Rattle.cse.specs.Scope.{as-answer}
 use Rattle.renaming.specs.Places.{divisors-to-bind}

@@ -1,35 +1,28 @@
 -- The order of the bindings by the marked needs is that of `topo_sort_intermediates` (01, "Order"). Assumes nothing.
 use Prim.Native.Nat.{ℕ, zero, suc, _+_, _-_, _≤_, _<_}
 use native.Mathlib.Omega.{arith}
-use mathlib.Core.Path.{_≡_, refl, sym, _∙_, ap, ap₂, subst}
-use mathlib.Core.Bool.{Bool, true, false}
+use mathlib.Core.Path.{_≡_, refl, sym, _∙_, ap, ap₂}
 use mathlib.Core.Option.{some}
-use mathlib.Core.List.{List, [], _∷_, _++_, reverse, reverseAux}
-use borrow.Author.Tests.{eqb-true, eqb-false}
-use lib.Dec.{T, eqb}
-use lib.ListN.{length, getD, take, drop, replicate, length-drop, length-reverse}
-use lib.Seq.{take-at}
+use mathlib.Core.List.{List, [], _∷_, reverse, reverseAux}
+use lib.Dec.{T}
+use lib.ListN.{length, getD, drop, replicate, length-drop}
 use Rattle.tree.specs.Outcome.{ok, refused, by}
 use Rattle.tree.specs.Tree.{xname, Tree, Op, nil}
-use Rattle.tree.specs.Tokens.{tokens, trees-in}
+use Rattle.tree.specs.Tokens.{trees-in}
 use Rattle.tree.proofs.TokenCode.{coded, all-coded}
-use Rattle.cse.specs.Answer.{Intermediate, Let, names, free}
+use Rattle.cse.specs.Answer.{Intermediate, names, free}
 use Rattle.cse.specs.Order.{meets, needs, nothing, at-each, positions-taken, topo-sort-intermediates}
 use Rattle.cse.proofs.OrderLaws.{All, taken-ok}
 use Rattle.bits.specs.Bits.{yes}
-use Rattle.order.specs.Needs.{table-of, rows-from, order-answer, order-written, all-or-ring}
-use Rattle.order.specs.declared.Ordered.{Ordered}
-use Rattle.order.specs.declared.Ordered.the-variants as ordered
+use Rattle.order.specs.Needs.{table-of, rows-from}
 use Rattle.order.proofs.Sorted.{sorted-all, sorted-ring}
 use Rattle.words.specs.Words.{number}
 use Rattle.renaming.proofs.Coded.{is-alone, first-fits, rest-fits}
 use Rattle.reciprocals.proofs.Parts.{All-there}
-use Rattle.needs.specs.Marks.{holds-name}
 use Rattle.needs.proofs.NameLaws.{reads-name}
 use Rattle.finishlaws.specs.Final.{final-trees}
 use Rattle.finishlaws.specs.Entries.{final-run}
-use Rattle.finishlaws.specs.Ready.{marks, binding-run, final-order, In-order, Positions}
-use Rattle.finishlaws.proofs.Entering.{By-number}
+use Rattle.finishlaws.specs.Ready.{marks, binding-run}
 use Rattle.finishlaws.proofs.Trees.{final-fit, final-count, binds-count, lets-by-number}
 use Rattle.finishlaws.proofs.Ending.{lets}
 use Rattle.finishlaws.proofs.Marking.{marked-yes}

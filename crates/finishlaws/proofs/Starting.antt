@@ -1,15 +1,13 @@
 -- Before the end: the trees from before are settled in a copy of their words, and listed. Assumes nothing.
-use Prim.Native.Nat.{ℕ, zero, suc, _+_, _-_, _≤_, _<_}
+use Prim.Native.Nat.{ℕ, _+_, _-_, _≤_}
 use native.Mathlib.Omega.{arith}
 use mathlib.Core.Path.{_≡_, refl, sym, _∙_, ap, subst}
-use mathlib.Core.Bool.{Bool, true}
+use mathlib.Core.Bool.{Bool}
 use mathlib.Core.Option.{Option, some}
 use mathlib.Core.List.{List, _++_}
 use borrow.Author.Tests.{le-leb}
-use lib.Dec.{leb}
-use lib.ListN.{length, getD, take, drop, length-append}
+use lib.ListN.{length, take, drop, length-append}
 use lib.Seq.{take-at}
-use Rattle.tree.specs.Tokens.{trees-in}
 use Rattle.tree.proofs.TokenLaws.{complete-within}
 use Rattle.words.proofs.Scanning.{Put, put-long}
 use Rattle.settle.specs.Steps.{settled-words}
@@ -19,7 +17,7 @@ use Rattle.settle.specs.declared.Settled.the-variants as settled
 use Rattle.reciprocals.proofs.Parts.{All-there, settled-are}
 use Rattle.reciprocal.proofs.There.{tested-there}
 use Rattle.reciprocal.proofs.Whole.{first-words, first-settled, first-no-more, first-complete}
-use Rattle.treelist.specs.Starts.{starts-of, TreeListing, listing-room, listing-by, tree-listing}
+use Rattle.treelist.specs.Starts.{starts-of, listing-room, listing-by, tree-listing}
 use Rattle.treelist.proofs.Begins.{starts-count}
 use Rattle.finishlaws.specs.Ready.{There, Settled-front, Ready}
 

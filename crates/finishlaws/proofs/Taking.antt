@@ -1,38 +1,35 @@
 -- A tree from before is taken from the settled words: its run stands where the list of trees says, and is the run of the final tree; a reciprocal is made, and is the
 -- run of the final tree too. Assumes nothing.
-use Prim.Native.Nat.{ℕ, zero, suc, _+_, _-_, _≤_, _<_}
+use Prim.Native.Nat.{ℕ, _+_, _-_, _≤_, _<_}
 use native.Mathlib.Omega.{arith}
 use mathlib.Core.Path.{_≡_, refl, sym, _∙_, ap, subst}
 use mathlib.Core.Bool.{Bool, true, false}
 use mathlib.Core.Option.{some}
-use mathlib.Core.List.{List, [], _∷_, _++_, map, append-nil}
+use mathlib.Core.List.{List, _++_, append-nil}
 use borrow.Author.Tests.{ltb-true, ltb-false}
-use lib.Dec.{T, ltb}
-use lib.ListN.{length, getD, take, drop, length-append, length-drop}
-use lib.Seq.{take-append-seam, take-at, length-take-le}
+use lib.Dec.{ltb}
+use lib.ListN.{length, getD, take, drop, length-append}
+use lib.Seq.{take-at}
 use Rattle.tree.specs.Tree.{Tree, Op, nil}
 use Rattle.tree.specs.Facts.{size}
 use Rattle.tree.specs.Tokens.{tokens, all-tokens, read, numbered, run-at, trees-in}
 use Rattle.tree.proofs.TokenLaws.{complete-length, complete-within}
-use Rattle.tree.proofs.TokenCode.{coded, all-coded, unnumbered, tokens-length, tokens-complete}
+use Rattle.tree.proofs.TokenCode.{unnumbered, tokens-length}
 use Rattle.tokens.specs.Answers.{end-answer}
-use Rattle.tokens.specs.declared.Run.{Run}
 use Rattle.tokens.specs.declared.Run.the-variants as run
 use Rattle.words.proofs.Scanning.{Put}
-use Rattle.renaming.proofs.Coded.{is-alone, take-fits, read-again}
-use Rattle.settle.specs.Steps.{settled-words}
 use Rattle.reciprocals.proofs.Parts.{All-there, settled-are}
 use Rattle.reciprocal.specs.Bindings.{Binding, reciprocal-answer}
 use Rattle.reciprocal.specs.declared.Bound.{Bound}
 use Rattle.reciprocal.specs.declared.Bound.the-variants as bound
 use Rattle.reciprocal.proofs.There.{tested-there}
 use Rattle.reciprocal.proofs.Made.{made, made-words, made-is, made-within, bound-always}
-use Rattle.treelist.specs.Starts.{starts-of}
-use Rattle.treelist.proofs.Begins.{tree-number, start-number, as-many, ends-within, run-there, words-there}
+use Rattle.reciprocal.proofs.Whole.{first-complete, first-read}
+use Rattle.treelist.proofs.Begins.{tree-number, start-number, ends-within, run-there, words-there}
 use Rattle.finishlaws.specs.Final.{final-trees}
 use Rattle.finishlaws.specs.Entries.{final-run}
 use Rattle.finishlaws.specs.Ready.{Ready, Stands}
-use Rattle.finishlaws.proofs.Trees.{final-fit, settled-trees, last-trees, final-parts, settled-count, final-before, final-after}
+use Rattle.finishlaws.proofs.Trees.{settled-trees, final-before, final-after}
 
 some-same : (a b : List ℕ) → some a ≡ some b → a ≡ b
 some-same a b e = cc
@@ -66,19 +63,11 @@ module _ {ws settled starts places : List ℕ} {k : ℕ} (ready : Ready ws settl
   settled-are-words : settled ≡ all-tokens unnumbered S
   settled-are-words = some-same settled (all-tokens unnumbered S) (sym (ready .settled-is) ∙ settled-are ws places (m - k) ws m (ready .complete) there-is)
 
-  settled-fit : T (all-coded is-alone S)
-  settled-fit =
-      let L = last-trees k m places ws (ready .complete) there-is in
-      subst (λ (l : List Tree). T (all-coded is-alone l)) (ap (take (length S)) (final-parts k m places ws (ready .complete) there-is) ∙ take-append-seam S L)
-      (take-fits is-alone (length S) (final-trees k places ws) (final-fit k m places ws (ready .complete) there-is))
-
   settled-read : read numbered settled ≡ S
-  settled-read = ap (read numbered) settled-are-words ∙ read-again S settled-fit
+  settled-read = ap (read numbered) settled-are-words ∙ first-read ws places there-is (m - k) m (ready .complete)
 
   settled-complete : trees-in settled ≡ some m
-  settled-complete =
-      ap trees-in settled-are-words
-      ∙ (tokens-complete unnumbered is-alone S settled-fit ∙ ap some (settled-count k m places ws (ready .complete) there-is))
+  settled-complete = ap trees-in settled-are-words ∙ first-complete ws places there-is (m - k) m (ready .complete)
 
   read-count : length (read numbered settled) ≡ m
   read-count = complete-length numbered settled m settled-complete

@@ -1,17 +1,17 @@
 -- The final trees: those of the final words, the settled trees from before and then the reciprocals; and their bindings as statements. Assumes nothing.
-use Prim.Native.Nat.{ℕ, zero, suc, _+_, _-_, _≤_, _<_}
+use Prim.Native.Nat.{ℕ, zero, suc, _+_, _-_, _<_}
 use native.Mathlib.Omega.{arith}
 use mathlib.Core.Path.{_≡_, refl, sym, _∙_, ap, subst}
 use mathlib.Core.Option.{some}
 use mathlib.Core.List.{List, [], _∷_, _++_, map}
 use lib.Dec.{T}
-use lib.ListN.{length, getD, take, drop, length-append, length-drop, length-map, List·getD-append}
+use lib.ListN.{length, getD, drop, length-append, length-drop, length-map, List·getD-append}
 use lib.Seq.{getD-append-add, getD-drop}
 use Rattle.tree.specs.Tree.{xname, Tree, Op, nil}
-use Rattle.tree.specs.Tokens.{all-tokens, read, numbered, words-of, run-at, trees-in}
+use Rattle.tree.specs.Tokens.{read, numbered, words-of, run-at, trees-in}
 use Rattle.tree.proofs.TokenLaws.{complete-length}
-use Rattle.tree.proofs.TokenCode.{coded, all-coded, unnumbered, writes-back}
-use Rattle.cse.specs.Answer.{Intermediate, Let}
+use Rattle.tree.proofs.TokenCode.{coded, all-coded, writes-back}
+use Rattle.cse.specs.Answer.{Let}
 use Rattle.cse.specs.Order.{nothing}
 use Rattle.cse.specs.Scope.{binds}
 use Rattle.words.specs.Words.{tree-of}
@@ -20,6 +20,7 @@ use Rattle.renaming.specs.Rounds.{by-number, next-number, bind-each-on, bind-ea
 use Rattle.renaming.proofs.Coded.{is-alone, none-fit, one-fits, first-fits, rest-fits, read-fits, read-again, bind-on-fits}
 use Rattle.renaming.proofs.WordReciprocals.{bind-each-are}
 use Rattle.reciprocals.proofs.Parts.{settle-tree, settled-reciprocals, bound-are-settled, tree-there, All-there}
+use Rattle.reciprocal.proofs.Made.{settled-long}
 use Rattle.finishlaws.specs.Final.{divisors-at, final-trees, final-words}
 use Rattle.finishlaws.proofs.Entering.{By-number}
 
@@ -41,10 +42,6 @@ bind-each-fits : (l : List Tree) (n : ℕ) (ts : List Tree) → T (all-coded is-
 unfolding bind-each-on
 bind-each-fits [] n ts g h = h
 bind-each-fits (d ∷ l) n ts g h = bind-each-fits l (suc n) _ (rest-fits is-alone d l g) (bind-on-fits is-alone d n ts (first-fits is-alone d l g) h)
-
-reciprocals-count : (l : List Tree) (n : ℕ) → length (settled-reciprocals l n) ≡ length l
-reciprocals-count [] n = refl
-reciprocals-count (d ∷ l) n = ap suc (reciprocals-count l (suc n))
 
 -- ---- the final trees
 
@@ -82,7 +79,7 @@ module _ (k m : ℕ) (places ws : List ℕ) (complete : trees-in ws ≡ some m) 
   settled-count = length-map (read numbered ws) (settle-tree (divisors-at ws places) (m - k)) ∙ complete-length numbered ws m complete
 
   pub last-count : length last-trees ≡ length places
-  last-count = reciprocals-count (divisors-at ws places) (m - k) ∙ length-map places (numbered-at ws)
+  last-count = settled-long (divisors-at ws places) (m - k) ∙ length-map places (numbered-at ws)
 
   pub final-count : length (final-trees k places ws) ≡ m + length places
   final-count = ap length final-parts ∙ omega (arith, length-append settled-trees last-trees, settled-count, last-count)

@@ -1,9 +1,9 @@
 -- Entries counted and written one after another. Assumes nothing.
-use Prim.Native.Nat.{ℕ, zero, suc, _+_, _-_, _*_, _≤_, _<_}
+use Prim.Native.Nat.{ℕ, _+_, _-_, _*_, _≤_, _<_}
 use native.Mathlib.Omega.{arith}
 use mathlib.Core.Path.{_≡_, refl, sym, _∙_, ap, subst}
 use mathlib.Core.List.{List, [], _∷_, _++_}
-use lib.ListN.{length, getD, take, drop, set, length-set}
+use lib.ListN.{length, take, drop, set, length-set}
 use lib.Seq.{length-take-le}
 use Rattle.words.proofs.Scanning.{Put, put-one, put-more, put-long}
 use Rattle.finishlaws.specs.Entries.{final-run, entry-row, entry-tree, entry, entries}

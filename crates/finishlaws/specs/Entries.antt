@@ -1,19 +1,14 @@
 -- An answer's rows one entry after another (01, "Turned down", refusal 12): a let's row and its tree's words for each binding in the order in which they are taken,
 -- then a result's row and its tree's words for each result. Assumes nothing.
-use Prim.Native.Nat.{ℕ, zero, suc, _+_, _-_, _*_, _≤_}
-use mathlib.Core.Path.{_≡_}
-use mathlib.Core.Bool.{Bool, cond}
-use mathlib.Core.Option.{some}
-use mathlib.Core.List.{List, [], _∷_, _++_, map}
-use lib.ListN.{length, getD, take, drop}
+use Prim.Native.Nat.{ℕ, zero, suc, _+_, _-_, _*_}
+use mathlib.Core.Bool.{cond}
+use mathlib.Core.List.{List, [], _∷_, _++_}
+use lib.ListN.{length, getD}
 use lib.Dec.{ltb}
-use Rattle.tree.specs.Tree.{Tree, Op, nil}
-use Rattle.tree.specs.Tokens.{word, tokens, all-tokens, read, numbered, trees-in}
+use Rattle.tree.specs.Tree.{Op, nil}
+use Rattle.tree.specs.Tokens.{word, tokens}
 use Rattle.cse.specs.AnswerRows.{let-row, result-row}
 use Rattle.words.specs.Words.{number}
-use Rattle.renaming.specs.Rounds.{next-number}
-use Rattle.reciprocal.specs.Bindings.{all-there}
-use Rattle.treelist.specs.Starts.{starts-of}
 use Rattle.finishlaws.specs.Final.{final-trees}
 
 -- the words of the final tree of number i

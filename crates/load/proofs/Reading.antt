@@ -11,8 +11,8 @@ use Rattle.tree.specs.Outcome.{Outcome, ok, refused, _at-record_, _>>=_}
 use Rattle.tree.specs.Rows.{Row, Table}
 use Rattle.tree.specs.Layout.{row-words, table-words}
 use Rattle.sheet.specs.Sheet.{records-from, load-records}
-use Rattle.parse.specs.Parts.{record-end}
-use Rattle.parse.proofs.Ends.{Record, records-cut}
+use Rattle.recordend.specs.End.{record-end}
+use Rattle.recordend.proofs.Ends.{Record, records-cut}
 use Rattle.record.specs.Item.{Item, a-row, a-root, record-item, with-item}
 use Rattle.record.proofs.Items.{records-step}
 use Rattle.load.specs.declared.Step.{Step}

@@ -7,9 +7,9 @@ ghost use Rattle.sheet.specs.Call.{load-call};
 ghost use Rattle.record.specs.Item.{record-item};
 ghost use Rattle.load.specs.Steps.{Stepped, All-read};
 ghost use Rattle.load.specs.Loads.{Loads, Finished};
-use parse::record_end;
 use record::Read;
 use record::read_record;
+use recordend::record_end;
 use rows::Checked;
 use rows::check_domain;
 

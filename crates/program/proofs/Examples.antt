@@ -1,25 +1,27 @@
 -- Spot checks beyond the marked lists, by computing: a scoped answer from a sheet's bytes to text and by way of rows, its names' scopes, its rows, rows that print
 -- refuses, and each refusal of load. Assumes nothing.
-use Prim.Native.Nat.{ℕ, suc}
+use Prim.Native.Nat.{ℕ, zero, suc, _+_}
 use mathlib.Core.Path.{_≡_, refl}
 use mathlib.Core.Bool.{true, false}
 use mathlib.Core.List.{List, [], _∷_}
+use lib.ListN.{length}
 use Rattle.tree.specs.Outcome.{Outcome, ok, refused, by, _>>=_}
 use Rattle.tree.specs.Bytes.{bytes}
-use Rattle.tree.specs.Kinds.{Branch, Select, SelectOr}
-use Rattle.tree.specs.Tree.{Tree, Op, nil, _◂_}
-use Rattle.tree.specs.Rows.{row-sym, row-op}
+use Rattle.tree.specs.Kinds.{Neg, Branch, Select, SelectOr}
+use Rattle.tree.specs.Tree.{xname, Tree, Op, nil, _◂_}
+use Rattle.tree.specs.Rows.{row-sym, row-op, occurrences}
 use Rattle.tree.specs.Layout.{table-words}
 use Rattle.tree.specs.Tokens.{word}
 use Rattle.cse.specs.Answer.{rows}
 use Rattle.cse.specs.AnswerRows.{result-row, let-row}
-use Rattle.cse.specs.Scope.{cse-scope, answer}
+use Rattle.cse.specs.Extract.{extract-all, reciprocals}
+use Rattle.cse.specs.Scope.{held, fuse-held, cse-scope, answer}
 use Rattle.cse.specs.Demand.{well-scoped}
 use Rattle.cse.specs.Call.{extract-call}
 use Rattle.print.specs.Print.{print-call}
 use Rattle.program.specs.Program.{csesheet, csescoped}
 use Rattle.program.specs.Calls.{by-calls}
-use Rattle.program.proofs.Marked.{v, _⊕_, _⊗_, sin, cos}
+use Rattle.program.proofs.Marked.{v, num, _⊕_, _⊗_, _⊘_, sin, cos}
 
 -- two selects on one index and a branch, with work shared inside an arm
 abbrev mixed : List Tree
@@ -40,9 +42,36 @@ mixed-text =
 abbrev few : List ℕ
 few = table-words (row-sym (bytes "a") ∷ row-op 3 (0 ∷ 0 ∷ []) ∷ [])
 
--- how many numbers select(i, a + b) takes where the open scopes have so many rows: it needs five, and its arm three more
+-- how many numbers select(i, a + b) takes where so many scopes can be open: it needs one, and its arm another
 abbrev numbers-in : ℕ → Outcome ℕ
-numbers-in room = cse-scope (suc room) room true 0 (Op Select (v "i" ◂ (v "a" ⊕ v "b") ◂ nil) ∷ []) >>= λ a. ok (a .next)
+numbers-in scopes = cse-scope scopes true 0 (Op Select (v "i" ◂ (v "a" ⊕ v "b") ◂ nil) ∷ []) >>= λ a. ok (a .next)
+
+-- arms that nest so deep
+abbrev nested : ℕ → Tree
+nested zero = v "a"
+nested (suc n) = Op Select (v "i" ◂ nested n ◂ nil)
+
+abbrev copies : ℕ → Tree → List Tree
+copies zero t = []
+copies (suc n) t = t ∷ copies n t
+
+-- how many numbers a scope has used that has so many results, each a leaf, and one reciprocal
+abbrev numbers-held : ℕ → Tree → Outcome ℕ
+numbers-held n d =
+    fuse-held (λ n l. cse-scope 1 true n l) 0 (record { results = copies n (v "a"); lets = record { name = xname 0; expr = num 1 ⊘ d } ∷ []; next = 1 }) >>= λ a.
+    ok (a .next)
+
+-- divisors in one another, the innermost first in text order, and a switch in it: each reciprocal holds the switch
+abbrev divided : ℕ → Tree
+divided zero = Op Neg (Op Select (num 1 ◂ num 2 ◂ nil) ◂ nil)
+divided (suc n) = num (10 + n) ⊘ divided n
+
+abbrev twice-divided : ℕ → List Tree
+twice-divided n = v "p" ⊘ divided n ∷ v "q" ⊘ divided n ∷ []
+
+-- a list's occurrences, and how many its scope would hold
+abbrev rows-for : List Tree → Outcome (ℕ × ℕ)
+rows-for es = extract-all true 0 es >>= λ s. ok (occurrences es, occurrences (held (length (s .lets)) (reciprocals true s)))
 
 pub record Examples : Type 0 where
   mixed-scoped : csescoped mixed-sheet ≡ mixed-text
@@ -51,9 +80,18 @@ pub record Examples : Type 0 where
   mixed-no-byte : by-calls true 45 199 mixed-sheet ≡ refused (by 14)
   mixed-in-scope : (answer true mixed >>= λ a. ok (well-scoped mixed a)) ≡ ok true
   mixed-rows : (answer true mixed >>= λ a. ok (rows a)) ≡ ok 45
-  room-enough : numbers-in 8 ≡ ok 1
-  room-for-one : numbers-in 7 ≡ refused (by 23)
-  room-for-none : numbers-in 4 ≡ refused (by 23)
+  two-scopes : numbers-in 2 ≡ ok 1
+  one-scope : numbers-in 1 ≡ refused (by 23)
+  eight-deep : (answer true (nested 8 ∷ []) >>= λ a. ok (rows a)) ≡ ok 50
+  nine-deep : answer true (nested 9 ∷ []) ≡ refused (by 23)
+  rows-enough : numbers-held 1024 (num 2) ≡ ok 1
+  a-row-too-few : numbers-held 1025 (num 2) ≡ refused (by 23)
+  a-switch-held : numbers-held 1019 (Op Select (num 1 ◂ num 2 ◂ nil)) ≡ ok 2
+  no-row-for-a-switch : numbers-held 1020 (Op Select (num 1 ◂ num 2 ◂ nil)) ≡ refused (by 23)
+  some-divisors : (answer true (twice-divided 26) >>= λ a. ok (rows a)) ≡ ok 955
+  rows-for-many : rows-for (twice-divided 27) ≡ ok (120, 1038)
+  many-divisors-flat : (answer false (twice-divided 27) >>= λ a. ok (a .extracted)) ≡ ok 0
+  many-divisors : answer true (twice-divided 27) ≡ refused (by 23)
   work-too-short : extract-call false 65535 131072 few (1 ∷ []) 9 ≡ refused (by 8)
   text-too-short : extract-call false 65536 131071 few (1 ∷ []) 9 ≡ refused (by 8)
   no-such-root : extract-call false 65536 131072 few (2 ∷ []) 9 ≡ refused (by 9)
@@ -73,7 +111,7 @@ pub record Examples : Type 0 where
   no-earlier-node : csesheet (bytes "Sym,a\r\nRoot,1") ≡ bytes "refused 5 1\n"
 
 pub examples : Examples
-unfolding cse-scope answer well-scoped rows by-calls csesheet csescoped extract-call print-call
+unfolding cse-scope fuse-held answer well-scoped rows by-calls csesheet csescoped extract-call print-call
 examples =
     record {
       mixed-scoped = refl;
@@ -82,9 +120,18 @@ examples =
       mixed-no-byte = refl;
       mixed-in-scope = refl;
       mixed-rows = refl;
-      room-enough = refl;
-      room-for-one = refl;
-      room-for-none = refl;
+      two-scopes = refl;
+      one-scope = refl;
+      eight-deep = refl;
+      nine-deep = refl;
+      rows-enough = refl;
+      a-row-too-few = refl;
+      a-switch-held = refl;
+      no-row-for-a-switch = refl;
+      some-divisors = refl;
+      rows-for-many = refl;
+      many-divisors-flat = refl;
+      many-divisors = refl;
       work-too-short = refl;
       text-too-short = refl;
       no-such-root = refl;

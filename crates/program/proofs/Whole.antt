@@ -1,15 +1,15 @@
 -- Demand 3, whole: one theorem over both answers together, for any list that passes 9, and so for any sheet that load accepts. Assumes nothing.
-use Prim.Native.Nat.{ℕ}
+use Prim.Native.Nat.{ℕ, _≤_}
 use mathlib.Core.Path.{_≡_}
 use mathlib.Core.Bool.{Bool, true, false}
 use mathlib.Core.List.{List}
 use mathlib.Core.Logic.{_⊎_}
 use lib.ListN.{length}
 use lib.Dec.{T, leb}
-use Rattle.tree.specs.Outcome.{Refusal, ok, refused, by}
+use Rattle.tree.specs.Outcome.{Refusal, ok, refused, by, _>>=_}
 use Rattle.tree.specs.Tree.{Tree}
 use Rattle.cse.specs.Answer.{Answer}
-use Rattle.cse.specs.Scope.{answer}
+use Rattle.cse.specs.Scope.{scopes-open, cse-scope, as-answer, answer}
 use Rattle.tree.specs.Rows.{Table, trees, within-limits}
 use Rattle.sheet.specs.Sheet.{load}
 use Rattle.cse.specs.Demand.{Demand3}
@@ -25,6 +25,8 @@ use Rattle.cse.proofs.ReciprocalBindings.{All-flat}
 use Rattle.cse.proofs.ScopedCount as counts
 use Rattle.cse.proofs.CleanDivisors.{Plain-divisors}
 use Rattle.cse.proofs.RoomEnough as room
+use Rattle.cse.proofs.ScopeRoom as scopes
+use Rattle.cse.proofs.ScopeRoom.{by-held}
 use Rattle.tree.proofs.Logic.{and-left, and-right}
 use Rattle.cse.proofs.ScopedCount.{Tally, over-lets, each-one, inverse-one}
 use Rattle.cse.proofs.Both as both
@@ -42,6 +44,10 @@ sheet-demand3 row-places root-places s t e = demand3 (trees t) (accepted-passes 
 pub rows-demand3 : (ws roots : List ℕ) → T (laid-out ws roots) → Demand3 (trees (table-of ws roots))
 rows-demand3 ws roots h = demand3 (trees (table-of ws roots)) (laid-out-passes ws roots h)
 
+passes-limits : (es : List Tree) → T (passes es) → T (within-limits es)
+unfolding passes
+passes-limits es h = and-left (within-limits es) _ (and-right (leb (length es) 64) _ h)
+
 -- the flat form refuses by 10 alone, never by 11
 pub flat-refused-by-10 : (es : List Tree) → T (passes es) → (i : Refusal) → answer false es ≡ refused i → i ≡ by 10
 flat-refused-by-10 es h i e = refusals.flat-refused-by-10 es (passes-unmade es h) i e
@@ -55,9 +61,15 @@ refused-by-10-11-or-23 = refusals.refused-by-10-11-or-23
 
 -- and by 10 or 11 alone, never by 23, where each divisor of the list holds a symbol, or no Select or Branch
 pub scoped-refused-by-10-or-11 : (es : List Tree) → T (passes es) → Plain-divisors es → (i : Refusal) → answer true es ≡ refused i → (i ≡ by 10) ⊎ (i ≡ by 11)
-unfolding passes
-scoped-refused-by-10-or-11 es h p =
-    room.refused-by-10-or-11 es (passes-formed es h) (passes-unmade es h) (and-left (within-limits es) _ (and-right (leb (length es) 64) _ h)) p
+scoped-refused-by-10-or-11 es h p = room.refused-by-10-or-11 es (passes-formed es h) (passes-unmade es h) (passes-limits es h) p
+
+-- for a list that passes 9 more than nine open scopes would change nothing
+pub nine-scopes : (fuel : ℕ) → scopes-open ≤ fuel → (scoped : Bool) (es : List Tree) → T (passes es) → answer scoped es ≡ (cse-scope fuel scoped 0 es >>= λ a. ok (as-answer a))
+nine-scopes fuel m scoped es h = scopes.answer-by-more fuel m scoped es (passes-limits es h)
+
+-- and however many can be open, 23 arises only where a scope would hold more than 1,024 occurrences for fusion: a scope needs no other test
+pub scoped-by-held : (fuel : ℕ) → scopes-open ≤ fuel → (es : List Tree) → T (passes es) → answer true es ≡ (by-held fuel 0 es >>= λ a. ok (as-answer a))
+scoped-by-held fuel m es h = scopes.answer-by-held fuel m es (passes-limits es h)
 
 -- in a flat answer each statement binds some `__xi`, and where i is not below the extraction count, to 1 / d
 pub flat-reciprocals : (es : List Tree) → T (passes es) → (a : Answer) → answer false es ≡ ok a → All-flat (a .extracted) (a .inters)

@@ -18,7 +18,7 @@ use Rattle.tree.specs.Symbol.{is-letter, is-digit, is-name}
 use Rattle.tree.specs.Rows.{Row, row-sym, row-const, row-op}
 use Rattle.tree.specs.Layout.{row-kind, row-default, row-fields, row-words}
 use Rattle.sheet.specs.Sheet.{Root, constant, numbers}
-use Rattle.parse.specs.Parts.{has-room, copied}
+use Rattle.namebytes.specs.Copy.{has-room, copied}
 use Rattle.numerals.specs.Values.{constant-answer}
 use Rattle.numerals.specs.declared.Constant.the-variants as signed
 use Rattle.names.proofs.Leaves.{name-by}

@@ -13,12 +13,12 @@ use Rattle.tree.specs.Outcome.{Outcome, refused, _at-record_}
 use Rattle.tree.specs.Bytes.{every}
 use Rattle.sheet.specs.Sheet.{plain, fields-from, find, words, fields-ok}
 use Rattle.sheet.proofs.Splitting.{glued, Split, record-split}
-use Rattle.parse.specs.Parts.{comma-at}
-use Rattle.parse.specs.Answers.{split-answer}
+use Rattle.commas.specs.Comma.{comma-at}
+use Rattle.commas.specs.Answers.{split-answer}
 use Rattle.recordwords.specs.Answers.{word-answer}
-use Rattle.parse.specs.declared.Split.the-variants as split
+use Rattle.commas.specs.declared.Split.the-variants as split
 use Rattle.recordwords.specs.declared.Word.the-variants as word
-use Rattle.parse.proofs.Commas.{fields-whole, fields-cut}
+use Rattle.commas.proofs.Commas.{fields-whole, fields-cut}
 use Rattle.record.specs.Item.{Item, row-item, fields-item, split-item, record-item}
 use Rattle.record.specs.Reading.{Follows, Reads, room}
 use Rattle.record.specs.declared.Read.{Read}

@@ -9,12 +9,12 @@ use lib.ListN.{length, take, drop, set, length-drop, drop-of-length-le}
 use lib.Seq.{take-all, length-take-le, drop-drop}
 use borrow.Rule.Slice.PartMut.{putMid}
 use Rattle.sheet.specs.Sheet.{number, numbers, fields-from}
-use Rattle.parse.specs.Parts.{comma-at}
-use Rattle.parse.specs.Answers.{split-answer}
+use Rattle.commas.specs.Comma.{comma-at}
+use Rattle.commas.specs.Answers.{split-answer}
 use Rattle.numerals.specs.Values.{capped, number-answer}
-use Rattle.parse.specs.declared.Split.the-variants as split
+use Rattle.commas.specs.declared.Split.the-variants as split
 use Rattle.numerals.specs.declared.Number.the-variants as numbered
-use Rattle.parse.proofs.Commas.{fields-whole, fields-cut}
+use Rattle.commas.proofs.Commas.{fields-whole, fields-cut}
 use Rattle.record.specs.Reading.{capped-all, Writes}
 use Rattle.record.specs.declared.Fields.{Fields}
 use Rattle.record.specs.declared.Fields.the-variants as fields

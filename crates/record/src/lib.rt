@@ -10,9 +10,9 @@ ghost use Rattle.kinds.specs.Numbers.{kind-number};
 ghost use Rattle.sheet.specs.Sheet.{fields-from, fields-ok, numbers};
 ghost use Rattle.record.specs.Item.{fields-item};
 ghost use Rattle.record.specs.Reading.{Follows, Reads, Writes};
+use commas::Split;
 use numerals::Constant;
 use numerals::Number;
-use parse::Split;
 use recordwords::Word;
 
 const COMMA: u8 = 44;
@@ -147,7 +147,7 @@ fn write_numbers(s: &[u8], out: &mut [u64]) -> Fields
     requires { ⌜ length (fields-from [] (now s)) ≤ length (now out) ⌝ }
     ensures { λ r. ⌜ Writes (numbers (fields-from [] (now (s .entry)))) (now (out .entry)) r (now (out .exit)) ⌝ }
 {
-    let Split::At(comma) = parse::first_comma(s) else {
+    let Split::At(comma) = commas::first_comma(s) else {
         return write_last(s, out);
     };
     let Number::Value(v) = numerals::node_number(&s[..comma]) else {
@@ -168,7 +168,7 @@ fn read_symbol(s: &[u8], rows: u64, row: &mut [u64]) -> Read
     ensures { λ r. ⌜ Follows (fields-item 0 rows 0 0 (now (s .entry) ∷ [])) (now (row .entry)) r (now (row .exit)) ⌝ }
 {
     clear(row);
-    if !parse::copy_bytes(s, &mut row[3..]) {
+    if !namebytes::copy_bytes(s, &mut row[3..]) {
         return Read::Refused(3);
     }
     let n = s.len();
@@ -210,7 +210,7 @@ fn read_numbers(kind: u64, s: &[u8], rows: u64, roots: u64, row: &mut [u64]) -> 
         return Read::Refused(2);
     };
     let end = n + 3;
-    if !fields::all_below(&row[3..end], rows) {
+    if !bounds::all_below(&row[3..end], rows) {
         return Read::Refused(5);
     }
     if kind == ROOT {
@@ -252,10 +252,10 @@ pub fn read_record(record: &[u8], rows: u64, roots: u64, row: &mut [u64]) -> Rea
     if rows > MANY_ROWS {
         return Read::NoRoom;
     }
-    if !parse::all_plain(record) {
+    if !plain::all_plain(record) {
         return Read::Refused(2);
     }
-    let Split::At(comma) = parse::first_comma(record) else {
+    let Split::At(comma) = commas::first_comma(record) else {
         return Read::Refused(2);
     };
     let Word::Kind(kind) = recordwords::record_word(&record[..comma]) else {

@@ -54,7 +54,7 @@ module _ (R : Renaming) where
   switch-step true s u p q e h = ap₂ _∷_ e h
   switch-step false s u p q e h = h
 
-  switches-renamed : (l : List Tree) → switches (map (renamed R) l) ≡ map renamed-switch (switches l)
+  pub switches-renamed : (l : List Tree) → switches (map (renamed R) l) ≡ map renamed-switch (switches l)
   unfolding switches renamed-by
   switches-renamed [] = refl
   switches-renamed (Sym n ∷ l) = switches-renamed l

@@ -17,7 +17,7 @@ use Rattle.tree.specs.Rows.{occurrences}
 use Rattle.tree.proofs.TokenLaws.{map-append}
 use Rattle.rewrite.specs.Rewrite.{replace, replace-divisor}
 use Rattle.cse.specs.Extract.{Binding, State, bound, roots, Candidate, replace-bound, extract, divisors, distinct, shared-divisors, replace-divisor-each, replace-divisor-bound, bind-reciprocal, bind-reciprocals}
-use Rattle.cse.specs.Scope.{Scoped, unfused, fuse-all, finish}
+use Rattle.cse.specs.Scope.{Scoped, unfused, finish, fuse-held, scope-rows}
 use Rattle.cse.proofs.Outcomes.{Good, then-good, good-ok}
 use Rattle.renaming.specs.Shown.{best-by, rounds-by, extract-all-by, sort-by, reciprocals-by, cse-scope-by}
 use Rattle.renaming.specs.Rounds.{by-number, next-number, state-of, extract-on, bind-on, bind-each-on, rounds-on, reciprocals-on}
@@ -319,11 +319,11 @@ module _ (shown : Tree → List ℕ) where
 
   -- the flat form
   pub flat-on :
-      (fuel room next : ℕ) (es : List Tree) → let k = length es in
-      cse-scope-by shown (suc fuel) room false next es
+      (fuel next : ℕ) (es : List Tree) → let k = length es in
+      cse-scope-by shown (suc fuel) false next es
       ≡ (rounds-on shown (all-operations es) false k next es >>= λ us. finish (unfused (length (drop k us)) (state-of k next (reciprocals-on shown false k next us))))
   unfolding cse-scope-by
-  flat-on fuel room next es =
+  flat-on fuel next es =
       let k = length es in
       let o = rounds-on shown (all-operations es) false k next es in
       let end : State → Outcome Scoped = λ s. finish (unfused (length (s .lets)) (reciprocals-by shown false s)) in
@@ -333,23 +333,22 @@ module _ (shown : Tree → List ℕ) where
       (λ us. finish (unfused (length (drop k us)) (state-of k next (reciprocals-on shown false k next us)))) (rounds-on-length (all-operations es) false k next es (omega arith))
       (λ us l. ap finish (ap₂ unfused (lets-length k next us) (reciprocals-on-state false k next us l)))
 
-  -- the scoped form, where the input has room
+  -- the scoped form, where the input has no more occurrences than the scope has rows
   pub scoped-on :
-      (fuel room next : ℕ) (es : List Tree) → leb (occurrences es) room ≡ true → let k = length es in
-      cse-scope-by shown (suc fuel) room true next es
+      (fuel next : ℕ) (es : List Tree) → leb (occurrences es) scope-rows ≡ true → let k = length es in
+      cse-scope-by shown (suc fuel) true next es
       ≡ (rounds-on shown (all-operations es) true k next es >>= λ us.
-      fuse-all (λ n l. cse-scope-by shown fuel (room - occurrences es) true n l) (length (drop k us)) (state-of k next (reciprocals-on shown true k next us)) >>= λ w.
-      finish w)
+      fuse-held (λ n l. cse-scope-by shown fuel true n l) (length (drop k us)) (state-of k next (reciprocals-on shown true k next us)))
   unfolding cse-scope-by
-  scoped-on fuel room next es e =
+  scoped-on fuel next es e =
       let k = length es in
       let o = rounds-on shown (all-operations es) true k next es in
-      let inner : ℕ → List Tree → Outcome Scoped = λ n l. cse-scope-by shown fuel (room - occurrences es) true n l in
-      let end : State → Outcome Scoped = λ s. (fuse-all inner (length (s .lets)) (reciprocals-by shown true s) >>= λ w. finish w) in
+      let inner : ℕ → List Tree → Outcome Scoped = λ n l. cse-scope-by shown fuel true n l in
+      let end : State → Outcome Scoped = λ s. fuse-held inner (length (s .lets)) (reciprocals-by shown true s) in
       ap (λ (b : Bool). elim b as (λ _. Outcome Scoped) [ true ↦ (extract-all-by shown true next es >>= end) | false ↦ refused (by 23) ]) e
       ∙ ap (λ (o : Outcome State). o >>= end) (extract-all-on true next es)
       ∙ then-then o (λ us. ok (state-of k next us)) end
       ∙ then-same (λ (us : List Tree). k ≤ length us) o (λ us. end (state-of k next us))
-      (λ us. fuse-all inner (length (drop k us)) (state-of k next (reciprocals-on shown true k next us)) >>= λ w. finish w)
+      (λ us. fuse-held inner (length (drop k us)) (state-of k next (reciprocals-on shown true k next us)))
       (rounds-on-length (all-operations es) true k next es (omega arith))
-      (λ us l. ap₂ (λ (n : ℕ) (s : State). fuse-all inner n s >>= λ w. finish w) (lets-length k next us) (reciprocals-on-state true k next us l))
+      (λ us l. ap₂ (fuse-held inner) (lets-length k next us) (reciprocals-on-state true k next us l))

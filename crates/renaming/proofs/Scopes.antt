@@ -1,26 +1,29 @@
 -- `cse_scope`, `cse` and `cse_scoped` under other names of the list's symbols: the same answer, renamed, where texts are those of the renamed trees. Assumes
 -- nothing.
-use Prim.Native.Nat.{ℕ, zero, suc, _-_}
+use Prim.Native.Nat.{ℕ, zero, suc, _+_}
 use mathlib.Core.Path.{_≡_, refl, sym, _∙_, ap, ap₂, subst}
 use mathlib.Core.Bool.{Bool, true, false}
-use mathlib.Core.List.{List, [], map}
+use mathlib.Core.List.{List, [], _∷_, map}
+use native.Mathlib.Omega.{arith}
 use lib.ListN.{length, length-map}
 use lib.Dec.{leb}
 use Rattle.tree.specs.Outcome.{Outcome, ok, refused, by, _>>=_}
 use Rattle.tree.specs.Tree.{Tree}
+use Rattle.tree.specs.Facts.{outer}
 use Rattle.tree.specs.Rows.{occurrences}
-use Rattle.cse.specs.Extract.{State, extract-all, reciprocals, roots}
+use Rattle.cse.specs.Extract.{Binding, State, extract-all, reciprocals, roots}
 use Rattle.cse.specs.Answer.{Intermediate}
 use Rattle.cse.specs.Order.{topo-sort-intermediates}
-use Rattle.cse.specs.Scope.{Work, Scoped, collect-switches, groups-from, fuse-groups, fuse-all, unfused, finish, cse-scope, area-rows, as-answer, answer}
+use Rattle.cse.specs.Scope.{Switch, Work, Scoped, switches, collect-switches, groups-from, fuse-groups, fuse-all, unfused, finish, some-switch, holds-switch, held-bindings, held, fuse-held, scope-rows, scopes-open, cse-scope, as-answer, answer}
 use Rattle.cse.proofs.Outcomes.{Good}
+use Rattle.cse.proofs.ArmNodes.{occurrences-append}
 use Rattle.renaming.specs.Shown.{extract-all-by, reciprocals-by, cse-scope-by, answer-by}
-use Rattle.renaming.proofs.Renaming.{Renaming, renamed, Known-all, occurrences-renamed}
+use Rattle.renaming.proofs.Renaming.{Renaming, renamed, Known-all, occurrences-renamed, outer-renamed}
 use Rattle.renaming.proofs.Rewriting.{Agree, agree-ok, then-agree}
 use Rattle.renaming.proofs.Extraction.{Every, shown, renamed-binding, renamed-state, Known-state, roots-renamed, roots-known, extract-all-renamed, reciprocals-renamed, reciprocals-known}
 use Rattle.renaming.proofs.Answers.{renamed-stmt, Known-stmt, renamed-answer, Known-answer, block-renamed, block-known}
 use Rattle.renaming.proofs.Ordering.{topo-sort-renamed}
-use Rattle.renaming.proofs.Fusing.{renamed-group, groups-renamed, groups-known, collect-renamed, collect-known, renamed-work, Known-work, renamed-scoped, Known-scoped, fuse-groups-renamed, unfused-renamed, unfused-known}
+use Rattle.renaming.proofs.Fusing.{renamed-switch, switches-renamed, renamed-group, groups-renamed, groups-known, collect-renamed, collect-known, renamed-work, Known-work, renamed-scoped, Known-scoped, fuse-groups-renamed, unfused-renamed, unfused-known}
 
 module _ (R : Renaming) where
   finish-renamed : (w : Work) → Known-work R w → Agree (Known-scoped R) (renamed-scoped R) (finish w) (finish (renamed-work R w))
@@ -65,21 +68,6 @@ module _ (R : Renaming) where
       subst (λ (w : Work). Agree (Known-scoped R) (renamed-scoped R) (finish (unfused x t)) (finish w)) (sym e)
       (finish-renamed (unfused x t) (unfused-known R x t (reciprocals-known R false s h)))
 
-  scoped-step :
-      (scope sense : ℕ → List Tree → Outcome Scoped)
-      → ((n : ℕ) (l : List Tree) → Known-all R l → Agree (Known-scoped R) (renamed-scoped R) (scope n l) (sense n (map (renamed R) l)))
-      → (s : State) → Known-state R s
-      → Agree (Known-scoped R) (renamed-scoped R) (fuse-all scope (length (s .lets)) (reciprocals-by (shown R) true s) >>= λ w. finish w)
-      (fuse-all sense (length (map (renamed-binding R) (s .lets))) (reciprocals true (renamed-state R s)) >>= λ w. finish w)
-  scoped-step scope sense same s h =
-      let t = reciprocals-by (shown R) true s in
-      let x = length (s .lets) in
-      let e : fuse-all sense (length (map (renamed-binding R) (s .lets))) (reciprocals true (renamed-state R s)) ≡ fuse-all sense x (renamed-state R t) =
-      ap₂ (fuse-all sense) (length-map (s .lets) (renamed-binding R)) (reciprocals-renamed R true s h) in
-      subst (λ (u : Outcome Work). Agree (Known-scoped R) (renamed-scoped R) (fuse-all scope x t >>= λ w. finish w) (u >>= λ w. finish w)) (sym e)
-      (then-agree (Known-work R) (renamed-work R) (Known-scoped R) (renamed-scoped R) (fuse-all scope x t) (fuse-all sense x (renamed-state R t))
-      (fuse-all-renamed scope sense same x t (reciprocals-known R true s h)) (λ w. finish w) (λ w. finish w) (λ w z. finish-renamed w z))
-
   refused-agrees : Agree (Known-scoped R) (renamed-scoped R) (refused (by 23)) (refused (by 23))
   unfolding Good
   refused-agrees = (tt, refl)
@@ -90,33 +78,85 @@ module _ (R : Renaming) where
   room-step true p q h = h
   room-step false p q h = refused-agrees
 
+  -- what a scope holds is the same
+  some-renamed : (l : List Switch) → some-switch (map (renamed-switch R) l) ≡ some-switch l
+  unfolding some-switch
+  some-renamed [] = refl
+  some-renamed (s ∷ l) = refl
+
+  holds-switch-renamed : (e : Tree) → holds-switch (renamed R e) ≡ holds-switch e
+  unfolding holds-switch
+  holds-switch-renamed e =
+      ap (λ (l : List Tree). some-switch (switches l)) (outer-renamed R e) ∙ ap some-switch (switches-renamed R (outer e)) ∙ some-renamed (switches (outer e))
+
+  one-held : (b c : Bool) (e : Tree) (p q : List Tree) → b ≡ c → p ≡ map (renamed R) q
+      → _≡_ {A = List Tree} (elim b [ true ↦ renamed R e ∷ p | false ↦ p ]) (map (renamed R) (elim c [ true ↦ e ∷ q | false ↦ q ]))
+  one-held true true e p q h g = ap (λ (l : List Tree). renamed R e ∷ l) g
+  one-held true false e p q h g = (let z : _≡_ {A = ℕ} 0 1 = cc in absurd (omega arith))
+  one-held false true e p q h g = (let z : _≡_ {A = ℕ} 0 1 = cc in absurd (omega arith))
+  one-held false false e p q h g = g
+
+  held-bindings-renamed : (x : ℕ) (l : List Binding) → held-bindings x (map (renamed-binding R) l) ≡ map (renamed R) (held-bindings x l)
+  unfolding held-bindings
+  held-bindings-renamed x [] = refl
+  held-bindings-renamed zero (b ∷ l) =
+      one-held (holds-switch (renamed R (b .expr))) (holds-switch (b .expr)) (b .expr) (held-bindings zero (map (renamed-binding R) l)) (held-bindings zero l) (holds-switch-renamed (b .expr))
+      (held-bindings-renamed zero l)
+  held-bindings-renamed (suc x) (b ∷ l) = ap (λ (r : List Tree). renamed R (b .expr) ∷ r) (held-bindings-renamed x l)
+
+  held-renamed : (x : ℕ) (s : State) → occurrences (held x (renamed-state R s)) ≡ occurrences (held x s)
+  unfolding held
+  held-renamed x s =
+      occurrences-append (map (renamed R) (s .results)) (held-bindings x (map (renamed-binding R) (s .lets)))
+      ∙ ap₂ _+_ (occurrences-renamed R (s .results)) (ap occurrences (held-bindings-renamed x (s .lets)) ∙ occurrences-renamed R (held-bindings x (s .lets)))
+      ∙ sym (occurrences-append (s .results) (held-bindings x (s .lets)))
+
+  scoped-step :
+      (scope sense : ℕ → List Tree → Outcome Scoped)
+      → ((n : ℕ) (l : List Tree) → Known-all R l → Agree (Known-scoped R) (renamed-scoped R) (scope n l) (sense n (map (renamed R) l)))
+      → (s : State) → Known-state R s
+      → Agree (Known-scoped R) (renamed-scoped R) (fuse-held scope (length (s .lets)) (reciprocals-by (shown R) true s))
+      (fuse-held sense (length (map (renamed-binding R) (s .lets))) (reciprocals true (renamed-state R s)))
+  unfolding fuse-held
+  scoped-step scope sense same s h =
+      let t = reciprocals-by (shown R) true s in
+      let x = length (s .lets) in
+      let e : fuse-held sense (length (map (renamed-binding R) (s .lets))) (reciprocals true (renamed-state R s)) ≡ fuse-held sense x (renamed-state R t) =
+      ap₂ (fuse-held sense) (length-map (s .lets) (renamed-binding R)) (reciprocals-renamed R true s h) in
+      let from : ℕ → Outcome Scoped = λ m.
+      elim (leb m scope-rows) as (λ _. Outcome Scoped) [ true ↦ (fuse-all sense x (renamed-state R t) >>= λ w. finish w) | false ↦ refused (by 23) ] in
+      subst (λ (u : Outcome Scoped). Agree (Known-scoped R) (renamed-scoped R) (fuse-held scope x t) u) (sym e)
+      (subst (λ (m : ℕ). Agree (Known-scoped R) (renamed-scoped R) (fuse-held scope x t) (from m)) (sym (held-renamed x t))
+      (room-step (leb (occurrences (held x t)) scope-rows) (fuse-all scope x t >>= λ w. finish w) (fuse-all sense x (renamed-state R t) >>= λ w. finish w)
+      (then-agree (Known-work R) (renamed-work R) (Known-scoped R) (renamed-scoped R) (fuse-all scope x t) (fuse-all sense x (renamed-state R t))
+      (fuse-all-renamed scope sense same x t (reciprocals-known R true s h)) (λ w. finish w) (λ w. finish w) (λ w z. finish-renamed w z))))
+
   pub cse-scope-renamed :
-      (fuel room : ℕ) (scoped : Bool) (next : ℕ) (es : List Tree) → Known-all R es
-      → Agree (Known-scoped R) (renamed-scoped R) (cse-scope-by (shown R) fuel room scoped next es) (cse-scope fuel room scoped next (map (renamed R) es))
+      (fuel : ℕ) (scoped : Bool) (next : ℕ) (es : List Tree) → Known-all R es
+      → Agree (Known-scoped R) (renamed-scoped R) (cse-scope-by (shown R) fuel scoped next es) (cse-scope fuel scoped next (map (renamed R) es))
   unfolding cse-scope cse-scope-by
-  cse-scope-renamed zero room scoped next es h = refused-agrees
-  cse-scope-renamed (suc fuel) room false next es h =
+  cse-scope-renamed zero scoped next es h = refused-agrees
+  cse-scope-renamed (suc fuel) false next es h =
       then-agree (Known-state R) (renamed-state R) (Known-scoped R) (renamed-scoped R) (extract-all-by (shown R) false next es) (extract-all false next (map (renamed R) es))
       (extract-all-renamed R false next es h) (λ s. finish (unfused (length (s .lets)) (reciprocals-by (shown R) false s)))
       (λ s. finish (unfused (length (s .lets)) (reciprocals false s))) (λ s z. flat-step s z)
-  cse-scope-renamed (suc fuel) room true next es h =
-      let o = occurrences es in
-      let scope : ℕ → List Tree → Outcome Scoped = λ n l. cse-scope-by (shown R) fuel (room - o) true n l in
-      let sense : ℕ → ℕ → List Tree → Outcome Scoped = λ o n l. cse-scope fuel (room - o) true n l in
+  cse-scope-renamed (suc fuel) true next es h =
+      let scope : ℕ → List Tree → Outcome Scoped = λ n l. cse-scope-by (shown R) fuel true n l in
+      let sense : ℕ → List Tree → Outcome Scoped = λ n l. cse-scope fuel true n l in
       let from : ℕ → Outcome Scoped = λ o.
-      elim (leb o room) as (λ _. Outcome Scoped) [
-        | true ↦ (extract-all true next (map (renamed R) es) >>= λ s. fuse-all (sense o) (length (s .lets)) (reciprocals true s) >>= λ w. finish w)
+      elim (leb o scope-rows) as (λ _. Outcome Scoped) [
+        | true ↦ (extract-all true next (map (renamed R) es) >>= λ s. fuse-held sense (length (s .lets)) (reciprocals true s))
         | false ↦ refused (by 23)
       ] in
       subst
-      (λ (m : ℕ). Agree (Known-scoped R) (renamed-scoped R) (cse-scope-by (shown R) (suc fuel) room true next es) (from m)) (sym (occurrences-renamed R es))
-      (room-step (leb o room)
-      (extract-all-by (shown R) true next es >>= λ s. fuse-all scope (length (s .lets)) (reciprocals-by (shown R) true s) >>= λ w. finish w)
-      (extract-all true next (map (renamed R) es) >>= λ s. fuse-all (sense o) (length (s .lets)) (reciprocals true s) >>= λ w. finish w)
+      (λ (m : ℕ). Agree (Known-scoped R) (renamed-scoped R) (cse-scope-by (shown R) (suc fuel) true next es) (from m)) (sym (occurrences-renamed R es))
+      (room-step (leb (occurrences es) scope-rows)
+      (extract-all-by (shown R) true next es >>= λ s. fuse-held scope (length (s .lets)) (reciprocals-by (shown R) true s))
+      (extract-all true next (map (renamed R) es) >>= λ s. fuse-held sense (length (s .lets)) (reciprocals true s))
       (then-agree (Known-state R) (renamed-state R) (Known-scoped R) (renamed-scoped R) (extract-all-by (shown R) true next es) (extract-all true next (map (renamed R) es))
-      (extract-all-renamed R true next es h) (λ s. fuse-all scope (length (s .lets)) (reciprocals-by (shown R) true s) >>= λ w. finish w)
-      (λ s. fuse-all (sense o) (length (s .lets)) (reciprocals true s) >>= λ w. finish w)
-      (λ s z. scoped-step scope (sense o) (λ n l k. cse-scope-renamed fuel (room - o) true n l k) s z)))
+      (extract-all-renamed R true next es h) (λ s. fuse-held scope (length (s .lets)) (reciprocals-by (shown R) true s))
+      (λ s. fuse-held sense (length (s .lets)) (reciprocals true s))
+      (λ s z. scoped-step scope sense (λ n l k. cse-scope-renamed fuel true n l k) s z)))
 
   as-answer-known : (a : Scoped) → Known-scoped R a → Known-answer R (as-answer a)
   unfolding as-answer
@@ -131,7 +171,7 @@ module _ (R : Renaming) where
       (scoped : Bool) (es : List Tree) → Known-all R es → Agree (Known-answer R) (renamed-answer R) (answer-by (shown R) scoped es) (answer scoped (map (renamed R) es))
   unfolding answer answer-by
   answer-renamed scoped es h =
-      then-agree (Known-scoped R) (renamed-scoped R) (Known-answer R) (renamed-answer R) (cse-scope-by (shown R) (suc area-rows) area-rows scoped 0 es)
-      (cse-scope (suc area-rows) area-rows scoped 0 (map (renamed R) es)) (cse-scope-renamed (suc area-rows) area-rows scoped 0 es h) (λ a. ok (as-answer a))
+      then-agree (Known-scoped R) (renamed-scoped R) (Known-answer R) (renamed-answer R) (cse-scope-by (shown R) scopes-open scoped 0 es)
+      (cse-scope scopes-open scoped 0 (map (renamed R) es)) (cse-scope-renamed scopes-open scoped 0 es h) (λ a. ok (as-answer a))
       (λ a. ok (as-answer a))
       (λ a z. (agree-ok (Known-answer R) (renamed-answer R) (as-answer a) (as-answer-known a z) .0, ap ok (as-answer-renamed a)))

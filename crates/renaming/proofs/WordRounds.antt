@@ -1,5 +1,5 @@
 -- Rounds on words are rounds on the trees that the words are, and so are whole scopes (specs, Rounds). Assumes nothing.
-use Prim.Native.Nat.{ℕ, zero, suc, _-_, _<_}
+use Prim.Native.Nat.{ℕ, zero, suc, _<_}
 use mathlib.Core.Path.{_≡_, refl, sym, _∙_, ap, ap₂, subst}
 use mathlib.Core.Bool.{Bool, true, false}
 use mathlib.Core.Option.{Option, none, some}
@@ -13,7 +13,7 @@ use Rattle.tree.specs.Rows.{occurrences}
 use Rattle.tree.specs.Tokens.{all-tokens, read, numbered, takes, trees-in}
 use Rattle.tree.proofs.TokenCode.{coded, all-coded, unnumbered, tokens-complete, writes-back}
 use Rattle.cse.specs.Extract.{State, Candidate, candidate}
-use Rattle.cse.specs.Scope.{Scoped, unfused, fuse-all, finish}
+use Rattle.cse.specs.Scope.{Scoped, unfused, finish, fuse-held, scope-rows}
 use Rattle.cse.proofs.Outcomes.{Good}
 use Rattle.renaming.specs.Shown.{cse-scope-by}
 use Rattle.renaming.specs.Places.{numbered-at, best-place}
@@ -116,27 +116,25 @@ module _ (name-at : ℕ → List ℕ) where
       (λ us h. ap₂ end (ap (λ (l : List Tree). length (drop k l)) (read-again us h)) (ap (state-of k first) (after-rounds scoped k first us h))))
 
   pub flat-words :
-      (fuel room next : ℕ) (ws : List ℕ) (m : ℕ) → trees-in ws ≡ some m → let ts = read numbered ws in let k = length ts in
-      cse-scope-by text (suc fuel) room false next ts
+      (fuel next : ℕ) (ws : List ℕ) (m : ℕ) → trees-in ws ≡ some m → let ts = read numbered ws in let k = length ts in
+      cse-scope-by text (suc fuel) false next ts
       ≡ (rounds-words name-at (all-operations ts) false k next ws >>= λ vs.
       finish (unfused (length (drop k (read numbered vs))) (state-of k next (read numbered (reciprocals-words name-at false k next vs)))))
-  flat-words fuel room next ws m c =
+  flat-words fuel next ws m c =
       let ts = read numbered ws in
       let k = length ts in
-      flat-on text fuel room next ts
+      flat-on text fuel next ts
       ∙ ends-same false k next (λ x s. finish (unfused x s)) (rounds-on text (all-operations ts) false k next ts) (rounds-words name-at (all-operations ts) false k next ws)
       (rounds-words-are (all-operations ts) false k next ws m c)
 
   pub scoped-words :
-      (fuel room next : ℕ) (ws : List ℕ) (m : ℕ) → trees-in ws ≡ some m → leb (occurrences (read numbered ws)) room ≡ true → let ts = read numbered ws in let k = length ts in
-      cse-scope-by text (suc fuel) room true next ts
+      (fuel next : ℕ) (ws : List ℕ) (m : ℕ) → trees-in ws ≡ some m → leb (occurrences (read numbered ws)) scope-rows ≡ true → let ts = read numbered ws in let k = length ts in
+      cse-scope-by text (suc fuel) true next ts
       ≡ (rounds-words name-at (all-operations ts) true k next ws >>= λ vs.
-      fuse-all (λ n l. cse-scope-by text fuel (room - occurrences ts) true n l) (length (drop k (read numbered vs)))
-      (state-of k next (read numbered (reciprocals-words name-at true k next vs))) >>= λ w.
-      finish w)
-  scoped-words fuel room next ws m c e =
+      fuse-held (λ n l. cse-scope-by text fuel true n l) (length (drop k (read numbered vs))) (state-of k next (read numbered (reciprocals-words name-at true k next vs))))
+  scoped-words fuel next ws m c e =
       let ts = read numbered ws in
       let k = length ts in
-      scoped-on text fuel room next ts e
-      ∙ ends-same true k next (λ x s. fuse-all (λ n l. cse-scope-by text fuel (room - occurrences ts) true n l) x s >>= λ w. finish w)
+      scoped-on text fuel next ts e
+      ∙ ends-same true k next (λ x s. fuse-held (λ n l. cse-scope-by text fuel true n l) x s)
       (rounds-on text (all-operations ts) true k next ts) (rounds-words name-at (all-operations ts) true k next ws) (rounds-words-are (all-operations ts) true k next ws m c)

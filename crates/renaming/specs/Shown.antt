@@ -1,7 +1,7 @@
 -- Extraction, reciprocals and scopes with the text of a tree given by `shown` (01, "Extraction", "Reciprocals", "Scoped fusion"): for trees whose symbols are
 -- numbers, with the text that they have under their names. Texts decide only between candidates of equal savings and depth, and the order of divisors. With
 -- `display` for `shown` these are the definitions of Extract and Scope. Assumes nothing.
-use Prim.Native.Nat.{ℕ, zero, suc, _-_}
+use Prim.Native.Nat.{ℕ, zero, suc}
 use mathlib.Core.Bool.{Bool, true, false, _&&_, _||_}
 use mathlib.Core.Option.{Option, none, some}
 use mathlib.Core.List.{List, [], _∷_}
@@ -14,7 +14,7 @@ use Rattle.tree.specs.Rows.{occurrences}
 use Rattle.text.specs.Text.{before}
 use Rattle.cse.specs.Extract.{State, roots, is-candidate, Candidate, candidate, extract, divisors, distinct, shared-divisors, bind-reciprocals}
 use Rattle.cse.specs.Answer.{Answer}
-use Rattle.cse.specs.Scope.{Scoped, unfused, fuse-all, finish, area-rows, as-answer}
+use Rattle.cse.specs.Scope.{Scoped, unfused, finish, fuse-held, scope-rows, scopes-open, as-answer}
 
 module _ (shown : Tree → List ℕ) where
   -- ---- the best candidate (01, "Extraction")
@@ -72,18 +72,17 @@ module _ (shown : Tree → List ℕ) where
 
   -- ---- scopes (01, "Scoped fusion")
 
-  unfoldable pub cse-scope-by : ℕ → ℕ → Bool → ℕ → List Tree → Outcome Scoped
-  unfolding extract-all-by reciprocals-by unfused fuse-all finish occurrences
-  cse-scope-by zero room scoped next es = refused (by 23)
-  cse-scope-by (suc fuel) room false next es = extract-all-by false next es >>= λ s. finish (unfused (length (s .lets)) (reciprocals-by false s))
-  cse-scope-by (suc fuel) room true next es =
-      elim (leb (occurrences es) room) [
+  unfoldable pub cse-scope-by : ℕ → Bool → ℕ → List Tree → Outcome Scoped
+  unfolding extract-all-by reciprocals-by unfused fuse-held finish occurrences scope-rows
+  cse-scope-by zero scoped next es = refused (by 23)
+  cse-scope-by (suc fuel) false next es = extract-all-by false next es >>= λ s. finish (unfused (length (s .lets)) (reciprocals-by false s))
+  cse-scope-by (suc fuel) true next es =
+      elim (leb (occurrences es) scope-rows) [
         | true ↦ (extract-all-by true next es >>= λ s.
-            fuse-all (λ n l. cse-scope-by fuel (room - occurrences es) true n l) (length (s .lets)) (reciprocals-by true s) >>= λ w.
-            finish w)
+            fuse-held (λ n l. cse-scope-by fuel true n l) (length (s .lets)) (reciprocals-by true s))
         | false ↦ refused (by 23)
       ]
 
   unfoldable pub answer-by : Bool → List Tree → Outcome Answer
-  unfolding cse-scope-by area-rows as-answer
-  answer-by scoped es = cse-scope-by (suc area-rows) area-rows scoped 0 es >>= λ a. ok (as-answer a)
+  unfolding cse-scope-by scopes-open as-answer
+  answer-by scoped es = cse-scope-by scopes-open scoped 0 es >>= λ a. ok (as-answer a)

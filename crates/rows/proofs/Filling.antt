@@ -14,7 +14,7 @@ use Rattle.tree.specs.Tree.{Tree, Op, nil}
 use Rattle.tree.specs.Facts.{total, size, nesting}
 use Rattle.tree.specs.Rows.{Row, at, tree-of-row, trees-from, occurrences}
 use Rattle.tree.specs.Layout.{row-of, rows-of}
-use Rattle.fields.specs.Tests.{below}
+use Rattle.bounds.specs.Below.{below}
 use Rattle.rows.specs.Check.{row-test, rows-test}
 use Rattle.rows.specs.Measure.{pick, capped-size, capped-level, level-by, row-operands, Row-measures, Filled}
 use Rattle.names.proofs.Leaves.{back}

@@ -21,7 +21,9 @@ use Rattle.tree.proofs.Logic.{and-left, and-right, and-both}
 use Rattle.tree.proofs.TreeLaws.{eq-bytes-sound, eq-bytes-refl}
 use Rattle.tree.proofs.LayoutLaws.{row-number}
 use Rattle.kinds.specs.Numbers.{kind-number}
-use Rattle.fields.specs.Tests.{below, constant-test, operation-test, plain-test, fields-test}
+use Rattle.bounds.specs.Below.{below}
+use Rattle.constants.specs.Constant.{constant-test}
+use Rattle.fields.specs.Tests.{operation-test, plain-test, fields-test}
 use Rattle.rows.specs.Check.{row-test}
 use Rattle.rows.proofs.RowTrees.{flag-cases}
 

@@ -16,7 +16,8 @@ use Rattle.tree.specs.Rows.{at, tree-of-row, occurrences}
 use Rattle.tree.specs.Layout.{row-by, row-of}
 use Rattle.tree.proofs.Logic.{and-left, and-right}
 use Rattle.kinds.specs.Numbers.{kind-number}
-use Rattle.fields.specs.Tests.{below, plain-test, operation-test, fields-test}
+use Rattle.bounds.specs.Below.{below}
+use Rattle.fields.specs.Tests.{plain-test, operation-test, fields-test}
 use Rattle.rows.specs.Check.{row-test}
 use Rattle.rows.specs.Measure.{pick, capped-size, capped-level, level-by, row-operands, Row-measures}
 use Rattle.rows.proofs.Sums.{operands-leaf}

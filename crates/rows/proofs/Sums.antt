@@ -13,7 +13,7 @@ use Rattle.tree.specs.Bytes.{every}
 use Rattle.tree.specs.Kinds.{is-switch}
 use Rattle.tree.specs.Facts.{total, greatest, first-or-deeper}
 use Rattle.tree.proofs.Logic.{and-left, and-right, and-both}
-use Rattle.fields.specs.Tests.{below}
+use Rattle.bounds.specs.Below.{below}
 use Rattle.rows.specs.Measure.{pick, capped-size, capped-level, level-by, row-operands}
 use Rattle.names.proofs.Leaves.{rest, back}
 

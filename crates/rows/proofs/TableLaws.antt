@@ -17,7 +17,7 @@ use Rattle.tree.proofs.Logic.{and-left, and-right, and-both}
 use Rattle.tree.proofs.TreeLaws.{eq-bytes-sound}
 use Rattle.tree.proofs.LayoutLaws.{words-long}
 use lib.IntN.{ℤ, pos, negsuc}
-use Rattle.fields.specs.Tests.{below}
+use Rattle.bounds.specs.Below.{below}
 use Rattle.rows.specs.Check.{laid-in-domain, check-domain, rows-test}
 use Rattle.rows.specs.Measure.{pick, capped-size, capped-level, Filled}
 use Rattle.rows.proofs.RowTrees.{nestings, picked-sizes, picked-levels}

@@ -9,7 +9,8 @@ use Rattle.tree.specs.Outcome.{Outcome, ok, refused, by, _>>=_}
 use Rattle.tree.specs.Bytes.{eq-bytes, every}
 use Rattle.tree.specs.Rows.{trees, occurrences}
 use Rattle.tree.specs.Layout.{table-words, table-of, in-domain}
-use Rattle.fields.specs.Tests.{below, fields-test}
+use Rattle.bounds.specs.Below.{below}
+use Rattle.fields.specs.Tests.{fields-test}
 use Rattle.rows.specs.declared.Checked.{Checked}
 use Rattle.rows.specs.declared.Checked.the-variants.{Laid, Refused}
 

@@ -4,10 +4,10 @@ ghost use Prim.Native.Nat.{suc, _+_, _*_, _≤_, _<_, max};
 ghost use lib.Dec.{T};
 ghost use lib.ListN.{length, getD};
 ghost use Rattle.tree.specs.Facts.{total, greatest};
-ghost use Rattle.fields.specs.Tests.{below};
+ghost use Rattle.bounds.specs.Below.{below};
 ghost use Rattle.rows.specs.Check.{checked, check-domain, row-test};
 ghost use Rattle.rows.specs.Measure.{pick, capped-size, capped-level, level-by, row-operands, Filled};
-use fields::all_below;
+use bounds::all_below;
 use fields::fields_ok;
 
 // The kinds that the code names, by their numbers.

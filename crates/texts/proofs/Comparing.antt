@@ -1,14 +1,14 @@
--- Two texts compared byte by byte from the front, and the beginning of a slice. Assumes nothing.
-use Prim.Native.Nat.{ℕ, suc, _+_, _≤_, _<_, min}
+-- Two texts compared byte by byte from the front, and the later of them. Assumes nothing.
+use Prim.Native.Nat.{ℕ, suc, _+_, _≤_, _<_}
 use native.Mathlib.Omega.{arith}
 use native.Mathlib.Numerals.{add-one}
-use mathlib.Core.Path.{_≡_, refl, sym, _∙_, ap, ap₂}
+use mathlib.Core.Path.{_≡_, refl, sym, _∙_, ap}
 use mathlib.Core.Bool.{Bool, true, false}
 use mathlib.Core.List.{List, [], _∷_}
-use borrow.Author.Tests.{eq-eqb, ne-eqb, leb-true, leb-false}
-use lib.ListN.{length, getD, take, drop, drop-of-length-le}
-use lib.Seq.{drop-cons, length-take-le, take-all, take-length}
-use lib.Dec.{eqb, ltb, leb}
+use borrow.Author.Tests.{eq-eqb, ne-eqb}
+use lib.ListN.{length, getD, drop, drop-of-length-le}
+use lib.Seq.{drop-cons}
+use lib.Dec.{eqb, ltb}
 use Rattle.text.specs.Text.{before, later}
 
 -- ---- one byte after another
@@ -70,21 +70,6 @@ module _ {s t : List ℕ} where
               same-order = k .same-order ∙ rw (drop-cons s i 0 g, drop-cons t i 0 h, add-one i) (same-byte (getD s i 0) (getD t i 0) _ _ e);
             }
 
--- ---- the beginning of a slice
-
-pub beginning : (n k : ℕ) (l : List ℕ) → k ≡ min n (length l) → take k l ≡ take n l
-beginning n k l e = go (leb n (length l)) refl
-  where
-    go : (b : Bool) → leb n (length l) ≡ b → take k l ≡ take n l
-    go true q = let h = leb-true n (length l) q in let d : k ≡ n = omega arith in ap (λ (j : ℕ). take j l) d
-    go false q =
-        let h = leb-false n (length l) q in
-        let d : k ≡ length l = omega arith in
-        ap (λ (j : ℕ). take j l) d ∙ (take-length l ∙ sym (take-all n l (omega arith)))
-
-pub beginning-long : (n k : ℕ) (l : List ℕ) → k ≡ min n (length l) → k ≡ length (take k l)
-beginning-long n k l e = sym (length-take-le k l (omega arith))
-
 -- ---- the later of two
 
 pub later-second : (s t : List ℕ) → true ≡ before s t → t ≡ later s t
@@ -94,16 +79,3 @@ later-second s t e = rw (← e)
 pub later-first : (s t : List ℕ) → false ≡ before s t → s ≡ later s t
 unfolding later
 later-first s t e = rw (← e)
-
--- ---- of two beginnings
-
-module _ (a b : List ℕ) (n m : ℕ) where
-  pub beginnings-compared :
-      (k l : ℕ) → k ≡ min n (length a) → l ≡ min m (length b) → (r : Bool) → r ≡ before (take k a) (take l b) → r ≡ before (take n a) (take m b)
-  beginnings-compared k l p q r e = e ∙ ap₂ before (beginning n k a p) (beginning m l b q)
-
-  pub second-handed : (l : ℕ) → l ≡ min m (length b) → (r : Bool) → r ≡ before (take n a) (take m b) → r ≡ true → take l b ≡ later (take n a) (take m b)
-  second-handed l q r e t = beginning m l b q ∙ later-second (take n a) (take m b) (sym t ∙ e)
-
-  pub first-handed : (k : ℕ) → k ≡ min n (length a) → (r : Bool) → r ≡ before (take n a) (take m b) → r ≡ false → take k a ≡ later (take n a) (take m b)
-  first-handed k p r e t = beginning n k a p ∙ later-first (take n a) (take m b) (sym t ∙ e)

@@ -1,5 +1,6 @@
 -- `creplace::cse_replace` meets its contract. Assumes nothing.
-use Rattle.creplace.proofs.Ends.{no-room, is-replaced}
+use Rattle.crewrite.proofs.Ends.{no-room}
+use Rattle.creplace.proofs.Ends.{is-replaced}
 use borrow.Author.Needs.{needs}
 use Rattle.creplace.proofs.cse_replace.Statement.{statement}
 use Rattle.creplace.proofs.cse_replace.Tie as tie

@@ -4,7 +4,7 @@ use lib.ListN.{length}
 use Rattle.extractlaws.proofs.Starting.{start-short}
 use Rattle.extractlaws.proofs.Unfolding.{unfold-tokens, unfold-refused}
 use Rattle.extractlaws.proofs.Flat.{flat-extractable, flat-symbols}
-use Rattle.extract.proofs.Ends.{is-nine, stops-at-10, words-there, words-long, places-there, places-long, ends-in-rows, ends-refused, never-broken, never-roomless}
+use Rattle.extract.proofs.Ends.{is-nine, stops-at-10, words-there, words-long, places-there, places-long, finish-there, finish-counts, ends-so}
 use borrow.Author.Needs.{needs}
 use Rattle.extract.proofs.extract_flat.Statement.{statement}
 use Rattle.extract.proofs.extract_flat.Tie as tie
@@ -29,24 +29,8 @@ extract-flat-spec =
     (λ c. let s = c .before .before .before .before .before .before .before .before .before .before .before .before .before .before .before .before .before .before .before .before .before .before .before .before .before in let a = s .args in let x = c .before .before .before .before .before .before .before .before .before .before .before .before .before .before .before .before .before .before .«unfold» in let t = c .before .before .before .before .before .before .before .before .before .before .before .before .before .before .unfolded .given in let u = unfold-tokens (length (a .tokens .now)) (a .rows .now) (a .roots .now) (s .pre .0) (a .tokens .now) (x .result) _ (x .ensures) (t .0 .0) (t .1) in let y = c .before .before .before .before .before .before .before .before .before .extract-and-list in let l = c .before .before .listed .given in words-long (a .rows .now) (a .roots .now) (a .table .now) (u .0) _ (u .2) (y .result) _ _ (y .ensures) (l .0 .0) (l .0 .1 .0) (l .0 .1 .1 .0) (l .1))
     (λ c. let s = c .before .before .before .before .before .before .before .before .before .before .before .before .before .before .before .before .before .before .before .before .before .before .before .before .before in let a = s .args in let x = c .before .before .before .before .before .before .before .before .before .before .before .before .before .before .before .before .before .before .«unfold» in let t = c .before .before .before .before .before .before .before .before .before .before .before .before .before .before .unfolded .given in let u = unfold-tokens (length (a .tokens .now)) (a .rows .now) (a .roots .now) (s .pre .0) (a .tokens .now) (x .result) _ (x .ensures) (t .0 .0) (t .1) in let y = c .before .before .before .before .before .before .before .before .before .extract-and-list in let l = c .before .before .listed .given in places-there (a .rows .now) (a .roots .now) (a .table .now) (u .0) _ (u .2) (y .result) _ _ (y .ensures) (l .0 .0) (l .0 .1 .0) (l .0 .1 .1 .0) (l .1))
     (λ c. let s = c .before .before .before .before .before .before .before .before .before .before .before .before .before .before .before .before .before .before .before .before .before .before .before .before .before .before in let a = s .args in let x = c .before .before .before .before .before .before .before .before .before .before .before .before .before .before .before .before .before .before .before .«unfold» in let t = c .before .before .before .before .before .before .before .before .before .before .before .before .before .before .before .unfolded .given in let u = unfold-tokens (length (a .tokens .now)) (a .rows .now) (a .roots .now) (s .pre .0) (a .tokens .now) (x .result) _ (x .ensures) (t .0 .0) (t .1) in let y = c .before .before .before .before .before .before .before .before .before .before .extract-and-list in let l = c .before .before .before .listed .given in places-long (a .rows .now) (a .roots .now) (a .table .now) (u .0) _ (u .2) (y .result) _ _ (y .ensures) (l .0 .0) (l .0 .1 .0) (l .0 .1 .1 .0) (l .1))
-    (λ c κs. search needs)
+    (λ c κs. let s = c .before .before .before .before .before .before .before .before .before .before .before .before .before .before .before .before .before .before .before .before .before .before .before .before .before .before .before in let a = s .args in let x = c .before .before .before .before .before .before .before .before .before .before .before .before .before .before .before .before .before .before .before .before .«unfold» in let t = c .before .before .before .before .before .before .before .before .before .before .before .before .before .before .before .before .unfolded .given in let u = unfold-tokens (length (a .tokens .now)) (a .rows .now) (a .roots .now) (s .pre .0) (a .tokens .now) (x .result) _ (x .ensures) (t .0 .0) (t .1) in let y = c .before .before .before .before .before .before .before .before .before .before .before .extract-and-list in let l = c .before .before .before .before .listed .given in (finish-there (a .rows .now) (a .roots .now) (a .table .now) (u .0) _ (u .2) (y .result) _ _ (y .ensures) (l .0 .0) (l .0 .1 .0) (l .0 .1 .1 .0) (l .1), finish-counts (a .rows .now) (a .roots .now) (a .table .now) (u .0) _ (u .2) (y .result) _ _ (y .ensures) (l .0 .0) (l .0 .1 .0) (l .0 .1 .1 .0) (l .1)))
     (λ c. search needs)
     (λ c. search needs)
     (λ c. search needs)
-    (λ c. search needs)
-    (λ c. search needs)
-    (λ c. search needs)
-    (λ c. search needs)
-    (λ c. let s = c .before .before .before .before .before .before .before .before .before .before .before .before .before .before .before .before .before .before .before .before .before .before .before .before .before .before .before .before .before .before .before .before .before in let a = s .args in let x = c .before .before .before .before .before .before .before .before .before .before .before .before .before .before .before .before .before .before .before .before .before .before .before .before .before .before .«unfold» in let t = c .before .before .before .before .before .before .before .before .before .before .before .before .before .before .before .before .before .before .before .before .before .before .unfolded .given in let u = unfold-tokens (length (a .tokens .now)) (a .rows .now) (a .roots .now) (s .pre .0) (a .tokens .now) (x .result) _ (x .ensures) (t .0 .0) (t .1) in let y = c .before .before .before .before .before .before .before .before .before .before .before .before .before .before .before .before .before .extract-and-list in let l = c .before .before .before .before .before .before .before .before .before .before .listed .given in let z = c .before .before .before .before .before .finish in ends-in-rows (a .rows .now) (a .roots .now) (a .table .now) (u .0) _ (u .2) (y .result) _ _ (y .ensures) (l .0 .0) (l .0 .1 .0) (l .0 .1 .1 .0) (l .1) (z .result) _ (z .ensures) (c .before .finished .given .0 .0) (c .before .finished .given .1))
-    (λ c. search needs)
-    (λ c. search needs)
-    (λ c. search needs)
-    (λ c. let s = c .before .before .before .before .before .before .before .before .before .before .before .before .before .before .before .before .before .before .before .before .before .before .before .before .before .before .before .before .before .before .before .before .before in let a = s .args in let x = c .before .before .before .before .before .before .before .before .before .before .before .before .before .before .before .before .before .before .before .before .before .before .before .before .before .before .«unfold» in let t = c .before .before .before .before .before .before .before .before .before .before .before .before .before .before .before .before .before .before .before .before .before .before .unfolded .given in let u = unfold-tokens (length (a .tokens .now)) (a .rows .now) (a .roots .now) (s .pre .0) (a .tokens .now) (x .result) _ (x .ensures) (t .0 .0) (t .1) in let y = c .before .before .before .before .before .before .before .before .before .before .before .before .before .before .before .before .before .extract-and-list in let l = c .before .before .before .before .before .before .before .before .before .before .listed .given in let z = c .before .before .before .before .before .finish in ends-refused (a .rows .now) (a .roots .now) (a .table .now) (u .0) _ (u .2) (y .result) _ _ (y .ensures) (l .0 .0) (l .0 .1 .0) (l .0 .1 .1 .0) (l .1) (z .result) _ (z .ensures) (c .before .finished2 .given .0 .0) (c .before .finished2 .given .1))
-    (λ c. search needs)
-    (λ c. search needs)
-    (λ c. search needs)
-    (λ c. let s = c .before .before .before .before .before .before .before .before .before .before .before .before .before .before .before .before .before .before .before .before .before .before .before .before .before .before .before .before .before .before .before .before in let a = s .args in let x = c .before .before .before .before .before .before .before .before .before .before .before .before .before .before .before .before .before .before .before .before .before .before .before .before .before .«unfold» in let t = c .before .before .before .before .before .before .before .before .before .before .before .before .before .before .before .before .before .before .before .before .before .unfolded .given in let u = unfold-tokens (length (a .tokens .now)) (a .rows .now) (a .roots .now) (s .pre .0) (a .tokens .now) (x .result) _ (x .ensures) (t .0 .0) (t .1) in let y = c .before .before .before .before .before .before .before .before .before .before .before .before .before .before .before .before .extract-and-list in let l = c .before .before .before .before .before .before .before .before .before .listed .given in let z = c .before .before .before .before .finish in absurd (never-broken (a .rows .now) (a .roots .now) (a .table .now) (u .0) _ (u .2) (y .result) _ _ (y .ensures) (l .0 .0) (l .0 .1 .0) (l .0 .1 .1 .0) (l .1) (z .result) _ (z .ensures) (c .enum-told3 .given .1)))
-    (λ c. search needs)
-    (λ c. search needs)
-    (λ c. search needs)
-    (λ c. let s = c .before .before .before .before .before .before .before .before .before .before .before .before .before .before .before .before .before .before .before .before .before .before .before .before .before .before .before .before .before .before .before .before in let a = s .args in let x = c .before .before .before .before .before .before .before .before .before .before .before .before .before .before .before .before .before .before .before .before .before .before .before .before .before .«unfold» in let t = c .before .before .before .before .before .before .before .before .before .before .before .before .before .before .before .before .before .before .before .before .before .unfolded .given in let u = unfold-tokens (length (a .tokens .now)) (a .rows .now) (a .roots .now) (s .pre .0) (a .tokens .now) (x .result) _ (x .ensures) (t .0 .0) (t .1) in let y = c .before .before .before .before .before .before .before .before .before .before .before .before .before .before .before .before .extract-and-list in let l = c .before .before .before .before .before .before .before .before .before .listed .given in let z = c .before .before .before .before .finish in absurd (never-roomless (a .rows .now) (a .roots .now) (a .table .now) (u .0) _ (u .2) (y .result) _ _ (y .ensures) (l .0 .0) (l .0 .1 .0) (l .0 .1 .1 .0) (l .1) (z .result) _ (z .ensures) (c .enum-told4 .given .1))))
+    (λ c. let s = c .before .before .before .before .before .before .before .before .before .before .before .before .before .before .before .before .before .before .before .before .before .before .before .before .before .before .before .before .before .before in let a = s .args in let x = c .before .before .before .before .before .before .before .before .before .before .before .before .before .before .before .before .before .before .before .before .before .before .before .«unfold» in let t = c .before .before .before .before .before .before .before .before .before .before .before .before .before .before .before .before .before .before .before .unfolded .given in let u = unfold-tokens (length (a .tokens .now)) (a .rows .now) (a .roots .now) (s .pre .0) (a .tokens .now) (x .result) _ (x .ensures) (t .0 .0) (t .1) in let y = c .before .before .before .before .before .before .before .before .before .before .before .before .before .before .extract-and-list in let l = c .before .before .before .before .before .before .before .listed .given in ends-so (a .rows .now) (a .roots .now) (a .table .now) (u .0) _ (u .2) (y .result) _ _ (y .ensures) (l .0 .0) (l .0 .1 .0) (l .0 .1 .1 .0) (l .1) _ _ (c .before .before .finish-flat .ensures)))

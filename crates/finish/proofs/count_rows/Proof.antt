@@ -4,7 +4,6 @@ use native.Mathlib.Omega.{arith}
 use lib.ListN.{length}
 use Rattle.finishlaws.proofs.Taking.{trees-few}
 use Rattle.finishlaws.proofs.Writing.{Counting, count-begins, count-turns, count-ends}
-use borrow.Author.Needs.{needs}
 use Rattle.finish.proofs.count_rows.Statement.{statement}
 use Rattle.finish.proofs.count_rows.Tie as tie
 

@@ -3,7 +3,6 @@ use Prim.Native.Nat.{_-_}
 use native.Mathlib.Omega.{arith}
 use Rattle.finishlaws.specs.Ready.{binding-run}
 use Rattle.finishlaws.proofs.Marking.{Marked, marked-begins, marked-turns, marked-ends}
-use borrow.Author.Needs.{needs}
 use Rattle.finish.proofs.mark_all.Statement.{statement}
 use Rattle.finish.proofs.mark_all.Tie as tie
 

@@ -3,7 +3,6 @@ use native.Mathlib.Omega.{arith}
 use Prim.Native.Nat.{_-_}
 use lib.ListN.{length}
 use Rattle.finishlaws.proofs.Putting.{Putting, put-starts, put-turns, put-ends}
-use borrow.Author.Needs.{needs}
 use Rattle.finish.proofs.put.Statement.{statement}
 use Rattle.finish.proofs.put.Tie as tie
 

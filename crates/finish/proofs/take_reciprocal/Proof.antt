@@ -1,6 +1,5 @@
 -- `finish::take_reciprocal` meets its contract. Assumes nothing.
-use native.Mathlib.Omega.{arith}
-use mathlib.Core.Path.{_≡_, sym, _∙_}
+use mathlib.Core.Path.{sym, _∙_}
 use Rattle.finishlaws.proofs.Taking.{reciprocal-stands, reciprocal-there}
 use borrow.Author.Needs.{needs}
 use Rattle.finish.proofs.take_reciprocal.Statement.{statement}

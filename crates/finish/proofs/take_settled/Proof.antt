@@ -1,8 +1,7 @@
 -- `finish::take_settled` meets its contract. Assumes nothing.
 use native.Mathlib.Omega.{arith}
-use Prim.Native.Nat.{_+_, _≤_}
-use mathlib.Core.Path.{_≡_, sym, _∙_, ap}
-use lib.ListN.{length, getD}
+use mathlib.Core.Path.{sym, _∙_, ap}
+use lib.ListN.{length}
 use Rattle.finishlaws.proofs.Taking.{never-broken, end-is, part-is, run-within, settled-stands}
 use borrow.Author.Needs.{needs}
 use Rattle.finish.proofs.take_settled.Statement.{statement}

@@ -4,7 +4,7 @@ use mathlib.Core.Path.{sym, _∙_}
 use lib.ListN.{length-set}
 use lib.Seq.{length-take-le}
 use Rattle.finishlaws.proofs.Rows.{entry-long}
-use Rattle.finishlaws.proofs.Taking.{trees-few, run-short}
+use Rattle.finishlaws.proofs.Taking.{trees-few}
 use Rattle.finishlaws.proofs.Writing.{tree-there, entry-counts, entry-room, entry-written}
 use borrow.Author.Needs.{needs}
 use Rattle.finish.proofs.write_entry.Statement.{statement}

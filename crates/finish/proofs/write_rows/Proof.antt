@@ -4,7 +4,6 @@ use native.Mathlib.Omega.{arith}
 use lib.ListN.{length}
 use Rattle.finishlaws.proofs.Taking.{trees-few}
 use Rattle.finishlaws.proofs.Writing.{Writing, write-begins, write-room, write-turns, write-ends}
-use borrow.Author.Needs.{needs}
 use Rattle.finish.proofs.write_rows.Statement.{statement}
 use Rattle.finish.proofs.write_rows.Tie as tie
 

@@ -10,7 +10,7 @@ use borrow.Fn.PlainCycle.{Measures, is, falls, and}
 use Rattle.record.proofs.write_numbers.Reads as write-numbers
 use Rattle.record.proofs.write_numbers.Kinds as write-numbers-kinds
 use Rattle.record.proofs.+write_numbers.Lts-write_numbers as write-numbers-lts
-use Rattle.parse.proofs.first_comma.Reads as first-comma-reads
+use Rattle.commas.proofs.first_comma.Reads as first-comma-reads
 use Rattle.numerals.proofs.node_number.Reads as node-number-reads
 use Rattle.record.proofs.write_last.Reads as write-last-reads
 use Rattle.record.proofs.+write_numbers.{statement}

@@ -4,7 +4,7 @@ use mathlib.Core.List.{List}
 use Prim.Native.Nat.{ℕ}
 use lib.Dec.{T}
 use lib.ListN.{length}
-use Rattle.fields.specs.Tests.{below}
+use Rattle.bounds.specs.Below.{below}
 use Rattle.rows.proofs.Sums.{operands-op, measure-leaf, measure-op}
 use borrow.Author.Needs.{needs}
 use Rattle.rows.proofs.measure_row.Statement.{statement}

@@ -1,0 +1,42 @@
+//! Extracts the common subexpressions of the paper's sheet and of a list that is made node by node, and shows a refusal.
+mod paddlecrook;
+
+use paddlecrook::{Extractor, Kind, List, Tree};
+
+const SHEET: &str = "Sym,a\r\nSym,b\r\nAdd,0,1\r\nSym,c\r\nMul,2,3\r\nSin,2\r\nRoot,4\r\nRoot,5\r\n";
+
+fn main() -> Result<(), Box<dyn std::error::Error>> {
+    let mut extractor = Extractor::new();
+
+    // a sheet, and its answer as text
+    let sheet = List::from_sheet(SHEET.as_bytes())?;
+    let answer = extractor.extract(&sheet)?;
+    print!("{}", answer.print()?);
+    println!("{} extracted", answer.extracted());
+
+    // sin(x / n) and cos(x / n), and the answer taken apart
+    let mut list = List::new();
+    let [x, n] = ["x", "n"].map(|name| list.symbol(name));
+    let quotient = list.operation(Kind::Div, &[x, n]);
+    for kind in [Kind::Sin, Kind::Cos] {
+        let root = list.operation(kind, &[quotient]);
+        list.root(root);
+    }
+    let code = extractor.extract(&list)?.code();
+    let divided = vec![Tree::Symbol("x".to_string()), Tree::Symbol("n".to_string())];
+    assert_eq!(code.lets, [("__x0".to_string(), Tree::Operation(Kind::Div, divided))]);
+    for result in &code.results {
+        println!("{result:?}");
+    }
+
+    // refused: a node that isn't there yet, a constant that is too large, and a name that is too long
+    println!("{}", List::from_sheet(b"Sym,a\r\nSin,1\r\n").unwrap_err());
+    let mut large = List::new();
+    large.constant(1_000_000_000_000_000);
+    let mut long = List::new();
+    long.symbol("a_name_of_more_bytes_than_32_bytes");
+    for list in [large, long] {
+        println!("{}", extractor.extract(&list).unwrap_err());
+    }
+    Ok(())
+}

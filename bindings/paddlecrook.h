@@ -1,0 +1,99 @@
+/* Paddlecrook for C: common subexpressions of a list of formulas, by proved functions.
+ *
+ * A slice passes as a pointer and a count of elements. No pointer is null, also where the count is 0; what is lent to one call doesn't overlap, but
+ * for slices that are only read; words are aligned as uint64_t. Nothing is kept between calls, and nothing is allocated.
+ *
+ * Each function returns 0, or the number of a refusal (README.md has them all). Refused, a call leaves every output as it was, but for what its
+ * own comment says; accepted, it leaves output past its answer as it was.
+ *
+ * Link with libpaddlecrook.a, which bindings/build makes.
+ */
+#ifndef PADDLECROOK_H
+#define PADDLECROOK_H
+
+#include <stdbool.h>
+#include <stddef.h>
+#include <stdint.h>
+
+#ifdef __cplusplus
+extern "C" {
+#endif
+
+/* A list has at most so many nodes, roots, and occurrences over all roots. */
+#define CSE_NODES 1024
+#define CSE_ROOTS 64
+#define CSE_OCCURRENCES 1024
+
+/* A node's row has so many words: kind, 1 for a Select with a default, count of fields, the fields, zeros. The fields are the bytes of a symbol's name,
+ * 1 or 0 for minus or none and the magnitude of a constant, or the operands' node numbers. */
+#define CSE_ROW_WORDS 35
+#define CSE_ROWS_WORDS (CSE_NODES * CSE_ROW_WORDS)
+
+/* A sheet has at most so many bytes. */
+#define CSE_SHEET_BYTES 65535
+
+/* The work area of extract. */
+#define CSE_WORK_WORDS 65536
+#define CSE_WORK_BYTES 131072
+
+/* No flat answer has more rows. */
+#define CSE_ANSWER_ROWS 132864
+
+/* Kinds of node rows and of words. A word is kind + 64 * below. Below is, for a symbol, 3 * number + class (class 0: the number of the first row with its
+ * name; 1: __xN; 2: __mN); for a constant 0, 1, 2, 3, 4 .. for 0, -1, 1, -2, 2 ..; otherwise how many operands follow. An answer is words: a let
+ * (below is its symbol's) and its tree, for each binding, then a result (below is 0) and its tree, for each root. */
+enum {
+    CSE_SYM, CSE_CONST, CSE_NEG, CSE_ADD, CSE_SUB, CSE_MUL, CSE_DIV, CSE_POW, CSE_SIN, CSE_COS, CSE_TAN, CSE_ASIN, CSE_ACOS, CSE_ATAN, CSE_ATAN2, CSE_SINH,
+    CSE_COSH, CSE_TANH, CSE_EXP, CSE_LN, CSE_LOG2, CSE_LOG10, CSE_SQRT, CSE_ABS, CSE_HEAVISIDE, CSE_CLAMP, CSE_BRANCH, CSE_SELECT,
+    CSE_SELECT_OR, /* in words only: a Select with a default */
+    CSE_LET,
+    CSE_RESULT = 36
+};
+
+/* Reads a sheet into node rows and roots. rows: CSE_ROWS_WORDS words or more; roots: CSE_ROOTS or more; answer: 2 or more.
+ * 0: answer[0] is how many rows were written (of CSE_ROW_WORDS words each), answer[1] how many roots.
+ * 1 to 7: answer[0] is the record, counted from 0. 255: answer has fewer than two words. */
+uint64_t cse_load(const uint8_t *sheet, size_t sheet_len, uint64_t *rows, size_t rows_len, uint64_t *roots, size_t roots_len, uint64_t *answer,
+                  size_t answer_len);
+
+/* Extracts the common subexpressions of a list, flat. rows and roots: exactly the list's, a multiple of CSE_ROW_WORDS words and a node number for each root;
+ * work: CSE_WORK_WORDS or more; text: CSE_WORK_BYTES or more; table: as many words as the answer may have rows, CSE_ANSWER_ROWS always do; answer: 2 or more.
+ * 0: answer[0] is how many words of the table were written, answer[1] the extraction count.
+ * 8, 9, 10, 12. 255: answer has fewer than two words. What is left in work and text is free, refused or not. */
+uint64_t cse_extract(const uint64_t *rows, size_t rows_len, const uint64_t *roots, size_t roots_len, uint64_t *work, size_t work_len, uint8_t *text,
+                     size_t text_len, uint64_t *table, size_t table_len, uint64_t *answer, size_t answer_len);
+
+/* Writes the text of an answer: a line for each binding and each result. rows: the list's; answer: exactly the answer's words; out: as many bytes as the
+ * text may have; said: 1 or more.
+ * 0: said[0] is how many bytes were written. 13, 14. 255: said is empty. */
+uint64_t cse_print(const uint64_t *rows, size_t rows_len, const uint64_t *answer, size_t answer_len, uint8_t *out, size_t out_len, uint64_t *said,
+                   size_t said_len);
+
+/* Writes the text of the tree that begins at the word `at`, from the byte `to` on; `dry` only measures. Bytes past the end of out are dropped.
+ * 0: answer[0] is the place after the tree's words, answer[1] the place after its text, one past the end where it was cut off.
+ * 253: no tree of an answer begins there. 255: answer has fewer than two words. */
+uint64_t cse_text(const uint64_t *rows, size_t rows_len, const uint64_t *tokens, size_t tokens_len, size_t at, uint8_t *out, size_t out_len, bool dry,
+                  size_t to, uint64_t *answer, size_t answer_len);
+
+/* The rewritings that extraction is made of, on words of trees. name: the word of a symbol; out: as many words as tokens has, or more; answer: 1 or more.
+ * 0: answer[0] is how many words were written. 253: the words aren't trees, or the name isn't a symbol's. 254: too few places. 255: answer is empty. */
+
+/* Each division by a tree becomes a product with a symbol. */
+uint64_t cse_replace_divisor(const uint64_t *tokens, size_t tokens_len, const uint64_t *divisor, size_t divisor_len, uint64_t name, uint64_t *out,
+                             size_t out_len, uint64_t *answer, size_t answer_len);
+
+/* Each equal tree outside the arms of switches becomes a symbol. */
+uint64_t cse_replace_outside_arms(const uint64_t *tokens, size_t tokens_len, const uint64_t *target, size_t target_len, uint64_t name, uint64_t *out,
+                                  size_t out_len, uint64_t *answer, size_t answer_len);
+
+/* Each equal tree becomes a symbol, and so do the target's factors in a product. places: twice as many words as tokens or target has, whichever has more;
+ * what is left there is free. The target has a symbol, and not the new name, or else 253. 10: a rebuilt coefficient is no constant; out has the trees as
+ * they were. */
+uint64_t cse_replace(const uint64_t *tokens, size_t tokens_len, const uint64_t *target, size_t target_len, uint64_t name, uint64_t *places,
+                     size_t places_len, uint64_t *out, size_t out_len, uint64_t *answer, size_t answer_len);
+
+#ifdef __cplusplus
+}
+#endif
+
+#endif

@@ -1,0 +1,38 @@
+# What the scripts of this folder share; they read it from the repository's root.
+
+source=${ARAEL_SRC:-../shared/docs/src}/arael-sym/src
+out=$PWD/target/compare
+mkdir -p "$out"
+
+# ends well where the source isn't at hand
+need_source() {
+    if [ ! -f "$source/cse.rs" ] || [ ! -f "$source/fmt.rs" ]; then
+        echo "compare: skipped, no cse.rs and fmt.rs in $source (ARAEL_SRC names the folder above arael-sym)"
+        exit 0
+    fi
+    source=$(realpath "$source")
+}
+
+# FOLDER...: all Rust files stand in one folder, since `mod` looks for them beside main.rs: this folder's, the source's unchanged, and those of the
+# folders named, in place of others of the same name
+gather() {
+    build=$out/build
+    rm -rf "$build"
+    mkdir -p "$build"
+    ln -s "$PWD"/compare/*.rs "$build"
+    [ ! -f "$source/cse.rs" ] || ln -s "$source/cse.rs" "$source/fmt.rs" "$build"
+    for folder; do
+        ln -sf "$PWD/compare/$folder"/*.rs "$build"
+    done
+}
+
+# PROGRAM FUNCTION...: the crates that export the functions as static libraries, and the program, linked with them
+link() {
+    local program=$1 libraries=() crate
+    shift
+    for crate in $(for function; do grep -l "extern \"C\" fn $function(" crates/*/src/lib.rt; done | cut -d/ -f2 | sort -u); do
+        rt staticlib "$crate" >"$out/staticlib.log" 2>&1 || { cat "$out/staticlib.log"; exit 1; }
+        libraries+=(-l "static=$crate")
+    done
+    rustc -O --edition 2024 -L target/staticlib "${libraries[@]}" -o "$out/$program" "$build/main.rs"
+}

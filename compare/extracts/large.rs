@@ -1,0 +1,215 @@
+//! Random lists near the limit of 1,024 occurrences, each from parts that repeat.
+use crate::lists::{self, ANY, DEEPEST, DIVISIONS, MIXED, SWITCHES, Soil, TEXTS, arity, one};
+use crate::random::Random;
+use crate::tree::*;
+
+pub const MOST: usize = 1024;
+pub const ROOTS: usize = 64;
+/// A part that a list grows from has at most so many occurrences.
+const MOST_OF_A_PART: usize = 150;
+
+#[derive(Clone, Copy, Debug)]
+pub enum Family {
+    Small,
+    Products,
+    Switches,
+    Divisions,
+    Regrouped,
+    Grown,
+    Chains,
+    Stairs,
+    Doubled,
+    Derivatives,
+}
+
+use Family::*;
+
+/// A list of at most so many occurrences, and mostly not many fewer.
+pub fn list(r: &mut Random, most: usize) -> Vec<T> {
+    let family = *r.pick(&[
+        Small, Small, Small, Products, Products, Switches, Switches, Divisions, Divisions, Regrouped, Grown, Grown, Grown, Grown, Grown, Chains,
+        Stairs, Doubled, Derivatives, Derivatives,
+    ]);
+    of_family(r, family, most)
+}
+
+pub fn of_family(r: &mut Random, family: Family, most: usize) -> Vec<T> {
+    let es = match family {
+        Small => filled(r, most, lists::list),
+        Products => filled(r, most, lists::products),
+        Switches => filled(r, most, lists::tangled),
+        Divisions => filled(r, most, lists::divided),
+        Regrouped => filled(r, most, lists::regrouped),
+        Grown => {
+            let soil = *r.pick(&[&ANY, &SWITCHES, &DIVISIONS, &TEXTS, &MIXED]);
+            let pool = grown(r, soil);
+            filled(r, most, |r| vec![one(r, &pool)])
+        }
+        Chains => {
+            let chains = chains(r, most / 3);
+            filled(r, most, |r| vec![r.pick(&chains).clone()])
+        }
+        Stairs => {
+            let stairs = stairs(r, most * 9 / 20);
+            filled(r, most, |r| {
+                let p = sym(["p", "q"][r.below(2)]);
+                vec![op(DIV, vec![p, r.pick(&stairs).clone()])]
+            })
+        }
+        Doubled => doubled(r, most),
+        Derivatives => filled(r, most, derivatives),
+    };
+    joined(r, es, most)
+}
+
+/// Trees while they fit.
+fn filled(r: &mut Random, most: usize, mut more: impl FnMut(&mut Random) -> Vec<T>) -> Vec<T> {
+    let mut es = Vec::new();
+    let mut total = 0;
+    // room for the operations that join roots
+    let room = most - most / 20;
+    let mut missed = 0;
+    while missed < 20 && total + 1 < room {
+        for t in more(r) {
+            if total + size(&t) <= room && nesting(&t) < DEEPEST {
+                total += size(&t);
+                es.push(t);
+            } else {
+                missed += 1;
+            }
+        }
+    }
+    es
+}
+
+/// Two roots become one until there are few enough, and each tree is now and then read by another.
+fn joined(r: &mut Random, mut es: Vec<T>, most: usize) -> Vec<T> {
+    let mut total: usize = es.iter().map(size).sum();
+    let roots = 1 + r.below(ROOTS);
+    while es.len() > roots && (total < most || es.len() > ROOTS) {
+        let a = es.remove(r.below(es.len()));
+        let i = r.below(es.len());
+        let kind = *r.pick(&[ADD, ADD, 4, MUL, DIV, ATAN2]);
+        es[i] = op(kind, vec![es[i].clone(), a]);
+        total += 1;
+    }
+    while es.iter().map(size).sum::<usize>() > most {
+        es.remove(r.below(es.len()));
+    }
+    es
+}
+
+fn grown(r: &mut Random, soil: &Soil) -> Vec<T> {
+    let mut pool: Vec<T> = soil.symbols.iter().map(|s| sym(s)).collect();
+    pool.extend(soil.constants.iter().map(|n| num(*n)));
+    pool.extend(["c", "d", "y"].map(sym));
+    let leaves = pool.len();
+    for _ in 0..20 + r.below(60) {
+        let kind = *r.pick(soil.kinds);
+        let parts: Vec<T> = (0..arity(r, kind)).map(|_| one(r, &pool)).collect();
+        if parts.iter().map(size).sum::<usize>() < MOST_OF_A_PART && parts.iter().all(|t| nesting(t) + 1 < DEEPEST) {
+            pool.push(op(kind, parts));
+        }
+    }
+    pool.split_off(leaves)
+}
+
+/// Deep nests, of which each holds the next.
+fn chains(r: &mut Random, longest: usize) -> Vec<T> {
+    let mut t = sym("a");
+    let mut all = vec![op(8, vec![t.clone()])];
+    let kinds = [vec![NEG, 8, ADD, MUL], vec![MUL], vec![ADD, 4], vec![DIV, 7], vec![9, 24]];
+    let kinds = r.pick(&kinds).clone();
+    while size(&t) < longest {
+        let kind = *r.pick(&kinds);
+        let leaf = if r.chance(70) { sym(["a", "b", "c"][r.below(3)]) } else { num(2) };
+        let parts = match (arity(r, kind), r.below(2)) {
+            (1, _) => vec![t],
+            (_, 0) => vec![t, leaf],
+            _ => vec![leaf, t],
+        };
+        t = op(kind, parts);
+        if r.chance(5) {
+            all.push(t.clone());
+        }
+    }
+    all.push(t);
+    all
+}
+
+/// Divisors without a symbol, each of which divides in the next. Each is bound as it was counted, so that
+/// the answer of two of the last is far longer than the list.
+fn stairs(r: &mut Random, longest: usize) -> Vec<T> {
+    let mut t = num(2);
+    let mut all = vec![t.clone()];
+    // texts that come before the text they stand in, after it, or either
+    let way = r.below(3);
+    let most = if r.chance(50) { longest } else { longest / 8 };
+    while size(&t) + 2 < most {
+        let n = all.len() as i64;
+        t = match r.below(30) {
+            0 => op(ADD, vec![num(n), t]),
+            1 => op(8, vec![t]),
+            _ => op(DIV, vec![num([7, 100 + n, r.below(9) as i64][way]), t]),
+        };
+        all.push(t.clone());
+    }
+    // the last three as often as all others
+    let last = all[all.len().saturating_sub(3)..].to_vec();
+    let more = all.len();
+    all.extend(last.into_iter().cycle().take(more));
+    all
+}
+
+/// What a generator of derivatives gives: sums of products of a few sines, cosines and lengths.
+fn derivatives(r: &mut Random) -> Vec<T> {
+    let angle = |r: &mut Random| op(8 + r.below(2), vec![sym(["a", "b", "c"][r.below(3)])]);
+    let place = |r: &mut Random| sym(["p", "q", "y"][r.below(3)]);
+    let turned = |r: &mut Random| {
+        let (x, y) = (place(r), place(r));
+        let (s, c) = (angle(r), angle(r));
+        op(ADD + r.below(2), vec![op(MUL, vec![x, c]), op(MUL, vec![y, s])])
+    };
+    let length = |r: &mut Random| {
+        let (x, y) = (turned(r), place(r));
+        let square = |t: T| op(7, vec![t, num(2)]);
+        op(22, vec![op(ADD, vec![square(x), square(y)])])
+    };
+    let mut sum = turned(r);
+    for _ in 0..1 + r.below(4) {
+        let mut term = angle(r);
+        for _ in 0..1 + r.below(3) {
+            let factor = match r.below(6) {
+                0 => turned(r),
+                1 => num([2, -1, 3][r.below(3)]),
+                2 | 3 => place(r),
+                _ => angle(r),
+            };
+            term = op(MUL, vec![term, factor]);
+        }
+        if r.chance(25) {
+            term = op(DIV, vec![term, length(r)]);
+        }
+        sum = op(ADD + r.below(2), vec![sum, term]);
+    }
+    vec![sum]
+}
+
+/// Sums of a tree with itself.
+fn doubled(r: &mut Random, most: usize) -> Vec<T> {
+    let mut t = sym("a");
+    let mut all = Vec::new();
+    while 2 * size(&t) < most {
+        let kind = *r.pick(&[ADD, MUL, 4, DIV, 7]);
+        t = op(kind, vec![t.clone(), t]);
+        all.push(t.clone());
+    }
+    all.reverse();
+    let mut total = 0;
+    all.retain(|t| {
+        let fits = total + size(t) <= most;
+        total += if fits { size(t) } else { 0 };
+        fits
+    });
+    all
+}

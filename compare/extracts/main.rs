@@ -1,0 +1,496 @@
+//! Holds the port's extract, called through its static library, against the source's own `cse`, on random
+//! lists laid out as node rows; and measures both.
+//!
+//! Arguments: the number of small and of large lists; or `--self-test`, to see that wrong expectations are
+//! noticed; or `--bench`, for the times of both.
+#![allow(dead_code)]
+
+mod answers;
+mod arael;
+mod area;
+mod asked;
+mod bench;
+mod cse;
+mod fmt;
+mod laid;
+mod large;
+mod lists;
+mod paddlecrook;
+mod port;
+mod random;
+mod reading;
+mod rows;
+mod tree;
+mod words;
+mod wrapped;
+
+// cse.rs and fmt.rs look for these at the top of the crate
+pub use arael::{E, Expr, FuncKind, symbol};
+pub(crate) use arael::{as_exact_int, expand_func};
+
+use answers::{EVENTS, Event, Events};
+use laid::List;
+use paddlecrook::Extractor;
+use port::{BAD_COEFFICIENT, BAD_ROWS, Call, Expected, FEW_ROWS, NO_ANSWER, Port, SHORT_WORK, TEXT, WORK, nothing};
+use random::Random;
+use rows::{Rows, WIDTH};
+use std::time::{Duration, Instant};
+use tree::T;
+
+const SEED: u64 = 20_261_115;
+const WRONG: usize = 5_000;
+/// Of a hundred lists so many are lent again with something to be refused, and so many go through the wrapper
+/// for generators too.
+const REFUSED: usize = 12;
+const WRAPPED: usize = 5;
+
+/// How often the source is run on a list. Hash order is new in each run. A tie that stays hidden in these
+/// runs does no harm where the port agrees; where it doesn't, many more runs tell.
+const RUNS: usize = 6;
+const RUNS_OF_LARGE: usize = 3;
+const MORE_RUNS: usize = 200;
+
+fn main() {
+    let words: Vec<String> = std::env::args().skip(1).collect();
+    asked::hush();
+    let count = |i: usize| words[i].parse().expect("a number of lists");
+    match words[0].as_str() {
+        "--self-test" => self_test(),
+        "--bench" => bench::run(),
+        _ => compare(count(0), count(1)),
+    }
+}
+
+// ---- what the source gives
+
+/// The source's answer as answer rows, the extraction count, the text; or 10.
+#[derive(Clone)]
+pub struct Given {
+    pub number: u64,
+    pub words: Vec<u64>,
+    pub extracted: usize,
+    pub printed: String,
+    pub events: Events,
+}
+
+/// Answer rows, or none where the source refuses.
+fn words_of_run(list: &List, es: &[E]) -> Option<Vec<u64>> {
+    let answer = asked::asked(es, false).ok()?;
+    Some(rows::laid_out(&list.rows, &answer))
+}
+
+pub fn given(list: &List, es: &[E]) -> Given {
+    match asked::asked(es, false) {
+        Ok(answer) => {
+            let (extracted, events) = answers::met(false, &answer);
+            Given {
+                number: 0,
+                words: rows::laid_out(&list.rows, &answer),
+                extracted,
+                printed: asked::text(&answer),
+                events,
+            }
+        }
+        Err(number) => Given {
+            number: number as u64,
+            words: Vec::new(),
+            extracted: 0,
+            printed: String::new(),
+            events: Events::default(),
+        },
+    }
+}
+
+/// Whether so many runs give what the first gave.
+fn agree(list: &List, es: &[E], first: &Given, runs: usize) -> bool {
+    (0..runs).all(|_| match words_of_run(list, es) {
+        Some(words) => first.number == 0 && words == first.words,
+        None => first.number != 0,
+    })
+}
+
+// ---- calls
+
+/// A call in which nothing is short.
+pub fn plain_call(r: &mut Random, list: &List, given: &Given) -> Call {
+    let more = |r: &mut Random| if r.chance(50) { 0 } else { r.below(30) };
+    Call {
+        rows: list.rows.words.clone(),
+        roots: list.roots.clone(),
+        work: WORK + more(r),
+        text: TEXT + more(r),
+        table: given.words.len() + more(r),
+        answer: 2 + r.below(2),
+    }
+}
+
+/// By 01's order, with the source's answer for rows that load could lay out.
+pub fn expected(c: &Call, loadable: bool, given: &Given) -> Expected {
+    if c.answer < 2 {
+        return nothing(NO_ANSWER);
+    }
+    if c.work < WORK || c.text < TEXT {
+        return nothing(SHORT_WORK);
+    }
+    if !loadable {
+        return nothing(BAD_ROWS);
+    }
+    if given.number != 0 {
+        return nothing(given.number);
+    }
+    if given.words.len() > c.table {
+        return nothing(FEW_ROWS);
+    }
+    Expected {
+        number: 0,
+        table: given.words.clone(),
+        answer: vec![given.words.len() as u64, given.extracted as u64],
+        printed: given.printed.clone(),
+    }
+}
+
+/// One thing made short, mostly by one.
+fn shorten(r: &mut Random, c: &mut Call) {
+    let fewer = |r: &mut Random, n: usize| match r.below(4) {
+        0 => r.below(n.max(1)),
+        1 => 0,
+        _ => n.saturating_sub(1),
+    };
+    match r.below(7) {
+        0 => c.answer = r.below(2),
+        1 => c.work = fewer(r, WORK),
+        2 => c.text = fewer(r, TEXT),
+        _ => c.table = fewer(r, c.table),
+    }
+}
+
+// ---- what was met
+
+struct Tally {
+    small: usize,
+    large: usize,
+    /// lists of at least 900 occurrences
+    near: usize,
+    tied: usize,
+    differ: usize,
+    /// calls by the number that is expected
+    numbers: [usize; 256],
+    damaged: usize,
+    wrapped: usize,
+    events: [usize; EVENTS.len()],
+    kinds: [bool; words::KINDS],
+    shared: usize,
+    unreached: usize,
+    rootless: usize,
+    most: [usize; MOST.len()],
+    source: Duration,
+    runs: usize,
+}
+
+/// What is counted of the largest lists and answers.
+const MOST: [&str; 7] = ["occurrences", "roots", "node rows", "answer rows", "extractions", "bytes", "bytes of a name"];
+
+/// Events of a flat answer.
+const FLAT: [Event; 5] = [Event::Extraction, Event::SecondExtraction, Event::Reciprocal, Event::FactorMatch, Event::Coefficient];
+
+impl Tally {
+    fn new() -> Tally {
+        Tally {
+            small: 0,
+            large: 0,
+            near: 0,
+            tied: 0,
+            differ: 0,
+            numbers: [0; 256],
+            damaged: 0,
+            wrapped: 0,
+            events: [0; EVENTS.len()],
+            kinds: [false; words::KINDS],
+            shared: 0,
+            unreached: 0,
+            rootless: 0,
+            most: [0; MOST.len()],
+            source: Duration::ZERO,
+            runs: 0,
+        }
+    }
+
+    /// The source's answer, or none where hash order decides.
+    fn settled(&mut self, list: &List, es: &[E], runs: usize) -> Option<Given> {
+        let began = Instant::now();
+        let first = given(list, es);
+        let settled = agree(list, es, &first, runs - 1);
+        self.source += began.elapsed();
+        self.runs += runs;
+        if !settled {
+            self.tied += 1;
+        }
+        settled.then_some(first)
+    }
+
+    /// One call; whether the list is to be left out after all, since hash order decides.
+    fn hold(&mut self, port: &mut Port, c: &Call, should: &Expected, list: &List, es: &[E], given: &Given) -> bool {
+        let Some(difference) = port.difference(c, should) else {
+            self.numbers[should.number as usize] += 1;
+            return false;
+        };
+        if !agree(list, es, given, MORE_RUNS) {
+            self.tied += 1;
+            return true;
+        }
+        let lent = format!("lent work {}, text {}, table {}, answer {}", c.work, c.text, c.table, c.answer);
+        self.report(&format!("{difference}; {lent}"), es, given);
+        false
+    }
+
+    fn report(&mut self, difference: &str, es: &[E], given: &Given) {
+        self.differ += 1;
+        if self.differ <= 10 {
+            let text: Vec<String> = es.iter().map(E::to_string).collect();
+            println!("DIFFERS: {difference}: {}\n  source: {}", text.join("; "), given.printed.replace('\n', "; "));
+        }
+    }
+
+    fn mark(&mut self, list: &List, es: &[E], given: &Given) {
+        let trees = words_of(list, es);
+        self.near += usize::from(trees.len() >= 900);
+        for w in &trees {
+            self.kinds[(w % words::BELOW) as usize] = true;
+        }
+        for (count, met) in self.events.iter_mut().zip(given.events) {
+            *count += usize::from(met);
+        }
+        let (reached, shared) = reached(list);
+        let all = list.rows.words.len() / WIDTH;
+        self.shared += usize::from(shared);
+        self.unreached += usize::from(reached < all);
+        self.rootless += usize::from(es.is_empty());
+        let name = list.rows.symbols().iter().map(String::len).max().unwrap_or(0);
+        let here = [trees.len(), es.len(), all, given.words.len(), given.extracted, given.printed.len(), name];
+        for (most, n) in self.most.iter_mut().zip(here) {
+            *most = (*most).max(n);
+        }
+    }
+
+    fn say(&self, port: &Port, began: Instant) -> bool {
+        println!(
+            "{} small lists and {} large, {} of them of 900 occurrences or more, {} differ; {} left out because hash order decides",
+            self.small, self.large, self.near, self.differ, self.tied
+        );
+        let numbers = [0, SHORT_WORK, BAD_ROWS, BAD_COEFFICIENT, FEW_ROWS, NO_ANSWER];
+        let called: Vec<String> = numbers.iter().map(|n| format!("{n}: {}", self.numbers[*n as usize])).collect();
+        println!("  calls by the number returned: {}; with damaged rows {}; lists by the wrapper too {}", called.join(", "), self.damaged, self.wrapped);
+        let events: Vec<String> = FLAT.iter().map(|e| format!("{} {}", EVENTS[*e as usize], self.events[*e as usize])).collect();
+        let kinds = self.kinds.iter().filter(|met| **met).count();
+        println!(
+            "  lists with {}, shared rows {}, rows that no root reaches {}, no roots {}; kinds met {kinds} of {}",
+            events.join(", "),
+            self.shared,
+            self.unreached,
+            self.rootless,
+            words::KINDS
+        );
+        let most: Vec<String> = MOST.iter().zip(self.most).map(|(name, n)| format!("{name} {n}")).collect();
+        println!("  the most in a list or an answer: {}", most.join(", "));
+        println!(
+            "  {:.0} s in all; {:.1} microseconds a call in the port, {:.1} a run in the source",
+            began.elapsed().as_secs_f64(),
+            port.time.as_secs_f64() * 1e6 / port.calls as f64,
+            self.source.as_secs_f64() * 1e6 / self.runs as f64
+        );
+        let met = numbers.iter().all(|n| self.numbers[*n as usize] > 0) && FLAT.iter().all(|e| self.events[*e as usize] > 0);
+        let rare = [self.shared, self.unreached, self.rootless, self.damaged, self.wrapped];
+        self.differ == 0 && met && kinds == words::KINDS && !rare.contains(&0)
+    }
+}
+
+/// The words of the list's trees.
+fn words_of(list: &List, es: &[E]) -> Vec<u64> {
+    let mut words = Vec::new();
+    es.iter().for_each(|e| words::put(e, &|name| list.rows.number(name), &mut words));
+    words
+}
+
+/// How many rows the roots reach, and whether one is read twice.
+fn reached(list: &List) -> (usize, bool) {
+    let words = &list.rows.words;
+    let mut reads = vec![0; words.len() / WIDTH];
+    list.roots.iter().for_each(|n| reads[*n as usize] += 1);
+    for n in (0..reads.len()).rev() {
+        let row = &words[n * WIDTH..];
+        if reads[n] > 0 && row[0] > 1 {
+            row[3..3 + row[2] as usize].iter().for_each(|f| reads[*f as usize] += 1);
+        }
+    }
+    (reads.iter().filter(|n| **n > 0).count(), reads.iter().any(|n| *n > 1))
+}
+
+// ---- runs
+
+/// A small list: one of those that the definitions are held against, or some together.
+fn small(r: &mut Random) -> Vec<T> {
+    let count = if r.chance(75) { 1 } else { 2 + r.below(4) };
+    (0..count).flat_map(|_| lists::list(r)).collect()
+}
+
+/// Of a thousand lists this many have no roots.
+const ROOTLESS: usize = 2;
+
+fn laid(r: &mut Random, trees: &[T]) -> List {
+    let mut list = laid::lay_out(r, trees);
+    if r.below(1000) < ROOTLESS {
+        list.roots.clear();
+    }
+    list
+}
+
+fn compare(small_lists: usize, large_lists: usize) {
+    let began = Instant::now();
+    let mut r = Random(SEED);
+    let mut port = Port::new();
+    let mut extractor = Extractor::new();
+    let mut tally = Tally::new();
+    while tally.small < small_lists {
+        let trees = small(&mut r);
+        tally.small += usize::from(hold_one(&mut r, &mut port, &mut extractor, &mut tally, &trees, RUNS));
+    }
+    while tally.large < large_lists {
+        let most = large::MOST - if r.chance(60) { r.below(8) } else { r.below(400) };
+        let trees = large::list(&mut r, most);
+        tally.large += usize::from(hold_one(&mut r, &mut port, &mut extractor, &mut tally, &trees, RUNS_OF_LARGE));
+    }
+    if !tally.say(&port, began) {
+        std::process::exit(1);
+    }
+}
+
+/// Whether the list was compared.
+fn hold_one(r: &mut Random, port: &mut Port, extractor: &mut Extractor, tally: &mut Tally, trees: &[T], runs: usize) -> bool {
+    let list = laid(r, trees);
+    let es = laid::expressions(&list, r.chance(50));
+    let Some(given) = tally.settled(&list, &es, runs) else {
+        return false;
+    };
+    let loadable = laid::could_be_loaded(&list.rows.words, &list.roots);
+    let c = plain_call(r, &list, &given);
+    if tally.hold(port, &c, &expected(&c, loadable, &given), &list, &es, &given) {
+        return false;
+    }
+    tally.mark(&list, &es, &given);
+    if r.chance(REFUSED) {
+        hold_refused(r, port, tally, &list, &es, &given);
+    }
+    if loadable && r.chance(WRAPPED) {
+        tally.wrapped += 1;
+        if let Some(difference) = wrapped::difference(extractor, &list, &given) {
+            tally.report(&difference, &es, &given);
+        }
+    }
+    true
+}
+
+/// The same list with too little lent, or damaged rows, or both.
+fn hold_refused(r: &mut Random, port: &mut Port, tally: &mut Tally, list: &List, es: &[E], given: &Given) {
+    let mut c = plain_call(r, list, given);
+    let damaged = r.chance(40);
+    if !damaged || r.chance(15) {
+        shorten(r, &mut c);
+    }
+    if !damaged {
+        tally.hold(port, &c, &expected(&c, true, given), list, es, given);
+        return;
+    }
+    laid::damage(r, &mut c.rows, &mut c.roots);
+    tally.damaged += 1;
+    if !laid::could_be_loaded(&c.rows, &c.roots) {
+        tally.hold(port, &c, &expected(&c, false, given), list, es, given);
+        return;
+    }
+    // still a list, and another one
+    let list = List {
+        rows: Rows::of(c.rows.clone()),
+        roots: c.roots.clone(),
+    };
+    let es = laid::expressions(&list, true);
+    if let Some(given) = tally.settled(&list, &es, RUNS) {
+        tally.hold(port, &c, &expected(&c, true, &given), &list, &es, &given);
+    }
+}
+
+/// Expectations that are each wrong in one thing: all have to be noticed.
+fn self_test() {
+    let mut r = Random(SEED);
+    let mut port = Port::new();
+    let mut extractor = Extractor::new();
+    let mut tally = Tally::new();
+    let (mut tried, mut noticed) = (0, 0);
+    while tried < WRONG {
+        let trees = small(&mut r);
+        let list = laid(&mut r, &trees);
+        let es = laid::expressions(&list, true);
+        let Some(given) = tally.settled(&list, &es, 20) else {
+            continue;
+        };
+        let mut c = plain_call(&mut r, &list, &given);
+        if r.chance(20) {
+            shorten(&mut r, &mut c);
+        }
+        let mut should = expected(&c, true, &given);
+        assert_eq!(port.difference(&c, &should), None, "a true one: {}", given.printed);
+        spoil(&mut r, &mut should);
+        noticed += usize::from(port.difference(&c, &should).is_some());
+        tried += 1;
+        if r.chance(50) {
+            assert_eq!(wrapped::difference(&mut extractor, &list, &given), None, "a true one: {}", given.printed);
+            let wrong = spoiled(&mut r, given);
+            noticed += usize::from(wrapped::difference(&mut extractor, &list, &wrong).is_some());
+            tried += 1;
+        }
+    }
+    println!("of {tried} wrong expectations {noticed} are noticed");
+    if noticed != tried {
+        std::process::exit(1);
+    }
+}
+
+/// What the source gives made wrong.
+fn spoiled(r: &mut Random, given: Given) -> Given {
+    let mut wrong = given;
+    match r.below(if wrong.number == 0 { 4 } else { 1 }) {
+        0 => wrong.number ^= 1,
+        1 => wrong.extracted += 1,
+        2 => wrong.words.push(0),
+        _ => wrong.printed.push('a'),
+    }
+    wrong
+}
+
+/// The number, a word of the answer or of its rows, or a byte of its text made another, or one more or fewer
+/// expected.
+fn spoil(r: &mut Random, should: &mut Expected) {
+    let answered = should.number == 0;
+    let words = match r.below(4) {
+        0 => {
+            should.number ^= 1;
+            return;
+        }
+        1 if answered => {
+            if r.chance(50) || should.printed.is_empty() {
+                should.printed.push('a');
+            } else {
+                should.printed.pop();
+            }
+            return;
+        }
+        2 => &mut should.answer,
+        _ => &mut should.table,
+    };
+    let i = r.below(words.len() + 1);
+    match r.below(3) {
+        0 if !words.is_empty() => {
+            words.pop();
+        }
+        1 if i < words.len() => words[i] += 1,
+        _ => words.push(r.below(300) as u64),
+    }
+}

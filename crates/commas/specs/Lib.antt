@@ -1,0 +1,2 @@
+pub mod Comma
+pub mod Answers

@@ -1,0 +1,16 @@
+-- `crewrite::cse_replace_outside_arms` meets its contract. Assumes nothing.
+use Rattle.crewrite.proofs.Ends.{no-room, is-called}
+use borrow.Author.Needs.{needs}
+use Rattle.crewrite.proofs.cse_replace_outside_arms.Statement.{statement}
+use Rattle.crewrite.proofs.cse_replace_outside_arms.Tie as tie
+
+pub cse-replace-outside-arms-spec : {M : Type 1} → statement M
+cse-replace-outside-arms-spec =
+    tie.close
+    (tie.spec
+    (λ c. no-room _ _ _ (c .before .before .before .before .before .args .out .now) (c .before .before .before .before .before .args .answer .now) (c .if1 .taken))
+    (λ c κs. search needs)
+    (λ c κs. search needs)
+    (λ c. search needs)
+    (λ c. search needs)
+    (λ c. is-called _ (c .before .before .before .before .before .before .before .before .before .before .before .before .before .args .out .now) (c .before .before .before .before .before .before .before .before .before .before .before .before .before .args .answer .now) (c .before .before .before .before .before .before .replace-outside-arms .result) _ _ _ (c .before .before .before .before .before .before .before .before .if1 .left) (c .before .before .before .before .before .before .replace-outside-arms .ensures) (c .before .before .told .ensures)))

@@ -1,3 +1,0 @@
-pub mod Commas
-pub mod Ends
-pub mod Copies

@@ -1,0 +1,12 @@
+pub mod Parts
+pub mod Collected
+pub mod Joining
+pub mod Grouped
+pub mod Remaining
+pub mod Words
+pub mod Turned
+pub mod GroupColumns
+pub mod Holding
+pub mod Stepping
+pub mod Lengths
+pub mod Examples

@@ -1,0 +1,3 @@
+pub mod Switches
+pub mod Groups
+pub mod Columns

@@ -1,0 +1,1 @@
+// No code: switches by places among words, definitions and laws alone.
