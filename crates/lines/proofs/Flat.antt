@@ -1,10 +1,10 @@
 -- A flat answer has lets alone, so that its lines are its text, for any list that it answers (01, "Sheet and printing"). Assumes nothing.
-use Prim.Native.Nat.{ℕ, _≤_}
+use Prim.Native.Nat.{ℕ, _≤_, _<_, _^_}
 use mathlib.Core.Path.{_≡_, refl, sym, subst}
 use mathlib.Core.Bool.{Bool, false}
 use mathlib.Core.Option.{some}
 use mathlib.Core.List.{List, [], _∷_}
-use lib.ListN.{length}
+use lib.ListN.{length, getD}
 use lib.Dec.{T}
 use Rattle.tree.specs.Outcome.{ok}
 use Rattle.tree.specs.Tree.{Tree}
@@ -21,7 +21,7 @@ use Rattle.answerlaws.proofs.ListNames.{answer-fits}
 use Rattle.answerlaws.proofs.ExtractRefs.{extract-references}
 use Rattle.checked.specs.Check.{rows-in}
 use Rattle.printlaws.specs.Writers.{AnswerAt}
-use Rattle.lines.specs.Line.{lines-from, all-lets}
+use Rattle.lines.specs.Line.{lines-from, all-lets, Few-lets, Few}
 use Rattle.lines.proofs.Whole.{lines-are}
 
 Is-let : Intermediate → Type 0
@@ -45,12 +45,13 @@ flat-lets es a e =
     subst (λ (i : Intermediates). T (all-lets i)) (sym (P .inters))
     (block-lets (P .stmts) (sorted-every Is-let (binds (reciprocals false (P .state) .lets)) (P .stmts) (P .sorted) (binds-lets (reciprocals false (P .state) .lets))))
 
--- the lines of the rows that extract lays out, where its expressions and names pass 13
+-- the lines of the rows that extract lays out, where its expressions and names pass 13 and no expression has more than 1,024 nodes
 pub flat-lines :
-    (t : Table) (a : Answer) (node : List ℕ) (n : ℕ) → rows-in node ≡ t .rows → answer false (trees t) ≡ ok a → T (intermediates-ok (a .inters)) → T (trees-ok (a .results))
-    → length (answer-words (number-in (t .rows)) a) ≤ n → lines-from n node (answer-words (number-in (t .rows)) a) 0 ≡ some (answer-text a)
-flat-lines t a node n r e o v m =
+    (t : Table) (a : Answer) (lent : ℕ) (node : List ℕ) (n : ℕ) → 34857 ≤ lent → ((i : ℕ) → getD (answer-words (number-in (t .rows)) a) i 0 < 2 ^ 64) → rows-in node ≡ t .rows
+    → answer false (trees t) ≡ ok a → T (intermediates-ok (a .inters)) → T (trees-ok (a .results)) → Few-lets (a .inters) → Few (a .results)
+    → length (answer-words (number-in (t .rows)) a) ≤ n → lines-from lent n node (answer-words (number-in (t .rows)) a) 0 ≡ some (answer-text a)
+flat-lines t a lent node n room small r e o v few few-results m =
     let ws = answer-words (number-in (t .rows)) a in
     let f = answer-fits (t .rows) a o v (extract-references t false a e) in
     let h : AnswerAt (t .rows) ws a = record { parts = o; parts-fit = f .0; results = v; results-fit = f .1; words = refl } in
-    lines-are node ws a (subst (λ (rows : List Row). AnswerAt rows ws a) (sym r) h) n (flat-lets (trees t) a e) m
+    lines-are lent room node ws small a (subst (λ (rows : List Row). AnswerAt rows ws a) (sym r) h) few-results n (flat-lets (trees t) a e) few m

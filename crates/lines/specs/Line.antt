@@ -1,6 +1,6 @@
 -- A line of an answer's text from the rows that it stands at (01, "Sheet and printing"), whatever the words are, and all lines from a place on. Only lets and results have
 -- a line here: a flat answer has nothing else. Assumes nothing.
-use Prim.Native.Nat.{ℕ, zero, suc, _+_, _/_, _%_}
+use Prim.Native.Nat.{ℕ, zero, suc, _+_, _/_, _%_, _≤_}
 use mathlib.Core.Path.{_≡_}
 use mathlib.Core.Bool.{Bool, true, false, _&&_, _||_, cond}
 use mathlib.Core.Option.{Option, none, some}
@@ -74,19 +74,22 @@ Wrote rows ws at dry old new (writer.Ends next last) =
     × Writes dry old 0 (row-line (getD ws at 0) (tree-here rows ws (at + 1))) new last
 Wrote rows ws at dry old new writer.Broken = (Stands rows ws (at + 1) → ⊥) × (dry ≡ true → new ≡ old)
 
--- ---- all lines from a place on, of at most so many; none where one is missing before the words end
+-- ---- all lines from a place on, of at most so many, with so many bytes lent for each; none where one is missing before the words end, or is longer
 
 unfoldable pub prepend : List ℕ → Option (List ℕ) → Option (List ℕ)
 prepend s none = none
 prepend s (some l) = some (s ++ l)
 
-unfoldable pub lines-from : ℕ → List ℕ → List ℕ → ℕ → Option (List ℕ)
+unfoldable pub lines-from : ℕ → ℕ → List ℕ → List ℕ → ℕ → Option (List ℕ)
 unfolding line-of prepend
-lines-from zero rows ws at = cond (ltb at (length ws)) none (some [])
-lines-from (suc n) rows ws at =
+lines-from lent zero rows ws at = cond (ltb at (length ws)) none (some [])
+lines-from lent (suc n) rows ws at =
     elim (ltb at (length ws)) [
       | false ↦ some []
-      | true ↦ elim (line-of rows ws at) [ none ↦ none | some s ↦ prepend (s .text) (lines-from n rows ws (s .next)) ]
+      | true ↦ elim (line-of rows ws at) [
+        | none ↦ none
+        | some s ↦ elim (ltb lent (length (s .text))) [ true ↦ none | false ↦ prepend (s .text) (lines-from lent n rows ws (s .next)) ]
+      ]
     ]
 
 -- every statement is a let
@@ -94,3 +97,13 @@ unfoldable pub all-lets : Intermediates → Bool
 all-lets end = true
 all-lets (step (Let n e) l) = all-lets l
 all-lets (step (Match k key ns arms) l) = false
+
+-- each bound expression, and each result, has at most 1,024 nodes
+abbrev pub Few-lets : Intermediates → Type 0
+Few-lets end = Unit {0}
+Few-lets (step (Let n e) l) = (size e ≤ 1024) × Few-lets l
+Few-lets (step (Match k key ns arms) l) = Few-lets l
+
+abbrev pub Few : List Tree → Type 0
+Few [] = Unit {0}
+Few (t ∷ l) = (size t ≤ 1024) × Few l

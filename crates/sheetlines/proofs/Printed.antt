@@ -1,15 +1,16 @@
 -- What `csesheet` prints is what its definition says, for every sheet: with 1,024 rows, 64 places, the work area's length and 67,328 answer rows lent, the lines of the answer's
--- rows one after another, or the line for the refusal (01, "Sheet and printing"). Assumes nothing.
-use Prim.Native.Nat.{ℕ, _+_, _≤_, _<_}
+-- rows one after another, each in 34,857 bytes, or the line for the refusal (01, "Sheet and printing"). Assumes nothing.
+use Prim.Native.Nat.{ℕ, zero, suc, _+_, _≤_, _<_, _^_}
 use native.Mathlib.Omega.{arith}
 use mathlib.Core.Path.{_≡_, refl, sym, ap, ap₂, _∙_, subst}
 use mathlib.Core.Bool.{Bool, true, false, cond, _&&_}
 use mathlib.Core.Option.{Option, some}
-use mathlib.Core.List.{List, _++_}
-use lib.ListN.{length, take, drop}
+use mathlib.Core.List.{List, [], _∷_, _++_}
+use lib.ListN.{length, getD, take, drop}
 use lib.Seq.{take-append-seam}
 use lib.Dec.{T}
 use Rattle.tree.specs.Outcome.{Refusal, Outcome, ok, refused, by, _>>=_}
+use Rattle.tree.specs.Tree.{Tree}
 use Rattle.tree.specs.Rows.{Row, Table, trees}
 use Rattle.tree.specs.Layout.{table-words, table-of, in-domain, sheet-fits, loadable, laid-out, table-or-9}
 use Rattle.tree.specs.Passes.{trees-ok, passes}
@@ -20,7 +21,7 @@ use Rattle.sheet.specs.Sheet.{load}
 use Rattle.sheet.specs.Call.{load-call, rows-after}
 use Rattle.sheet.proofs.Loaded.{loaded-loadable}
 use Rattle.sheet.proofs.SheetPasses.{accepted-passes}
-use Rattle.cse.specs.Answer.{Answer, answer-text}
+use Rattle.cse.specs.Answer.{Intermediates, Answer, Let, Match, end, step, answer-text}
 use Rattle.cse.specs.AnswerRows.{answer-words, intermediates-ok, references-ok}
 use Rattle.cse.specs.Scope.{answer}
 use Rattle.cse.specs.Call.{Extracted, extract-call, table-after}
@@ -29,7 +30,9 @@ use Rattle.checked.specs.Check.{rows-in}
 use Rattle.program.specs.Program.{reply, written, csesheet}
 use Rattle.passing.proofs.Passed.{table-answer-passes}
 use Rattle.passing.proofs.Enough.{flat-call, flat-call-rows}
-use Rattle.lines.specs.Line.{lines-from}
+use Rattle.passing.proofs.FlatTrees.{Small, Small-lets, flat-trees-small}
+use Rattle.cse.proofs.ReciprocalsCount.{AllTrees}
+use Rattle.lines.specs.Line.{lines-from, Few-lets, Few}
 use Rattle.lines.specs.Refusal.{refusal-text}
 use Rattle.lines.proofs.Flat.{flat-lines}
 use Rattle.flatsheet.specs.FlatSheet.{extracted-from, from-extract, flat-answer, flat-table, Flattened}
@@ -53,6 +56,27 @@ line-is r = refl
 text-is : (text : List ℕ) → reply (ok text) ≡ text
 unfolding reply
 text-is text = refl
+
+-- ---- few nodes, and words of 64 bits
+
+few-lets : (l : Intermediates) → Small-lets l → Few-lets l
+few-lets end h = tt
+few-lets (step (Let n e) l) h = (h .0, few-lets l (h .1))
+few-lets (step (Match k key ns arms) l) h = absurd h
+
+few : (l : List Tree) → AllTrees Small l → Few l
+few [] h = tt
+few (t ∷ l) h = (h .0, few l (h .1))
+
+-- the words of a slice, and so those in front of it
+abbrev Words : List ℕ → Type 0
+Words l = (i : ℕ) → getD l i 0 < 2 ^ 64
+
+words-front : (k : ℕ) (l : List ℕ) → Words l → Words (take k l)
+words-front zero l h i = omega arith
+words-front (suc k) [] h i = h i
+words-front (suc k) (w ∷ l) h zero = h zero
+words-front (suc k) (w ∷ l) h (suc i) = words-front k l (λ j. h (suc j)) i
 
 -- ---- a table that was loaded
 
@@ -96,7 +120,7 @@ module _ (sheet : List ℕ) (t : Table) (e : load 1024 64 sheet ≡ ok t) where
   front : (l old : List ℕ) → take (length l) (l ++ drop (length l) old) ≡ l
   front l old = take-append-seam l (drop (length l) old)
 
-  module _ (old-rows old-table new-rows new-table : List ℕ) (rows-are : new-rows ≡ rows-after (ok t) old-rows) where
+  module _ (old-rows old-table new-rows new-table : List ℕ) (small : Words new-table) (rows-are : new-rows ≡ rows-after (ok t) old-rows) where
     node-is : take (length (table-words (t .rows))) new-rows ≡ table-words (t .rows)
     unfolding rows-after
     node-is = ap (take (length (table-words (t .rows)))) rows-are ∙ front (table-words (t .rows)) old-rows
@@ -111,7 +135,7 @@ module _ (sheet : List ℕ) (t : Table) (e : load 1024 64 sheet ≡ ok t) where
         let w : csesheet sheet ≡ reply (refused i) = sheet-is sheet ∙ (ap (λ (x : Outcome Table). reply (x >>= rest)) e ∙ ap (λ (x : Outcome Answer). reply (x >>= λ a. ok (answer-text a))) f) in
         let p : i .place ≡ 0 = ap (λ (r : Refusal). r .place) z in
         ap (refusal-text (i .number)) (sym p) ∙ (line-is i ∙ sym w)
-    by-answer (ok a) f g = λ fuel m.
+    by-answer (ok a) f g = λ lent fuel room m.
         let words = answer-words (number-in (t .rows)) a in
         let node = table-words (t .rows) in
         let P = table-answer-passes t (accepted-passes 1024 64 sheet t e) false a f .0 in
@@ -120,7 +144,10 @@ module _ (sheet : List ℕ) (t : Table) (e : load 1024 64 sheet ≡ ok t) where
         let q : take (length words) new-table ≡ words = ap (take (length words)) g ∙ front words old-table in
         let w : csesheet sheet ≡ answer-text a =
         sheet-is sheet ∙ (ap (λ (x : Outcome Table). reply (x >>= rest)) e ∙ (ap (λ (x : Outcome Answer). reply (x >>= λ b. ok (answer-text b))) f ∙ text-is (answer-text a))) in
-        ap₂ (λ (x y : List ℕ). lines-from fuel x y 0) node-is q ∙ (flat-lines t a node fuel rows-same f o v m ∙ ap some (sym w))
+        let s = flat-trees-small (trees t) (accepted-passes 1024 64 sheet t e) a f in
+        let z : Words words = subst Words q (words-front (length words) new-table small) in
+        ap₂ (λ (x y : List ℕ). lines-from lent fuel x y 0) node-is q
+        ∙ (flat-lines t a lent node fuel room z rows-same f o v (few-lets (a .inters) (s .0)) (few (a .results) (s .1)) m ∙ ap some (sym w))
 
 -- ---- every sheet
 
@@ -128,7 +155,7 @@ load-is : (sheet : List ℕ) → load-call 35840 64 sheet ≡ load 1024 64 sheet
 unfolding load-call
 load-is sheet = refl
 
-module _ (sheet old-rows old-roots old-table : List ℕ) (lent : ℕ) (h : 67328 ≤ lent) (r : Flat) (new-rows new-roots new-table : List ℕ) where
+module _ (sheet old-rows old-roots old-table : List ℕ) (lent : ℕ) (h : 67328 ≤ lent) (r : Flat) (new-rows new-roots new-table : List ℕ) (small : (i : ℕ) → getD new-table i 0 < 2 ^ 64) where
   by-load : (o : Outcome Table) → load 1024 64 sheet ≡ o → Flattened o (extracted-from 65536 131072 lent) old-rows old-roots old-table r new-rows new-roots new-table → Says sheet r new-rows new-table
   by-load (refused i) e F =
       let w : csesheet sheet ≡ reply (refused i) = sheet-is sheet ∙ ap (λ (x : Outcome Table). reply (x >>= rest)) e in
@@ -137,7 +164,7 @@ module _ (sheet old-rows old-roots old-table : List ℕ) (lent : ℕ) (h : 67328
       let x = extracted-is sheet t e lent h in
       let a : r ≡ from-extract (length (table-words (t .rows))) (answer false (trees t) >>= given sheet t e) = F .answer-is ∙ ap (from-extract (length (table-words (t .rows)))) x in
       let b : new-table ≡ table-after (answer false (trees t) >>= given sheet t e) old-table = F .table-is ∙ ap (λ (y : Outcome Extracted). table-after y old-table) x in
-      subst (λ (y : Flat). Says sheet y new-rows new-table) (sym a) (by-answer sheet t e old-rows old-table new-rows new-table (F .rows-are) (answer false (trees t)) refl b)
+      subst (λ (y : Flat). Says sheet y new-rows new-table) (sym a) (by-answer sheet t e old-rows old-table new-rows new-table small (F .rows-are) (answer false (trees t)) refl b)
 
   -- the lines, or the line for the refusal, are what the program is defined to print
   pub says : Flattened (load-call 35840 64 sheet) (extracted-from 65536 131072 lent) old-rows old-roots old-table r new-rows new-roots new-table → Says sheet r new-rows new-table
