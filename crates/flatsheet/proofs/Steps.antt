@@ -1,12 +1,11 @@
 -- What a sheet's flat answer is from what load and extract told. Assumes nothing.
-use Prim.Native.Nat.{ℕ, _+_, _*_, _/_, _≤_, _<_}
+use Prim.Native.Nat.{ℕ, _*_, _/_, _≤_}
 use native.Mathlib.Omega.{arith}
 use mathlib.Core.Path.{_≡_, refl, sym, ap, ap₂, _∙_, subst}
 use mathlib.Core.Bool.{false}
 use mathlib.Core.List.{List, _++_}
 use lib.ListN.{length, take, drop, length-append}
 use lib.Seq.{take-append-seam}
-use lib.Dec.{T}
 use Rattle.tree.specs.Outcome.{Outcome, ok, refused}
 use Rattle.tree.specs.Rows.{Table}
 use Rattle.tree.specs.Layout.{row-width, table-words, in-domain, sheet-fits, loadable}

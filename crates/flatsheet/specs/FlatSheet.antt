@@ -7,7 +7,7 @@ use lib.ListN.{length}
 use Rattle.tree.specs.Outcome.{Outcome, ok, refused}
 use Rattle.tree.specs.Rows.{Table}
 use Rattle.tree.specs.Layout.{table-words}
-use Rattle.sheet.specs.Call.{load-call, rows-after, roots-after}
+use Rattle.sheet.specs.Call.{rows-after, roots-after}
 use Rattle.cse.specs.Call.{Extracted, extract-call, table-after}
 use Rattle.flatsheet.specs.declared.Flat.{Flat}
 use Rattle.flatsheet.specs.declared.Flat.the-variants as flat

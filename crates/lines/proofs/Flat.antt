@@ -1,7 +1,7 @@
 -- A flat answer has lets alone, so that its lines are its text, for any list that it answers (01, "Sheet and printing"). Assumes nothing.
 use Prim.Native.Nat.{ℕ, _≤_, _<_, _^_}
 use mathlib.Core.Path.{_≡_, refl, sym, subst}
-use mathlib.Core.Bool.{Bool, false}
+use mathlib.Core.Bool.{false}
 use mathlib.Core.Option.{some}
 use mathlib.Core.List.{List, [], _∷_}
 use lib.ListN.{length, getD}
@@ -15,7 +15,7 @@ use Rattle.cse.specs.Extract.{Binding, reciprocals}
 use Rattle.cse.specs.Answer.{Intermediate, Intermediates, Answer, Let, Match, block, answer-text}
 use Rattle.cse.specs.AnswerRows.{answer-words, intermediates-ok}
 use Rattle.cse.specs.Scope.{binds, answer}
-use Rattle.cse.proofs.FlatCount.{Parts, parts}
+use Rattle.cse.proofs.FlatCount.{parts}
 use Rattle.cse.proofs.SortCount.{Every, sorted-every}
 use Rattle.answerlaws.proofs.ListNames.{answer-fits}
 use Rattle.answerlaws.proofs.ExtractRefs.{extract-references}

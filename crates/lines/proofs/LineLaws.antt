@@ -1,10 +1,10 @@
 -- What `line_at` answers and leaves, from what its parts told. Assumes nothing.
-use Prim.Native.Nat.{ℕ, zero, suc, _+_, _-_, _≤_, _<_, min}
+use Prim.Native.Nat.{ℕ, _+_, _≤_, _<_}
 use native.Mathlib.Omega.{arith}
 use mathlib.Core.Path.{_≡_, refl, sym, ap, _∙_, subst}
-use mathlib.Core.Bool.{Bool, true, false, cond}
+use mathlib.Core.Bool.{Bool, true, false}
 use mathlib.Core.Option.{Option, none, some}
-use mathlib.Core.List.{List, [], _∷_, _++_}
+use mathlib.Core.List.{List, _++_}
 use borrow.Author.Tests.{lt-ltb, le-ltb, ltb-true, ltb-false}
 use lib.ListN.{length, getD, drop}
 use lib.Seq.{sets, sets-eq}
@@ -16,7 +16,7 @@ use Rattle.tree.specs.Tokens.{run-at}
 use Rattle.text.specs.Text.{display}
 use Rattle.emit.specs.Writing.{Writes}
 use Rattle.emit.proofs.WriteLaws.{writes-then, writes-as}
-use Rattle.shapes.specs.Places.{tree-here, Stands, Passes}
+use Rattle.shapes.specs.Places.{tree-here, Stands}
 use Rattle.shapes.proofs.PlaceLaws.{run-is-size}
 use Rattle.shapes.proofs.NodeLaws.{names}
 use Rattle.writer.specs.Answers.{write-answer}

@@ -1,13 +1,13 @@
 -- A line has at most 34,857 bytes where its expression has at most 1,024 nodes: so there is room for it in 65,536. Assumes nothing.
-use Prim.Native.Nat.{ℕ, suc, _+_, _*_, _/_, _^_, _≤_, _<_}
+use Prim.Native.Nat.{ℕ, suc, _+_, _/_, _^_, _≤_, _<_}
 use native.Mathlib.Omega.{arith}
-use mathlib.Core.Path.{_≡_, refl, sym, ap, _∙_}
+use mathlib.Core.Path.{_≡_, sym, ap, _∙_}
 use mathlib.Core.Bool.{Bool, true, false, cond}
 use mathlib.Core.List.{List, [], _∷_, _++_}
 use lib.ListN.{length, getD, length-append}
 use lib.Dec.{T, eqb, ltb, lt→ltb}
 use Rattle.tree.specs.Bytes.{bytes, decimal, every}
-use Rattle.tree.specs.Tree.{xname, Tree}
+use Rattle.tree.specs.Tree.{xname}
 use Rattle.tree.specs.Facts.{size}
 use Rattle.tree.specs.Passes.{symbol-ok}
 use Rattle.tree.proofs.Logic.{and-both}

@@ -1,8 +1,8 @@
 -- Which rows begin a line, and a line as what stands before its expression, the expression, and what stands after. Assumes nothing.
-use Prim.Native.Nat.{ℕ, zero, suc, _+_, _/_, _%_, _≤_, _<_, min}
+use Prim.Native.Nat.{ℕ, _+_, _/_, _%_, _≤_, min}
 use native.Mathlib.Omega.{arith}
-use mathlib.Core.Path.{_≡_, refl, sym, ap, _∙_, subst}
-use mathlib.Core.Bool.{Bool, true, false, _&&_, _||_, cond}
+use mathlib.Core.Path.{_≡_, refl, sym, ap, _∙_}
+use mathlib.Core.Bool.{Bool, true, false, cond}
 use mathlib.Core.List.{List, [], _∷_, _++_, append-assoc}
 use borrow.Author.Tests.{eq-eqb, ne-eqb}
 use lib.ListN.{length, getD, List·getD-eq-default}
@@ -12,7 +12,7 @@ use Rattle.tree.specs.Tree.{xname, Tree}
 use Rattle.text.specs.Text.{name-text, display}
 use Rattle.cse.specs.Answer.{Let, stmt-text}
 use Rattle.emit.specs.Writing.{Writes}
-use Rattle.emit.proofs.WriteLaws.{writes-none, writes-then, writes-as}
+use Rattle.emit.proofs.WriteLaws.{writes-none, writes-then}
 use Rattle.printlaws.specs.Pieces.{let-text}
 use Rattle.printlaws.proofs.PieceLaws.{let-is}
 use Rattle.lines.specs.Line.{starts-line, row-line, opening, closing}

@@ -1,6 +1,6 @@
 -- The lines of an answer whose statements are all lets, one after another, are its text, and each next place is that of the next row (01, "Sheet and printing"). Where no
 -- expression has more than 1,024 nodes, 34,857 bytes are room for each. Assumes nothing.
-use Prim.Native.Nat.{ℕ, zero, suc, _+_, _-_, _*_, _/_, _%_, _≤_, _<_, _^_}
+use Prim.Native.Nat.{ℕ, zero, suc, _+_, _*_, _/_, _%_, _≤_, _<_, _^_}
 use native.Mathlib.Omega.{arith}
 use mathlib.Core.Path.{_≡_, refl, sym, ap, _∙_, subst}
 use mathlib.Core.Bool.{Bool, true, false, cond}
@@ -8,11 +8,11 @@ use mathlib.Core.Option.{Option, none, some}
 use mathlib.Core.List.{List, [], _∷_, _++_, append-assoc}
 use borrow.Author.Tests.{lt-ltb, le-ltb, eq-eqb, ne-eqb}
 use lib.ListN.{length, getD}
-use lib.Dec.{T, eqb, ltb}
+use lib.Dec.{T, ltb}
 use Rattle.tree.specs.Tree.{Name, xname, Tree}
 use Rattle.tree.specs.Facts.{size}
 use Rattle.tree.specs.Passes.{tree-ok}
-use Rattle.tree.specs.Tokens.{tokens, number-in, run-at}
+use Rattle.tree.specs.Tokens.{tokens, number-in}
 use Rattle.text.specs.Text.{display}
 use Rattle.cse.specs.Answer.{Intermediates, Answer, Let, Match, end, step, displays, stmt-text, stmts-texts, lines, answer-text}
 use Rattle.cse.specs.AnswerRows.{result-row, each-words, intermediate-words, intermediates-words, answer-words, intermediates-ok}
@@ -21,11 +21,11 @@ use Rattle.checked.specs.Check.{rows-in}
 use Rattle.shapes.specs.Places.{tree-here, Stands}
 use Rattle.shapes.proofs.PlaceLaws.{run-is-size}
 use Rattle.shapes.proofs.NodeLaws.{names}
-use Rattle.printlaws.specs.Places.{At, TreeAt, ValuesAt, StmtAt}
+use Rattle.printlaws.specs.Places.{At, TreeAt}
 use Rattle.printlaws.specs.Writers.{AnswerAt, ResultsAt}
 use Rattle.printlaws.proofs.PieceLaws.{stmts-cons, stmts-none}
 use Rattle.printlaws.proofs.PlaceLaws.{tree-run, tree-is, each-none, value-in, value-row-is, value-tree, value-others, value-words}
-use Rattle.printlaws.proofs.PartLaws.{LetParts, let-parts, first-stmt, stmts-pass, stmts-fit, after-stmt, stmt-length}
+use Rattle.printlaws.proofs.PartLaws.{let-parts, first-stmt, stmts-pass, stmts-fit, after-stmt, stmt-length}
 use Rattle.printlaws.proofs.LoopLaws.{displays-cons}
 use Rattle.lines.specs.Line.{Spoken, starts-line, row-line, line-of, prepend, lines-from, all-lets, Few-lets, Few}
 use Rattle.lines.proofs.RowLaws.{starts-result, starts-let}

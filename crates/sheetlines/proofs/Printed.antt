@@ -1,19 +1,19 @@
 -- What `csesheet` prints is what its definition says, for every sheet: with 1,024 rows, 64 places, the work area's length and 67,328 answer rows lent, the lines of the answer's
 -- rows one after another, each in 34,857 bytes, or the line for the refusal (01, "Sheet and printing"). Assumes nothing.
-use Prim.Native.Nat.{ℕ, zero, suc, _+_, _≤_, _<_, _^_}
+use Prim.Native.Nat.{ℕ, zero, suc, _≤_, _<_, _^_}
 use native.Mathlib.Omega.{arith}
 use mathlib.Core.Path.{_≡_, refl, sym, ap, ap₂, _∙_, subst}
 use mathlib.Core.Bool.{Bool, true, false, cond, _&&_}
-use mathlib.Core.Option.{Option, some}
+use mathlib.Core.Option.{some}
 use mathlib.Core.List.{List, [], _∷_, _++_}
 use lib.ListN.{length, getD, take, drop}
 use lib.Seq.{take-append-seam}
 use lib.Dec.{T}
 use Rattle.tree.specs.Outcome.{Refusal, Outcome, ok, refused, by, _>>=_}
 use Rattle.tree.specs.Tree.{Tree}
-use Rattle.tree.specs.Rows.{Row, Table, trees}
+use Rattle.tree.specs.Rows.{Table, trees}
 use Rattle.tree.specs.Layout.{table-words, table-of, in-domain, sheet-fits, loadable, laid-out, table-or-9}
-use Rattle.tree.specs.Passes.{trees-ok, passes}
+use Rattle.tree.specs.Passes.{trees-ok}
 use Rattle.tree.specs.Tokens.{number-in}
 use Rattle.tree.proofs.Logic.{and-left, and-right}
 use Rattle.tree.proofs.LayoutLaws.{table-back, laid-out-complete}
@@ -24,7 +24,7 @@ use Rattle.sheet.proofs.SheetPasses.{accepted-passes}
 use Rattle.cse.specs.Answer.{Intermediates, Answer, Let, Match, end, step, answer-text}
 use Rattle.cse.specs.AnswerRows.{answer-words, intermediates-ok, references-ok}
 use Rattle.cse.specs.Scope.{answer}
-use Rattle.cse.specs.Call.{Extracted, extract-call, table-after}
+use Rattle.cse.specs.Call.{Extracted, table-after}
 use Rattle.program.proofs.Whole.{flat-refused-by-10}
 use Rattle.checked.specs.Check.{rows-in}
 use Rattle.program.specs.Program.{reply, written, csesheet}
@@ -35,9 +35,8 @@ use Rattle.cse.proofs.ReciprocalsCount.{AllTrees}
 use Rattle.lines.specs.Line.{lines-from, Few-lets, Few}
 use Rattle.lines.specs.Refusal.{refusal-text}
 use Rattle.lines.proofs.Flat.{flat-lines}
-use Rattle.flatsheet.specs.FlatSheet.{extracted-from, from-extract, flat-answer, flat-table, Flattened}
+use Rattle.flatsheet.specs.FlatSheet.{extracted-from, from-extract, Flattened}
 use Rattle.flatsheet.specs.declared.Flat.{Flat}
-use Rattle.flatsheet.specs.declared.Flat.the-variants as flat
 use Rattle.sheetlines.specs.Says.{Says}
 
 -- ---- the definition, by cases
