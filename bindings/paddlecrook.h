@@ -37,7 +37,7 @@ extern "C" {
 #define CSE_WORK_BYTES 131072
 
 /* No flat answer has more rows. */
-#define CSE_ANSWER_ROWS 132864
+#define CSE_ANSWER_ROWS 67328
 
 /* Kinds of node rows and of words. A word is kind + 64 * below. Below is, for a symbol, 3 * number + class (class 0: the number of the first row with its
  * name; 1: __xN; 2: __mN); for a constant 0, 1, 2, 3, 4 .. for 0, -1, 1, -2, 2 ..; otherwise how many operands follow. An answer is words: a let

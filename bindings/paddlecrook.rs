@@ -58,7 +58,7 @@ const WIDTH: usize = 35;
 /// The work area of extract, and the most rows of a flat answer.
 const WORK_WORDS: usize = 65_536;
 const WORK_BYTES: usize = 131_072;
-const ANSWER_ROWS: usize = 132_864;
+const ANSWER_ROWS: usize = 67_328;
 
 /// Most texts have no more bytes for each row of their answer.
 const ROW_BYTES: usize = 34;
