@@ -11,6 +11,7 @@ mod area;
 mod asked;
 mod bench;
 mod cse;
+mod exported;
 mod fmt;
 mod laid;
 mod large;

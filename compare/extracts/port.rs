@@ -1,9 +1,10 @@
 //! The calls of the port, and what each should return and leave in memory.
 use crate::area::Area;
+use crate::exported::cse_print;
 use std::time::{Duration, Instant};
 
 unsafe extern "C" {
-    // crates/cextract and crates/ctext: a slice is a pointer and a length
+    // crates/cextract: a slice is a pointer and a length
     fn cse_extract(
         rows: *const u64,
         rows_len: usize,
@@ -17,17 +18,6 @@ unsafe extern "C" {
         table_len: usize,
         answer: *mut u64,
         answer_len: usize,
-    ) -> u64;
-
-    fn cse_print(
-        rows: *const u64,
-        rows_len: usize,
-        answer: *const u64,
-        answer_len: usize,
-        out: *mut u8,
-        out_len: usize,
-        said: *mut u64,
-        said_len: usize,
     ) -> u64;
 }
 

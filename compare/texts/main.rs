@@ -9,6 +9,7 @@ mod arael;
 mod area;
 mod asked;
 mod cse;
+mod exported;
 mod fmt;
 mod lists;
 mod port;

@@ -1,9 +1,10 @@
 //! The calls of the port, and what each should return and leave in memory.
 use crate::area::Area;
+use crate::exported::cse_print;
 use std::time::{Duration, Instant};
 
 unsafe extern "C" {
-    // crates/ctext and crates/cprint: a slice is a pointer and a length
+    // crates/ctext: a slice is a pointer and a length
     fn cse_text(
         rows: *const u64,
         rows_len: usize,
@@ -16,17 +17,6 @@ unsafe extern "C" {
         to: usize,
         answer: *mut u64,
         answer_len: usize,
-    ) -> u64;
-
-    fn cse_print(
-        rows: *const u64,
-        rows_len: usize,
-        answer: *const u64,
-        answer_len: usize,
-        out: *mut u8,
-        out_len: usize,
-        said: *mut u64,
-        said_len: usize,
     ) -> u64;
 }
 

@@ -6,7 +6,6 @@ pub mod Putting
 pub mod Rows
 pub mod Taking
 pub mod Marking
-pub mod Needing
 pub mod Ordering
 pub mod Deciding
 pub mod Writing

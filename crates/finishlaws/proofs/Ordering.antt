@@ -15,7 +15,7 @@ use Rattle.cse.specs.Order.{meets, needs, nothing, at-each, positions-taken, to
 use Rattle.cse.proofs.OrderLaws.{All, taken-ok}
 use Rattle.bits.specs.Bits.{yes}
 use Rattle.order.specs.Needs.{table-of, rows-from}
-use Rattle.order.proofs.Sorted.{sorted-all, sorted-ring}
+use Rattle.order.proofs.Sorted.{table-needs, sorted-all, sorted-ring}
 use Rattle.words.specs.Words.{number}
 use Rattle.renaming.proofs.Coded.{is-alone, first-fits, rest-fits}
 use Rattle.reciprocals.proofs.Parts.{All-there}
@@ -26,7 +26,6 @@ use Rattle.finishlaws.specs.Ready.{marks, binding-run}
 use Rattle.finishlaws.proofs.Trees.{final-fit, final-count, binds-count, lets-by-number}
 use Rattle.finishlaws.proofs.Ending.{lets}
 use Rattle.finishlaws.proofs.Marking.{marked-yes}
-use Rattle.finishlaws.proofs.Needing.{marked-needs}
 
 -- ---- positions
 
@@ -78,7 +77,7 @@ module _ (k m : ℕ) (places ws : List ℕ) (complete : trees-in ws ≡ some m) 
         ∙ sym (ap₂ (λ (a b : Intermediate). meets (names a) (free b)) (lets-by-number F k i g) (lets-by-number F k j h)))
 
     marked-table : table-of bits count ≡ needs bindings bindings
-    marked-table = ap (table-of bits) (sym bindings-count) ∙ marked-needs bits bindings marked-reads
+    marked-table = ap (table-of bits) (sym bindings-count) ∙ table-needs bits bindings marked-reads
 
     pub marked-ring : (length (positions-taken (table-of bits count)) ≡ count → ⊥) → topo-sort-intermediates bindings ≡ refused (by 11)
     marked-ring h = sorted-ring bindings (table-of bits count) marked-table (λ e. h (e ∙ bindings-count))

@@ -49,11 +49,11 @@ module _ (bits : List ℕ) where
       rw (e, rest) refl
 
   -- each bit says whether a statement reads a name that another binds
-  pub Reads : List Intermediate → Type 0
+  abbrev pub Reads : List Intermediate → Type 0
   Reads l = (j i : ℕ) → j < length l → i < length l → yes bits j i ≡ meets (names (getD l i nothing)) (free (getD l j nothing))
 
   pub table-needs : (l : List Intermediate) → Reads l → table-of bits (length l) ≡ needs l l
-  unfolding table-of Reads
+  unfolding table-of
   table-needs l f =
       rows-need l 0 l (λ k h. subst (λ (m : ℕ). columns bits m 0 (length l) ≡ needs-from 0 (free (getD l k nothing)) l) (let z : k ≡ 0 + k = omega arith in z)
       (row-needs k 0 (free (getD l k nothing)) l (λ i g. subst (λ (m : ℕ). yes bits k m ≡ meets (names (getD l i nothing)) (free (getD l k nothing))) (let z : i ≡ 0 + i = omega arith in z) (f k i h g))))
