@@ -1,0 +1,4 @@
+pub mod Overlay
+pub mod Parts
+pub mod Reads
+pub mod Whole
