@@ -21,9 +21,9 @@ use Rattle.finishlaws.specs.Entries.{runs}
 use Rattle.scopeplaces.specs.Parts.{place-groups, joined-groups, ends-from, group-at, opener, reciprocals-first, lets-count, held-words, settled-trees, fused-run, key-run, match-run, let-run, value-run}
 use Rattle.scopeplaces.specs.Reads.{with-reads, all-arms-run, marks-by}
 
--- the numbers that names may have: below 2^32
+-- the largest number that a scope may start with: 2^31, so that all its numbers are words' to hold
 abbrev pub most-number : ℕ
-most-number = 4294967296
+most-number = 2147483648
 
 -- a scope's answer: the rows of its statements and of its values, how many statements there are, the next number, and how many bindings rounds made
 abbrev pub Told : Type 0
