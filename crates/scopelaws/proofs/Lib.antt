@@ -1,2 +1,3 @@
 mod Examples
 pub mod Holding
+pub mod Groups
