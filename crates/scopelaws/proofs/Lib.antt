@@ -3,3 +3,5 @@ pub mod Holding
 pub mod Groups
 pub mod Walking
 pub mod Matches
+pub mod Statements
+pub mod Ordering
