@@ -5,3 +5,4 @@ pub mod Walking
 pub mod Matches
 pub mod Statements
 pub mod Ordering
+pub mod Fusing
