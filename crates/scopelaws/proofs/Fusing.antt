@@ -115,7 +115,7 @@ module _ (scope : ℕ → List Tree → Outcome Scoped) (proper : (n : ℕ) (es 
           let o = numbered-groups scope start (scope-groups ds n ts) in
           let end : Walked → Outcome Scoped = λ l. finish (scope-work made k first ts ds l) in
           ap (λ (x : Outcome Walk). x >>= λ l. ordered-scope row vs k first places l)
-          (walked-is scope by-words proper hs (length (trees-held vs n places)) complete start (inner b)
+          (walked-is scope proper by-words hs (length (trees-held vs n places)) complete start (inner b)
           ∙ ap (λ (gs : List Group). numbered-groups scope start gs >>= λ l. ok (told-groups l)) (sym groups-are))
           ∙ (then-then o (λ l. ok (told-groups l)) (λ l. ordered-scope row vs k first places l)
           ∙ (then-known o (λ l. ordered-scope row vs k first places (told-groups l)) (λ l. end l >>= λ a. ok (told row a)) (λ l e. last l e)

@@ -6,3 +6,5 @@ pub mod Matches
 pub mod Statements
 pub mod Ordering
 pub mod Fusing
+pub mod Proper
+pub mod Body

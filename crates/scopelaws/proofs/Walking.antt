@@ -78,7 +78,7 @@ abbrev pub Proper : ℕ → List Tree → Scoped → Type 0
 Proper n es a = (n ≤ a .next) × (length (a .results) ≡ length es)
 
 module _
-    (scope : ℕ → List Tree → Outcome Scoped) (by-words : ℕ → List ℕ → Outcome Told) (proper : (n : ℕ) (es : List Tree) → Good (Proper n es) (scope n es))
+    (scope : ℕ → List Tree → Outcome Scoped) (proper : (n : ℕ) (es : List Tree) → Good (Proper n es) (scope n es))
   where
     pub forth : (n : ℕ) (es : List Tree) → Good (λ (a : Scoped). n ≤ a .next) (scope n es)
     unfolding Good
@@ -89,7 +89,7 @@ module _
         go (refused i) h = tt
 
     module _
-        (hs : List ℕ) (m : ℕ) (complete : trees-in hs ≡ some m) (start : ℕ)
+        (by-words : ℕ → List ℕ → Outcome Told) (hs : List ℕ) (m : ℕ) (complete : trees-in hs ≡ some m) (start : ℕ)
         (inner : (n i a : ℕ) → start ≤ n → Opens-group hs i → a < arm-count hs (getD (places-of hs i) 0 0)
         → by-words n (column-words hs (places-of hs i) a) ≡ (scope n (read numbered (column-words hs (places-of hs i) a)) >>= λ s. ok (told value-row s)))
       where
