@@ -8,3 +8,4 @@ pub mod Ordering
 pub mod Fusing
 pub mod Proper
 pub mod Body
+pub mod Whole
