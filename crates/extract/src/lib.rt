@@ -1,15 +1,15 @@
 // The public operation Extract in the flat form, `cse` of the source (01, "Turned down": Extract): node rows and roots in, rows of the answer out. What the
-// scoped form does too stands in functions of its own: 8, and the rounds with the divisors that they leave to bind.
+// scoped form does too stands in a function of its own: the rounds with the divisors that they leave to bind.
 ghost use mathlib.Core.Path.{_≡_};
-ghost use mathlib.Core.Bool.{false, _||_};
+ghost use mathlib.Core.Bool.{false};
 ghost use Prim.Native.Nat.{_≤_};
 ghost use lib.ListN.{length, take, drop};
-ghost use lib.Dec.{T, ltb};
+ghost use lib.Dec.{T};
 ghost use Rattle.tree.specs.Tokens.{read, numbered};
 ghost use Rattle.checked.specs.Check.{rows-in};
 ghost use Rattle.renaming.specs.Names.{is-number, symbols-pass};
 ghost use Rattle.kept.specs.Sound.{extractable};
-ghost use Rattle.cse.specs.Call.{work-words, work-bytes, extract-call, table-after};
+ghost use Rattle.cse.specs.Call.{extract-call, table-after};
 ghost use Rattle.finishlaws.specs.Final.{final-rows};
 ghost use Rattle.finish.specs.Answers.{trees-there, room-for};
 ghost use Rattle.extractlaws.specs.Parts.{extract-from};
@@ -22,11 +22,7 @@ use tobind::ToBind;
 use tobind::divisors_to_bind;
 use unfold::Unfolded;
 use unfold::unfold;
-
-// The work area's fixed length, in words of 64 bits and bytes of text.
-const WORK_WORDS: usize = 65536;
-
-const WORK_BYTES: usize = 131072;
+use workarea::is_short;
 
 // The most words of a list's trees, and so the most places.
 const MOST: usize = 1024;
@@ -52,16 +48,6 @@ enum Listed {
     Words(usize, usize, usize),
     // A rebuilt coefficient is no constant: 10.
     Refused,
-}
-
-// 8: whether the work area is shorter than its fixed length.
-fn is_short(words: usize, bytes: usize) -> bool
-    ensures { λ r. ⌜ r ≡ (ltb words work-words || ltb bytes work-bytes) ⌝ }
-{
-    if words < WORK_WORDS {
-        return true;
-    }
-    bytes < WORK_BYTES
 }
 
 // The rounds on the first `len` words, and then the places of the divisors to bind. That these can't be listed never comes up: rounds keep words that print takes.

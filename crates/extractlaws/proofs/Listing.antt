@@ -36,18 +36,6 @@ use Rattle.extractlaws.proofs.Rounding.{Rounded, rounded}
 use Rattle.extractlaws.proofs.Leaving.{Left, rounds-leave, left-complete, left-words, left-short}
 use Rattle.extractlaws.specs.Parts.{Rounds-listed, Rounds-refused}
 
--- ---- 8
-
-pub short-words : (w b : ℕ) → w < 65536 → true ≡ (ltb w work-words || ltb b work-bytes)
-short-words w b h = go (ltb w 65536) (lt→ltb w 65536 h)
-  where
-    go : (c : Bool) → T c → true ≡ (c || ltb b work-bytes)
-    go true t = refl
-    go false t = absurd t
-
-pub long-words : (w b : ℕ) → 65536 ≤ w → ltb b 131072 ≡ (ltb w work-words || ltb b work-bytes)
-long-words w b h = ap (λ (c : Bool). c || ltb b work-bytes) (sym (not-less w 65536 h))
-
 -- ---- words in front
 
 take-most : (n : ℕ) (l : List ℕ) → length (take n l) ≤ length l

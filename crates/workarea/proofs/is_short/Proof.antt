@@ -1,7 +1,7 @@
--- `extract::is_short` meets its contract. Assumes nothing.
-use Rattle.extractlaws.proofs.Listing.{short-words, long-words}
-use Rattle.extract.proofs.is_short.Statement.{statement}
-use Rattle.extract.proofs.is_short.Tie as tie
+-- `workarea::is_short` meets its contract. Assumes nothing.
+use Rattle.workarea.proofs.Short.{short-words, long-words}
+use Rattle.workarea.proofs.is_short.Statement.{statement}
+use Rattle.workarea.proofs.is_short.Tie as tie
 
 pub is-short-spec : {M : Type 1} → statement M
 is-short-spec =
