@@ -9,3 +9,4 @@ pub mod Fusing
 pub mod Proper
 pub mod Body
 pub mod Whole
+pub mod Scoped
