@@ -1,3 +1,4 @@
 pub mod Marks
 pub mod Symbols
 pub mod Positions
+pub mod Naming
