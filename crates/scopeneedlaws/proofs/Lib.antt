@@ -2,3 +2,4 @@ pub mod Marks
 pub mod Symbols
 pub mod Positions
 pub mod Naming
+pub mod ArmWords

@@ -192,7 +192,7 @@ module _ (i : ℕ) where
       → At off g0 (all-numbers ls) (ends-from off pss) (g0 + j) ≡ elem (mname i) (group-names ls j)
   found low off g0 [] pss a c j h = absurd (omega arith)
   found low off g0 (g ∷ l) [] a c j h = absurd c
-  found low off g0 (g ∷ l) (ps ∷ pss) a c j h = 
+  found low off g0 (g ∷ l) (ps ∷ pss) a c j h =
       go j h (λ j h. found (g .start + length (members (g .group))) (off + length (members (g .group))) (suc g0) l pss (a .1) (c .1) j h)
       (near (g .start) (length (members (g .group))) i)
     where
