@@ -3,3 +3,4 @@ pub mod Symbols
 pub mod Positions
 pub mod Naming
 pub mod ArmWords
+pub mod Held
