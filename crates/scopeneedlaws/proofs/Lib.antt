@@ -4,3 +4,4 @@ pub mod Positions
 pub mod Naming
 pub mod ArmWords
 pub mod Held
+pub mod Statements
