@@ -5,3 +5,4 @@ pub mod Naming
 pub mod ArmWords
 pub mod Held
 pub mod Statements
+pub mod Reading
