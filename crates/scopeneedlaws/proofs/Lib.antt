@@ -6,3 +6,4 @@ pub mod ArmWords
 pub mod Held
 pub mod Statements
 pub mod Reading
+pub mod Order
