@@ -7,3 +7,4 @@ pub mod Held
 pub mod Statements
 pub mod Reading
 pub mod Order
+pub mod Scopes

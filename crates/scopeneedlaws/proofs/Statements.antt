@@ -3,26 +3,24 @@
 use Prim.Native.Nat.{ℕ, zero, suc, _+_, _≤_, _<_}
 use native.Mathlib.Omega.{arith}
 use mathlib.Core.Path.{_≡_, refl, sym, _∙_, ap, ap₂, subst}
-use mathlib.Core.Logic.{inl, inr}
 use mathlib.Core.List.{List, [], _∷_, _++_, append-assoc, map}
 use lib.ListN.{length, getD, drop, length-append, length-map, length-drop}
-use lib.Dec.{T, lt→ltb}
+use lib.Dec.{T}
 use Rattle.tree.specs.Outcome.{Outcome, ok, _>>=_}
-use Rattle.tree.specs.Tree.{Name, xname, Tree}
+use Rattle.tree.specs.Tree.{xname, Tree}
 use Rattle.tree.proofs.TokenLaws.{map-append}
 use Rattle.rewrite.proofs.Counts.{well-formed-all}
-use Rattle.rewrite.proofs.Names.{holds-all, below}
+use Rattle.rewrite.proofs.Names.{holds-all}
 use Rattle.cse.specs.Extract.{State, roots}
-use Rattle.cse.specs.Answer.{Intermediate, Let, names}
+use Rattle.cse.specs.Answer.{Intermediate, Let}
 use Rattle.cse.specs.Order.{needs}
 use Rattle.cse.specs.Scope.{Group, collect-switches, groups-from, Work, Scoped, binds, unfused, fuse-all, fuse-groups}
 use Rattle.cse.proofs.Outcomes.{Good}
-use Rattle.cse.proofs.Symbols.{Sub, elem-cases, no-elem, all-names}
 use Rattle.cse.proofs.ScopeValue.{under}
 use Rattle.renaming.specs.Rounds.{by-number, next-number, state-of}
 use Rattle.renaming.proofs.RoundsOn.{roots-of-state}
 use Rattle.reciprocals.proofs.Parts.{settle-tree, settled-reciprocals}
-use Rattle.outernames.proofs.Rounds.{Begun}
+use Rattle.outernames.proofs.Rounds.{Begun, state-below}
 use Rattle.outernames.proofs.Arms.{Same-names}
 use Rattle.outernames.proofs.Ordering.{needs-of, read-before, fused-needs}
 use Rattle.fusion.specs.Settled.{Step, fused-tree, fused-stmt, Numbered, Walked, numbered-groups, all-steps, group-matches, settled-work, settled-groups}
@@ -46,15 +44,6 @@ unfolding binds by-number lets-from fused-stmt
 lets-fused steps i [] = refl
 lets-fused steps i (t ∷ l) = ap (λ (r : List Intermediate). Let (xname i) (fused-tree steps t) ∷ r) (lets-fused steps (suc i) l)
 
--- the names of lets by number lie below the number after them
-bound-below : (top i : ℕ) (l : List Tree) → i + length l ≤ top → Sub (under top) (all-names (binds (by-number i l)))
-unfolding binds by-number all-names names
-bound-below top i [] h = λ m t. absurd (no-elem m t)
-bound-below top i (e ∷ l) h = λ m t. elim (elem-cases m (xname i) (all-names (binds (by-number (suc i) l))) t) [
-  | inl q ↦ subst (λ (x : Name). T (under top x)) q (unfold below in lt→ltb i top (omega arith))
-  | inr u ↦ bound-below top (suc i) l (omega arith) m u
-]
-
 -- ---- the statements
 
 module _ (k first : ℕ) (ts ds : List Tree) (within : k ≤ length ts) where
@@ -68,7 +57,7 @@ module _ (k first : ℕ) (ts ds : List Tree) (within : k ≤ length ts) where
   unfolding settled-roots
   roots-count = omega (arith, length-append (map (settle-tree ds n) ts) (settled-reciprocals ds n), length-map ts (settle-tree ds n), reciprocals-count ds n)
 
-  next-is : next-number k first us ≡ n + length ds
+  pub next-is : next-number k first (settled-roots ds (next-number k first ts) ts) ≡ next-number k first ts + length ds
   unfolding next-number
   next-is = omega (arith, roots-count, length-drop k us, length-drop k ts)
 
@@ -105,10 +94,6 @@ module _ (k first : ℕ) (ts ds : List Tree) (within : k ≤ length ts) where
     next-at : s .next ≡ n + length ds
     next-at = (unfold state-of in next-is)
 
-    lets-below : Sub (under (s .next)) (all-names (binds (s .lets)))
-    unfolding state-of next-number
-    lets-below = bound-below (first + length (drop k us)) first (drop k us) (omega arith)
-
     begun : Begun (s .next) us s
     begun =
         record {
@@ -117,7 +102,7 @@ module _ (k first : ℕ) (ts ds : List Tree) (within : k ≤ length ts) where
           back = λ p h. subst (λ (y : List Tree). T (holds-all p y)) roots-are h;
           forth = λ q new h. subst (λ (y : List Tree). T (holds-all q y)) (sym roots-are) h;
           top = λ h. subst (λ (y : List Tree). T (holds-all (under (s .next)) y)) (sym roots-are) h;
-          bound = λ h. lets-below;
+          bound = λ h. state-below k first us;
         }
 
     groups-are : groups-from [] (collect-switches (roots s)) ≡ scope-groups ds n ts
