@@ -10,7 +10,7 @@ use lib.Seq.{drop-drop, take-add}
 use lib.Dec.{T}
 use Rattle.tree.specs.Tree.{Name, Tree}
 use Rattle.tree.specs.Facts.{size}
-use Rattle.tree.specs.Tokens.{word, name-code, all-tokens, read, numbered, trees-in, kind-of}
+use Rattle.tree.specs.Tokens.{word, name-code, all-tokens, trees-in, kind-of}
 use Rattle.tree.proofs.TokenLaws.{map-append}
 use Rattle.tree.proofs.TokenCode.{coded, all-coded, unnumbered, all-tokens-append}
 use Rattle.cse.specs.Answer.{all-symbols}

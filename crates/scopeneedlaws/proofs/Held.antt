@@ -2,27 +2,27 @@
 -- numbered as its walk numbers them (01, "Scoped fusion"). Assumes nothing.
 use Prim.Native.Nat.{ℕ, zero, suc, _+_, _≤_, _<_}
 use native.Mathlib.Omega.{arith}
-use mathlib.Core.Path.{_≡_, refl, sym, _∙_, ap, ap₂, subst}
+use mathlib.Core.Path.{_≡_, refl, sym, _∙_, ap, subst}
 use mathlib.Core.Bool.{Bool, true, false}
 use mathlib.Core.Option.{some}
 use mathlib.Core.List.{List, [], _∷_, _++_, map}
 use lib.ListN.{length, getD, take, drop, length-map, length-append}
 use lib.Dec.{T}
-use Rattle.tree.specs.Tree.{Tree, xname, mname}
-use Rattle.tree.specs.Outcome.{Outcome, ok, _>>=_}
-use Rattle.tree.specs.Tokens.{all-tokens, read, numbered, trees-in}
+use Rattle.tree.specs.Tree.{Tree, mname}
+use Rattle.tree.specs.Outcome.{Outcome}
+use Rattle.tree.specs.Tokens.{read, numbered, trees-in}
 use Rattle.tree.proofs.TokenCode.{known-name, coded, all-coded, unnumbered, tokens-complete}
 use Rattle.rewrite.specs.Rewrite.{replace-outside-arms}
 use Rattle.rewrite.proofs.Counts.{well-formed-all}
-use Rattle.cse.specs.Scope.{Switch, Group, members, collect-switches, groups-from, Scoped, Armed, scope-arms}
-use Rattle.cse.proofs.Outcomes.{Good, then-good, good-ok, good-at}
+use Rattle.cse.specs.Scope.{Group, members, collect-switches, groups-from, Scoped, scope-arms}
+use Rattle.cse.proofs.Outcomes.{Good, then-good, good-ok}
 use Rattle.words.specs.Words.{number}
 use Rattle.renaming.specs.Places.{numbered-at}
-use Rattle.renaming.specs.Rounds.{next-number, bind-each-on}
+use Rattle.renaming.specs.Rounds.{bind-each-on}
 use Rattle.renaming.proofs.Coded.{is-alone, none-fit, one-fits, first-fits, rest-fits, append-fits, read-fits, read-again, bind-on-fits, outside-arms-fits}
 use Rattle.renaming.proofs.Extraction.{Every}
 use Rattle.reciprocals.proofs.Parts.{settle-tree, settled-reciprocals, bound-are-settled, All-there}
-use Rattle.switchplaces.specs.Switches.{key-place, switch-places, switch-there}
+use Rattle.switchplaces.specs.Switches.{switch-places, switch-there}
 use Rattle.switchplaces.specs.Groups.{group-numbers, member-places, group-there}
 use Rattle.switchplaces.proofs.Collected.{Switching, places-switch}
 use Rattle.switchplaces.proofs.Grouped.{Opens, every-so, numbers-open, collected-groups}
@@ -30,15 +30,15 @@ use Rattle.switchplaces.proofs.GroupColumns.{members-armed, members-by-place}
 use Rattle.switchplaces.proofs.Turned.{Armed as Armed-with}
 use Rattle.finishlaws.proofs.Trees.{divisors-fit}
 use Rattle.outernames.proofs.Arms.{Same-names, Same-arms, arms-same}
-use Rattle.outernames.proofs.Matches.{Shaped, All-shaped}
+use Rattle.outernames.proofs.Matches.{All-shaped}
 use Rattle.fusion.specs.Settled.{Step, fused-tree, Numbered, Walked, group-columns, numbered-groups, all-steps}
 use Rattle.fusion.specs.Whole.{settled-roots, scope-groups}
 use Rattle.fusion.specs.Switchless.{switchless, with-switches}
 use Rattle.fusion.specs.Words.{numbers-from, all-numbers, steps-at}
 use Rattle.fusion.proofs.Held.{groups-held}
-use Rattle.fusion.proofs.Groups.{group-of, groups-kept}
+use Rattle.fusion.proofs.Groups.{group-of}
 use Rattle.fusion.proofs.Members.{Stand-at, all-places, members-before, tree-of-switch, numbers-count, all-steps-at, steps-after}
-use Rattle.scopeplaces.specs.Parts.{place-groups, joined-groups, group-start, group-end, group-at, opener, trees-held, words-held, steps-from}
+use Rattle.scopeplaces.specs.Parts.{place-groups, joined-groups, group-start, group-end, trees-held, words-held, steps-from}
 use Rattle.scopeneedlaws.proofs.Positions.{Ascending, Counted}
 
 -- ---- trees that fit the code

@@ -9,7 +9,7 @@ use mathlib.Core.Option.{Option, none, some}
 use mathlib.Core.List.{List, [], _∷_, _++_}
 use borrow.Author.Tests.{eqb-true, eqb-false, ltb-true, ltb-false}
 use lib.Dec.{eqb, leb, ltb}
-use lib.ListN.{length, replicate, length-replicate}
+use lib.ListN.{length}
 use Rattle.bits.specs.Bits.{word-of, inside, yes, with-yes}
 use Rattle.bits.proofs.BitLaws.{made-yes, kept-yes, no-outside, with-length, inside-of}
 use Rattle.needs.proofs.Turns.{and-false}

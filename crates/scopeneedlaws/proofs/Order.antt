@@ -7,26 +7,24 @@ use mathlib.Core.Bool.{Bool, true, false, _&&_, cond}
 use mathlib.Core.Option.{some}
 use mathlib.Core.List.{List, [], _∷_, _++_, map, reverse, reverseAux}
 use borrow.Author.Tests.{ltb-true, ltb-false, lt-ltb, le-ltb}
-use lib.ListN.{length, getD, drop, replicate, length-append, length-map, length-drop, length-replicate, length-reverse, getD-replicate, List·getD-append, List·getD-map}
+use lib.ListN.{length, getD, drop, replicate, length-append, length-map, length-drop, length-replicate, length-reverse, getD-replicate, List·getD-append}
 use lib.Seq.{getD-append-add, getD-drop}
 use lib.Dec.{T, ltb}
 use Rattle.tree.specs.Outcome.{Outcome, ok, refused, by}
 use Rattle.tree.specs.Tree.{Name, xname, Tree, Op, nil}
 use Rattle.tree.specs.Tokens.{word, name-code, tokens, read, numbered, trees-in, kind-of}
 use Rattle.tree.proofs.TokenLaws.{complete-length}
-use Rattle.tree.proofs.TokenCode.{coded, unnumbered}
+use Rattle.tree.proofs.TokenCode.{unnumbered}
 use Rattle.rewrite.proofs.Counts.{well-formed-all}
 use Rattle.rewrite.proofs.Names.{holds-all}
-use Rattle.words.specs.Words.{number}
-use Rattle.cse.specs.Answer.{Intermediate, Let, names, symbols, elem}
+use Rattle.cse.specs.Answer.{Intermediate, names, symbols, elem}
 use Rattle.cse.specs.Order.{meets, needs, nothing, at-each, positions-taken, topo-sort-intermediates}
-use Rattle.cse.specs.Scope.{Group, Scoped}
+use Rattle.cse.specs.Scope.{Scoped}
 use Rattle.cse.proofs.Outcomes.{Good, good-at}
 use Rattle.cse.proofs.OrderLaws.{All, taken-ok}
 use Rattle.cse.proofs.ScopeValue.{under}
 use Rattle.renaming.specs.Places.{numbered-at}
 use Rattle.renaming.specs.Rounds.{next-number}
-use Rattle.renaming.proofs.Coded.{is-alone}
 use Rattle.reciprocals.proofs.Parts.{All-there}
 use Rattle.bits.specs.Bits.{bit, word-of, inside, yes}
 use Rattle.bits.proofs.BitLaws.{zero-bit, is-in}
@@ -35,7 +33,7 @@ use Rattle.order.proofs.Left.{table-length}
 use Rattle.order.proofs.Sorted.{sorted-all, sorted-ring}
 use Rattle.outernames.proofs.Arms.{Same-names}
 use Rattle.outernames.proofs.Matches.{All-shaped, groups-shaped}
-use Rattle.outernames.proofs.Ordering.{needs-of, read-before}
+use Rattle.outernames.proofs.Ordering.{read-before}
 use Rattle.fusion.specs.Settled.{fused-tree, Numbered, Walked, numbered-groups, all-steps, group-matches}
 use Rattle.fusion.specs.Whole.{lets-from, settled-roots, scope-groups, scope-stmts}
 use Rattle.fusion.specs.Words.{all-numbers}

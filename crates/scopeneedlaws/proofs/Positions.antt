@@ -1,27 +1,22 @@
 -- Which position a word names: that of a let where it is its `__xN`, that of a match where it is one of its `__mN`, and none where it is another's (01, "Order").
 -- Assumes nothing.
-use Prim.Native.Nat.{ℕ, zero, suc, _+_, _-_, _*_, _/_, _%_, _≤_, _<_}
+use Prim.Native.Nat.{ℕ, zero, suc, _+_, _-_, _≤_, _<_}
 use native.Mathlib.Omega.{arith}
 use mathlib.Core.Path.{_≡_, refl, sym, _∙_, ap, ap₂}
 use mathlib.Core.Logic.{_⊎_, inl, inr}
-use mathlib.Core.Bool.{Bool, true, false, _&&_, cond}
-use mathlib.Core.Option.{Option, none, some}
+use mathlib.Core.Bool.{Bool, true, false, _&&_}
 use mathlib.Core.List.{List, [], _∷_, _++_}
 use borrow.Author.Tests.{eqb-true, eqb-false, eq-eqb, ne-eqb, ltb-true, ltb-false, lt-ltb, le-ltb}
-use lib.Dec.{eqb, leb, ltb, le→leb}
+use lib.Dec.{eqb, ltb}
 use lib.ListN.{length, length-append}
 use Rattle.tree.specs.Tree.{Name, input, xname, mname, eq-name}
-use Rattle.tree.specs.Tokens.{word, name-code, kind-of}
-use Rattle.tree.proofs.Tests.{is-true}
 use Rattle.cse.specs.Answer.{elem}
 use Rattle.cse.specs.Scope.{Switch, members, member-names}
-use Rattle.needs.proofs.NameLaws.{elem-one}
 use Rattle.fusion.specs.Settled.{Numbered}
 use Rattle.fusion.specs.Words.{numbers-from, all-numbers}
 use Rattle.fusion.proofs.Members.{numbers-count}
 use Rattle.scopeplaces.specs.Parts.{ends-from}
 use Rattle.scopeplaces.specs.Reads.{place-of, group-of}
-use Rattle.scopeneedlaws.proofs.Marks.{hit, position, names-place}
 
 -- ---- where a number stands among some, and which group it is in
 

@@ -1,6 +1,6 @@
 -- What each statement of a scope reads, by its position (01, "Order"); and a table of bits that says so for each two statements is the table of their needs. Assumes
 -- nothing.
-use Prim.Native.Nat.{ℕ, zero, suc, _+_, _≤_, _<_}
+use Prim.Native.Nat.{ℕ, zero, suc, _+_, _<_}
 use native.Mathlib.Omega.{arith}
 use mathlib.Core.Path.{_≡_, refl, sym, _∙_, ap, ap₂, subst}
 use mathlib.Core.Bool.{Bool, true, false, _||_}
@@ -13,7 +13,7 @@ use Rattle.tree.specs.Tokens.{word, name-code, tokens, trees-in, kind-of}
 use Rattle.tree.proofs.TokenCode.{coded, unnumbered}
 use Rattle.cse.specs.Answer.{Intermediate, Let, Match, names, symbols, elem}
 use Rattle.cse.specs.Order.{meets, needs-from, nothing}
-use Rattle.cse.specs.Scope.{Switch, Group, members, member-names, arms-of-members}
+use Rattle.cse.specs.Scope.{Switch, Group, members, arms-of-members}
 use Rattle.renaming.specs.Places.{numbered-at}
 use Rattle.renaming.proofs.Coded.{is-alone}
 use Rattle.renaming.proofs.DivisorPlaces.{enough}

@@ -2,7 +2,7 @@
 -- no name from the next number on: what the order of its statements is told from (01, "Order", "Scoped fusion"). Assumes nothing.
 use Prim.Native.Nat.{ℕ, zero, suc, _+_, _≤_}
 use native.Mathlib.Omega.{arith}
-use mathlib.Core.Path.{_≡_, refl, sym, _∙_, ap, subst}
+use mathlib.Core.Path.{_≡_, _∙_, ap, subst}
 use mathlib.Core.Bool.{Bool, true, false}
 use mathlib.Core.List.{List}
 use lib.ListN.{length}
@@ -13,7 +13,7 @@ use Rattle.tree.specs.Facts.{all-operations}
 use Rattle.tree.specs.Rows.{occurrences}
 use Rattle.rewrite.proofs.Counts.{well-formed-all}
 use Rattle.rewrite.proofs.Names.{holds-all}
-use Rattle.cse.specs.Extract.{State, roots}
+use Rattle.cse.specs.Extract.{roots}
 use Rattle.cse.specs.Scope.{scope-rows}
 use Rattle.cse.proofs.Outcomes.{Good, good-at}
 use Rattle.cse.proofs.ScopeValue.{under}

@@ -1,10 +1,10 @@
 -- A scope's statements as lets of its settled trees and then matches, and their needs from what is read before the scopes of arms (01, "Order", "Scoped fusion").
 -- Assumes nothing.
-use Prim.Native.Nat.{ℕ, zero, suc, _+_, _≤_, _<_}
+use Prim.Native.Nat.{ℕ, zero, suc, _+_, _≤_}
 use native.Mathlib.Omega.{arith}
 use mathlib.Core.Path.{_≡_, refl, sym, _∙_, ap, ap₂, subst}
 use mathlib.Core.List.{List, [], _∷_, _++_, append-assoc, map}
-use lib.ListN.{length, getD, drop, length-append, length-map, length-drop}
+use lib.ListN.{length, drop, length-append, length-map, length-drop}
 use lib.Dec.{T}
 use Rattle.tree.specs.Outcome.{Outcome, ok, _>>=_}
 use Rattle.tree.specs.Tree.{xname, Tree}

@@ -14,7 +14,6 @@ use Rattle.tree.proofs.TreeLaws.{eq-name-sound, eq-name-refl}
 use Rattle.tree.proofs.TokenCode.{fits-word, coded, coded-each, all-coded}
 use Rattle.cse.specs.Answer.{concat, symbols, all-symbols, elem}
 use Rattle.cse.specs.Order.{meets}
-use Rattle.needs.proofs.MarkLaws.{or-false}
 use Rattle.needs.proofs.NameLaws.{or-assoc}
 use Rattle.scopeneedlaws.proofs.Marks.{any, any-append}
 
