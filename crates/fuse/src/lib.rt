@@ -127,13 +127,7 @@ fn steps(
 }
 
 // Fuses the first `len` words of tokens: the members at the places are replaced in order, each by `__mN` with the number beside its place.
-pub fn fuse(
-    base: &[u64],
-    places: &[u64],
-    numbers: &[u64],
-    tokens: &mut [u64],
-    len: usize,
-) -> Fused
+pub fn fuse(base: &[u64], places: &[u64], numbers: &[u64], tokens: &mut [u64], len: usize) -> Fused
     ensures { λ r. ⌜ (r ≡ fusing (now (base .entry)) (now (places .entry)) (now (numbers .entry)) (now (tokens .entry)) len .answer)
         × (now (tokens .exit) ≡ fusing (now (base .entry)) (now (places .entry)) (now (numbers .entry)) (now (tokens .entry)) len .out) ⌝ }
 {
