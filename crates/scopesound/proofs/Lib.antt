@@ -1,3 +1,4 @@
 pub mod Held
 pub mod Columns
 pub mod Rounds
+pub mod Sums
