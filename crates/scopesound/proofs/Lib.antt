@@ -2,3 +2,4 @@ pub mod Held
 pub mod Columns
 pub mod Rounds
 pub mod Sums
+pub mod Counting
