@@ -3,3 +3,4 @@ pub mod Columns
 pub mod Rounds
 pub mod Sums
 pub mod Counting
+pub mod Sizes

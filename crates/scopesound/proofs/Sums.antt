@@ -1,5 +1,5 @@
 -- Sums over the first numbers and over lists: one after another, of entries, and over different numbers in any order. Assumes nothing.
-use Prim.Native.Nat.{ℕ, zero, suc, _+_, _*_, _≤_, _<_}
+use Prim.Native.Nat.{ℕ, zero, suc, _+_, _*_, _-_, _≤_, _<_}
 use native.Mathlib.Omega.{arith}
 use mathlib.Core.Path.{_≡_, refl, sym, _∙_, ap, subst}
 use mathlib.Core.Bool.{Bool, true, false, cond}
@@ -64,6 +64,19 @@ pub runs-length : (f : ℕ → List ℕ) (n : ℕ) → length (runs f n) ≡ sum
 unfolding runs sum-first
 runs-length f zero = refl
 runs-length f (suc n) = (let r = runs-length f n in let a = length-append (runs f n) (f n) in omega arith)
+
+pub runs-within : (f : ℕ → List ℕ) (q n : ℕ) → q ≤ n → length (runs f q) ≤ length (runs f n)
+runs-within f q n h = (let e : q + (n - q) ≡ n = omega arith in subst (λ (i : ℕ). length (runs f q) ≤ length (runs f i)) e (more (n - q)))
+  where
+    more : (j : ℕ) → length (runs f q) ≤ length (runs f (q + j))
+    more zero = (let e : q ≡ q + 0 = omega arith in subst (λ (i : ℕ). length (runs f q) ≤ length (runs f i)) e (omega arith))
+    more (suc j) =
+        let a = runs-length f (q + j) in
+        let b = runs-length f (suc (q + j)) in
+        let c = first-more (λ i. length (f i)) (q + j) in
+        let r = more j in
+        let e : suc (q + j) ≡ q + suc j = omega arith in
+        subst (λ (i : ℕ). length (runs f q) ≤ length (runs f i)) e (omega (arith, a, b, c, r))
 
 -- at most so much each
 pub first-most : (f : ℕ → ℕ) (c n : ℕ) → ((i : ℕ) → i < n → f i ≤ c) → sum-first f n ≤ c * n
