@@ -4,3 +4,4 @@ pub mod Rounds
 pub mod Sums
 pub mod Counting
 pub mod Sizes
+pub mod Bounds
