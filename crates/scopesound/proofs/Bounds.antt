@@ -11,7 +11,7 @@ use lib.ListN.{length, getD, take, drop, length-append, length-drop}
 use lib.Seq.{take-length}
 use lib.Dec.{T, eqb, leb, leb→le}
 use Rattle.tree.specs.Bytes.{every}
-use Rattle.tree.specs.Outcome.{Outcome, ok, refused, by, _>>=_}
+use Rattle.tree.specs.Outcome.{Refusal, Outcome, ok, refused, by, _>>=_}
 use Rattle.tree.specs.Rows.{Row}
 use Rattle.tree.specs.Tokens.{word, read, numbered, name-in, trees-in}
 use Rattle.tree.proofs.Logic.{and-left, and-right}
@@ -34,11 +34,11 @@ use Rattle.switchplaces.proofs.Grouped.{every-so}
 use Rattle.switchplaces.proofs.GroupColumns.{every-at}
 use Rattle.fusion.specs.Words.{numbers-from}
 use Rattle.fusion.proofs.Members.{numbers-count}
-use Rattle.scopeplaces.specs.Parts.{place-groups, joined-groups, group-at, group-start, reciprocals-first, lets-count, held-words}
-use Rattle.scopeplaces.specs.Whole.{most-number, Told, Arms-told, Walk, arms-told, group-told, walked, stmts-count, stmts-order, stmts-runs, values-runs, ordered-scope, fused-scope, scope-told}
+use Rattle.scopeplaces.specs.Parts.{place-groups, joined-groups, group-at, group-start, reciprocals-first, lets-count, held-words, match-run}
+use Rattle.scopeplaces.specs.Whole.{most-number, Told, Arms-told, Walk, arms-told, group-told, walked, stmts-count, tree-run, stmts-order, stmts-runs, values-runs, ordered-scope, fused-scope, scope-told}
 use Rattle.scopesound.proofs.Held.{held-complete}
 use Rattle.scopesound.proofs.Columns.{Past, armed-past, column-sound, column-pass, Fused, group-fused}
-use Rattle.scopesound.proofs.Rounds.{rounds-rounded}
+use Rattle.scopesound.proofs.Rounds.{rounds-sound, rounds-short, rounds-pass, rounds-results}
 use Rattle.scopesound.proofs.Sums.{sum-each, each-append}
 use Rattle.scopesound.proofs.Counting.{arms-some, places-there, held-extractable, held-passes, held-trees, held-words-ok, first-from, first-lets, last-most, trees-few, lets-few, members-few, stmts-few, made-are}
 use Rattle.scopesound.proofs.Sizes.{tree-run-length, match-run-length, stmts-length, values-length}
@@ -282,3 +282,157 @@ module _ (rows : List Row) (good : ℕ → Bool) (scope : ℕ → List ℕ → O
           then-good (Arms-bound (r .next + length (group-at gs n)) (arm-count hs (getD (group-at gs n) 0 0))) (Walk-bound gs from (suc n)) (group-told scope hs (group-at gs n) (r .next))
           (group-bounded (group-at gs n) (group-fused hs trees complete n (omega arith)) (r .next) (w .forth)) (λ a. ok (with-group n r a))
           (λ a b. good-ok (Walk-bound gs from (suc n)) (with-group n r a) (one-group n (omega arith) r a w b)))
+
+-- ---- a scope
+
+known : {A : Type 0} (o : Outcome A) → Good (λ (a : A). o ≡ ok a) o
+unfolding Good
+known (ok a) = refl
+known (refused i) = tt
+
+tested : {A : Type 0} (Q : A → Type 0) (b : Bool) (o : Outcome A) (i : Refusal) → (T b → Good Q o) → Good Q (cond b o (refused i))
+unfolding Good
+tested Q true o i h = h tt
+tested Q false o i h = tt
+
+so : (b : Bool) → T b → b ≡ true
+so true t = refl
+so false t = absurd t
+
+-- after the rounds, which leave k results and lets numbered from `first` on
+module _ (rows : List Row) (good : ℕ → Bool) (k first : ℕ) (vs : List ℕ) (sound : T (extractable rows (next-number k first (read numbered vs)) vs)) (pass : T (symbols-pass good vs)) where
+  abbrev ps : List ℕ
+  ps = divisors-to-bind vs (name-in rows) true
+
+  abbrev hs : List ℕ
+  hs = held-words vs k first ps
+
+  abbrev start : ℕ
+  start = reciprocals-first vs k first ps + length ps
+
+  abbrev held-sounds : T (extractable rows start hs)
+  held-sounds = held-extractable rows good k first vs sound pass
+
+  module _ (short : length vs ≤ 1024) (results : k ≤ length (read numbered vs)) (low : first ≤ most-number) where
+    module _ (held-short : length hs ≤ 1024) (l : Walk) (w : Walk-bound (place-groups hs) start (length (place-groups hs)) l) where
+      lets-short : (i : ℕ) → suc (length (tree-run vs k first ps (l .numbers) i)) ≤ 1027
+      lets-short i =
+          let r = ready-of rows (next-number k first (read numbered vs)) vs sound in
+          let t = tree-run-length vs (r .trees) (r .complete) k first ps (places-there rows good k first vs sound pass) (l .numbers) i in
+          omega (arith, t, short)
+
+      matches-short : (run : List ℕ) (g : ℕ) → g < length (place-groups hs) → length (match-run hs (place-groups hs) (l .numbers) run g) ≤ per-match + length run
+      matches-short run g h =
+          let r = ready-of rows start hs held-sounds in
+          let m = match-run-length hs (r .trees) (r .complete) (place-groups hs) (l .numbers) run g in
+          let a = group-within (place-groups hs) g in
+          let b = members-few rows good k first vs sound pass short held-short in
+          omega (arith, m, a, b, held-short)
+
+      pub ordered-bounded : (row : ℕ) → Good (Scope-bound first) (ordered-scope row vs k first ps l)
+      unfolding ordered-scope
+      ordered-bounded row =
+          let order = stmts-order vs k first ps (l .numbers) in
+          let count = stmts-count vs k first ps (l .numbers) in
+          let stmts = stmts-runs vs k first ps (l .numbers) (l .arms) order count in
+          let values = values-runs vs k first ps (l .numbers) row k in
+          tested (Scope-bound first) (eqb (length order) count)
+          (ok (record { words = stmts ++ values; steps = count; next = l .next; extracted = (length (read numbered vs) - k) + l .extracted })) (by 11)
+          (λ t.
+          good-ok (Scope-bound first) (record { words = stmts ++ values; steps = count; next = l .next; extracted = (length (read numbered vs) - k) + l .extracted })
+          (bound row (eqb-true (length order) count (so (eqb (length order) count) t))))
+        where
+          bound :
+              (row : ℕ) → length (stmts-order vs k first ps (l .numbers)) ≡ stmts-count vs k first ps (l .numbers)
+              → Scope-bound first
+              (record {
+                words =
+                    stmts-runs vs k first ps (l .numbers) (l .arms) (stmts-order vs k first ps (l .numbers)) (stmts-count vs k first ps (l .numbers))
+                    ++ values-runs vs k first ps (l .numbers) row k;
+                steps = stmts-count vs k first ps (l .numbers);
+                next = l .next;
+                extracted = (length (read numbered vs) - k) + l .extracted;
+              })
+          bound row e =
+              let stmts = stmts-runs vs k first ps (l .numbers) (l .arms) (stmts-order vs k first ps (l .numbers)) (stmts-count vs k first ps (l .numbers)) in
+              let values = values-runs vs k first ps (l .numbers) row k in
+              let a = length-append stmts values in
+              let b = stmts-length vs k first ps (l .numbers) (l .arms) 1027 per-match lets-short matches-short e (w .arms-many) in
+              let c = values-length vs k first ps (l .numbers) (l .arms) 1027 per-match lets-short matches-short row k in
+              let d = first-lets rows good k first vs sound pass in
+              let f = last-most rows good k first vs sound pass short in
+              let g = made-are rows good k first vs sound pass in
+              let h = length-drop k (read numbered vs) in
+              let i = trees-few rows good k first vs sound pass short in
+              let forth = w .forth in
+              let made = w .made in
+              let paid = w .rows in
+              record {
+                low = low;
+                forth = omega (arith, d, forth);
+                most = w .most (most-number + 1024) (omega (arith, f, low)) (omega arith);
+                made = omega (arith, made, d, g, h);
+                few = stmts-few rows good k first vs sound pass short held-short (l .numbers);
+                rows = omega (arith, a, b, c, d, i, results, paid);
+              }
+
+    module _ (scope : ℕ → List ℕ → Outcome Told) (bounded : Bounds-all rows good scope) where
+      -- its groups in order
+      pub groups-bounded : (n : ℕ) → n ≤ length (place-groups hs) → Good (Walk-bound (place-groups hs) start n) (walked scope hs (place-groups hs) start n)
+      groups-bounded n h =
+          walk-bounded rows good scope bounded start hs held-sounds (held-passes rows good k first vs sound pass) (held-words-ok rows good k first vs sound pass) n h
+
+      pub fused-bounded : (row : ℕ) → Good (Scope-bound first) (fused-scope scope row vs k first ps)
+      unfolding fused-scope
+      fused-bounded row =
+          tested (Scope-bound first) (leb (length hs) 1024) (walked scope hs (place-groups hs) start (length (place-groups hs)) >>= λ l. ordered-scope row vs k first ps l) (by 23)
+          (λ t.
+          then-good (Walk-bound (place-groups hs) start (length (place-groups hs))) (Scope-bound first) (walked scope hs (place-groups hs) start (length (place-groups hs)))
+          (groups-bounded (length (place-groups hs)) (omega arith)) (λ l. ordered-scope row vs k first ps l) (λ l w. ordered-bounded (leb→le (length hs) 1024 t) l w row))
+
+-- ---- a whole scope, arms and all
+
+module _ (rows : List Row) (good : ℕ → Bool) where
+  pub scope-bounded : (fuel row next : ℕ) (ws : List ℕ) → T (extractable rows next ws) → T (symbols-pass good ws) → Good (Scope-bound next) (scope-told rows fuel row next ws)
+  unfolding scope-told Good
+  scope-bounded zero row next ws sound pass = tt
+  scope-bounded (suc fuel) row next ws sound pass =
+      tested (Scope-bound next) (leb (length ws) 1024 && leb next most-number)
+      (all-rounds rows true next ws >>= λ vs.
+      fused-scope (λ n cs. scope-told rows fuel value-row n cs) row vs (length (read numbered ws)) next (divisors-to-bind vs (name-in rows) true))
+      (by 23)
+      (λ t.
+      let few = leb→le (length ws) 1024 (and-left (leb (length ws) 1024) (leb next most-number) t) in
+      let low = leb→le next most-number (and-right (leb (length ws) 1024) (leb next most-number) t) in
+      then-good (λ (vs : List ℕ). all-rounds rows true next ws ≡ ok vs) (Scope-bound next) (all-rounds rows true next ws) (known (all-rounds rows true next ws))
+      (λ vs. fused-scope (λ n cs. scope-told rows fuel value-row n cs) row vs (length (read numbered ws)) next (divisors-to-bind vs (name-in rows) true))
+      (λ vs e.
+      let short = rounds-short rows true good next ws sound pass vs e in
+      fused-bounded rows good (length (read numbered ws)) next vs (rounds-sound rows true good next ws sound pass vs e) (rounds-pass rows true good next ws sound pass vs e)
+      (omega (arith, few, short)) (rounds-results rows true good next ws sound pass vs e) low (λ n cs. scope-told rows fuel value-row n cs)
+      (λ n cs s p. scope-bounded fuel value-row n cs s p) row))
+
+  -- an answer that was given
+  pub scope-bound : (fuel row next : ℕ) (ws : List ℕ) → T (extractable rows next ws) → T (symbols-pass good ws) → (a : Told) → scope-told rows fuel row next ws ≡ ok a → Scope-bound next a
+  scope-bound fuel row next ws sound pass a e = good-at (Scope-bound next) (scope-told rows fuel row next ws) a e (scope-bounded fuel row next ws sound pass)
+
+  module _ (fuel from : ℕ) (hs : List ℕ) (sound : T (extractable rows from hs)) (pass : T (symbols-pass good hs)) where
+    abbrev inner : ℕ → List ℕ → Outcome Told
+    inner n cs = scope-told rows fuel value-row n cs
+
+    inner-bounded : Bounds-all rows good inner
+    inner-bounded n cs s p = scope-bounded fuel value-row n cs s p
+
+    -- the first n arms of a group that were given
+    pub arms-bound :
+        (g : List ℕ) → Fused hs g → (start : ℕ) → from ≤ start → (n : ℕ) → n ≤ arm-count hs (getD g 0 0) → (a : Arms-told)
+        → arms-told (λ n cs. scope-told rows fuel value-row n cs) hs g start n ≡ ok a → Arms-bound start n a
+    arms-bound g f start s n h a e =
+        good-at (Arms-bound start n) (arms-told inner hs g start n) a e (arms-bounded rows good inner inner-bounded from hs sound pass g f start s n h)
+
+    -- the first n groups that were given
+    pub walk-bound :
+        T (every (word-ok rows) hs) → (n : ℕ) → n ≤ length (place-groups hs) → (l : Walk)
+        → walked (λ n cs. scope-told rows fuel value-row n cs) hs (place-groups hs) from n ≡ ok l → Walk-bound (place-groups hs) from n l
+    walk-bound words n h l e =
+        good-at (Walk-bound (place-groups hs) from n) (walked inner hs (place-groups hs) from n) l e (walk-bounded rows good inner inner-bounded from hs sound pass words n h)
