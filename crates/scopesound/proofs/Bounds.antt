@@ -2,12 +2,12 @@
 -- itself and by the numbers that it takes, so that no sum of rows comes near 2^63. The same for some arms of a group and for some groups. Assumes nothing.
 use Prim.Native.Nat.{ℕ, zero, suc, _+_, _*_, _-_, _≤_, _<_}
 use native.Mathlib.Omega.{arith}
-use mathlib.Core.Path.{_≡_, refl, sym, _∙_, ap, subst}
+use mathlib.Core.Path.{_≡_, refl, sym, ap}
 use mathlib.Core.Bool.{Bool, true, false, _&&_, cond}
 use mathlib.Core.Option.{some}
 use mathlib.Core.List.{List, [], _∷_, _++_}
 use borrow.Author.Tests.{eqb-true}
-use lib.ListN.{length, getD, take, drop, length-append, length-drop}
+use lib.ListN.{length, getD, take, length-append, length-drop}
 use lib.Seq.{take-length}
 use lib.Dec.{T, eqb, leb, leb→le}
 use Rattle.tree.specs.Bytes.{every}
@@ -15,7 +15,6 @@ use Rattle.tree.specs.Outcome.{Refusal, Outcome, ok, refused, by, _>>=_}
 use Rattle.tree.specs.Rows.{Row}
 use Rattle.tree.specs.Tokens.{word, read, numbered, name-in, trees-in}
 use Rattle.tree.proofs.Logic.{and-left, and-right}
-use Rattle.tree.proofs.TokenLaws.{complete-length, complete-within}
 use Rattle.cse.specs.AnswerRows.{arm-row, value-row}
 use Rattle.cse.proofs.Outcomes.{Good, then-good, good-ok, good-at}
 use Rattle.renaming.specs.Names.{symbols-pass}
@@ -28,19 +27,17 @@ use Rattle.checked.specs.Check.{word-ok}
 use Rattle.rounds.specs.Rounds.{all-rounds}
 use Rattle.switchplaces.specs.Switches.{arm-count}
 use Rattle.switchplaces.specs.Columns.{column-words}
-use Rattle.switchplaces.proofs.Collected.{Switching}
 use Rattle.switchplaces.proofs.Turned.{Armed}
 use Rattle.switchplaces.proofs.Grouped.{every-so}
 use Rattle.switchplaces.proofs.GroupColumns.{every-at}
 use Rattle.fusion.specs.Words.{numbers-from}
 use Rattle.fusion.proofs.Members.{numbers-count}
-use Rattle.scopeplaces.specs.Parts.{place-groups, joined-groups, group-at, group-start, reciprocals-first, lets-count, held-words, match-run}
+use Rattle.scopeplaces.specs.Parts.{place-groups, joined-groups, group-at, group-start, reciprocals-first, held-words, match-run}
 use Rattle.scopeplaces.specs.Whole.{most-number, Told, Arms-told, Walk, arms-told, group-told, walked, stmts-count, tree-run, stmts-order, stmts-runs, values-runs, ordered-scope, fused-scope, scope-told}
-use Rattle.scopesound.proofs.Held.{held-complete}
-use Rattle.scopesound.proofs.Columns.{Past, armed-past, column-sound, column-pass, Fused, group-fused}
+use Rattle.scopesound.proofs.Columns.{armed-past, column-sound, column-pass, Fused, group-fused}
 use Rattle.scopesound.proofs.Rounds.{rounds-sound, rounds-short, rounds-pass, rounds-results}
 use Rattle.scopesound.proofs.Sums.{sum-each, each-append}
-use Rattle.scopesound.proofs.Counting.{arms-some, places-there, held-extractable, held-passes, held-trees, held-words-ok, first-from, first-lets, last-most, trees-few, lets-few, members-few, stmts-few, made-are}
+use Rattle.scopesound.proofs.Counting.{arms-some, places-there, held-extractable, held-passes, held-words-ok, first-lets, last-most, trees-few, members-few, stmts-few, made-are}
 use Rattle.scopesound.proofs.Sizes.{tree-run-length, match-run-length, stmts-length, values-length}
 
 -- the rows that a scope may have beside those that its numbers pay for, and what a number pays for

@@ -1,6 +1,6 @@
 -- The arms of one number of a group's members are sound (01, "Scoped fusion"): words that rounds take, a tree for each member, read as the members' arms, and for a
 -- group of the switches of words no more of them than those words. And which groups these are. Assumes nothing.
-use Prim.Native.Nat.{ℕ, zero, suc, _+_, _≤_, _<_}
+use Prim.Native.Nat.{ℕ, suc, _+_, _≤_, _<_}
 use native.Mathlib.Omega.{arith}
 use mathlib.Core.Path.{_≡_, refl, sym, _∙_, ap, ap₂, subst}
 use mathlib.Core.Bool.{Bool, true, false}
@@ -21,7 +21,7 @@ use Rattle.renaming.proofs.WordRounds.{written, written-complete}
 use Rattle.kept.specs.Sound.{extractable}
 use Rattle.kept.proofs.Steps.{Ready, ready-of, ready-so}
 use Rattle.switchplaces.specs.Switches.{arm-count, arm-place, switch-places, switch-there}
-use Rattle.switchplaces.specs.Groups.{member, group-first, group-numbers, members-of, member-places, group-there}
+use Rattle.switchplaces.specs.Groups.{member, group-numbers, members-of, member-places, group-there}
 use Rattle.switchplaces.specs.Columns.{words-at, column-words}
 use Rattle.switchplaces.proofs.Collected.{Switching, places-switch, collected-are}
 use Rattle.switchplaces.proofs.Turned.{Armed}

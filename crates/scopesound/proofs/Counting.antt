@@ -1,6 +1,6 @@
 -- How many statements a scope has (01, "Scoped fusion"): in words that are whole trees each tree and each operand has its word, so that words with two operands or more are
 -- few, and with them divisors and switches. Assumes nothing.
-use Prim.Native.Nat.{ℕ, zero, suc, _+_, _*_, _-_, _≤_, _<_}
+use Prim.Native.Nat.{ℕ, zero, suc, _+_, _*_, _≤_, _<_}
 use native.Mathlib.Omega.{arith}
 use mathlib.Core.Path.{_≡_, refl, sym, _∙_, ap, subst}
 use mathlib.Core.Bool.{Bool, true, false, _&&_}
@@ -10,7 +10,6 @@ use borrow.Author.Tests.{eqb-true, eqb-false}
 use lib.ListN.{length, getD, drop, length-append, length-drop, length-map}
 use lib.Dec.{T, eqb, leb, leb→le}
 use Rattle.tree.specs.Bytes.{every}
-use Rattle.tree.specs.Tree.{Tree}
 use Rattle.tree.specs.Kinds.{Div, arity-ok, is-switch}
 use Rattle.tree.specs.Passes.{operands-ok}
 use Rattle.tree.specs.Rows.{Row}
@@ -18,7 +17,7 @@ use Rattle.tree.specs.Tokens.{kind-of, below-of, takes, read, numbered, name-in
 use Rattle.text.specs.Text.{before}
 use Rattle.tree.proofs.KindLaws.{arity-kind}
 use Rattle.tree.proofs.Logic.{and-left, and-right}
-use Rattle.tree.proofs.TokenLaws.{complete-tail, complete-length, complete-within, operation-takes}
+use Rattle.tree.proofs.TokenLaws.{complete-tail, complete-length, operation-takes}
 use Rattle.checked.specs.Check.{word-ok}
 use Rattle.checked.proofs.RunLaws.{operation-word}
 use Rattle.renaming.specs.Names.{symbols-pass}
@@ -26,7 +25,7 @@ use Rattle.renaming.specs.Rounds.{next-number}
 use Rattle.renaming.specs.Places.{numbered-at, outside-at, divides-at, second-at, divisor-places, among-places, count-places, text-at, distinct-places, shared-places, insert-place, sort-places, divisors-to-bind}
 use Rattle.reciprocals.proofs.Parts.{settle-tree, settled-reciprocals, All-there}
 use Rattle.reciprocals.proofs.There.{to-bind-there}
-use Rattle.kept.specs.Sound.{numbered-below, extractable}
+use Rattle.kept.specs.Sound.{extractable}
 use Rattle.kept.proofs.Steps.{Ready, ready-of}
 use Rattle.kept.proofs.Words.{words-taken}
 use Rattle.fusion.specs.Switchless.{with-switches}

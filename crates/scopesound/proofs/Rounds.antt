@@ -1,17 +1,17 @@
 -- What rounds leave is sound (01, "Extraction"): words that rounds take, with names below the number after those of the bindings, no more words than there were, and
 -- no new symbols of the list. Assumes nothing.
-use Prim.Native.Nat.{ℕ, zero, suc, _+_, _≤_}
+use Prim.Native.Nat.{ℕ, zero, suc, _≤_}
 use native.Mathlib.Omega.{arith}
-use mathlib.Core.Path.{_≡_, refl, sym, _∙_, ap, subst}
+use mathlib.Core.Path.{_≡_, refl, sym, subst}
 use mathlib.Core.Bool.{Bool}
 use mathlib.Core.Option.{Option, none, some}
 use mathlib.Core.List.{List}
-use lib.ListN.{length, drop}
+use lib.ListN.{length}
 use lib.Dec.{T}
 use Rattle.tree.specs.Outcome.{Outcome, ok, refused, _>>=_}
 use Rattle.tree.specs.Rows.{Row}
 use Rattle.tree.specs.Facts.{all-operations}
-use Rattle.tree.specs.Tokens.{read, numbered, name-in, trees-in}
+use Rattle.tree.specs.Tokens.{read, numbered, name-in}
 use Rattle.tree.proofs.TokenLaws.{complete-length}
 use Rattle.cse.proofs.Outcomes.{Good, good-ok, good-at}
 use Rattle.renaming.specs.Names.{symbols-pass}

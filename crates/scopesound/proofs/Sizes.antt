@@ -2,21 +2,20 @@
 -- (01, "Scoped fusion", "Turned down", refusal 12). Assumes nothing.
 use Prim.Native.Nat.{ℕ, zero, suc, _+_, _*_, _-_, _≤_, _<_}
 use native.Mathlib.Omega.{arith}
-use mathlib.Core.Path.{_≡_, refl, sym, _∙_, ap, subst}
+use mathlib.Core.Path.{_≡_, refl, sym, _∙_, ap}
 use mathlib.Core.Bool.{Bool, true, false, cond}
 use mathlib.Core.Option.{some}
-use mathlib.Core.List.{List, [], _∷_, _++_, map, reverse}
+use mathlib.Core.List.{List, [], _∷_, _++_, map}
 use borrow.Author.Tests.{ltb-true, ltb-false, lt-ltb, le-ltb}
 use lib.ListN.{length, getD, take, drop, replicate, length-append, List·getD-eq-default}
-use lib.Dec.{T, ltb}
-use Rattle.tree.specs.Tree.{Tree, Const, Op, nil, _◂_}
+use lib.Dec.{ltb}
+use Rattle.tree.specs.Tree.{Tree, Op, nil}
 use Rattle.tree.specs.Facts.{total, size}
-use Rattle.tree.specs.Tokens.{tokens, read, numbered, trees-at, trees-in}
-use Rattle.tree.proofs.FactLaws.{size-one}
+use Rattle.tree.specs.Tokens.{read, numbered, trees-at, trees-in}
 use Rattle.tree.proofs.TokenLaws.{sizes, read-size, trees-length}
 use Rattle.tree.proofs.TokenCode.{unnumbered, tokens-length}
 use Rattle.cse.specs.Order.{positions-taken}
-use Rattle.cse.proofs.OrderLaws.{All, Distinct, taken-ok}
+use Rattle.cse.proofs.OrderLaws.{taken-ok}
 use Rattle.order.specs.Needs.{rows-from, table-of}
 use Rattle.renaming.specs.Places.{numbered-at}
 use Rattle.renaming.proofs.Extraction.{Every, every-append}
@@ -26,7 +25,7 @@ use Rattle.switchplaces.proofs.Words.{ends-within}
 use Rattle.fusion.specs.Settled.{fused-tree}
 use Rattle.fusion.specs.Whole.{settled-roots}
 use Rattle.fusion.proofs.Sizes.{fused-size, settled-size}
-use Rattle.scopeplaces.specs.Parts.{place-groups, group-at, group-start, group-end, opener, reciprocals-first, lets-count, held-words, settled-trees, steps-from, fused-run, key-run, name-rows, names-run, match-head, match-run, let-run, value-run}
+use Rattle.scopeplaces.specs.Parts.{place-groups, group-at, group-start, group-end, opener, reciprocals-first, lets-count, held-words, settled-trees, steps-from, fused-run, key-run, name-rows, names-run, match-run, let-run, value-run}
 use Rattle.scopeplaces.specs.Whole.{stmts-count, tree-run, needs-table, stmts-order, stmt-run, stmts-runs, values-runs}
 use Rattle.scopesound.proofs.Held.{there-within}
 use Rattle.scopesound.proofs.Sums.{sum-first, sum-each, first-more, first-none, first-entries, each-reversed, runs-length, first-most, different-most}
