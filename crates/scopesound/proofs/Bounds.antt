@@ -433,3 +433,33 @@ module _ (rows : List Row) (good : ℕ → Bool) where
         → walked (λ n cs. scope-told rows fuel value-row n cs) hs (place-groups hs) from n ≡ ok l → Walk-bound (place-groups hs) from n l
     walk-bound words n h l e =
         good-at (Walk-bound (place-groups hs) from n) (walked inner hs (place-groups hs) from n) l e (walk-bounded rows good inner inner-bounded from hs sound pass words n h)
+
+-- ---- in figures
+
+-- a scope's rows are below 2^57
+pub rows-most : (from : ℕ) (a : Told) → Scope-bound from a → length (a .words) ≤ 144115188075855872
+rows-most from a b = (let p = b .rows in let q = b .most in omega arith)
+
+-- and those of some arms, 17 of them at most
+pub arms-rows-most : (from n : ℕ) (a : Arms-told) → Arms-bound from n a → n ≤ 17 → from ≤ most-number + 4096 → length (a .words) ≤ 144115188075855872
+arms-rows-most from n a b few low =
+    let p = b .rows in
+    let q = b .most (most-number + 4096) low (omega arith) in
+    omega arith
+
+pub arms-next-most : (from n : ℕ) (a : Arms-told) → Arms-bound from n a → from ≤ most-number + 4096 → a .next ≤ most-number + 4096
+arms-next-most from n a b low = b .most (most-number + 4096) low (omega arith)
+
+module _ (gs : List (List ℕ)) (from n : ℕ) (l : Walk) (b : Walk-bound gs from n l) where
+  pub walk-next-most : from ≤ most-number + 1024 → l .next ≤ most-number + 1024
+  walk-next-most low = b .most (most-number + 1024) low (omega arith)
+
+  -- each member's number is a word's to hold
+  pub numbers-small : from ≤ most-number + 1024 → Every (λ (j : ℕ). j ≤ 549755813888) (l .numbers)
+  numbers-small low =
+      let q = walk-next-most low in
+      every-so (λ (j : ℕ). (from ≤ j) × (j < l .next)) (λ (j : ℕ). j ≤ 549755813888) (λ j h. (let c = h .1 in omega (arith, c, q))) (l .numbers) (b .numbers-between)
+
+  -- a number for each member
+  pub numbers-all : n ≡ length gs → length (l .numbers) ≡ length (joined-groups gs)
+  numbers-all e = (let a = b .numbers-many in let c : group-start gs n ≡ group-start gs (length gs) = ap (group-start gs) e in omega (arith, a, c, start-all gs))

@@ -2,25 +2,28 @@
 -- no new symbols of the list. Assumes nothing.
 use Prim.Native.Nat.{ℕ, zero, suc, _≤_}
 use native.Mathlib.Omega.{arith}
-use mathlib.Core.Path.{_≡_, refl, sym, subst}
+use mathlib.Core.Path.{_≡_, refl, sym, _∙_, ap, subst}
 use mathlib.Core.Bool.{Bool}
 use mathlib.Core.Option.{Option, none, some}
 use mathlib.Core.List.{List}
 use lib.ListN.{length}
 use lib.Dec.{T}
-use Rattle.tree.specs.Outcome.{Outcome, ok, refused, _>>=_}
+use Rattle.tree.specs.Outcome.{Refusal, Outcome, ok, refused, by, _>>=_}
 use Rattle.tree.specs.Rows.{Row}
 use Rattle.tree.specs.Facts.{all-operations}
 use Rattle.tree.specs.Tokens.{read, numbered, name-in}
 use Rattle.tree.proofs.TokenLaws.{complete-length}
+use Rattle.cse.specs.Extract.{extract-all}
+use Rattle.cse.proofs.Refusals.{Ten, only-at, extract-all-ten}
 use Rattle.cse.proofs.Outcomes.{Good, good-ok, good-at}
-use Rattle.renaming.specs.Names.{symbols-pass}
+use Rattle.renaming.specs.Names.{is-number, symbols-pass}
 use Rattle.renaming.specs.Places.{numbered-at, best-place}
-use Rattle.renaming.specs.Rounds.{next-number, extract-words, rounds-words}
+use Rattle.renaming.specs.Rounds.{next-number, state-of, extract-words, rounds-words}
 use Rattle.renaming.proofs.WordSteps.{numbers-kept}
 use Rattle.kept.specs.Sound.{extractable}
 use Rattle.kept.proofs.Steps.{Ready, ready-of, ready-so, inside, stepped, ready-next}
 use Rattle.kept.proofs.Looping.{number-first}
+use Rattle.kept.proofs.Whole.{rounds-are}
 use Rattle.rounds.specs.Rounds.{all-rounds}
 
 module _ (rows : List Row) (scoped : Bool) (good : ℕ → Bool) (k first before : ℕ) where
@@ -96,3 +99,14 @@ module _ (rows : List Row) (scoped : Bool) (good : ℕ → Bool) (first : ℕ) (
 
     pub rounds-results : length (read numbered ws) ≤ length (read numbered vs)
     rounds-results = rounds-rounded .results
+
+-- refused rounds are refused by 10
+module _ (rows : List Row) (scoped : Bool) (first : ℕ) (ws : List ℕ) (sound : T (extractable rows first ws)) (pass : T (symbols-pass (is-number rows) ws)) where
+  pub rounds-ten : (i : Refusal) → all-rounds rows scoped first ws ≡ refused i → i ≡ by 10
+  unfolding all-rounds
+  rounds-ten i e =
+      let r = ready-of rows first ws sound in
+      only-at Ten (extract-all scoped first (read (name-in rows) ws)) i
+      (rounds-are rows scoped first ws (r .trees) (r .complete) pass
+      ∙ ap (λ (o : Outcome (List ℕ)). o >>= λ vs. ok (state-of (length (read numbered ws)) first (read (name-in rows) vs))) e)
+      (extract-all-ten scoped first (read (name-in rows) ws))
