@@ -230,8 +230,8 @@ module _ (rows : List Row) (good : ℕ → Bool) (next : ℕ) (ws : List ℕ) (s
           words = column-sound rows good start hs held-ready held-pass m more (places-of hs i) a past;
           pass = column-pass rows good start hs held-ready held-pass m more (places-of hs i) a past;
           names = subst (λ (l : List Tree). T (holds-all (under m) l)) (sym (column-read rows good start hs held-ready held-pass m more (places-of hs i) a past))
-          (weaken-all (under start) (under m) (under-le start m more) (arm-trees hs (places-of hs i) a)
-          (column-holds (under start) hs (length (trees-held vs n places)) (held-trees rows good k next vs left-sound left-pass) held-under (places-of hs i) a past));
+              (weaken-all (under start) (under m) (under-le start m more) (arm-trees hs (places-of hs i) a)
+              (column-holds (under start) hs (length (trees-held vs n places)) (held-trees rows good k next vs left-sound left-pass) held-under (places-of hs i) a past));
         }
 
 pub keeps-sound : (rows : List Row) (good : ℕ → Bool) → Keeps-sound rows (Sound rows good)
