@@ -1,12 +1,11 @@
 -- A scope place by place on words is that of `cse_scoped` by trees, told as words (01, "Scoped fusion"). Assumes nothing.
-use Prim.Native.Nat.{ℕ, _+_, _≤_}
+use Prim.Native.Nat.{ℕ, _+_}
 use native.Mathlib.Omega.{arith}
-use mathlib.Core.Path.{_≡_, refl, sym, _∙_, ap, subst}
+use mathlib.Core.Path.{_≡_, sym, _∙_, ap}
 use mathlib.Core.Bool.{Bool, true}
 use mathlib.Core.List.{List, [], map}
 use lib.ListN.{length, length-map}
-use lib.Dec.{T}
-use Rattle.tree.specs.Outcome.{Outcome, ok, refused, by, _>>=_}
+use Rattle.tree.specs.Outcome.{Outcome, ok, _>>=_}
 use Rattle.tree.specs.Tree.{Tree}
 use Rattle.tree.specs.Rows.{Row}
 use Rattle.tree.specs.Tokens.{read, numbered, name-in}
@@ -16,18 +15,16 @@ use Rattle.renaming.specs.Shown.{cse-scope-by}
 use Rattle.renaming.specs.Places.{numbered-at, divisors-to-bind}
 use Rattle.renaming.specs.Rounds.{next-number}
 use Rattle.renaming.proofs.BestPlace.{text-of}
-use Rattle.rounds.specs.Rounds.{all-rounds}
-use Rattle.fusion.specs.Settled.{Walked, numbered-groups}
+use Rattle.fusion.specs.Settled.{numbered-groups}
 use Rattle.fusion.specs.Words.{all-numbers}
 use Rattle.fusion.specs.Whole.{scope-groups}
-use Rattle.scopeplaces.specs.Parts.{reciprocals-first, held-words}
+use Rattle.scopeplaces.specs.Parts.{reciprocals-first}
 use Rattle.scopeplaces.specs.Whole.{scope-told}
 use Rattle.scopesound.proofs.Rounds.{rounds-short, rounds-results}
 use Rattle.scopesound.proofs.Counting.{places-there, stmts-few}
 use Rattle.scopeneedlaws.proofs.Order.{order-is}
 use Rattle.scopeneedlaws.proofs.Scopes.{scope-same-by}
 use Rattle.scopelaws.specs.Told.{told}
-use Rattle.scopelaws.proofs.Body.{Order-agrees}
 use Rattle.scopelaws.proofs.Whole.{Keeps-order}
 use Rattle.scopelaws.proofs.Scoped.{scope-told-is}
 use Rattle.scopeagree.proofs.Sound.{Sound, whole, left-sound, left-pass, left-ready, settled-formed, settled-under, keeps-sound}

@@ -2,7 +2,7 @@
 -- nothing.
 use Prim.Native.Nat.{ℕ, _+_, _≤_, _<_}
 use native.Mathlib.Omega.{arith}
-use mathlib.Core.Path.{_≡_, refl, sym, _∙_, ap, subst}
+use mathlib.Core.Path.{_≡_, sym, _∙_, ap, subst}
 use mathlib.Core.Bool.{true}
 use mathlib.Core.Option.{some}
 use mathlib.Core.List.{List, [], map, reverse}
@@ -13,13 +13,12 @@ use Rattle.tree.specs.Facts.{all-operations}
 use Rattle.tree.specs.Rows.{Row}
 use Rattle.tree.specs.Tokens.{read, numbered, trees-in, name-in}
 use Rattle.cse.specs.AnswerRows.{value-row}
-use Rattle.cse.specs.Extract.{State}
 use Rattle.cse.specs.Order.{needs, positions-taken}
 use Rattle.cse.specs.Scope.{Scoped, fuse-held}
 use Rattle.cse.proofs.Outcomes.{Good, good-at}
 use Rattle.renaming.specs.Shown.{extract-all-by, reciprocals-by}
 use Rattle.renaming.specs.Places.{numbered-at, divisors-to-bind}
-use Rattle.renaming.specs.Rounds.{next-number, state-of, bind-each-on, rounds-on, reciprocals-on, rounds-words}
+use Rattle.renaming.specs.Rounds.{next-number, state-of, bind-each-on, rounds-on, reciprocals-on}
 use Rattle.renaming.proofs.BestPlace.{text-of}
 use Rattle.renaming.proofs.Coded.{read-again}
 use Rattle.renaming.proofs.RoundsOn.{then-then, rounds-on-length}

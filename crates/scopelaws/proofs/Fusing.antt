@@ -1,18 +1,16 @@
 -- A scope after its rounds, on words and by trees (01, "Reciprocals", "Scoped fusion", "Order"), if each arm's scope is the same on words as by trees. Assumes
 -- nothing.
 use Prim.Native.Nat.{ℕ, _+_, _≤_, _<_}
-use native.Mathlib.Omega.{arith}
 use mathlib.Core.Path.{_≡_, refl, sym, _∙_, ap, ap₂, subst}
 use mathlib.Core.Bool.{Bool, true, false, cond}
 use mathlib.Core.Option.{some}
-use mathlib.Core.List.{List, [], _∷_, map, reverse}
+use mathlib.Core.List.{List, map, reverse}
 use lib.ListN.{length, getD, drop, length-map}
 use lib.Dec.{T, leb, leb→le}
 use Rattle.tree.specs.Outcome.{Outcome, ok, refused, by, _>>=_}
 use Rattle.tree.specs.Tree.{Tree}
 use Rattle.tree.specs.Rows.{occurrences}
 use Rattle.tree.specs.Tokens.{read, numbered, trees-in}
-use Rattle.cse.specs.Answer.{Intermediate}
 use Rattle.cse.specs.AnswerRows.{value-row}
 use Rattle.cse.specs.Extract.{State}
 use Rattle.cse.specs.Order.{needs, positions-taken}

@@ -1,7 +1,7 @@
 -- What a scope holds while switches are fused is the trees of the held words: results, lets, and reciprocals with a switch (01, "Scoped fusion"). Assumes nothing.
 use Prim.Native.Nat.{ℕ, zero, suc, _≤_}
 use native.Mathlib.Omega.{arith}
-use mathlib.Core.Path.{_≡_, refl, sym, _∙_, ap, ap₂, subst}
+use mathlib.Core.Path.{_≡_, refl, sym, _∙_, ap, subst}
 use mathlib.Core.Bool.{Bool, true, false, not}
 use mathlib.Core.Option.{some}
 use mathlib.Core.List.{List, [], _∷_, _++_, append-assoc, map}
@@ -10,12 +10,11 @@ use lib.Dec.{T}
 use Rattle.tree.specs.Tree.{Tree}
 use Rattle.tree.specs.Facts.{outer}
 use Rattle.tree.specs.Rows.{occurrences}
-use Rattle.tree.specs.Tokens.{all-tokens, read, numbered, trees-in}
-use Rattle.tree.proofs.TokenCode.{all-coded, unnumbered, all-tokens-length}
-use Rattle.cse.specs.Extract.{Binding}
+use Rattle.tree.specs.Tokens.{read, numbered, trees-in}
+use Rattle.tree.proofs.TokenCode.{unnumbered, all-tokens-length}
 use Rattle.cse.specs.Scope.{Switch, switches, some-switch, holds-switch, held-bindings, held}
 use Rattle.renaming.specs.Places.{numbered-at}
-use Rattle.renaming.specs.Rounds.{by-number, next-number, state-of, bind-each-on}
+use Rattle.renaming.specs.Rounds.{by-number, state-of, bind-each-on}
 use Rattle.renaming.proofs.Coded.{is-alone, first-fits, rest-fits, one-fits, none-fit, append-fits, read-again}
 use Rattle.renaming.proofs.WordRounds.{In-code, written-complete}
 use Rattle.reciprocals.proofs.Parts.{settle-tree, settled-reciprocals, bound-are-settled}

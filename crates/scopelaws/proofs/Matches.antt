@@ -5,11 +5,10 @@ use mathlib.Core.Path.{_≡_, refl, sym, _∙_, ap, ap₂}
 use mathlib.Core.List.{List, [], _∷_, _++_, map}
 use lib.ListN.{length, getD, take, drop, length-append, length-map}
 use lib.Seq.{take-at}
-use Rattle.tree.specs.Outcome.{Outcome, ok, refused, _>>=_}
+use Rattle.tree.specs.Outcome.{Outcome}
 use Rattle.tree.specs.Tree.{Tree}
 use Rattle.tree.specs.Tokens.{word, tokens, kind-of, name-code}
 use Rattle.words.specs.Words.{number}
-use Rattle.cse.specs.Answer.{Arms, arm, block}
 use Rattle.cse.specs.AnswerRows.{match-row, names-words, intermediate-words, arms-words}
 use Rattle.cse.specs.Scope.{Switch, Group, members, member-names, Scoped, Armed, scope-arms}
 use Rattle.cse.specs.Read.{arm-count as arms-in}

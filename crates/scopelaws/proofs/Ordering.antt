@@ -15,7 +15,7 @@ use Rattle.words.specs.Words.{number}
 use Rattle.cse.specs.Answer.{Intermediate, block}
 use Rattle.cse.specs.AnswerRows.{intermediate-words, intermediates-words, each-words}
 use Rattle.cse.specs.Order.{needs, nothing, at-each, positions-taken, topo-sort-intermediates}
-use Rattle.cse.specs.Scope.{Work, Scoped, finish}
+use Rattle.cse.specs.Scope.{Scoped, finish}
 use Rattle.cse.proofs.OrderLaws.{All, taken-ok}
 use Rattle.renaming.specs.Places.{numbered-at}
 use Rattle.renaming.specs.Rounds.{next-number}
@@ -27,7 +27,7 @@ use Rattle.fusion.specs.Whole.{settled-fused, scope-stmts, scope-work}
 use Rattle.finishlaws.specs.Entries.{runs}
 use Rattle.finishlaws.proofs.Entering.{runs-front}
 use Rattle.scopeplaces.specs.Parts.{held-words}
-use Rattle.scopeplaces.specs.Whole.{Told, stmts-count, stmt-run, stmts-order, stmts-runs, values-runs, ordered-scope}
+use Rattle.scopeplaces.specs.Whole.{Told, stmt-run, stmts-order, stmts-runs, values-runs, ordered-scope}
 use Rattle.scopelaws.specs.Told.{told}
 use Rattle.scopelaws.proofs.Groups.{group-of, numbers-of}
 use Rattle.scopelaws.proofs.Walking.{arm-words, told-groups}

@@ -1,17 +1,16 @@
 -- No scope's numbers go back, and it has a value for each tree (01, "Scoped fusion"), whatever the text of a tree is. Assumes nothing.
-use Prim.Native.Nat.{ℕ, zero, suc, _+_, _≤_}
+use Prim.Native.Nat.{ℕ, _+_, _≤_}
 use native.Mathlib.Omega.{arith}
-use mathlib.Core.Path.{_≡_, refl, sym, _∙_, ap, subst}
+use mathlib.Core.Path.{_≡_, sym, _∙_, subst}
 use mathlib.Core.Bool.{Bool, true, false}
-use mathlib.Core.List.{List, [], _∷_, map}
+use mathlib.Core.List.{List}
 use lib.ListN.{length, take, drop, length-map}
 use lib.Seq.{length-take-le}
 use lib.Dec.{leb}
-use Rattle.tree.specs.Outcome.{Outcome, ok, refused, by, _>>=_}
+use Rattle.tree.specs.Outcome.{Outcome, refused, by, _>>=_}
 use Rattle.tree.specs.Tree.{Tree}
 use Rattle.tree.specs.Facts.{all-operations}
 use Rattle.tree.specs.Rows.{occurrences}
-use Rattle.cse.specs.Extract.{State}
 use Rattle.cse.specs.Order.{topo-sort-intermediates}
 use Rattle.cse.specs.Scope.{Scoped, finish, fuse-all, fuse-held, held, scope-rows}
 use Rattle.cse.proofs.Outcomes.{Good, then-good, any-good, good-ok}

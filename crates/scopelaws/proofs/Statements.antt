@@ -27,7 +27,7 @@ use Rattle.fusion.proofs.Places.{lets-count, let-at, matches-count, match-at}
 use Rattle.finishlaws.specs.Entries.{runs}
 use Rattle.finishlaws.proofs.Entering.{runs-front}
 use Rattle.scopeplaces.specs.Parts as parts
-use Rattle.scopeplaces.specs.Parts.{place-groups, held-words, settled-trees, fused-run, reciprocals-first, let-run, match-run, value-run, steps-from}
+use Rattle.scopeplaces.specs.Parts.{place-groups, held-words, settled-trees, fused-run, reciprocals-first, let-run, match-run, value-run}
 use Rattle.scopeplaces.specs.Whole.{stmts-count, tree-run, stmt-run, values-runs}
 use Rattle.scopelaws.proofs.Groups.{group-of, numbers-of, groups-count}
 use Rattle.scopelaws.proofs.Walking.{arm-words}

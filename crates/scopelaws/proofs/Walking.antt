@@ -11,10 +11,10 @@ use Rattle.tree.specs.Tree.{Tree}
 use Rattle.tree.specs.Tokens.{word, read, numbered, trees-in}
 use Rattle.tree.proofs.TokenLaws.{map-append}
 use Rattle.words.specs.Words.{number}
-use Rattle.cse.specs.Answer.{Intermediate, Intermediates, Arms, no-arm, arm, block}
+use Rattle.cse.specs.Answer.{Intermediate, Arms, no-arm, arm, block}
 use Rattle.cse.specs.AnswerRows.{arm-row, value-row, step-count, intermediates-words, each-words, arms-words}
 use Rattle.cse.specs.Scope.{Group, members, Scoped, Armed, scope-arms}
-use Rattle.cse.proofs.Outcomes.{Good, then-good, good-ok}
+use Rattle.cse.proofs.Outcomes.{Good}
 use Rattle.renaming.proofs.RoundsOn.{then-same, then-then}
 use Rattle.switchplaces.specs.Switches.{arm-count}
 use Rattle.switchplaces.specs.Columns.{column-words}
@@ -22,7 +22,7 @@ use Rattle.fusion.specs.Settled.{Numbered, group-columns, Walked, numbered-grou
 use Rattle.fusion.specs.Words.{numbers-from, all-numbers}
 use Rattle.fusion.proofs.Walking.{join-arms, one-arm-more}
 use Rattle.fusion.proofs.Groups.{one-group-more, arms-forth, groups-forth}
-use Rattle.scopeplaces.specs.Parts.{place-groups, group-at}
+use Rattle.scopeplaces.specs.Parts.{place-groups}
 use Rattle.scopeplaces.specs.Whole.{Told, Arms-told, Walk, arms-told, group-told, walked}
 use Rattle.scopelaws.specs.Told.{told}
 use Rattle.scopelaws.proofs.Groups.{group-of, places-of, numbers-of, Opens-group, groups-count, group-places, number-opens, members-count, columns-count, column-is, column-count}

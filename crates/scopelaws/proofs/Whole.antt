@@ -23,12 +23,12 @@ use Rattle.rounds.specs.Rounds.{all-rounds}
 use Rattle.switchplaces.specs.Switches.{arm-count}
 use Rattle.switchplaces.specs.Columns.{column-words}
 use Rattle.scopeplaces.specs.Parts.{reciprocals-first, held-words}
-use Rattle.scopeplaces.specs.Whole.{Told, fused-scope, scope-told}
+use Rattle.scopeplaces.specs.Whole.{fused-scope, scope-told}
 use Rattle.scopelaws.specs.Told.{told}
 use Rattle.scopelaws.proofs.Groups.{places-of, Opens-group}
 use Rattle.scopelaws.proofs.Walking.{Proper}
 use Rattle.scopelaws.proofs.Proper.{tested-good, body-proper}
-use Rattle.scopelaws.proofs.Body.{Arms-agree, Order-agrees, Few-held, body-is}
+use Rattle.scopelaws.proofs.Body.{Order-agrees, body-is}
 
 -- a word for each occurrence
 pub words-many : (ws : List ℕ) (m : ℕ) → trees-in ws ≡ some m → occurrences (read numbered ws) ≡ length ws
