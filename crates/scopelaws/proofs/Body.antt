@@ -67,41 +67,42 @@ module _ (name-at : ℕ → List ℕ) (k first : ℕ) (vs : List ℕ) (m : ℕ) 
 
 -- ---- what a scope's arms and order owe, for the words that its rounds leave
 
-module _ (rows : List Row) (scope : ℕ → List Tree → Outcome Scoped) (by-words : ℕ → List ℕ → Outcome Told) (k first : ℕ) (vs : List ℕ) where
+module _ (rows : List Row) (k first : ℕ) (vs : List ℕ) where
   abbrev bind-at : List ℕ
   bind-at = divisors-to-bind vs (name-in rows) true
 
   abbrev hs : List ℕ
   hs = held-words vs k first bind-at
 
-  -- each arm's scope is the same on words as by trees
-  abbrev pub Arms-agree : Type 0
-  Arms-agree =
-      (n i a : ℕ) → reciprocals-first vs k first bind-at + length bind-at ≤ n → Opens-group hs i → a < arm-count hs (getD (places-of hs i) 0 0)
-      → by-words n (column-words hs (places-of hs i) a) ≡ (scope n (read numbered (column-words hs (places-of hs i) a)) >>= λ s. ok (told value-row s))
-
-  -- and the table of bits gives the order of the needs
-  abbrev pub Order-agrees : Type 0
-  Order-agrees =
-      (l : Walked)
-      → numbered-groups scope (reciprocals-first vs k first bind-at + length bind-at)
-      (scope-groups (map (numbered-at vs) bind-at) (next-number k first (read numbered vs)) (read numbered vs))
-      ≡ ok l
-      → stmts-order vs k first bind-at (all-numbers (l .groups))
-      ≡ reverse
-      (positions-taken
-      (needs (scope-stmts k first (read numbered vs) (map (numbered-at vs) bind-at) (l .groups)) (scope-stmts k first (read numbered vs) (map (numbered-at vs) bind-at) (l .groups))))
-
   abbrev pub Few-held : Type 0
   Few-held = length hs ≤ 1024
+
+  module _ (scope : ℕ → List Tree → Outcome Scoped) where
+    -- the table of bits gives the order of the needs
+    abbrev pub Order-agrees : Type 0
+    Order-agrees =
+        (l : Walked)
+        → numbered-groups scope (reciprocals-first vs k first bind-at + length bind-at)
+        (scope-groups (map (numbered-at vs) bind-at) (next-number k first (read numbered vs)) (read numbered vs))
+        ≡ ok l
+        → stmts-order vs k first bind-at (all-numbers (l .groups))
+        ≡ reverse
+        (positions-taken
+        (needs (scope-stmts k first (read numbered vs) (map (numbered-at vs) bind-at) (l .groups)) (scope-stmts k first (read numbered vs) (map (numbered-at vs) bind-at) (l .groups))))
+
+    -- each arm's scope is the same on words as by trees
+    abbrev pub Arms-agree : (ℕ → List ℕ → Outcome Told) → Type 0
+    Arms-agree by-words =
+        (n i a : ℕ) → reciprocals-first vs k first bind-at + length bind-at ≤ n → Opens-group hs i → a < arm-count hs (getD (places-of hs i) 0 0)
+        → by-words n (column-words hs (places-of hs i) a) ≡ (scope n (read numbered (column-words hs (places-of hs i) a)) >>= λ s. ok (told value-row s))
 
 -- ---- rounds, and then what comes after them
 
 module _
     (rows : List Row) (scope : ℕ → List Tree → Outcome Scoped) (proper : (n : ℕ) (es : List Tree) → Good (Proper n es) (scope n es)) (by-words : ℕ → List ℕ → Outcome Told)
     (next : ℕ) (ws : List ℕ) (m : ℕ) (complete : trees-in ws ≡ some m)
-    (agree : (vs : List ℕ) → all-rounds rows true next ws ≡ ok vs → Few-held rows scope by-words (length (read numbered ws)) next vs
-    → Arms-agree rows scope by-words (length (read numbered ws)) next vs × Order-agrees rows scope by-words (length (read numbered ws)) next vs)
+    (agree : (vs : List ℕ) → all-rounds rows true next ws ≡ ok vs → Few-held rows (length (read numbered ws)) next vs
+    → Arms-agree rows (length (read numbered ws)) next vs scope by-words × Order-agrees rows (length (read numbered ws)) next vs scope)
     (row : ℕ)
   where
     abbrev names : ℕ → List ℕ

@@ -55,7 +55,7 @@ abbrev pub Keeps-order : List Row → (ℕ → List ℕ → Type 0) → (ℕ →
 Keeps-order rows Sound scope =
     (next : ℕ) (ws vs : List ℕ) → Sound next ws → length ws ≤ 1024 → next ≤ 2147483648 → all-rounds rows true next ws ≡ ok vs
     → length (held-words vs (length (read numbered ws)) next (divisors-to-bind vs (name-in rows) true)) ≤ 1024
-    → Order-agrees rows scope (λ n cs. refused (by 23)) (length (read numbered ws)) next vs
+    → Order-agrees rows (length (read numbered ws)) next vs scope
 
 module _
     (rows : List Row) (scoped : ℕ → ℕ → List Tree → Outcome Scoped) (none : (next : ℕ) (es : List Tree) → scoped 0 next es ≡ refused (by 23))
