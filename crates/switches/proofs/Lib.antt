@@ -1,1 +1,4 @@
-pub mod Places
+pub mod Words
+pub mod Among
+pub mod Listed
+pub mod Giving

@@ -1,39 +1,18 @@
+-- `switches::equal_trees` meets its contract. Assumes nothing.
+use mathlib.Core.Path.{sym, _∙_}
+use Rattle.switches.proofs.Among.{are-equal, are-different, are-there}
 use borrow.Author.Needs.{needs}
 use Rattle.switches.proofs.equal_trees.Statement.{statement}
 use Rattle.switches.proofs.equal_trees.Tie as tie
-use Rattle.switches.proofs.equal_trees.Reads as reads
-use Rattle.switches.proofs.equal_trees.Lts as lts
-use Rattle.tokens.proofs.same.Reads as same-reads
-
--- src/lib.rt:64:9
-same-requires : tie.Need-same-requires
-same-requires c κs = search needs
-
--- src/lib.rt:66:28
-enum-told : tie.Need-enum-told
-enum-told c = search needs
-
--- src/lib.rt:67:32
-enum-told-2 : tie.Need-enum-told-2
-enum-told-2 c = search needs
-
--- src/lib.rt:68:29
-enum-told-3 : tie.Need-enum-told-3
-enum-told-3 c = search needs
-
--- src/lib.rt:59:1
-returns : tie.Need-returns
-returns c = ?
-
--- src/lib.rt:59:1
-returns-2 : tie.Need-returns-2
-returns-2 c = ?
-
--- src/lib.rt:59:1
-returns-3 : tie.Need-returns-3
-returns-3 c = ?
 
 pub equal-trees-spec : {M : Type 1} → statement M
 equal-trees-spec =
     tie.close
-    (tie.spec same-requires enum-told enum-told-2 enum-told-3 returns returns-2 returns-3)
+    (tie.spec
+    (λ c κs. search needs)
+    (λ c. search needs)
+    (λ c. search needs)
+    (λ c. search needs)
+    (λ c. are-equal (c .before .before .before .before .args .tokens .now) (c .before .before .before .before .pre .0) (c .before .before .before .before .args .i) (c .before .before .before .before .args .j) (c .before .before .before .before .pre .1 .0) (c .before .before .before .before .pre .1 .1) (sym (c .enum-told .given .1) ∙ c .before .before .same .ensures))
+    (λ c. are-different (c .before .before .before .before .args .tokens .now) (c .before .before .before .before .pre .0) (c .before .before .before .before .args .i) (c .before .before .before .before .args .j) (c .before .before .before .before .pre .1 .0) (c .before .before .before .before .pre .1 .1) (sym (c .enum-told2 .given .1) ∙ c .before .before .same .ensures))
+    (λ c. absurd (are-there (c .before .before .before .before .args .tokens .now) (c .before .before .before .before .pre .0) (c .before .before .before .before .args .i) (c .before .before .before .before .args .j) (c .before .before .before .before .pre .1 .0) (c .before .before .before .before .pre .1 .1) (sym (c .enum-told3 .given .1) ∙ c .before .before .same .ensures))))

@@ -1,50 +1,17 @@
+-- `switches::is_among` meets its contract. Assumes nothing.
+use native.Mathlib.Omega.{arith}
+use mathlib.Core.Path.{sym, _∙_}
+use Prim.Native.Nat.{_-_}
+use lib.ListN.{length}
+use Rattle.switches.proofs.Among.{inside-at, Seeking, seeking-starts, found-there, goes-past, seeking-ends}
 use Rattle.switches.proofs.is_among.Statement.{statement}
 use Rattle.switches.proofs.is_among.Tie as tie
-use Rattle.switches.proofs.is_among.Reads as reads
-use Rattle.switches.proofs.is_among.Lts as lts
-use Rattle.switches.proofs.equal_trees.Reads as equal-trees-reads
 
 abbrev Inv-loop : tie.InvT-loop
-Inv-loop tokens list q k₀ k = ?
+Inv-loop tokens list q k₀ k = Seeking tokens list q k
 
 abbrev μ-loop : tie.MeasureT-loop
-μ-loop tokens list q k₀ k = ?
-
--- src/lib.rt:79:5
-loop-holds : tie.Need-loop-holds Inv-loop μ-loop
-loop-holds c = ?
-
--- src/lib.rt:80:32
-mul-equal-trees : tie.Need-mul-equal-trees Inv-loop μ-loop
-mul-equal-trees c = ?
-
--- src/lib.rt:80:32
-shared-slice-read-equal-trees : tie.Need-shared-slice-read-equal-trees Inv-loop μ-loop
-shared-slice-read-equal-trees c = ?
-
--- src/lib.rt:80:12
-equal-trees-requires : tie.Need-equal-trees-requires Inv-loop μ-loop
-equal-trees-requires c κs = ?
-
--- src/lib.rt:81:13
-returns : tie.Need-returns Inv-loop μ-loop
-returns c = ?
-
--- src/lib.rt:83:9
-add-k : tie.Need-add-k Inv-loop μ-loop
-add-k c = ?
-
--- src/lib.rt:79:5
-loop-less : tie.Need-loop-less Inv-loop μ-loop
-loop-less c = ?
-
--- src/lib.rt:79:5
-loop-again : tie.Need-loop-again Inv-loop μ-loop
-loop-again c = ?
-
--- src/lib.rt:73:1
-returns-2 : tie.Need-returns-2 Inv-loop μ-loop
-returns-2 c = ?
+μ-loop tokens list q k₀ k = length list - k
 
 pub is-among-spec : {M : Type 1} → statement M
 is-among-spec =
@@ -52,12 +19,12 @@ is-among-spec =
     (tie.spec
     Inv-loop
     μ-loop
-    loop-holds
-    mul-equal-trees
-    shared-slice-read-equal-trees
-    equal-trees-requires
-    returns
-    add-k
-    loop-less
-    loop-again
-    returns-2)
+    (λ c. seeking-starts (c .before .before .args .tokens .now) (c .before .before .args .list .now) (c .before .before .args .q))
+    (λ c. omega (arith, c .loop-test .taken, c .before .before .before .before .good))
+    (λ c. omega (arith, c .before .loop-test .taken))
+    (λ c κs. (c .before .before .before .before .before .pre .0 .0, (inside-at (length (c .before .before .before .before .before .args .tokens .now)) (c .before .before .before .before .before .args .list .now) (c .before .before .loop .k) (c .before .before .before .before .before .pre .1) (c .before .loop-test .taken), c .before .before .before .before .before .pre .0 .1)))
+    (λ c. found-there (c .before .before .before .before .before .before .before .args .tokens .now) (c .before .before .before .before .before .before .before .args .list .now) (c .before .before .before .before .before .before .before .args .q) (c .before .before .before .before .loop .inv) (c .before .before .before .loop-test .taken) (sym (c .if1 .taken) ∙ c .before .equal-trees .ensures))
+    (λ c. omega (arith, c .before .before .before .loop-test .taken, c .before .before .before .before .before .before .before .good))
+    (λ c. omega (arith, c .before .before .before .loop-test .taken))
+    (λ c. goes-past (c .before .before .before .before .before .before .before .args .tokens .now) (c .before .before .before .before .before .before .before .args .list .now) (c .before .before .before .before .before .before .before .args .q) (c .before .before .before .before .loop .inv) (c .before .before .before .loop-test .taken) (sym (c .if1 .left) ∙ c .before .equal-trees .ensures))
+    (λ c. seeking-ends (c .before .before .before .before .args .tokens .now) (c .before .before .before .before .args .list .now) (c .before .before .before .before .args .q) (c .before .loop .inv) (c .loop-test .left)))

@@ -1,15 +1,12 @@
+-- `switches::is_switch` meets its contract. Assumes nothing.
+use native.Mathlib.Omega.{arith}
+use Rattle.switches.proofs.Words.{other-kind, has-operand}
 use Rattle.switches.proofs.is_switch.Statement.{statement}
 use Rattle.switches.proofs.is_switch.Tie as tie
-use Rattle.switches.proofs.is_switch.Reads as reads
-use Rattle.switches.proofs.is_switch.Lts as lts
-
--- src/lib.rt:39:9
-returns : tie.Need-returns
-returns c = ?
-
--- src/lib.rt:35:1
-returns-2 : tie.Need-returns-2
-returns-2 c = ?
 
 pub is-switch-spec : {M : Type 1} → statement M
-is-switch-spec = tie.close (tie.spec returns returns-2)
+is-switch-spec =
+    tie.close
+    (tie.spec
+    (λ c. other-kind (c .before .args .w) (c .if1 .taken))
+    (λ c. has-operand (c .before .args .w) (omega (arith, c .if1 .left))))

@@ -1,74 +1,17 @@
+-- `switches::list` meets its contract: the places so far stand in front. Assumes nothing.
+use native.Mathlib.Omega.{arith}
+use mathlib.Core.Path.{sym, _∙_}
+use Prim.Native.Nat.{_-_}
+use lib.ListN.{length}
+use Rattle.switches.proofs.Listed.{State, starts, few, met-long, met-inside, list-long, turn-none, turn-one, list-ends}
 use Rattle.switches.proofs.list.Statement.{statement}
 use Rattle.switches.proofs.list.Tie as tie
-use Rattle.switches.proofs.list.Reads as reads
-use Rattle.switches.proofs.list.Lts as lts
-use Rattle.switches.proofs.is_new.Reads as is-new-reads
 
 abbrev Inv-loop : tie.InvT-loop
-Inv-loop tokens marks places₀ n₀ p₀ places n p = ?
+Inv-loop tokens marks places₀ n₀ p₀ places n p = State tokens places₀ places n p
 
 abbrev μ-loop : tie.MeasureT-loop
-μ-loop tokens marks places₀ n₀ p₀ places n p = ?
-
--- src/lib.rt:111:5
-loop-holds : tie.Need-loop-holds Inv-loop μ-loop
-loop-holds c = ?
-
--- src/lib.rt:112:34
-slice-reshare-prefix-is-new : tie.Need-slice-reshare-prefix-is-new Inv-loop μ-loop
-slice-reshare-prefix-is-new c = ?
-
--- src/lib.rt:112:34
-slice-aggregate-is-new : tie.Need-slice-aggregate-is-new Inv-loop μ-loop
-slice-aggregate-is-new c = ?
-
--- src/lib.rt:112:12
-is-new-requires : tie.Need-is-new-requires Inv-loop μ-loop
-is-new-requires c κs = ?
-
--- src/lib.rt:113:13
-mul-places : tie.Need-mul-places Inv-loop μ-loop
-mul-places c = ?
-
--- src/lib.rt:113:13
-slice-write-places : tie.Need-slice-write-places Inv-loop μ-loop
-slice-write-places c = ?
-
--- src/lib.rt:114:13
-add-n : tie.Need-add-n Inv-loop μ-loop
-add-n c = ?
-
--- src/lib.rt:115:13
-add-p : tie.Need-add-p Inv-loop μ-loop
-add-p c = ?
-
--- src/lib.rt:111:5
-loop-less : tie.Need-loop-less Inv-loop μ-loop
-loop-less c = ?
-
--- src/lib.rt:111:5
-loop-again : tie.Need-loop-again Inv-loop μ-loop
-loop-again c = ?
-
--- src/lib.rt:117:13
-add-p-2 : tie.Need-add-p-2 Inv-loop μ-loop
-add-p-2 c = ?
-
--- src/lib.rt:111:5
-loop-less-2 : tie.Need-loop-less-2 Inv-loop μ-loop
-loop-less-2 c = ?
-
--- src/lib.rt:111:5
-loop-again-2 : tie.Need-loop-again-2 Inv-loop μ-loop
-loop-again-2 c = ?
-
--- src/lib.rt:104:1
-same-length : tie.Need-same-length Inv-loop μ-loop
-same-length c = ?
-
--- src/lib.rt:104:1
-returns : tie.Need-returns Inv-loop μ-loop
-returns c = ?
+μ-loop tokens marks places₀ n₀ p₀ places n p = length tokens - p
 
 pub list-spec : {M : Type 1} → statement M
 list-spec =
@@ -76,18 +19,18 @@ list-spec =
     (tie.spec
     Inv-loop
     μ-loop
-    loop-holds
-    slice-reshare-prefix-is-new
-    slice-aggregate-is-new
-    is-new-requires
-    mul-places
-    slice-write-places
-    add-n
-    add-p
-    loop-less
-    loop-again
-    add-p-2
-    loop-less-2
-    loop-again-2
-    same-length
-    returns)
+    (λ c. starts (c .before .before .before .args .tokens .now) (c .before .before .before .args .places .now))
+    (λ c. omega (arith, few (c .before .before .before .before .before .args .tokens .now) (c .before .loop .inv), list-long (c .before .before .before .before .before .args .tokens .now) (c .before .loop .inv) (c .before .before .before .before .before .pre .0 .1), c .loop-test .taken, c .before .before .before .before .before .pre .0 .1))
+    (λ c. met-long (c .before .before .before .before .before .before .args .tokens .now) (c .before .before .loop .inv))
+    (λ c κs. ((c .before .before .before .before .before .before .pre .0 .0, c .before .loop-test .taken), (c .before .before .before .before .before .before .pre .1, met-inside (c .before .before .before .before .before .before .args .tokens .now) (c .before .before .loop .inv))))
+    (λ c. omega (arith, few (c .before .before .before .before .before .before .before .before .args .tokens .now) (c .before .before .before .before .loop .inv), list-long (c .before .before .before .before .before .before .before .before .args .tokens .now) (c .before .before .before .before .loop .inv) (c .before .before .before .before .before .before .before .before .pre .0 .1), c .before .before .before .loop-test .taken, c .before .before .before .before .before .before .before .before .pre .0 .1, c .before .before .before .before .before .before .before .before .good))
+    (λ c. omega (arith, few (c .before .before .before .before .before .before .before .before .args .tokens .now) (c .before .before .before .before .loop .inv), list-long (c .before .before .before .before .before .before .before .before .args .tokens .now) (c .before .before .before .before .loop .inv) (c .before .before .before .before .before .before .before .before .pre .0 .1), c .before .before .before .loop-test .taken, c .before .before .before .before .before .before .before .before .pre .0 .1))
+    (λ c. omega (arith, few (c .before .before .before .before .before .before .before .before .args .tokens .now) (c .before .before .before .before .loop .inv), c .before .before .before .loop-test .taken, c .before .before .before .before .before .before .before .before .good))
+    (λ c. omega (arith, c .before .before .before .loop-test .taken, c .before .before .before .before .before .before .before .before .good))
+    (λ c. omega (arith, c .before .before .before .loop-test .taken))
+    (λ c. turn-one (c .before .before .before .before .before .before .before .before .args .tokens .now) (c .before .before .before .before .loop .inv) (c .before .before .before .loop-test .taken) (c .before .before .before .before .before .before .before .before .pre .0 .1) (sym (c .if1 .taken) ∙ c .before .is-new .ensures))
+    (λ c. omega (arith, c .before .before .before .loop-test .taken, c .before .before .before .before .before .before .before .before .good))
+    (λ c. omega (arith, c .before .before .before .loop-test .taken))
+    (λ c. turn-none (c .before .before .before .before .before .before .before .before .args .tokens .now) (c .before .before .before .before .loop .inv) (c .before .before .before .loop-test .taken) (sym (c .if1 .left) ∙ c .before .is-new .ensures))
+    (λ c. list-long (c .before .before .before .before .before .args .tokens .now) (c .before .loop .inv) (c .before .before .before .before .before .pre .0 .1))
+    (λ c. list-ends (c .before .before .before .before .before .args .tokens .now) (c .before .loop .inv) (c .loop-test .left)))

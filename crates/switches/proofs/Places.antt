@@ -1,1 +1,0 @@
--- x. Assumes nothing.
