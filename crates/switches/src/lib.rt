@@ -45,12 +45,12 @@ pub fn is_switch(w: u64) -> bool
 pub fn holds_switch(tokens: &[u64]) -> bool
     ensures { λ r. ⌜ r ≡ holds-switch (now (tokens .entry)) ⌝ }
 {
-    let mut p = 0;
-    while p < tokens.len() {
-        if is_switch(tokens[p]) {
+    let mut i = 0;
+    while i < tokens.len() {
+        if is_switch(tokens[i]) {
             return true;
         }
-        p += 1;
+        i += 1;
     }
     false
 }

@@ -8,10 +8,10 @@ use Rattle.switches.proofs.holds_switch.Statement.{statement}
 use Rattle.switches.proofs.holds_switch.Tie as tie
 
 abbrev Inv-loop : tie.InvT-loop
-Inv-loop tokens p₀ p = Without tokens p
+Inv-loop tokens i₀ i = Without tokens i
 
 abbrev μ-loop : tie.MeasureT-loop
-μ-loop tokens p₀ p = length tokens - p
+μ-loop tokens i₀ i = length tokens - i
 
 pub holds-switch-spec : {M : Type 1} → statement M
 holds-switch-spec =
@@ -23,7 +23,7 @@ holds-switch-spec =
     (λ c. omega (arith, c .loop-test .taken, c .before .before .before .good))
     (λ c. omega (arith, c .before .loop-test .taken))
     (λ c κs. tt)
-    (λ c. one-held (c .before .before .before .before .before .before .args .tokens .now) (c .before .before .before .before .loop .p) (c .before .before .before .loop-test .taken) (sym (c .if1 .taken) ∙ c .before .is-switch .ensures))
+    (λ c. one-held (c .before .before .before .before .before .before .args .tokens .now) (c .before .before .before .before .loop .i) (c .before .before .before .loop-test .taken) (sym (c .if1 .taken) ∙ c .before .is-switch .ensures))
     (λ c. omega (arith, c .before .before .before .loop-test .taken, c .before .before .before .before .before .before .good))
     (λ c. omega (arith, c .before .before .before .loop-test .taken))
     (λ c. without-turns (c .before .before .before .before .before .before .args .tokens .now) (c .before .before .before .before .loop .inv) (c .before .before .before .loop-test .taken) (sym (c .if1 .left) ∙ c .before .is-switch .ensures))
