@@ -22,7 +22,8 @@ module _ (ws ps members ends : List ℕ) where
   abbrev pub Answers : Grouping → List ℕ → List ℕ → Type 0
   Answers r members-left ends-left =
       (r ≡ groups-answer ws ps members ends .answer)
-      × ((members-left ≡ groups-answer ws ps members ends .members) × (ends-left ≡ groups-answer ws ps members ends .ends))
+      × (members-left ≡ groups-answer ws ps members ends .members)
+      × (ends-left ≡ groups-answer ws ps members ends .ends)
 
   abbrev good : Bool
   good = some-trees (trees-in ws) && all-stand ws ps
@@ -35,7 +36,7 @@ module _ (ws ps members ends : List ℕ) where
   answers-by a b e f x q =
       let s : groups-answer ws ps members ends ≡ x =
       ap (λ (y : Bool). groups-by y room (groups-at ws ps) members ends) e ∙ (ap (λ (y : Bool). groups-by a y (groups-at ws ps) members ends) f ∙ q) in
-      (sym (ap (λ (y : Groups-told). y .answer) s), (sym (ap (λ (y : Groups-told). y .members) s), sym (ap (λ (y : Groups-told). y .ends) s)))
+      (sym (ap (λ (y : Groups-told). y .answer) s), sym (ap (λ (y : Groups-told). y .members) s), sym (ap (λ (y : Groups-told). y .ends) s))
 
   broken : good ≡ false → Answers grouping.Broken members ends
   unfolding groups-by
