@@ -1,5 +1,5 @@
 -- All groups so far, their members and their ends: how they start, go on and end. Assumes nothing.
-use Prim.Native.Nat.{ℕ, zero, suc, _+_, _-_, _≤_, _<_}
+use Prim.Native.Nat.{ℕ, suc, _+_, _-_, _≤_, _<_}
 use native.Mathlib.Omega.{arith}
 use mathlib.Core.Path.{_≡_, refl, sym, _∙_, ap, ap₂}
 use mathlib.Core.Bool.{Bool, true, false}
@@ -8,7 +8,6 @@ use borrow.Author.Tests.{eq-eqb, ne-eqb}
 use borrow.Rule.Slice.PartMut.{putMid}
 use lib.ListN.{length, getD, take, drop, set, length-append, length-drop, length-map}
 use lib.Seq.{drop-cons, set-at, take-at, drop-at, drop-drop}
-use lib.Dec.{eqb}
 use Rattle.tree.proofs.TokenLaws.{map-append}
 use Rattle.words.proofs.Scanning.{Put, rest-is, put-lent}
 use Rattle.switchplaces.specs.Groups.{group-first, firsts-within, group-numbers, member-places}

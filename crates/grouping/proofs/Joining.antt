@@ -1,22 +1,21 @@
 -- Whether two switches join, by their words and keys, and the first that a switch joins, one by one. Assumes nothing.
-use Prim.Native.Nat.{ℕ, zero, suc, _+_, _-_, _≤_, _<_}
+use Prim.Native.Nat.{ℕ, suc, _+_, _-_, _≤_, _<_}
 use native.Mathlib.Omega.{arith}
 use mathlib.Core.Path.{_≡_, refl, sym, _∙_, ap, subst}
 use mathlib.Core.Bool.{Bool, true, false, _&&_}
 use mathlib.Core.List.{List}
-use borrow.Author.Tests.{eqb-true, eqb-false, eq-eqb, ne-eqb}
+use borrow.Author.Tests.{eq-eqb, ne-eqb}
 use lib.ListN.{length, getD}
 use lib.Dec.{T, eqb}
-use Rattle.tree.specs.Tree.{Tree, eq-tree}
-use Rattle.tree.proofs.Tests.{is-true}
+use Rattle.tree.specs.Tree.{eq-tree}
 use Rattle.words.specs.Words.{Complete}
 use Rattle.renaming.specs.Places.{numbered-at}
 use Rattle.renaming.proofs.DivisorPlaces.{enough}
-use Rattle.switchplaces.specs.Switches.{switch-at, key-place}
+use Rattle.switchplaces.specs.Switches.{key-place}
 use Rattle.switchplaces.specs.Groups.{joins-at, member, first-joined, group-first}
 use Rattle.switchplaces.proofs.Parts.{has-key}
 use Rattle.switchplaces.proofs.Words.{place-within}
-use Rattle.switchplaces.proofs.Joining.{joins-back, joins-on, joins-by-word, first-within, none-sooner, first-joins}
+use Rattle.switchplaces.proofs.Joining.{joins-back, joins-on, joins-by-word, none-sooner, first-joins}
 use Rattle.grouping.specs.Answers.{switch-stands}
 use Rattle.grouping.proofs.Standing.{stands-inside, stands-switch}
 
