@@ -4,3 +4,4 @@ pub mod Members
 pub mod Fewer
 pub mod Groups
 pub mod Giving
+pub mod Told
