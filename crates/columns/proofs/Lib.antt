@@ -1,0 +1,2 @@
+pub mod Armed
+pub mod Arms
