@@ -62,6 +62,10 @@ module _ (ws : List ℕ) (a q : ℕ) where
       ∙ (ap (λ (b : Bool). (b && leb 1 (takes w)) && ltb a (takes w - 1)) (le-leb 26 (kind-of w) k)
       ∙ ap (λ (b : Bool). b && ltb a (takes w - 1)) (le-leb 1 (takes w) (omega arith))))
 
+  pub arm-counted :
+      (n : ℕ) → n ≡ takes (getD ws q 0) → q < length ws → 26 ≤ kind-of (getD ws q 0) → 2 ≤ n → ltb a (n - 1) ≡ armed-at ws a q
+  arm-counted n e h k t = ap (λ (j : ℕ). ltb a (j - 1)) e ∙ arm-told h k (omega (arith, e, t))
+
 -- ---- each place
 
 -- what is still to be tested decides

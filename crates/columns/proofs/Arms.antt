@@ -70,9 +70,17 @@ module _ (ws : List ℕ) (complete : Complete ws) where
     pub arm-inside : (a : ℕ) → a ≤ arm → arm-place ws q a < length ws
     arm-inside a h = arm-within ws (complete .0) (complete .1) q (there .0) a (let t = there .1 in omega arith)
 
-    pub next-arm-so : (a at : ℕ) → at ≡ arm-place ws q a + size (numbered-at ws (arm-place ws q a)) → at ≡ arm-place ws q (a + 1)
+    pub tree-next : (a at : ℕ) → a ≤ arm → at ≡ arm-place ws q a → at < length ws
+    tree-next a at h e = omega (arith, e, arm-inside a h)
+
+    pub next-arm-so : (a at end : ℕ) → at ≡ arm-place ws q a → end ≡ at + size (numbered-at ws at) → end ≡ arm-place ws q (a + 1)
     unfolding arm-place trees-past
-    next-arm-so a at e = let i : a + 1 ≡ suc a = omega arith in e ∙ sym (ap (λ (j : ℕ). arm-place ws q j) i)
+    next-arm-so a at end e n =
+        let i : a + 1 ≡ suc a = omega arith in
+        n ∙ (ap (λ (j : ℕ). j + size (numbered-at ws j)) e ∙ sym (ap (λ (j : ℕ). arm-place ws q j) i))
+
+    pub arm-last : (a at : ℕ) → a ≤ arm → arm ≤ a → at ≡ arm-place ws q a → at ≡ arm-place ws q arm
+    arm-last a at h l e = let i : a ≡ arm = omega arith in e ∙ ap (λ (j : ℕ). arm-place ws q j) i
 
   -- ---- one switch after another
 

@@ -1,3 +1,7 @@
+-- `columns::has_arm` meets its contract: the tests decide. Assumes nothing.
+use native.Mathlib.Omega.{arith}
+use mathlib.Core.Path.{sym, _∙_}
+use Rattle.columns.proofs.Armed.{past-end, no-switch, no-arm, arm-counted}
 use borrow.Author.Needs.{needs}
 use Rattle.columns.proofs.has_arm.Statement.{statement}
 use Rattle.columns.proofs.has_arm.Tie as tie
@@ -5,37 +9,29 @@ use Rattle.columns.proofs.has_arm.Reads as reads
 use Rattle.columns.proofs.has_arm.Lts as lts
 use Rattle.tokens.proofs.operand_count.Reads as operand-count-reads
 
--- src/lib.rt:43:9
 returns : tie.Need-returns
-returns c = ?
+returns c = past-end (c .before .before .args .tokens .now) (c .before .before .args .arm) (c .before .before .args .place) (c .if1 .taken)
 
--- src/lib.rt:45:16
 mul-word : tie.Need-mul-word
 mul-word c = search needs
 
--- src/lib.rt:45:16
 shared-slice-read-word : tie.Need-shared-slice-read-word
 shared-slice-read-word c = search needs
 
--- src/lib.rt:47:9
 returns-2 : tie.Need-returns-2
-returns-2 c = ?
+returns-2 c = no-switch (c .before .before .before .before .args .tokens .now) (c .before .before .before .before .args .arm) (c .before .before .before .before .args .place) (c .if2 .taken)
 
--- src/lib.rt:49:9
 operand-count-requires : tie.Need-operand-count-requires
 operand-count-requires c κs = search needs
 
--- src/lib.rt:51:9
 returns-3 : tie.Need-returns-3
-returns-3 c = ?
+returns-3 c = no-arm (c .before .before .before .before .before .before .args .tokens .now) (c .before .before .before .before .before .before .args .arm) (c .before .before .before .before .before .before .args .place) (omega (arith, c .before .operand-count .ensures, c .if3 .taken))
 
--- src/lib.rt:53:20
 sub-result : tie.Need-sub-result
 sub-result c = search needs
 
--- src/lib.rt:39:1
 returns-4 : tie.Need-returns-4
-returns-4 c = ?
+returns-4 c = arm-counted (c .before .before .before .before .before .before .args .tokens .now) (c .before .before .before .before .before .before .args .arm) (c .before .before .before .before .before .before .args .place) _ (c .before .operand-count .ensures) (c .before .before .before .before .if1 .left) (c .before .before .if2 .left) (c .if3 .left)
 
 pub has-arm-spec : {M : Type 1} → statement M
 has-arm-spec =
