@@ -32,6 +32,19 @@ use Rattle.columns.specs.declared.Column.{Column}
 use Rattle.columns.specs.declared.Column.the-variants as column
 use Rattle.columns.proofs.Armed.{Has-arm, has-arm, armed-one}
 
+-- what is left of the room, when the first k arms are measured
+abbrev pub Measured-so : List ℕ → List ℕ → ℕ → ℕ → ℕ → ℕ → Type 0
+Measured-so ws qs arm room left k = (left ≤ room) × (left + length (column-words ws qs arm) ≡ room + length (column-words ws (drop k qs) arm))
+
+-- what is still to be written after the first k arms, over what is
+abbrev pub Written-so : List ℕ → List ℕ → ℕ → List ℕ → List ℕ → ℕ → ℕ → Type 0
+Written-so ws qs arm old out n k =
+    (n + length (column-words ws (drop k qs) arm) ≡ length (column-words ws qs arm))
+    × ((length out ≡ length old) × (overlay n (column-words ws (drop k qs) arm) out ≡ overlay 0 (column-words ws qs arm) old))
+
+pub measure-starts : (ws qs : List ℕ) (arm room : ℕ) → Measured-so ws qs arm room room 0
+measure-starts ws qs arm room = (omega arith, refl)
+
 module _ (ws : List ℕ) (complete : Complete ws) where
   -- ---- where a tree ends
 
@@ -134,38 +147,31 @@ module _ (ws : List ℕ) (complete : Complete ws) where
 
     -- ---- measured: what is left of the room
 
-    abbrev pub Measured : ℕ → ℕ → ℕ → Type 0
-    Measured room left k = (left ≤ room) × (left + length (column-words ws qs arm) ≡ room + length (rest k))
-
     pub too-long :
         (room left k : ℕ) (more : k < length qs) (from to : ℕ) (f : from ≡ arm-place ws (getD qs k 0) arm) (t : to ≡ from + size (numbered-at ws from))
-        → Measured room left k → left < to - from → false ≡ leb (length (column-words ws qs arm)) room
+        → Measured-so ws qs arm room left k → left < to - from → false ≡ leb (length (column-words ws qs arm)) room
     too-long room left k more from to f t m h =
         let e = rest-long k more from to f t in
         sym (lt-leb (length (column-words ws qs arm)) room (omega (arith, m, e, h)))
 
     pub less-left :
         (room left k : ℕ) (more : k < length qs) (from to : ℕ) (f : from ≡ arm-place ws (getD qs k 0) arm) (t : to ≡ from + size (numbered-at ws from))
-        → Measured room left k → to - from ≤ left → Measured room (left - (to - from)) (k + 1)
+        → Measured-so ws qs arm room left k → to - from ≤ left → Measured-so ws qs arm room (left - (to - from)) (k + 1)
     less-left room left k more from to f t m h = let e = rest-long k more from to f t in (omega (arith, m), omega (arith, m, e, h))
 
-    pub fits-so : (room left k : ℕ) → length qs ≤ k → Measured room left k → true ≡ leb (length (column-words ws qs arm)) room
+    pub fits-so : (room left k : ℕ) → length qs ≤ k → Measured-so ws qs arm room left k → true ≡ leb (length (column-words ws qs arm)) room
     fits-so room left k h m =
         let e : length (rest k) ≡ 0 = ap length (rest-none k h) in
         sym (le-leb (length (column-words ws qs arm)) room (omega (arith, m, e)))
 
     -- ---- written: what is still to be written, over what is
 
-    abbrev pub Written : List ℕ → List ℕ → ℕ → ℕ → Type 0
-    Written old out n k =
-        (n + length (rest k) ≡ length (column-words ws qs arm)) × ((length out ≡ length old) × (overlay n (rest k) out ≡ overlay 0 (column-words ws qs arm) old))
-
-    pub written-starts : (old : List ℕ) → Written old old 0 0
+    pub written-starts : (old : List ℕ) → Written-so ws qs arm old old 0 0
     written-starts old = (omega arith, (refl, refl))
 
     pub written-turns :
         (old out new : List ℕ) (n k : ℕ) (more : k < length qs) (from to : ℕ) (f : from ≡ arm-place ws (getD qs k 0) arm) (t : to ≡ from + size (numbered-at ws from))
-        → Written old out n k → new ≡ overlay n (take (to - from) (drop from ws)) out → Written old new (n + (to - from)) (k + 1)
+        → Written-so ws qs arm old out n k → new ≡ overlay n (take (to - from) (drop from ws)) out → Written-so ws qs arm old new (n + (to - from)) (k + 1)
     written-turns old out new n k more from to f t s e =
         let l = rest-long k more from to f t in
         let run = take (to - from) (drop from ws) in
@@ -174,8 +180,14 @@ module _ (ws : List ℕ) (complete : Complete ws) where
         ∙ (ap (λ (j : ℕ). overlay (n + j) (rest (k + 1)) (overlay n run out)) (sym (run-long k more from to f t))
         ∙ (sym (overlay-append n run (rest (k + 1)) out) ∙ (ap (λ (r : List ℕ). overlay n r out) (sym (rest-next k more from to f t)) ∙ s .1 .1)))))
 
+    -- no more than all
+    pub written-small :
+        (old out : List ℕ) (n k : ℕ) (more : k < length qs) (from to : ℕ) (f : from ≡ arm-place ws (getD qs k 0) arm) (t : to ≡ from + size (numbered-at ws from))
+        → Written-so ws qs arm old out n k → n + (to - from) ≤ length (column-words ws qs arm)
+    written-small old out n k more from to f t s = let l = rest-long k more from to f t in omega (arith, s .0, l)
+
     pub written-ends :
-        (old out : List ℕ) (n k : ℕ) → length (column-words ws qs arm) ≤ length old → length qs ≤ k → Written old out n k
+        (old out : List ℕ) (n k : ℕ) → length (column-words ws qs arm) ≤ length old → length qs ≤ k → Written-so ws qs arm old out n k
         → (n ≡ length (column-words ws qs arm)) × (out ≡ column-words ws qs arm ++ drop (length (column-words ws qs arm)) old)
     written-ends old out n k fit h s =
         let none = rest-none k h in

@@ -93,7 +93,7 @@ fn arm_start(tokens: &[u64], place: usize, arm: usize) -> usize
 }
 
 // Whether the arms are at most so many words.
-fn fits(tokens: &[u64], group: &[u64], arm: usize, room: usize) -> bool
+fn arms_fit(tokens: &[u64], group: &[u64], arm: usize, room: usize) -> bool
     requires { ⌜ Complete (now tokens) × (all-armed (now tokens) arm (now group) ≡ true) ⌝ }
     ensures { λ r. ⌜ r ≡ leb (length (column-words (now (tokens .entry)) (now (group .entry)) arm)) room ⌝ }
 {
@@ -142,7 +142,7 @@ pub fn copy_column(tokens: &[u64], group: &[u64], arm: usize, out: &mut [u64]) -
     if !have_arm(tokens, arm, group) {
         return Column::Broken;
     }
-    if !fits(tokens, group, arm, out.len()) {
+    if !arms_fit(tokens, group, arm, out.len()) {
         return Column::NoRoom;
     }
     let n = write_arms(tokens, group, arm, out);
