@@ -8,7 +8,6 @@ use mathlib.Core.List.{List, [], _∷_}
 use lib.ListN.{length, getD, drop, drop-of-length-le}
 use lib.Seq.{drop-cons}
 use lib.Dec.{T, leb, ltb}
-use Rattle.tree.specs.Kinds.{is-switch}
 use Rattle.tree.specs.Tokens.{kind-of, takes}
 use Rattle.switchplaces.specs.Switches.{switch-at, arm-count}
 use Rattle.switchplaces.proofs.Collected.{Switching}

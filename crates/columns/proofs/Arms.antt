@@ -1,35 +1,30 @@
 -- Where an arm of a switch begins and ends, and the arms of some switches one after another: measured, and written. Assumes nothing.
-use Prim.Native.Nat.{ℕ, zero, suc, _+_, _-_, _≤_, _<_}
+use Prim.Native.Nat.{ℕ, suc, _+_, _-_, _≤_, _<_}
 use native.Mathlib.Omega.{arith}
 use borrow.Author.Tests.{le-leb, lt-leb}
 use mathlib.Core.Path.{_≡_, refl, sym, _∙_, ap, subst}
-use mathlib.Core.Bool.{Bool, true, false, _&&_}
-use mathlib.Core.Option.{Option, none, some}
-use mathlib.Core.List.{List, [], _∷_, _++_}
+use mathlib.Core.Bool.{true, false}
+use mathlib.Core.Option.{none}
+use mathlib.Core.List.{List, [], _++_}
 use lib.ListN.{length, getD, take, drop, length-append, drop-of-length-le}
 use lib.Seq.{drop-cons}
 use lib.Dec.{leb}
 use Rattle.tree.specs.Facts.{size}
-use Rattle.tree.specs.Tokens.{numbered, trees-in, run-at}
-use Rattle.tree.proofs.TokenLaws.{run-size}
-use Rattle.tokens.specs.Answers.{end-answer, count-answer}
+use Rattle.tree.specs.Tokens.{run-at}
+use Rattle.tokens.specs.Answers.{end-answer}
 use Rattle.tokens.specs.declared.Run.the-variants as run
-use Rattle.tokens.specs.declared.Trees.the-variants as trees
 use Rattle.tokens.proofs.Complete.{end-is}
-use Rattle.words.specs.Words.{some-trees, Complete}
+use Rattle.words.specs.Words.{Complete}
 use Rattle.renaming.specs.Places.{numbered-at, second-at}
 use Rattle.renaming.proofs.DivisorPlaces.{enough}
-use Rattle.switchplaces.specs.Switches.{arm-count, trees-past, arm-place}
+use Rattle.switchplaces.specs.Switches.{trees-past, arm-place}
 use Rattle.switchplaces.specs.Columns.{words-at, column-words}
-use Rattle.switchplaces.proofs.Collected.{Switching}
-use Rattle.switchplaces.proofs.Parts.{after, has-key}
+use Rattle.switchplaces.proofs.Parts.{has-key}
 use Rattle.switchplaces.proofs.Words.{place-within, ends-within, arm-within}
 use Rattle.switchplaces.proofs.Lengths.{words-length}
 use Rattle.scopeplaces.specs.Overlay.{overlay}
 use Rattle.tables.proofs.Laws.{overlay-none, overlay-append, overlay-length, overlay-front}
-use Rattle.columns.specs.Copying.{armed-at, all-armed, column-there, Copying, copying-by, copying}
-use Rattle.columns.specs.declared.Column.{Column}
-use Rattle.columns.specs.declared.Column.the-variants as column
+use Rattle.columns.specs.Copying.{armed-at, all-armed}
 use Rattle.columns.proofs.Armed.{Has-arm, has-arm, armed-one}
 
 -- what is left of the room, when the first k arms are measured
@@ -174,11 +169,15 @@ module _ (ws : List ℕ) (complete : Complete ws) where
         → Written-so ws qs arm old out n k → new ≡ overlay n (take (to - from) (drop from ws)) out → Written-so ws qs arm old new (n + (to - from)) (k + 1)
     written-turns old out new n k more from to f t s e =
         let l = rest-long k more from to f t in
-        let run = take (to - from) (drop from ws) in
-        (omega (arith, s .0, l), (ap length e ∙ (overlay-length n run out ∙ s .1 .0),
-        ap (λ (o : List ℕ). overlay (n + (to - from)) (rest (k + 1)) o) e
-        ∙ (ap (λ (j : ℕ). overlay (n + j) (rest (k + 1)) (overlay n run out)) (sym (run-long k more from to f t))
-        ∙ (sym (overlay-append n run (rest (k + 1)) out) ∙ (ap (λ (r : List ℕ). overlay n r out) (sym (rest-next k more from to f t)) ∙ s .1 .1)))))
+        let run = take (to - from) (drop from ws) in (
+          omega (arith, s .0, l),
+          (
+            ap length e ∙ (overlay-length n run out ∙ s .1 .0),
+            ap (λ (o : List ℕ). overlay (n + (to - from)) (rest (k + 1)) o) e
+                ∙ (ap (λ (j : ℕ). overlay (n + j) (rest (k + 1)) (overlay n run out)) (sym (run-long k more from to f t))
+                ∙ (sym (overlay-append n run (rest (k + 1)) out) ∙ (ap (λ (r : List ℕ). overlay n r out) (sym (rest-next k more from to f t)) ∙ s .1 .1))),
+          ),
+        )
 
     -- no more than all
     pub written-small :
@@ -191,7 +190,8 @@ module _ (ws : List ℕ) (complete : Complete ws) where
         → (n ≡ length (column-words ws qs arm)) × (out ≡ column-words ws qs arm ++ drop (length (column-words ws qs arm)) old)
     written-ends old out n k fit h s =
         let none = rest-none k h in
-        let e : length (rest k) ≡ 0 = ap length none in
-        (omega (arith, s .0, e),
-        sym (overlay-none n out)
-        ∙ (ap (λ (r : List ℕ). overlay n r out) (sym none) ∙ (s .1 .1 ∙ overlay-front (column-words ws qs arm) old fit)))
+        let e : length (rest k) ≡ 0 = ap length none in (
+          omega (arith, s .0, e),
+          sym (overlay-none n out)
+              ∙ (ap (λ (r : List ℕ). overlay n r out) (sym none) ∙ (s .1 .1 ∙ overlay-front (column-words ws qs arm) old fit)),
+        )

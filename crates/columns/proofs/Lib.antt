@@ -1,2 +1,4 @@
 pub mod Armed
 pub mod Arms
+pub mod Ends
+pub mod Whole

@@ -1,15 +1,12 @@
 -- `columns::arm_start` meets its contract: the place is where arm number a begins. Assumes nothing.
 use Prim.Native.Nat.{_-_, _≤_}
-use mathlib.Core.Path.{_≡_, sym, _∙_, ap}
+use mathlib.Core.Path.{_≡_}
 use native.Mathlib.Omega.{arith}
 use Rattle.switchplaces.specs.Switches.{arm-place}
-use Rattle.columns.proofs.Arms.{key-within, first-arm-so, arm-inside, next-arm-so, tree-next, arm-last}
+use Rattle.columns.proofs.Arms.{key-within, first-arm-so, next-arm-so, tree-next, arm-last}
 use borrow.Author.Needs.{needs}
 use Rattle.columns.proofs.arm_start.Statement.{statement}
 use Rattle.columns.proofs.arm_start.Tie as tie
-use Rattle.columns.proofs.arm_start.Reads as reads
-use Rattle.columns.proofs.arm_start.Lts as lts
-use Rattle.columns.proofs.after_tree.Reads as after-tree-reads
 
 abbrev Inv-loop : tie.InvT-loop
 Inv-loop tokens place arm at₀ a₀ at a = (a ≤ arm) × (at ≡ arm-place tokens place a)
@@ -17,41 +14,17 @@ Inv-loop tokens place arm at₀ a₀ at a = (a ≤ arm) × (at ≡ arm-place tok
 abbrev μ-loop : tie.MeasureT-loop
 μ-loop tokens place arm at₀ a₀ at a = arm - a
 
-add-after-tree : tie.Need-add-after-tree Inv-loop μ-loop
-add-after-tree c = omega (arith, c .before .good, key-within (c .before .args .tokens .now) (c .before .pre .0) (c .before .args .place) (c .before .args .arm) (c .before .pre .1))
-
-after-tree-requires : tie.Need-after-tree-requires Inv-loop μ-loop
-after-tree-requires c κs = (c .before .pre .0, key-within (c .before .args .tokens .now) (c .before .pre .0) (c .before .args .place) (c .before .args .arm) (c .before .pre .1))
-
-loop-holds : tie.Need-loop-holds Inv-loop μ-loop
-loop-holds c = (omega arith, first-arm-so (c .before .before .args .tokens .now) (c .before .before .pre .0) (c .before .before .args .place) (c .before .before .args .arm) (c .before .before .pre .1) _ (c .after-tree .ensures))
-
-after-tree-requires-2 : tie.Need-after-tree-requires-2 Inv-loop μ-loop
-after-tree-requires-2 c κs = (c .before .before .before .before .pre .0, tree-next (c .before .before .before .before .args .tokens .now) (c .before .before .before .before .pre .0) (c .before .before .before .before .args .place) (c .before .before .before .before .args .arm) (c .before .before .before .before .pre .1) (c .before .loop .a) (c .before .loop .at) (c .before .loop .inv .0) (c .before .loop .inv .1))
-
-add-a : tie.Need-add-a Inv-loop μ-loop
-add-a c = search needs
-
-loop-less : tie.Need-loop-less Inv-loop μ-loop
-loop-less c = search needs
-
-loop-again : tie.Need-loop-again Inv-loop μ-loop
-loop-again c = (omega arith, next-arm-so (c .before .before .before .before .before .args .tokens .now) (c .before .before .before .before .before .pre .0) (c .before .before .before .before .before .args .place) (c .before .before .before .before .before .args .arm) (c .before .before .before .before .before .pre .1) (c .before .before .loop .a) (c .before .before .loop .at) _ (c .before .before .loop .inv .1) (c .after-tree2 .ensures))
-
-returns : tie.Need-returns Inv-loop μ-loop
-returns c = arm-last (c .before .before .before .before .args .tokens .now) (c .before .before .before .before .pre .0) (c .before .before .before .before .args .place) (c .before .before .before .before .args .arm) (c .before .before .before .before .pre .1) (c .before .loop .a) (c .before .loop .at) (c .before .loop .inv .0) (c .loop-test .left) (c .before .loop .inv .1)
-
 pub arm-start-spec : {M : Type 1} → statement M
 arm-start-spec =
     tie.close
     (tie.spec
     Inv-loop
     μ-loop
-    add-after-tree
-    after-tree-requires
-    loop-holds
-    after-tree-requires-2
-    add-a
-    loop-less
-    loop-again
-    returns)
+    (λ c. omega (arith, c .before .good, key-within (c .before .args .tokens .now) (c .before .pre .0) (c .before .args .place) (c .before .args .arm) (c .before .pre .1)))
+    (λ c κs. (c .before .pre .0, key-within (c .before .args .tokens .now) (c .before .pre .0) (c .before .args .place) (c .before .args .arm) (c .before .pre .1)))
+    (λ c. (omega arith, first-arm-so (c .before .before .args .tokens .now) (c .before .before .pre .0) (c .before .before .args .place) (c .before .before .args .arm) (c .before .before .pre .1) _ (c .after-tree .ensures)))
+    (λ c κs. (c .before .before .before .before .pre .0, tree-next (c .before .before .before .before .args .tokens .now) (c .before .before .before .before .pre .0) (c .before .before .before .before .args .place) (c .before .before .before .before .args .arm) (c .before .before .before .before .pre .1) (c .before .loop .a) (c .before .loop .at) (c .before .loop .inv .0) (c .before .loop .inv .1)))
+    (λ c. search needs)
+    (λ c. search needs)
+    (λ c. (omega arith, next-arm-so (c .before .before .before .before .before .args .tokens .now) (c .before .before .before .before .before .pre .0) (c .before .before .before .before .before .args .place) (c .before .before .before .before .before .args .arm) (c .before .before .before .before .before .pre .1) (c .before .before .loop .a) (c .before .before .loop .at) _ (c .before .before .loop .inv .1) (c .after-tree2 .ensures)))
+    (λ c. arm-last (c .before .before .before .before .args .tokens .now) (c .before .before .before .before .pre .0) (c .before .before .before .before .args .place) (c .before .before .before .before .args .arm) (c .before .before .before .before .pre .1) (c .before .loop .a) (c .before .loop .at) (c .before .loop .inv .0) (c .loop-test .left) (c .before .loop .inv .1)))
