@@ -1,3 +1,9 @@
+-- `holding::no_switch` meets its contract: what is still to be tested decides. Assumes nothing.
+use Prim.Native.Nat.{_-_}
+use mathlib.Core.Path.{refl}
+use lib.ListN.{length}
+use Rattle.holding.proofs.Switch.{Decides, turn-switch, turn-none, all-tested}
+use borrow.Author.Needs.{needs}
 use Rattle.holding.proofs.no_switch.Statement.{statement}
 use Rattle.holding.proofs.no_switch.Tie as tie
 use Rattle.holding.proofs.no_switch.Reads as reads
@@ -5,46 +11,37 @@ use Rattle.holding.proofs.no_switch.Lts as lts
 use Rattle.holding.proofs.is_switch.Reads as is-switch-reads
 
 abbrev Inv-loop : tie.InvT-loop
-Inv-loop words i₀ i = ?
+Inv-loop words i₀ i = Decides words i
 
 abbrev μ-loop : tie.MeasureT-loop
-μ-loop words i₀ i = ?
+μ-loop words i₀ i = length words - i
 
--- src/lib.rt:62:5
 loop-holds : tie.Need-loop-holds Inv-loop μ-loop
-loop-holds c = ?
+loop-holds c = refl
 
--- src/lib.rt:63:22
 mul-is-switch : tie.Need-mul-is-switch Inv-loop μ-loop
-mul-is-switch c = ?
+mul-is-switch c = search needs
 
--- src/lib.rt:63:22
 shared-slice-read-is-switch : tie.Need-shared-slice-read-is-switch Inv-loop μ-loop
-shared-slice-read-is-switch c = ?
+shared-slice-read-is-switch c = search needs
 
--- src/lib.rt:63:12
 is-switch-requires : tie.Need-is-switch-requires Inv-loop μ-loop
-is-switch-requires c κs = ?
+is-switch-requires c κs = search needs
 
--- src/lib.rt:64:13
 returns : tie.Need-returns Inv-loop μ-loop
-returns c = ?
+returns c = turn-switch (c .before .before .before .before .before .before .args .words .now) (c .before .before .before .before .loop .i) (c .before .before .before .loop-test .taken) (c .before .before .before .before .loop .inv) _ (c .before .is-switch .ensures) (c .if1 .taken)
 
--- src/lib.rt:66:9
 add-i : tie.Need-add-i Inv-loop μ-loop
-add-i c = ?
+add-i c = search needs
 
--- src/lib.rt:62:5
 loop-less : tie.Need-loop-less Inv-loop μ-loop
-loop-less c = ?
+loop-less c = search needs
 
--- src/lib.rt:62:5
 loop-again : tie.Need-loop-again Inv-loop μ-loop
-loop-again c = ?
+loop-again c = turn-none (c .before .before .before .before .before .before .args .words .now) (c .before .before .before .before .loop .i) (c .before .before .before .loop-test .taken) (c .before .before .before .before .loop .inv) _ (c .before .is-switch .ensures) (c .if1 .left)
 
--- src/lib.rt:58:1
 returns-2 : tie.Need-returns-2 Inv-loop μ-loop
-returns-2 c = ?
+returns-2 c = all-tested (c .before .before .before .args .words .now) (c .before .loop .i) (c .loop-test .left) (c .before .loop .inv)
 
 pub no-switch-spec : {M : Type 1} → statement M
 no-switch-spec =

@@ -1,3 +1,6 @@
+-- `holding::settle_all` meets its contract: the trees can always be settled. Assumes nothing.
+use mathlib.Core.Path.{sym, _∙_}
+use Rattle.holding.proofs.Taking.{settled-all, settled-always}
 use borrow.Author.Needs.{needs}
 use Rattle.holding.proofs.settle_all.Statement.{statement}
 use Rattle.holding.proofs.settle_all.Tie as tie
@@ -6,49 +9,38 @@ use Rattle.holding.proofs.settle_all.Lts as lts
 use Rattle.settle.proofs.settle.Reads as settle-reads
 use Rattle.tables.proofs.put.Reads as put-reads
 
--- src/lib.rt:137:5
 put-requires : tie.Need-put-requires
 put-requires c κs = search needs
 
--- src/lib.rt:138:9
 settle-requires : tie.Need-settle-requires
 settle-requires c κs = search needs
 
--- src/lib.rt:140:24
 enum-known-done : tie.Need-enum-known-done
 enum-known-done c = search needs
 
--- src/lib.rt:141:28
 enum-told : tie.Need-enum-told
 enum-told c = search needs
 
--- src/lib.rt:142:28
 enum-told-2 : tie.Need-enum-told-2
 enum-told-2 c = search needs
 
--- src/lib.rt:132:1
 same-length : tie.Need-same-length
 same-length c = search needs
 
--- src/lib.rt:132:1
 returns : tie.Need-returns
-returns c = ?
+returns c = settled-all (c .before .before .before .before .before .before .before .before .before .before .before .before .before .before .args .tokens .now) (c .before .before .before .before .before .before .before .before .before .before .before .before .before .before .args .places .now) (c .before .before .before .before .before .before .before .before .before .before .before .before .before .before .args .first) (c .before .before .before .before .before .before .before .before .before .before .before .before .before .before .pre .0) (c .before .before .before .before .before .before .before .before .before .before .before .before .before .before .args .work .now) _ (c .before .before .before .before .before .before .before .before .before .before .before .before .before .before .pre .1) (c .before .before .before .before .before .before .before .before .before .put .ensures) (c .before .done .given .0 .0) _ (sym (c .before .done .given .1) ∙ c .before .before .before .before .before .settle .ensures .0) (c .before .before .before .before .before .settle .ensures .1)
 
--- src/lib.rt:132:1
 same-length-2 : tie.Need-same-length-2
 same-length-2 c = search needs
 
--- src/lib.rt:132:1
 returns-2 : tie.Need-returns-2
-returns-2 c = ?
+returns-2 c = absurd (settled-always (c .before .before .before .before .before .before .before .before .before .before .before .before .before .args .tokens .now) (c .before .before .before .before .before .before .before .before .before .before .before .before .before .args .places .now) (c .before .before .before .before .before .before .before .before .before .before .before .before .before .args .first) (c .before .before .before .before .before .before .before .before .before .before .before .before .before .pre .0) (c .before .before .before .before .before .before .before .before .before .before .before .before .before .args .work .now) _ (c .before .before .before .before .before .before .before .before .before .before .before .before .before .pre .1) (c .before .before .before .before .before .before .before .before .put .ensures) (c .before .before .before .before .settle .result) (c .before .before .before .before .settle .ensures .0) .0 (c .enum-told .given .1))
 
--- src/lib.rt:132:1
 same-length-3 : tie.Need-same-length-3
 same-length-3 c = search needs
 
--- src/lib.rt:132:1
 returns-3 : tie.Need-returns-3
-returns-3 c = ?
+returns-3 c = absurd (settled-always (c .before .before .before .before .before .before .before .before .before .before .before .before .before .args .tokens .now) (c .before .before .before .before .before .before .before .before .before .before .before .before .before .args .places .now) (c .before .before .before .before .before .before .before .before .before .before .before .before .before .args .first) (c .before .before .before .before .before .before .before .before .before .before .before .before .before .pre .0) (c .before .before .before .before .before .before .before .before .before .before .before .before .before .args .work .now) _ (c .before .before .before .before .before .before .before .before .before .before .before .before .before .pre .1) (c .before .before .before .before .before .before .before .before .put .ensures) (c .before .before .before .before .settle .result) (c .before .before .before .before .settle .ensures .0) .1 (c .enum-told2 .given .1))
 
 pub settle-all-spec : {M : Type 1} → statement M
 settle-all-spec =

@@ -1,3 +1,6 @@
+-- `holding::whole` meets its contract: the tests decide. Assumes nothing.
+use mathlib.Core.Path.{sym, _∙_}
+use Rattle.holding.proofs.Ends.{not-whole, whole-told}
 use borrow.Author.Needs.{needs}
 use Rattle.holding.proofs.whole.Statement.{statement}
 use Rattle.holding.proofs.whole.Tie as tie
@@ -6,28 +9,23 @@ use Rattle.holding.proofs.whole.Lts as lts
 use Rattle.reciprocal.proofs.all_there.Reads as all-there-reads
 use Rattle.tokens.proofs.count_trees.Reads as count-trees-reads
 
--- src/lib.rt:160:27
 count-trees-requires : tie.Need-count-trees-requires
 count-trees-requires c κs = search needs
 
 enum-told : tie.Need-enum-told
 enum-told c = search needs
 
--- src/lib.rt:161:9
 enum-told-2 : tie.Need-enum-told-2
 enum-told-2 c = search needs
 
--- src/lib.rt:161:9
 returns : tie.Need-returns
-returns c = ?
+returns c = not-whole (c .before .before .before .before .before .args .tokens .now) (c .before .before .before .before .before .args .places .now) (sym (c .enum-told2 .given .1) ∙ c .before .before .count-trees .ensures)
 
--- src/lib.rt:163:5
 all-there-requires : tie.Need-all-there-requires
 all-there-requires c κs = search needs
 
--- src/lib.rt:157:1
 returns-2 : tie.Need-returns-2
-returns-2 c = ?
+returns-2 c = whole-told (c .before .before .before .before .before .before .args .tokens .now) (c .before .before .before .before .before .before .args .places .now) _ _ (sym (c .before .enum-told .given .1) ∙ c .before .before .before .count-trees .ensures) (c .all-there .ensures)
 
 pub whole-spec : {M : Type 1} → statement M
 whole-spec =
