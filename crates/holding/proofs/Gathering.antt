@@ -6,7 +6,7 @@ use mathlib.Core.Path.{_≡_, refl, sym, _∙_, ap}
 use mathlib.Core.Bool.{Bool, true, false}
 use mathlib.Core.List.{List, [], _++_, map}
 use lib.ListN.{length, take, drop, length-append}
-use lib.Seq.{take-at}
+use lib.Seq.{length-take-le, take-at}
 use Rattle.tree.specs.Tokens.{all-tokens, read, numbered}
 use Rattle.tree.proofs.TokenCode.{all-tokens-append}
 use Rattle.words.specs.Words.{number}
@@ -53,9 +53,12 @@ module _ (ws places : List ℕ) (first : ℕ) (ready : Ready ws places first) (j
   -- ---- one of them
 
   -- its words are in front of what they were written to
-  module _ (old one : List ℕ) (m : ℕ) (lent : 1026 ≤ length old) (count : m ≡ length (reciprocal-words ws first places j)) (written : one ≡ reciprocal-words ws first places j ++ drop (length (reciprocal-words ws first places j)) old) where
+  module _ (old one : List ℕ) (m : ℕ) (count : m ≡ length (reciprocal-words ws first places j)) (written : one ≡ reciprocal-words ws first places j ++ drop (length (reciprocal-words ws first places j)) old) where
     pub one-inside : m ≤ length one
     one-inside = omega (arith, count, ap length written, length-append (reciprocal-words ws first places j) (drop (length (reciprocal-words ws first places j)) old))
+
+    pub one-counted : m ≡ length (take m one)
+    one-counted = sym (length-take-le m one one-inside)
 
     pub one-front : take m one ≡ reciprocal-words ws first places j
     one-front = ap (take m) written ∙ take-at (reciprocal-words ws first places j) (drop (length (reciprocal-words ws first places j)) old) m (sym count)
@@ -73,6 +76,13 @@ module _ (ws places : List ℕ) (first : ℕ) (ready : Ready ws places first) (j
     one-written r e f n work out o =
         let some = held-one ws places first ready j more (ap no-switch-words (sym one-front) ∙ (sym e ∙ f)) in
         (omega (arith, count, ap length some), o ∙ ap (λ (l : List ℕ). overlay n l work) (one-front ∙ sym some))
+
+  -- no overflow
+  pub one-small : (m n : ℕ) → m ≡ length (reciprocal-words ws first places j) → n ≤ 8796093022208 → n + m ≤ 8796093023234
+  one-small m n c h = omega (arith, c, h, words-short ws places first ready j more)
+
+  pub place-small : (n len : ℕ) (old out : List ℕ) → Gathered ws places first len old out n j → n ≤ 8796093022208
+  place-small n len old out s = omega (arith, s .0 .1 .1, more, ready .1 .1 .1)
 
   held-short : length (reciprocal-held ws first places j) ≤ 1026
   held-short = go (no-switch-words (reciprocal-words ws first places j)) refl
