@@ -146,6 +146,7 @@ module _ (ws places : List ℕ) (first : ℕ) (old : List ℕ) where
             let k =
             ends (record { answer = held.Words (length new); out = new ++ drop (length new) old })
             (by-tests true true true (sym e ∙ t) (sym g ∙ u) (le-leb (length new) 1024 (omega (arith, c, few)))) in
-            let q = room-is .1 .1 .1 in
-            (ap held.Words c ∙ k .0,
-            o ∙ (ap (λ (l : List ℕ). overlay 0 l old) front-is ∙ (overlay-front new old (omega (arith, c, few, q)) ∙ k .1)))
+            let q = room-is .1 .1 .1 in (
+              ap held.Words c ∙ k .0,
+              o ∙ (ap (λ (l : List ℕ). overlay 0 l old) front-is ∙ (overlay-front new old (omega (arith, c, few, q)) ∙ k .1)),
+            )

@@ -1,13 +1,12 @@
 -- How what is held is gathered: one reciprocal after another over what is written, after the settled trees. Assumes nothing.
-use Prim.Native.Nat.{ℕ, zero, suc, _+_, _*_, _≤_, _<_}
-use native.Mathlib.Nat.{add-zero}
+use Prim.Native.Nat.{ℕ, suc, _+_, _*_, _≤_, _<_}
 use native.Mathlib.Omega.{arith}
 use mathlib.Core.Path.{_≡_, refl, sym, _∙_, ap}
 use mathlib.Core.Bool.{Bool, true, false}
-use mathlib.Core.List.{List, [], _++_, map}
+use mathlib.Core.List.{List, _++_, map}
 use lib.ListN.{length, take, drop, length-append}
 use lib.Seq.{length-take-le, take-at}
-use Rattle.tree.specs.Tokens.{all-tokens, read, numbered}
+use Rattle.tree.specs.Tokens.{read, numbered}
 use Rattle.tree.proofs.TokenCode.{all-tokens-append}
 use Rattle.words.specs.Words.{number}
 use Rattle.renaming.specs.Places.{numbered-at}
@@ -42,12 +41,13 @@ pub all-held :
 all-held ws places first n r base mid out e m q o =
     let S = settled-held ws first places in
     let R = reciprocals-held ws first places 0 in
-    let i : n ≡ 0 + length S = omega arith in
-    (omega (arith, e, q, ap length (held-parts ws places first), length-append S R),
-    o
-    ∙ (ap (λ (x : List ℕ). overlay n (reciprocals-held ws first places 0) x) m
-    ∙ (ap (λ (k : ℕ). overlay k (reciprocals-held ws first places 0) (overlay 0 (settled-held ws first places) base)) i
-    ∙ (sym (overlay-append 0 S R base) ∙ ap (λ (l : List ℕ). overlay 0 l base) (sym (held-parts ws places first))))))
+    let i : n ≡ 0 + length S = omega arith in (
+      omega (arith, e, q, ap length (held-parts ws places first), length-append S R),
+      o
+          ∙ (ap (λ (x : List ℕ). overlay n (reciprocals-held ws first places 0) x) m
+          ∙ (ap (λ (k : ℕ). overlay k (reciprocals-held ws first places 0) (overlay 0 (settled-held ws first places) base)) i
+          ∙ (sym (overlay-append 0 S R base) ∙ ap (λ (l : List ℕ). overlay 0 l base) (sym (held-parts ws places first))))),
+    )
 
 module _ (ws places : List ℕ) (first : ℕ) (ready : Ready ws places first) (j : ℕ) (more : j < length places) where
   -- ---- one of them
@@ -98,12 +98,15 @@ module _ (ws places : List ℕ) (first : ℕ) (ready : Ready ws places first) (j
       let H = reciprocal-held ws first places j in
       let i : suc j ≡ j + 1 = omega arith in
       let next : reciprocals-held ws first places j ≡ reciprocal-held ws first places j ++ reciprocals-held ws first places (j + 1) =
-      held-next ws places first ready j more ∙ ap (λ (k : ℕ). reciprocal-held ws first places j ++ reciprocals-held ws first places k) i in
-      ((omega (arith, s .0 .0, e, ap length next, length-append H (reciprocals-held ws first places (j + 1))), (omega arith, omega (arith, s .0 .1 .1, e, held-short))),
-      (ap length o ∙ (overlay-length n H out ∙ s .1 .0),
-      ap (λ (x : List ℕ). overlay r (reciprocals-held ws first places (j + 1)) x) o
-      ∙ (ap (λ (k : ℕ). overlay k (reciprocals-held ws first places (j + 1)) (overlay n H out)) e
-      ∙ (sym (overlay-append n H (reciprocals-held ws first places (j + 1)) out) ∙ (ap (λ (l : List ℕ). overlay n l out) (sym next) ∙ s .1 .1)))))
+      held-next ws places first ready j more ∙ ap (λ (k : ℕ). reciprocal-held ws first places j ++ reciprocals-held ws first places k) i in (
+        (omega (arith, s .0 .0, e, ap length next, length-append H (reciprocals-held ws first places (j + 1))), (omega arith, omega (arith, s .0 .1 .1, e, held-short))),
+        (
+          ap length o ∙ (overlay-length n H out ∙ s .1 .0),
+          ap (λ (x : List ℕ). overlay r (reciprocals-held ws first places (j + 1)) x) o
+              ∙ (ap (λ (k : ℕ). overlay k (reciprocals-held ws first places (j + 1)) (overlay n H out)) e
+              ∙ (sym (overlay-append n H (reciprocals-held ws first places (j + 1)) out) ∙ (ap (λ (l : List ℕ). overlay n l out) (sym next) ∙ s .1 .1))),
+        ),
+      )
 
 pub gathering-ends :
     (ws places : List ℕ) (first : ℕ) → Ready ws places first → (len : ℕ) (old out : List ℕ) (n j : ℕ) → length places ≤ j → Gathered ws places first len old out n j

@@ -5,9 +5,6 @@ use Rattle.holding.proofs.Gathering.{Gathered, gathering-starts, place-
 use borrow.Author.Needs.{needs}
 use Rattle.holding.proofs.hold_reciprocals.Statement.{statement}
 use Rattle.holding.proofs.hold_reciprocals.Tie as tie
-use Rattle.holding.proofs.hold_reciprocals.Reads as reads
-use Rattle.holding.proofs.hold_reciprocals.Lts as lts
-use Rattle.holding.proofs.hold_one.Reads as hold-one-reads
 
 abbrev Inv-loop : tie.InvT-loop
 Inv-loop tokens places first work₀ len n₀ j₀ work n j = Gathered tokens places first len work₀ work n j
@@ -15,37 +12,16 @@ Inv-loop tokens places first work₀ len n₀ j₀ work n j = Gathered tokens pl
 abbrev μ-loop : tie.MeasureT-loop
 μ-loop tokens places first work₀ len n₀ j₀ work n j = length places - j
 
-loop-holds : tie.Need-loop-holds Inv-loop μ-loop
-loop-holds c = gathering-starts (c .before .before .before .args .tokens .now) (c .before .before .before .args .places .now) (c .before .before .before .args .first) (c .before .before .before .args .len) (c .before .before .before .args .work .now) (c .before .before .before .pre .1)
-
-hold-one-requires : tie.Need-hold-one-requires Inv-loop μ-loop
-hold-one-requires c κs = (c .before .before .before .before .before .before .pre .0, (c .before .loop-test .taken, place-small (c .before .before .before .before .before .before .args .tokens .now) (c .before .before .before .before .before .before .args .places .now) (c .before .before .before .before .before .before .args .first) (c .before .before .before .before .before .before .pre .0) (c .before .before .loop .j) (c .before .loop-test .taken) (c .before .before .loop .n) (c .before .before .before .before .before .before .args .len) (c .before .before .before .before .before .before .args .work .now) (c .before .before .loop .work) (c .before .before .loop .inv)))
-
-add-j : tie.Need-add-j Inv-loop μ-loop
-add-j c = search needs
-
-loop-less : tie.Need-loop-less Inv-loop μ-loop
-loop-less c = search needs
-
-loop-again : tie.Need-loop-again Inv-loop μ-loop
-loop-again c = gathering-turns (c .before .before .before .before .before .before .before .before .before .args .tokens .now) (c .before .before .before .before .before .before .before .before .before .args .places .now) (c .before .before .before .before .before .before .before .before .before .args .first) (c .before .before .before .before .before .before .before .before .before .pre .0) (c .before .before .before .before .before .loop .j) (c .before .before .before .before .loop-test .taken) (c .before .before .before .before .before .before .before .before .before .args .len) (c .before .before .before .before .before .before .before .before .before .args .work .now) (c .before .before .before .before .before .loop .work) _ (c .before .before .before .before .before .loop .n) _ (c .before .before .before .before .before .loop .inv) (c .before .before .hold-one .ensures .0) (c .before .before .hold-one .ensures .1)
-
-same-length : tie.Need-same-length Inv-loop μ-loop
-same-length c = c .before .loop .inv .1 .0
-
-returns : tie.Need-returns Inv-loop μ-loop
-returns c = gathering-ends (c .before .before .before .before .before .args .tokens .now) (c .before .before .before .before .before .args .places .now) (c .before .before .before .before .before .args .first) (c .before .before .before .before .before .pre .0) (c .before .before .before .before .before .args .len) (c .before .before .before .before .before .args .work .now) (c .before .loop .work) (c .before .loop .n) (c .before .loop .j) (c .loop-test .left) (c .before .loop .inv)
-
 pub hold-reciprocals-spec : {M : Type 1} → statement M
 hold-reciprocals-spec =
     tie.close
     (tie.spec
     Inv-loop
     μ-loop
-    loop-holds
-    hold-one-requires
-    add-j
-    loop-less
-    loop-again
-    same-length
-    returns)
+    (λ c. gathering-starts (c .before .before .before .args .tokens .now) (c .before .before .before .args .places .now) (c .before .before .before .args .first) (c .before .before .before .args .len) (c .before .before .before .args .work .now) (c .before .before .before .pre .1))
+    (λ c κs. (c .before .before .before .before .before .before .pre .0, (c .before .loop-test .taken, place-small (c .before .before .before .before .before .before .args .tokens .now) (c .before .before .before .before .before .before .args .places .now) (c .before .before .before .before .before .before .args .first) (c .before .before .before .before .before .before .pre .0) (c .before .before .loop .j) (c .before .loop-test .taken) (c .before .before .loop .n) (c .before .before .before .before .before .before .args .len) (c .before .before .before .before .before .before .args .work .now) (c .before .before .loop .work) (c .before .before .loop .inv))))
+    (λ c. search needs)
+    (λ c. search needs)
+    (λ c. gathering-turns (c .before .before .before .before .before .before .before .before .before .args .tokens .now) (c .before .before .before .before .before .before .before .before .before .args .places .now) (c .before .before .before .before .before .before .before .before .before .args .first) (c .before .before .before .before .before .before .before .before .before .pre .0) (c .before .before .before .before .before .loop .j) (c .before .before .before .before .loop-test .taken) (c .before .before .before .before .before .before .before .before .before .args .len) (c .before .before .before .before .before .before .before .before .before .args .work .now) (c .before .before .before .before .before .loop .work) _ (c .before .before .before .before .before .loop .n) _ (c .before .before .before .before .before .loop .inv) (c .before .before .hold-one .ensures .0) (c .before .before .hold-one .ensures .1))
+    (λ c. c .before .loop .inv .1 .0)
+    (λ c. gathering-ends (c .before .before .before .before .before .args .tokens .now) (c .before .before .before .before .before .args .places .now) (c .before .before .before .before .before .args .first) (c .before .before .before .before .before .pre .0) (c .before .before .before .before .before .args .len) (c .before .before .before .before .before .args .work .now) (c .before .loop .work) (c .before .loop .n) (c .before .loop .j) (c .loop-test .left) (c .before .loop .inv)))
