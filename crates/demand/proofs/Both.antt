@@ -10,14 +10,18 @@ use Rattle.tree.specs.Outcome.{ok}
 use Rattle.tree.specs.Tree.{Tree}
 use Rattle.tree.specs.Facts.{all-operations, cost, count, all-nodes}
 use Rattle.tree.specs.Passes.{passes}
+use Rattle.tree.specs.Layout.{laid-out}
 use Rattle.tree.specs.Value.{Reading, Env, values}
 use Rattle.tree.proofs.Logic.{and-left, and-right}
 use Rattle.cse.specs.Answer.{Answer, all-symbols, elem}
+use Rattle.cse.specs.Answer as answers
 use Rattle.cse.specs.Scope.{answer}
+use Rattle.cse.specs.Call.{work-words, work-bytes}
 use Rattle.cse.specs.Read.{answer-values}
 use Rattle.cse.specs.Demand.{bound-stmts, all-different, in-scope, well-scoped, bound-exprs, depends, dependent, no-repeats, extracted-exprs, Demand3}
 use Rattle.program.proofs.Whole.{demand3}
 use Rattle.demand.proofs.Operation.{Call, Returns, list-of, returned-is}
+use Rattle.demand.proofs.Operation as operations
 
 -- a call of each form on the same rows and roots
 abbrev pub Calls : List ℕ → List ℕ → Type 0
@@ -32,6 +36,10 @@ pub record Returned-as-demanded (rows roots : List ℕ) (calls : Calls rows root
   -- the list passes 9, and the answers are the flat and the scoped one of the definition
   pub list-passes : (scoped : Bool) (a : Answer) → Returns scoped rows roots (calls scoped) a → T (passes (list-of rows roots))
   pub is-answer : (scoped : Bool) (a : Answer) → Returns scoped rows roots (calls scoped) a → answer scoped (list-of rows roots) ≡ ok a
+  -- and each is returned wherever the work area is long enough, the rows pass 9, and the table has room for it
+  pub returned-where :
+      (scoped : Bool) → work-words ≤ calls scoped .words → work-bytes ≤ calls scoped .bytes → T (laid-out rows roots)
+      → (a : Answer) → answer scoped (list-of rows roots) ≡ ok a → answers.rows a ≤ length (calls scoped .old) → Returns scoped rows roots (calls scoped) a
   -- in both, each name is bound once
   pub bound-once : (scoped : Bool) (a : Answer) → Returns scoped rows roots (calls scoped) a → T (all-different (bound-stmts (a .inters)))
   -- in both, each name is used only later, and inside its scope
@@ -76,6 +84,7 @@ returned-as-demanded rows roots calls =
     record {
       list-passes = λ scoped a r. returned-is scoped rows roots (calls scoped) a r .1;
       is-answer = λ scoped a r. returned-is scoped rows roots (calls scoped) a r .0;
+      returned-where = λ scoped. operations.returned-where scoped rows roots (calls scoped);
       bound-once = λ scoped a r. once es a (holds scoped a r .names-once-and-later scoped a (given scoped a r));
       used-later-in-scope = λ scoped a r. later es a (holds scoped a r .names-once-and-later scoped a (given scoped a r));
       same-values = λ scoped a r. holds scoped a r .same-values scoped a (given scoped a r);

@@ -1,29 +1,32 @@
 -- What the contracts of the operations `cse` and `cse_scoped` say of every list, over the form (01, "Turned down": Extract): what one hands back and leaves in the
 -- table is the answer of its form, read back from its rows, or it hands back a refusal and leaves the table as it was. Over the contracts alone, so for any program
 -- that meets them. Assumes nothing.
-use Prim.Native.Nat.{ℕ}
+use Prim.Native.Nat.{ℕ, _≤_}
 use mathlib.Core.Path.{_≡_, refl, sym, _∙_, ap, ap₂, subst}
 use mathlib.Core.Logic.{_⊎_, inl, inr}
-use mathlib.Core.Bool.{Bool, true, false}
+use mathlib.Core.Bool.{Bool, true, false, _||_}
 use mathlib.Core.List.{List}
 use native.Mathlib.Omega.{arith}
 use lib.ListN.{length, take, drop}
 use lib.Seq.{take-at, drop-at}
-use lib.Dec.{T}
+use lib.Dec.{T, ltb, ltb→lt}
 use Rattle.tree.specs.Outcome.{Refusal, Outcome, ok, refused, by}
 use Rattle.tree.specs.Tree.{Tree}
 use Rattle.tree.specs.Rows.{trees}
 use Rattle.tree.specs.Passes.{passes}
-use Rattle.tree.specs.Layout.{table-of}
+use Rattle.tree.specs.Layout.{table-of, laid-out}
 use Rattle.tree.specs.Tokens.{name-in, number-in}
+use Rattle.tree.proofs.Tests.{is-true}
 use Rattle.cse.specs.Answer.{Answer}
+use Rattle.cse.specs.Answer as answers
 use Rattle.cse.specs.AnswerRows.{answer-of, answer-words}
 use Rattle.cse.specs.Scope.{answer}
-use Rattle.cse.specs.Call.{Extracted, extract-call, table-after}
+use Rattle.cse.specs.Call.{Extracted, work-words, work-bytes, extract-call, table-after}
 use Rattle.cse.proofs.CleanDivisors.{Plain-divisors}
 use Rattle.answerlaws.proofs.LaidOut.{uncounted}
 use Rattle.passing.proofs.Printed.{answer-read-back}
-use Rattle.program.proofs.Operation.{Answers-for, answered-call, flat-refused-by-8-9-10-or-12, scoped-refused-by-8-9-10-11-12-or-23, scoped-refused-by-8-9-10-11-or-12}
+use Rattle.program.proofs.Operation.{Called, call-is, Answers-for, answered-call, flat-refused-by-8-9-10-or-12, scoped-refused-by-8-9-10-11-12-or-23, scoped-refused-by-8-9-10-11-or-12}
+use Rattle.program.proofs.Operation as operation
 use Rattle.extract.specs.Answers.{extraction-answer}
 use Rattle.extract.specs.declared.Extraction.{Extraction}
 use Rattle.extract.specs.declared.Extraction.the-variants as extraction
@@ -51,6 +54,16 @@ past e old n h = drop-at (e .words) (drop (length (e .words)) old) n (sym h) ∙
 unchanged : (i : Refusal) (old : List ℕ) → table-after (refused i) old ≡ old
 unfolding table-after
 unchanged i old = refl
+
+less-is-false : (m n : ℕ) → n ≤ m → ltb m n ≡ false
+less-is-false m n h = go (ltb m n) refl
+  where
+    go : (b : Bool) → ltb m n ≡ b → b ≡ false
+    go true e = absurd (let q = ltb→lt m n (subst T (sym e) tt) in omega arith)
+    go false e = refl
+
+not-short : (words bytes : ℕ) → work-words ≤ words → work-bytes ≤ bytes → (ltb words work-words || ltb bytes work-bytes) ≡ false
+not-short words bytes w t = ap₂ (λ (p q : Bool). p || q) (less-is-false words work-words w) (less-is-false bytes work-bytes t)
 
 -- ---- a call, by its contract
 
@@ -124,6 +137,34 @@ module _ (scoped : Bool) (rows roots : List ℕ) where
     pub returned-one : (n x : ℕ) → c .handed ≡ extraction.Rows n x → (a : Answer) × Returns c a
     returned-one n x h =
         (answer-of (name-in (table-of rows roots .rows)) x (take n (c .table)), record { row-count = n; extraction-count = x; handed-back = h; read-from = refl })
+
+    same-answer : {a b : Answer} → _≡_ {A = Outcome Answer} (ok a) (ok b) → a ≡ b
+    same-answer e = cc
+
+    not-refused : {a : Answer} {i : Refusal} → _≡_ {A = Outcome Answer} (ok a) (refused i) → ⊥
+    not-refused e = let z : _≡_ {A = ℕ} 0 1 = cc in omega arith
+
+    never-so : {b : Bool} → b ≡ true → b ≡ false → ⊥
+    never-so e f = let z : _≡_ {A = ℕ} 0 1 = cc in omega arith
+
+    rows-handed : (x : Extracted) → call ≡ ok x → c .handed ≡ extraction.Rows (length (x .words)) (x .extracted)
+    unfolding extraction-answer
+    rows-handed x e = c .handed-is ∙ ap extraction-answer e
+
+    -- it does so wherever the work area is long enough, the rows pass 9, the form has an answer for the list, and the table has room for its rows
+    pub returned-where :
+        work-words ≤ c .words → work-bytes ≤ c .bytes → T (laid-out rows roots)
+        → (a : Answer) → answer scoped (list-of rows roots) ≡ ok a → answers.rows a ≤ length (c .old) → Returns c a
+    returned-where w t l a e m = go (call-is scoped (c .words) (c .bytes) rows roots (length (c .old)))
+      where
+        go : Called scoped (c .words) (c .bytes) rows roots (length (c .old)) call → Returns c a
+        go (operation.eight z f) = absurd (never-so z (not-short (c .words) (c .bytes) w t))
+        go (operation.nine z f) = absurd (never-so (is-true (laid-out rows roots) l) z)
+        go (operation.stopped h i z f) = absurd (not-refused (sym e ∙ z))
+        go (operation.twelve h b z k f) = let q = ap answers.rows (same-answer (sym e ∙ z)) in absurd (omega arith)
+        go (operation.answered h b z k f) =
+            let one = returned-one _ _ (rows-handed _ f) in
+            subst (Returns c) (sym (same-answer (sym e ∙ returned-is (one .0) (one .1) .0))) (one .1)
 
 -- ---- the refusals of each form
 
