@@ -18,7 +18,8 @@ use Rattle.cse.specs.AnswerRows.{answer-words}
 use Rattle.cse.specs.Scope.{answer}
 use Rattle.cse.specs.Call.{Extracted, work-words, work-bytes, extract-call}
 use Rattle.cse.specs.Demand.{Demand3}
-use Rattle.program.proofs.Whole.{demand3, flat-refused-by-10}
+use Rattle.cse.proofs.CleanDivisors.{Plain-divisors}
+use Rattle.program.proofs.Whole.{demand3, flat-refused-by-10, refused-by-10-11-or-23, scoped-refused-by-10-or-11}
 
 -- ---- a call by its refusals, in order
 
@@ -109,27 +110,32 @@ module _ (scoped : Bool) (words-lent bytes-lent : ℕ) (node-rows roots : List �
           let p = laid-out-passes node-rows roots h in
           record { an-answer = a; is-answer = s; is-written = same-value (sym e ∙ f); fits = l; passed = p; demanded = demand3 (trees table) p }
 
--- ---- the flat form: never 11
+  -- ---- a refused call
 
-same-refusal : {i j : Refusal} → _≡_ {A = Outcome Extracted} (refused i) (refused j) → i ≡ j
-same-refusal e = cc
+  same-refusal : {i j : Refusal} → _≡_ {A = Outcome Extracted} (refused i) (refused j) → i ≡ j
+  same-refusal e = cc
 
-never-both-flat : {a : Extracted} {i : Refusal} → _≡_ {A = Outcome Extracted} (refused i) (ok a) → ⊥
-never-both-flat e = let z : _≡_ {A = ℕ} 0 1 = cc in omega arith
+  -- 8, 9 or 12, or what the steps on the list are refused by
+  pub refused-call :
+      (P : Refusal → Type 0) → (T (laid-out node-rows roots) → (i : Refusal) → answer scoped (trees table) ≡ refused i → P i) → (r : Refusal)
+      → extract-call scoped words-lent bytes-lent node-rows roots lent ≡ refused r → (r ≡ by 8) ⊎ ((r ≡ by 9) ⊎ (P r ⊎ (r ≡ by 12)))
+  refused-call P reach r e = go call-is
+    where
+      go : Called (extract-call scoped words-lent bytes-lent node-rows roots lent) → (r ≡ by 8) ⊎ ((r ≡ by 9) ⊎ (P r ⊎ (r ≡ by 12)))
+      go (eight s f) = inl (same-refusal (sym e ∙ f))
+      go (nine s f) = inr (inl (same-refusal (sym e ∙ f)))
+      go (stopped h i s f) = inr (inr (inl (subst P (sym (same-refusal (sym e ∙ f))) (reach h i s))))
+      go (twelve h a s l f) = inr (inr (inr (same-refusal (sym e ∙ f))))
+      go (answered h a s l f) = absurd (never-both (sym f ∙ e))
+
+-- ---- the flat form: never 11 or 23
 
 pub flat-refused-by-8-9-10-or-12 :
     (words-lent bytes-lent : ℕ) (node-rows roots : List ℕ) (lent : ℕ) (r : Refusal) → extract-call false words-lent bytes-lent node-rows roots lent ≡ refused r
     → (r ≡ by 8) ⊎ ((r ≡ by 9) ⊎ ((r ≡ by 10) ⊎ (r ≡ by 12)))
-flat-refused-by-8-9-10-or-12 words-lent bytes-lent node-rows roots lent r e = go (call-is false words-lent bytes-lent node-rows roots lent)
-  where
-    go : Called false words-lent bytes-lent node-rows roots lent (extract-call false words-lent bytes-lent node-rows roots lent)
-        → (r ≡ by 8) ⊎ ((r ≡ by 9) ⊎ ((r ≡ by 10) ⊎ (r ≡ by 12)))
-    go (eight s f) = inl (same-refusal (sym e ∙ f))
-    go (nine s f) = inr (inl (same-refusal (sym e ∙ f)))
-    go (stopped h i s f) =
-        inr (inr (inl (same-refusal (sym e ∙ f) ∙ flat-refused-by-10 (trees (table-of node-rows roots)) (laid-out-passes node-rows roots h) i s)))
-    go (twelve h a s l f) = inr (inr (inr (same-refusal (sym e ∙ f))))
-    go (answered h a s l f) = absurd (never-both-flat (sym e ∙ f))
+flat-refused-by-8-9-10-or-12 words-lent bytes-lent node-rows roots lent =
+    refused-call false words-lent bytes-lent node-rows roots lent (λ (r : Refusal). r ≡ by 10)
+    (λ h i s. flat-refused-by-10 (trees (table-of node-rows roots)) (laid-out-passes node-rows roots h) i s)
 
 pub flat-never-11 :
     (words-lent bytes-lent : ℕ) (node-rows roots : List ℕ) (lent : ℕ) → extract-call false words-lent bytes-lent node-rows roots lent ≡ refused (by 11) → ⊥
@@ -143,3 +149,43 @@ flat-never-11 words-lent bytes-lent node-rows roots lent e = go (flat-refused-by
     go (inr (inl f)) = let q = number 9 f in omega arith
     go (inr (inr (inl f))) = let q = number 10 f in omega arith
     go (inr (inr (inr f))) = let q = number 12 f in omega arith
+
+-- ---- the scoped form
+
+-- 10, 11 and 12 in their order, 23 after them
+in-order : (r : Refusal) → ((r ≡ by 10) ⊎ ((r ≡ by 11) ⊎ (r ≡ by 23))) ⊎ (r ≡ by 12) → (r ≡ by 10) ⊎ ((r ≡ by 11) ⊎ ((r ≡ by 12) ⊎ (r ≡ by 23)))
+in-order r (inl (inl f)) = inl f
+in-order r (inl (inr (inl f))) = inr (inl f)
+in-order r (inl (inr (inr f))) = inr (inr (inr f))
+in-order r (inr f) = inr (inr (inl f))
+
+pub scoped-refused-by-8-9-10-11-12-or-23 :
+    (words-lent bytes-lent : ℕ) (node-rows roots : List ℕ) (lent : ℕ) (r : Refusal) → extract-call true words-lent bytes-lent node-rows roots lent ≡ refused r
+    → (r ≡ by 8) ⊎ ((r ≡ by 9) ⊎ ((r ≡ by 10) ⊎ ((r ≡ by 11) ⊎ ((r ≡ by 12) ⊎ (r ≡ by 23)))))
+scoped-refused-by-8-9-10-11-12-or-23 words-lent bytes-lent node-rows roots lent r e =
+    go
+    (refused-call true words-lent bytes-lent node-rows roots lent (λ (r : Refusal). (r ≡ by 10) ⊎ ((r ≡ by 11) ⊎ (r ≡ by 23)))
+    (λ h i s. refused-by-10-11-or-23 true (trees (table-of node-rows roots)) i s) r e)
+  where
+    go : (r ≡ by 8) ⊎ ((r ≡ by 9) ⊎ (((r ≡ by 10) ⊎ ((r ≡ by 11) ⊎ (r ≡ by 23))) ⊎ (r ≡ by 12)))
+        → (r ≡ by 8) ⊎ ((r ≡ by 9) ⊎ ((r ≡ by 10) ⊎ ((r ≡ by 11) ⊎ ((r ≡ by 12) ⊎ (r ≡ by 23)))))
+    go (inl f) = inl f
+    go (inr (inl f)) = inr (inl f)
+    go (inr (inr f)) = inr (inr (in-order r f))
+
+-- and never by 23 where each divisor of the list holds a symbol, or no Select or Branch
+pub scoped-refused-by-8-9-10-11-or-12 :
+    (words-lent bytes-lent : ℕ) (node-rows roots : List ℕ) (lent : ℕ) → Plain-divisors (trees (table-of node-rows roots))
+    → (r : Refusal) → extract-call true words-lent bytes-lent node-rows roots lent ≡ refused r
+    → (r ≡ by 8) ⊎ ((r ≡ by 9) ⊎ ((r ≡ by 10) ⊎ ((r ≡ by 11) ⊎ (r ≡ by 12))))
+scoped-refused-by-8-9-10-11-or-12 words-lent bytes-lent node-rows roots lent p r e =
+    go
+    (refused-call true words-lent bytes-lent node-rows roots lent (λ (r : Refusal). (r ≡ by 10) ⊎ (r ≡ by 11))
+    (λ h i s. scoped-refused-by-10-or-11 (trees (table-of node-rows roots)) (laid-out-passes node-rows roots h) p i s) r e)
+  where
+    go : (r ≡ by 8) ⊎ ((r ≡ by 9) ⊎ (((r ≡ by 10) ⊎ (r ≡ by 11)) ⊎ (r ≡ by 12))) → (r ≡ by 8) ⊎ ((r ≡ by 9) ⊎ ((r ≡ by 10) ⊎ ((r ≡ by 11) ⊎ (r ≡ by 12))))
+    go (inl f) = inl f
+    go (inr (inl f)) = inr (inl f)
+    go (inr (inr (inl (inl f)))) = inr (inr (inl f))
+    go (inr (inr (inl (inr f)))) = inr (inr (inr (inl f)))
+    go (inr (inr (inr f))) = inr (inr (inr (inr f)))
