@@ -1,3 +1,11 @@
+-- `scopeneeds::are_switches` meets its contract. Assumes nothing.
+use Prim.Native.Nat.{_-_}
+use native.Mathlib.Omega.{arith}
+use mathlib.Core.Path.{sym, _∙_}
+use lib.ListN.{length}
+use borrow.Author.Tests.{not-true, not-false}
+use Rattle.scopeneeds.proofs.Arms.{Checking, check-starts, check-other, check-turn, check-ends}
+use borrow.Author.Needs.{needs}
 use Rattle.scopeneeds.proofs.are_switches.Statement.{statement}
 use Rattle.scopeneeds.proofs.are_switches.Tie as tie
 use Rattle.scopeneeds.proofs.are_switches.Reads as reads
@@ -5,46 +13,37 @@ use Rattle.scopeneeds.proofs.are_switches.Lts as lts
 use Rattle.scopeneeds.proofs.is_switch.Reads as is-switch-reads
 
 abbrev Inv-loop : tie.InvT-loop
-Inv-loop tokens group i₀ i = ?
+Inv-loop tokens group i₀ i = Checking tokens group i
 
 abbrev μ-loop : tie.MeasureT-loop
-μ-loop tokens group i₀ i = ?
+μ-loop tokens group i₀ i = length group - i
 
--- src/lib.rt:131:5
 loop-holds : tie.Need-loop-holds Inv-loop μ-loop
-loop-holds c = ?
+loop-holds c = check-starts (c .before .before .args .tokens .now) (c .before .before .args .group .now)
 
--- src/lib.rt:132:31
 mul-is-switch : tie.Need-mul-is-switch Inv-loop μ-loop
-mul-is-switch c = ?
+mul-is-switch c = omega (arith, c .loop-test .taken, c .before .before .before .before .good)
 
--- src/lib.rt:132:31
 shared-slice-read-is-switch : tie.Need-shared-slice-read-is-switch Inv-loop μ-loop
-shared-slice-read-is-switch c = ?
+shared-slice-read-is-switch c = c .before .loop-test .taken
 
--- src/lib.rt:132:13
 is-switch-requires : tie.Need-is-switch-requires Inv-loop μ-loop
-is-switch-requires c κs = ?
+is-switch-requires c κs = tt
 
--- src/lib.rt:133:13
 returns : tie.Need-returns Inv-loop μ-loop
-returns c = ?
+returns c = check-other (c .before .before .before .before .before .before .before .args .tokens .now) (c .before .before .before .before .before .before .before .args .group .now) (c .before .before .before .before .loop .inv) (c .before .before .before .loop-test .taken) (sym (c .before .is-switch .ensures) ∙ not-true _ (c .if1 .taken))
 
--- src/lib.rt:135:9
 add-i : tie.Need-add-i Inv-loop μ-loop
-add-i c = ?
+add-i c = omega (arith, c .before .before .before .loop-test .taken, c .before .before .before .before .before .before .before .good)
 
--- src/lib.rt:131:5
 loop-less : tie.Need-loop-less Inv-loop μ-loop
-loop-less c = ?
+loop-less c = omega (arith, c .before .before .before .loop-test .taken)
 
--- src/lib.rt:131:5
 loop-again : tie.Need-loop-again Inv-loop μ-loop
-loop-again c = ?
+loop-again c = check-turn (c .before .before .before .before .before .before .before .args .tokens .now) (c .before .before .before .before .before .before .before .args .group .now) (c .before .before .before .before .loop .inv) (c .before .before .before .loop-test .taken) (sym (c .before .is-switch .ensures) ∙ not-false _ (c .if1 .left))
 
--- src/lib.rt:127:1
 returns-2 : tie.Need-returns-2 Inv-loop μ-loop
-returns-2 c = ?
+returns-2 c = check-ends (c .before .before .before .before .args .tokens .now) (c .before .before .before .before .args .group .now) (c .before .loop .inv) (c .loop-test .left)
 
 pub are-switches-spec : {M : Type 1} → statement M
 are-switches-spec =
