@@ -86,7 +86,15 @@ fn mark_match(n: u64, lets: usize, numbers: &[u64], ends: &[u64], row: usize, ta
 }
 
 // Marks the statement that binds one word's name.
-fn mark_read(w: u64, first: u64, lets: usize, numbers: &[u64], ends: &[u64], row: usize, table: &mut [u64])
+fn mark_read(
+    w: u64,
+    first: u64,
+    lets: usize,
+    numbers: &[u64],
+    ends: &[u64],
+    row: usize,
+    table: &mut [u64],
+)
     ensures { λ _. ⌜ now (table .exit) ≡ with-read first lets (now (numbers .entry)) (now (ends .entry)) w row (now (table .entry)) ⌝ }
 {
     if w % NAMES == LET_NAME {
@@ -99,7 +107,15 @@ fn mark_read(w: u64, first: u64, lets: usize, numbers: &[u64], ends: &[u64], row
 }
 
 // Marks the statements that bind the names among some words.
-pub fn mark_reads(words: &[u64], first: u64, lets: usize, numbers: &[u64], ends: &[u64], row: usize, table: &mut [u64])
+pub fn mark_reads(
+    words: &[u64],
+    first: u64,
+    lets: usize,
+    numbers: &[u64],
+    ends: &[u64],
+    row: usize,
+    table: &mut [u64],
+)
     ensures { λ _. ⌜ now (table .exit) ≡ with-reads first lets (now (numbers .entry)) (now (ends .entry)) (now (words .entry)) row (now (table .entry)) ⌝ }
 {
     let mut i = 0;
@@ -138,7 +154,16 @@ fn are_switches(tokens: &[u64], group: &[u64]) -> bool
 }
 
 // Marks what the arms of one switch read: its words after its key.
-fn mark_switch(tokens: &[u64], place: usize, first: u64, lets: usize, numbers: &[u64], ends: &[u64], row: usize, table: &mut [u64])
+fn mark_switch(
+    tokens: &[u64],
+    place: usize,
+    first: u64,
+    lets: usize,
+    numbers: &[u64],
+    ends: &[u64],
+    row: usize,
+    table: &mut [u64],
+)
     requires { ⌜ Complete (now tokens) × ((place < length (now tokens)) × (switch-at (now tokens) place ≡ true)) ⌝ }
     ensures { λ _. ⌜ now (table .exit) ≡ with-reads first lets (now (numbers .entry)) (now (ends .entry)) (arms-run (now (tokens .entry)) place) row (now (table .entry)) ⌝ }
 {
@@ -153,7 +178,16 @@ fn mark_switch(tokens: &[u64], place: usize, first: u64, lets: usize, numbers: &
 }
 
 // Marks what all arms of some switches read. False, and nothing is marked, where a word lacks operands or a place is no switch's.
-pub fn mark_arms(tokens: &[u64], group: &[u64], first: u64, lets: usize, numbers: &[u64], ends: &[u64], row: usize, table: &mut [u64]) -> bool
+pub fn mark_arms(
+    tokens: &[u64],
+    group: &[u64],
+    first: u64,
+    lets: usize,
+    numbers: &[u64],
+    ends: &[u64],
+    row: usize,
+    table: &mut [u64],
+) -> bool
     ensures { λ r. ⌜ (r ≡ arms-there (now (tokens .entry)) (now (group .entry)))
         × (now (table .exit) ≡ arms-marked first lets (now (numbers .entry)) (now (ends .entry)) (now (tokens .entry)) (now (group .entry)) row (now (table .entry))) ⌝ }
 {
@@ -165,7 +199,16 @@ pub fn mark_arms(tokens: &[u64], group: &[u64], first: u64, lets: usize, numbers
     }
     let mut i = 0;
     while i < group.len() {
-        mark_switch(tokens, group[i] as usize, first, lets, numbers, ends, row, table);
+        mark_switch(
+            tokens,
+            group[i] as usize,
+            first,
+            lets,
+            numbers,
+            ends,
+            row,
+            table,
+        );
         i += 1;
     }
     true
