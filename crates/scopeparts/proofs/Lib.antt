@@ -1,3 +1,4 @@
 pub mod Held
 pub mod Groups
 pub mod Taking
+pub mod Keys

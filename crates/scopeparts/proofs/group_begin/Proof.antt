@@ -1,28 +1,26 @@
+-- `scopeparts::group_begin` meets its contract. Assumes nothing.
+use native.Mathlib.Omega.{arith}
+use Rattle.scopeparts.proofs.Keys.{first-begins, next-begins}
 use borrow.Author.Needs.{needs}
 use Rattle.scopeparts.proofs.group_begin.Statement.{statement}
 use Rattle.scopeparts.proofs.group_begin.Tie as tie
 use Rattle.scopeparts.proofs.group_begin.Reads as reads
 use Rattle.scopeparts.proofs.group_begin.Lts as lts
 
--- src/lib.rt:158:9
 returns : tie.Need-returns
-returns c = ?
+returns c = first-begins (c .before .args .ends .now) (c .before .args .g) (c .if1 .taken)
 
--- src/lib.rt:160:10
 sub-result : tie.Need-sub-result
-sub-result c = search needs
+sub-result c = let ne = c .if1 .left in omega (arith, ne)
 
--- src/lib.rt:160:5
 mul-result : tie.Need-mul-result
-mul-result c = search needs
+mul-result c = let ne = c .if1 .left in omega (arith, ne, c .before .pre, c .before .good)
 
--- src/lib.rt:160:5
 shared-slice-read-result : tie.Need-shared-slice-read-result
-shared-slice-read-result c = search needs
+shared-slice-read-result c = omega (arith, c .before .before .pre)
 
--- src/lib.rt:153:1
 returns-2 : tie.Need-returns-2
-returns-2 c = ?
+returns-2 c = next-begins (c .before .before .args .ends .now) (c .before .before .args .g) (c .before .if1 .left)
 
 pub group-begin-spec : {M : Type 1} → statement M
 group-begin-spec =

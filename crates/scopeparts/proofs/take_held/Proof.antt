@@ -1,3 +1,7 @@
+-- `scopeparts::take_held` meets its contract. Assumes nothing.
+use native.Mathlib.Omega.{arith}
+use mathlib.Core.Path.{sym, _∙_}
+use Rattle.scopeparts.proofs.Taking.{never-broken, stop-is, run-within, held-stands}
 use borrow.Author.Needs.{needs}
 use Rattle.scopeparts.proofs.take_held.Statement.{statement}
 use Rattle.scopeparts.proofs.take_held.Tie as tie
@@ -6,61 +10,47 @@ use Rattle.scopeparts.proofs.take_held.Lts as lts
 use Rattle.tables.proofs.put.Reads as put-reads
 use Rattle.tokens.proofs.end_of.Reads as end-of-reads
 
--- src/lib.rt:58:14
 mul-at : tie.Need-mul-at
-mul-at c = search needs
+mul-at c = omega (arith, c .before .before .before .pre .1 .0 .1, c .before .before .before .good)
 
--- src/lib.rt:58:14
 shared-slice-read-at : tie.Need-shared-slice-read-at
-shared-slice-read-at c = search needs
+shared-slice-read-at c = c .before .before .before .before .pre .1 .0 .1
 
--- src/lib.rt:59:26
 end-of-requires : tie.Need-end-of-requires
-end-of-requires c κs = search needs
+end-of-requires c κs = tt
 
--- src/lib.rt:59:19
 enum-known-end : tie.Need-enum-known-end
 enum-known-end c = search needs
 
--- src/lib.rt:60:9
 enum-told : tie.Need-enum-told
 enum-told c = search needs
 
--- src/lib.rt:60:9
 returns : tie.Need-returns
-returns c = ?
+returns c = absurd (never-broken (c .before .before .before .before .before .before .before .args .held .now) (c .before .before .before .before .before .before .before .args .starts .now) (c .before .before .before .before .before .before .before .args .i) (c .before .before .before .before .before .before .before .pre .0 .0) (c .before .before .before .before .before .before .before .pre .1 .0 .0) (c .before .before .before .before .before .before .before .pre .1 .0 .1) (sym (c .enum-told .given .1) ∙ c .before .before .end-of .ensures))
 
--- src/lib.rt:62:9
 mul-put : tie.Need-mul-put
-mul-put c = ?
+mul-put c = let e = stop-is (c .before .before .before .before .before .before .before .before .args .held .now) (c .before .before .before .before .before .before .before .before .args .starts .now) (c .before .before .before .before .before .before .before .before .args .i) (c .before .before .before .before .before .before .before .before .pre .0 .0) (c .before .before .before .before .before .before .before .before .pre .1 .0 .0) (c .before .before .before .before .before .before .before .before .pre .1 .0 .1) (c .before .end .given .0 .0) (sym (c .before .end .given .1) ∙ c .before .before .before .end-of .ensures) in omega (arith, e, run-within (c .before .before .before .before .before .before .before .before .args .held .now) (c .before .before .before .before .before .before .before .before .args .starts .now) (c .before .before .before .before .before .before .before .before .args .i) (c .before .before .before .before .before .before .before .before .pre .0 .0) (c .before .before .before .before .before .before .before .before .pre .1 .0 .0) (c .before .before .before .before .before .before .before .before .pre .1 .0 .1), c .before .before .before .before .before .before .before .before .pre .0 .1)
 
--- src/lib.rt:62:9
 sub-put : tie.Need-sub-put
-sub-put c = ?
+sub-put c = let e = stop-is (c .before .before .before .before .before .before .before .before .args .held .now) (c .before .before .before .before .before .before .before .before .args .starts .now) (c .before .before .before .before .before .before .before .before .args .i) (c .before .before .before .before .before .before .before .before .pre .0 .0) (c .before .before .before .before .before .before .before .before .pre .1 .0 .0) (c .before .before .before .before .before .before .before .before .pre .1 .0 .1) (c .before .end .given .0 .0) (sym (c .before .end .given .1) ∙ c .before .before .before .end-of .ensures) in omega (arith, e)
 
--- src/lib.rt:62:9
 part-put-start : tie.Need-part-put-start
-part-put-start c = ?
+part-put-start c = let e = stop-is (c .before .before .before .before .before .before .before .before .args .held .now) (c .before .before .before .before .before .before .before .before .args .starts .now) (c .before .before .before .before .before .before .before .before .args .i) (c .before .before .before .before .before .before .before .before .pre .0 .0) (c .before .before .before .before .before .before .before .before .pre .1 .0 .0) (c .before .before .before .before .before .before .before .before .pre .1 .0 .1) (c .before .end .given .0 .0) (sym (c .before .end .given .1) ∙ c .before .before .before .end-of .ensures) in omega (arith, e)
 
--- src/lib.rt:62:9
 part-put-end : tie.Need-part-put-end
-part-put-end c = ?
+part-put-end c = let e = stop-is (c .before .before .before .before .before .before .before .before .args .held .now) (c .before .before .before .before .before .before .before .before .args .starts .now) (c .before .before .before .before .before .before .before .before .args .i) (c .before .before .before .before .before .before .before .before .pre .0 .0) (c .before .before .before .before .before .before .before .before .pre .1 .0 .0) (c .before .before .before .before .before .before .before .before .pre .1 .0 .1) (c .before .end .given .0 .0) (sym (c .before .end .given .1) ∙ c .before .before .before .end-of .ensures) in omega (arith, e, run-within (c .before .before .before .before .before .before .before .before .args .held .now) (c .before .before .before .before .before .before .before .before .args .starts .now) (c .before .before .before .before .before .before .before .before .args .i) (c .before .before .before .before .before .before .before .before .pre .0 .0) (c .before .before .before .before .before .before .before .before .pre .1 .0 .0) (c .before .before .before .before .before .before .before .before .pre .1 .0 .1))
 
--- src/lib.rt:62:5
 put-requires : tie.Need-put-requires
-put-requires c κs = search needs
+put-requires c κs = tt
 
--- src/lib.rt:63:5
 sub-result : tie.Need-sub-result
-sub-result c = ?
+sub-result c = let e = stop-is (c .before .before .before .before .before .before .before .before .before .before .before .before .before .args .held .now) (c .before .before .before .before .before .before .before .before .before .before .before .before .before .args .starts .now) (c .before .before .before .before .before .before .before .before .before .before .before .before .before .args .i) (c .before .before .before .before .before .before .before .before .before .before .before .before .before .pre .0 .0) (c .before .before .before .before .before .before .before .before .before .before .before .before .before .pre .1 .0 .0) (c .before .before .before .before .before .before .before .before .before .before .before .before .before .pre .1 .0 .1) (c .before .before .before .before .before .before .end .given .0 .0) (sym (c .before .before .before .before .before .before .end .given .1) ∙ c .before .before .before .before .before .before .before .before .end-of .ensures) in omega (arith, e)
 
--- src/lib.rt:52:1
 same-length : tie.Need-same-length
 same-length c = search needs
 
--- src/lib.rt:52:1
 returns-2 : tie.Need-returns-2
-returns-2 c = ?
+returns-2 c = held-stands (c .before .before .before .before .before .before .before .before .before .before .before .before .before .args .held .now) (c .before .before .before .before .before .before .before .before .before .before .before .before .before .args .starts .now) (c .before .before .before .before .before .before .before .before .before .before .before .before .before .args .i) (c .before .before .before .before .before .before .before .before .before .before .before .before .before .pre .0 .0) (c .before .before .before .before .before .before .before .before .before .before .before .before .before .pre .1 .0 .0) (c .before .before .before .before .before .before .before .before .before .before .before .before .before .pre .1 .0 .1) (c .before .before .before .before .before .before .end .given .0 .0) (stop-is (c .before .before .before .before .before .before .before .before .before .before .before .before .before .args .held .now) (c .before .before .before .before .before .before .before .before .before .before .before .before .before .args .starts .now) (c .before .before .before .before .before .before .before .before .before .before .before .before .before .args .i) (c .before .before .before .before .before .before .before .before .before .before .before .before .before .pre .0 .0) (c .before .before .before .before .before .before .before .before .before .before .before .before .before .pre .1 .0 .0) (c .before .before .before .before .before .before .before .before .before .before .before .before .before .pre .1 .0 .1) (c .before .before .before .before .before .before .end .given .0 .0) (sym (c .before .before .before .before .before .before .end .given .1) ∙ c .before .before .before .before .before .before .before .before .end-of .ensures)) (c .before .before .before .before .before .before .before .before .before .before .before .before .before .args .tree .now) _ (omega (arith, c .before .before .before .before .before .before .before .before .before .before .before .before .before .pre .0 .1, c .before .before .before .before .before .before .before .before .before .before .before .before .before .pre .1 .1)) (c .before .before .put .ensures)
 
 pub take-held-spec : {M : Type 1} → statement M
 take-held-spec =

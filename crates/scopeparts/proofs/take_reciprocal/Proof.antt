@@ -1,3 +1,6 @@
+-- `scopeparts::take_reciprocal` meets its contract. Assumes nothing.
+use mathlib.Core.Path.{sym, _∙_}
+use Rattle.scopeparts.proofs.Taking.{reciprocal-stands, reciprocal-there}
 use borrow.Author.Needs.{needs}
 use Rattle.scopeparts.proofs.take_reciprocal.Statement.{statement}
 use Rattle.scopeparts.proofs.take_reciprocal.Tie as tie
@@ -5,45 +8,35 @@ use Rattle.scopeparts.proofs.take_reciprocal.Reads as reads
 use Rattle.scopeparts.proofs.take_reciprocal.Lts as lts
 use Rattle.reciprocal.proofs.reciprocal.Reads as reciprocal-reads
 
--- src/lib.rt:73:9
 reciprocal-requires : tie.Need-reciprocal-requires
-reciprocal-requires c κs = search needs
+reciprocal-requires c κs = tt
 
--- src/lib.rt:75:22
 enum-known-bound : tie.Need-enum-known-bound
 enum-known-bound c = search needs
 
--- src/lib.rt:76:26
 enum-told : tie.Need-enum-told
 enum-told c = search needs
 
--- src/lib.rt:77:26
 enum-told-2 : tie.Need-enum-told-2
 enum-told-2 c = search needs
 
--- src/lib.rt:67:1
 same-length : tie.Need-same-length
 same-length c = search needs
 
--- src/lib.rt:67:1
 returns : tie.Need-returns
-returns c = ?
+returns c = reciprocal-stands (c .before .before .before .before .before .before .before .before .before .before .args .tokens .now) (c .before .before .before .before .before .before .before .before .before .before .args .places .now) (c .before .before .before .before .before .before .before .before .before .before .args .number) (c .before .before .before .before .before .before .before .before .before .before .args .j) (c .before .before .before .before .before .before .before .before .before .before .pre .0 .0) (c .before .before .before .before .before .before .before .before .before .before .pre .0 .1) (c .before .before .before .before .before .before .before .before .before .before .pre .1 .0 .0) (c .before .before .before .before .before .before .before .before .before .before .pre .1 .0 .1) (c .before .before .before .before .before .before .before .before .before .before .pre .1 .1 .0) (c .before .before .before .before .before .before .before .before .before .before .args .tree .now) (c .before .before .before .before .before .before .before .before .before .before .pre .1 .1 .1) (c .before .bound .given .0 .0) _ (sym (c .before .bound .given .1) ∙ c .before .before .before .before .before .reciprocal .ensures .0) (c .before .before .before .before .before .reciprocal .ensures .1)
 
--- src/lib.rt:67:1
 same-length-2 : tie.Need-same-length-2
 same-length-2 c = search needs
 
--- src/lib.rt:67:1
 returns-2 : tie.Need-returns-2
-returns-2 c = ?
+returns-2 c = absurd (reciprocal-there (c .before .before .before .before .before .before .before .before .before .args .tokens .now) (c .before .before .before .before .before .before .before .before .before .args .places .now) (c .before .before .before .before .before .before .before .before .before .args .number) (c .before .before .before .before .before .before .before .before .before .args .j) (c .before .before .before .before .before .before .before .before .before .pre .0 .0) (c .before .before .before .before .before .before .before .before .before .pre .0 .1) (c .before .before .before .before .before .before .before .before .before .pre .1 .0 .0) (c .before .before .before .before .before .before .before .before .before .pre .1 .0 .1) (c .before .before .before .before .before .before .before .before .before .pre .1 .1 .0) (c .before .before .before .before .before .before .before .before .before .args .tree .now) (c .before .before .before .before .before .before .before .before .before .pre .1 .1 .1) (c .before .before .before .before .reciprocal .result) (c .before .before .before .before .reciprocal .ensures .0) .0 (c .enum-told .given .1))
 
--- src/lib.rt:67:1
 same-length-3 : tie.Need-same-length-3
 same-length-3 c = search needs
 
--- src/lib.rt:67:1
 returns-3 : tie.Need-returns-3
-returns-3 c = ?
+returns-3 c = absurd (reciprocal-there (c .before .before .before .before .before .before .before .before .before .args .tokens .now) (c .before .before .before .before .before .before .before .before .before .args .places .now) (c .before .before .before .before .before .before .before .before .before .args .number) (c .before .before .before .before .before .before .before .before .before .args .j) (c .before .before .before .before .before .before .before .before .before .pre .0 .0) (c .before .before .before .before .before .before .before .before .before .pre .0 .1) (c .before .before .before .before .before .before .before .before .before .pre .1 .0 .0) (c .before .before .before .before .before .before .before .before .before .pre .1 .0 .1) (c .before .before .before .before .before .before .before .before .before .pre .1 .1 .0) (c .before .before .before .before .before .before .before .before .before .args .tree .now) (c .before .before .before .before .before .before .before .before .before .pre .1 .1 .1) (c .before .before .before .before .reciprocal .result) (c .before .before .before .before .reciprocal .ensures .0) .1 (c .enum-told2 .given .1))
 
 pub take-reciprocal-spec : {M : Type 1} → statement M
 take-reciprocal-spec =
