@@ -1,3 +1,6 @@
+-- `scopeparts::head_row` meets its contract. Assumes nothing.
+use native.Mathlib.Omega.{arith}
+use Rattle.scopeparts.proofs.Keys.{begin-before, begin-inside, member-inside, kind-there, part-few, head-is}
 use borrow.Author.Needs.{needs}
 use Rattle.scopeparts.proofs.head_row.Statement.{statement}
 use Rattle.scopeparts.proofs.head_row.Tie as tie
@@ -5,57 +8,44 @@ use Rattle.scopeparts.proofs.head_row.Reads as reads
 use Rattle.scopeparts.proofs.head_row.Lts as lts
 use Rattle.scopeparts.proofs.group_begin.Reads as group-begin-reads
 
--- src/lib.rt:495:9
 group-begin-requires : tie.Need-group-begin-requires
-group-begin-requires c κs = search needs
+group-begin-requires c κs = c .before .before .before .before .pre .1
 
--- src/lib.rt:496:15
 mul-end : tie.Need-mul-end
-mul-end c = search needs
+mul-end c = omega (arith, c .before .before .before .before .before .pre .1, c .before .before .before .before .before .good)
 
--- src/lib.rt:496:15
 shared-slice-read-end : tie.Need-shared-slice-read-end
-shared-slice-read-end c = search needs
+shared-slice-read-end c = c .before .before .before .before .before .before .pre .1
 
--- src/lib.rt:497:18
 mul-w : tie.Need-mul-w
-mul-w c = ?
+mul-w c = omega (arith, begin-inside (c .before .before .before .before .before .before .pre .0) (c .before .before .before .before .before .before .args .g) (c .before .before .before .before .before .before .pre .1) (c .before .group-begin .result) (c .before .group-begin .ensures), c .before .before .before .before .before .before .good)
 
--- src/lib.rt:497:18
 shared-slice-read-w : tie.Need-shared-slice-read-w
-shared-slice-read-w c = ?
+shared-slice-read-w c = begin-inside (c .before .before .before .before .before .before .before .pre .0) (c .before .before .before .before .before .before .before .args .g) (c .before .before .before .before .before .before .before .pre .1) (c .before .before .group-begin .result) (c .before .before .group-begin .ensures)
 
--- src/lib.rt:497:13
 mul-w-2 : tie.Need-mul-w-2
-mul-w-2 c = ?
+mul-w-2 c = omega (arith, member-inside (c .before .before .before .before .before .before .before .pre .0) (c .before .before .before .before .before .before .before .args .g) (c .before .before .before .before .before .before .before .pre .1) (c .before .before .group-begin .result) (c .before .before .group-begin .ensures), c .before .before .before .before .before .before .before .pre .0 .short)
 
--- src/lib.rt:497:13
 shared-slice-read-w-2 : tie.Need-shared-slice-read-w-2
-shared-slice-read-w-2 c = ?
+shared-slice-read-w-2 c = member-inside (c .before .before .before .before .before .before .before .before .pre .0) (c .before .before .before .before .before .before .before .before .args .g) (c .before .before .before .before .before .before .before .before .pre .1) (c .before .before .before .group-begin .result) (c .before .before .before .group-begin .ensures)
 
--- src/lib.rt:498:5
 add-result : tie.Need-add-result
-add-result c = search needs
+add-result c = omega arith
 
--- src/lib.rt:498:47
 sub-result : tie.Need-sub-result
-sub-result c = ?
+sub-result c = omega (arith, begin-before (c .before .before .before .before .before .before .before .before .pre .0) (c .before .before .before .before .before .before .before .before .args .g) (c .before .before .before .before .before .before .before .before .pre .1) (c .before .before .before .group-begin .result) (c .before .before .before .group-begin .ensures))
 
--- src/lib.rt:498:34
 add-result-2 : tie.Need-add-result-2
-add-result-2 c = ?
+add-result-2 c = omega (arith, kind-there (c .before .before .before .before .before .before .before .before .pre .0) (c .before .before .before .before .before .before .before .before .args .g) (c .before .before .before .before .before .before .before .before .pre .1) (c .before .before .before .group-begin .result) (c .before .before .before .group-begin .ensures), part-few (c .before .before .before .before .before .before .before .before .pre .0) (c .before .before .before .before .before .before .before .before .args .g) (c .before .before .before .before .before .before .before .before .pre .1) (c .before .before .before .group-begin .result) (c .before .before .before .group-begin .ensures))
 
--- src/lib.rt:498:25
 mul-result : tie.Need-mul-result
-mul-result c = ?
+mul-result c = omega (arith, kind-there (c .before .before .before .before .before .before .before .before .pre .0) (c .before .before .before .before .before .before .before .before .args .g) (c .before .before .before .before .before .before .before .before .pre .1) (c .before .before .before .group-begin .result) (c .before .before .before .group-begin .ensures), part-few (c .before .before .before .before .before .before .before .before .pre .0) (c .before .before .before .before .before .before .before .before .args .g) (c .before .before .before .before .before .before .before .before .pre .1) (c .before .before .before .group-begin .result) (c .before .before .before .group-begin .ensures))
 
--- src/lib.rt:498:5
 add-result-3 : tie.Need-add-result-3
-add-result-3 c = ?
+add-result-3 c = omega (arith, kind-there (c .before .before .before .before .before .before .before .before .pre .0) (c .before .before .before .before .before .before .before .before .args .g) (c .before .before .before .before .before .before .before .before .pre .1) (c .before .before .before .group-begin .result) (c .before .before .before .group-begin .ensures), part-few (c .before .before .before .before .before .before .before .before .pre .0) (c .before .before .before .before .before .before .before .before .args .g) (c .before .before .before .before .before .before .before .before .pre .1) (c .before .before .before .group-begin .result) (c .before .before .before .group-begin .ensures))
 
--- src/lib.rt:490:1
 returns : tie.Need-returns
-returns c = ?
+returns c = head-is (c .before .before .before .before .before .before .before .before .pre .0) (c .before .before .before .before .before .before .before .before .args .g) (c .before .before .before .before .before .before .before .before .pre .1) (c .before .before .before .group-begin .result) (c .before .before .before .group-begin .ensures)
 
 pub head-row-spec : {M : Type 1} → statement M
 head-row-spec =

@@ -1,3 +1,9 @@
+-- `scopeparts::mark_let` meets its contract. Assumes nothing.
+use native.Mathlib.Omega.{arith}
+use mathlib.Core.Path.{sym, _∙_}
+use lib.Seq.{length-take-le}
+use Rattle.scopeparts.proofs.Held.{trees-few, places-few}
+use Rattle.scopeparts.proofs.Marking.{reads-same}
 use borrow.Author.Needs.{needs}
 use Rattle.scopeparts.proofs.mark_let.Statement.{statement}
 use Rattle.scopeparts.proofs.mark_let.Tie as tie
@@ -6,45 +12,35 @@ use Rattle.scopeparts.proofs.mark_let.Lts as lts
 use Rattle.scopeneeds.proofs.mark_reads.Reads as mark-reads-reads
 use Rattle.scopeparts.proofs.take_final.Reads as take-final-reads
 
--- src/lib.rt:215:9
 add-take-final : tie.Need-add-take-final
-add-take-final c = search needs
+add-take-final c = let p = c .before .before .before .before .before .before .before .before .pre .0 in omega (arith, p .enough, c .before .before .before .before .before .before .before .before .pre .1, trees-few p, places-few p)
 
--- src/lib.rt:216:9
 slice-aggregate-take-final : tie.Need-slice-aggregate-take-final
 slice-aggregate-take-final c = search needs
 
--- src/lib.rt:206:9
 take-final-requires : tie.Need-take-final-requires
-take-final-requires c κs = search needs
+take-final-requires c κs = let p = c .before .before .before .before .before .before .before .before .before .pre .0 in ((c .before .before .before .before .before .before .before .before .before .args .ends .now, p), (omega (arith, p .enough, c .before .before .before .before .before .before .before .before .before .pre .1), search needs))
 
--- src/lib.rt:218:16
 sub-lets : tie.Need-sub-lets
-sub-lets c = search needs
+sub-lets c = c .before .before .before .before .before .before .before .before .before .before .before .pre .0 .enough
 
--- src/lib.rt:218:16
 add-lets : tie.Need-add-lets
-add-lets c = search needs
+add-lets c = let p = c .before .before .before .before .before .before .before .before .before .before .before .pre .0 in omega (arith, trees-few p, places-few p)
 
--- src/lib.rt:219:16
 array-share-prefix-tree : tie.Need-array-share-prefix-tree
 array-share-prefix-tree c = search needs
 
--- src/lib.rt:219:16
 slice-aggregate-mark-reads : tie.Need-slice-aggregate-mark-reads
-slice-aggregate-mark-reads c = ?
+slice-aggregate-mark-reads c = sym (length-take-le _ _ (c .before .before .take-final .ensures .inside))
 
--- src/lib.rt:219:5
 mark-reads-requires : tie.Need-mark-reads-requires
-mark-reads-requires c κs = search needs
+mark-reads-requires c κs = tt
 
--- src/lib.rt:187:1
 same-length : tie.Need-same-length
 same-length c = search needs
 
--- src/lib.rt:187:1
 returns : tie.Need-returns
-returns c = ?
+returns c = c .before .before .mark-reads .ensures ∙ reads-same (c .before .before .before .before .before .before .before .before .before .before .before .before .before .before .before .before .args .first) _ (c .before .before .before .before .before .before .before .before .before .before .before .before .before .before .before .before .args .numbers .now) (c .before .before .before .before .before .before .before .before .before .before .before .before .before .before .before .before .args .ends .now) _ _ (c .before .before .before .before .before .before .before .before .before .before .before .before .before .before .before .before .args .p) (c .before .before .before .before .before .before .before .before .before .before .before .before .before .before .before .before .args .bits .now) (c .before .before .before .before .before .before .take-final .ensures .words)
 
 pub mark-let-spec : {M : Type 1} → statement M
 mark-let-spec =

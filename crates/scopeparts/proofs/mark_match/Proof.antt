@@ -1,3 +1,9 @@
+-- `scopeparts::mark_match` meets its contract. Assumes nothing.
+use native.Mathlib.Omega.{arith}
+use mathlib.Core.Path.{sym}
+use lib.Seq.{length-take-le}
+use Rattle.scopeparts.proofs.Keys.{begin-before, begin-inside, end-inside}
+use Rattle.scopeparts.proofs.Marking.{match-marked}
 use borrow.Author.Needs.{needs}
 use Rattle.scopeparts.proofs.mark_match.Statement.{statement}
 use Rattle.scopeparts.proofs.mark_match.Tie as tie
@@ -8,65 +14,50 @@ use Rattle.scopeneeds.proofs.mark_reads.Reads as mark-reads-reads
 use Rattle.scopeparts.proofs.group_begin.Reads as group-begin-reads
 use Rattle.scopeparts.proofs.take_key.Reads as take-key-reads
 
--- src/lib.rt:240:55
 slice-aggregate-take-key : tie.Need-slice-aggregate-take-key
 slice-aggregate-take-key c = search needs
 
--- src/lib.rt:240:9
 take-key-requires : tie.Need-take-key-requires
-take-key-requires c κs = search needs
+take-key-requires c κs = (c .before .before .before .before .before .before .pre .0, (c .before .before .before .before .before .before .pre .1, search needs))
 
--- src/lib.rt:241:16
 array-share-prefix-tree : tie.Need-array-share-prefix-tree
 array-share-prefix-tree c = search needs
 
--- src/lib.rt:241:16
 slice-aggregate-mark-reads : tie.Need-slice-aggregate-mark-reads
-slice-aggregate-mark-reads c = ?
+slice-aggregate-mark-reads c = sym (length-take-le _ _ (c .before .before .take-key .ensures .inside))
 
--- src/lib.rt:241:5
 mark-reads-requires : tie.Need-mark-reads-requires
-mark-reads-requires c κs = search needs
+mark-reads-requires c κs = tt
 
--- src/lib.rt:242:9
 group-begin-requires : tie.Need-group-begin-requires
-group-begin-requires c κs = search needs
+group-begin-requires c κs = c .before .before .before .before .before .before .before .before .before .before .before .before .before .pre .1
 
--- src/lib.rt:243:15
 mul-end : tie.Need-mul-end
-mul-end c = search needs
+mul-end c = omega (arith, c .before .before .before .before .before .before .before .before .before .before .before .before .before .before .pre .1, c .before .before .before .before .before .before .before .before .before .before .before .before .before .before .good)
 
--- src/lib.rt:243:15
 shared-slice-read-end : tie.Need-shared-slice-read-end
-shared-slice-read-end c = search needs
+shared-slice-read-end c = c .before .before .before .before .before .before .before .before .before .before .before .before .before .before .before .pre .1
 
--- src/lib.rt:246:9
 mul-mark-arms : tie.Need-mul-mark-arms
-mul-mark-arms c = ?
+mul-mark-arms c = omega (arith, begin-inside (c .before .before .before .before .before .before .before .before .before .before .before .before .before .before .before .pre .0) (c .before .before .before .before .before .before .before .before .before .before .before .before .before .before .before .args .g) (c .before .before .before .before .before .before .before .before .before .before .before .before .before .before .before .pre .1) (c .before .group-begin .result) (c .before .group-begin .ensures), c .before .before .before .before .before .before .before .before .before .before .before .before .before .before .before .good)
 
--- src/lib.rt:246:9
 sub-mark-arms : tie.Need-sub-mark-arms
-sub-mark-arms c = ?
+sub-mark-arms c = omega (arith, begin-before (c .before .before .before .before .before .before .before .before .before .before .before .before .before .before .before .pre .0) (c .before .before .before .before .before .before .before .before .before .before .before .before .before .before .before .args .g) (c .before .before .before .before .before .before .before .before .before .before .before .before .before .before .before .pre .1) (c .before .group-begin .result) (c .before .group-begin .ensures))
 
--- src/lib.rt:246:9
 part-mark-arms-start : tie.Need-part-mark-arms-start
-part-mark-arms-start c = ?
+part-mark-arms-start c = omega (arith, begin-before (c .before .before .before .before .before .before .before .before .before .before .before .before .before .before .before .pre .0) (c .before .before .before .before .before .before .before .before .before .before .before .before .before .before .before .args .g) (c .before .before .before .before .before .before .before .before .before .before .before .before .before .before .before .pre .1) (c .before .group-begin .result) (c .before .group-begin .ensures))
 
--- src/lib.rt:246:9
 part-mark-arms-end : tie.Need-part-mark-arms-end
-part-mark-arms-end c = ?
+part-mark-arms-end c = omega (arith, end-inside (c .before .before .before .before .before .before .before .before .before .before .before .before .before .before .before .pre .0) (c .before .before .before .before .before .before .before .before .before .before .before .before .before .before .before .args .g) (c .before .before .before .before .before .before .before .before .before .before .before .before .before .before .before .pre .1))
 
--- src/lib.rt:244:5
 mark-arms-requires : tie.Need-mark-arms-requires
-mark-arms-requires c κs = search needs
+mark-arms-requires c κs = tt
 
--- src/lib.rt:223:1
 same-length : tie.Need-same-length
 same-length c = search needs
 
--- src/lib.rt:223:1
 returns : tie.Need-returns
-returns c = ?
+returns c = match-marked (c .before .before .before .before .before .before .before .before .before .before .before .before .before .before .before .before .before .before .before .before .pre .0) (c .before .before .before .before .before .before .before .before .before .before .before .before .before .before .before .before .before .before .before .before .args .g) (c .before .before .before .before .before .before .before .before .before .before .before .before .before .before .before .before .before .before .before .before .pre .1) (c .before .before .before .before .before .before .group-begin .result) (c .before .before .before .before .before .before .group-begin .ensures) (c .before .before .before .before .before .before .before .before .before .before .before .before .before .before .before .before .before .before .before .before .args .first) (c .before .before .before .before .before .before .before .before .before .before .before .before .before .before .before .before .before .before .before .before .args .lets) (c .before .before .before .before .before .before .before .before .before .before .before .before .before .before .before .before .before .before .before .before .args .row) (c .before .before .before .before .before .before .before .before .before .before .before .before .before .before .before .before .before .before .before .before .args .bits .now) _ _ _ _ (c .before .before .before .before .before .before .before .before .before .before .before .before .before .take-key .ensures) (c .before .before .before .before .before .before .before .before .before .mark-reads .ensures) (c .before .before .mark-arms .ensures .1)
 
 pub mark-match-spec : {M : Type 1} → statement M
 mark-match-spec =

@@ -1,3 +1,9 @@
+-- `scopeparts::mark_stmt` meets its contract. Assumes nothing.
+use native.Mathlib.Omega.{arith}
+use mathlib.Core.Path.{_∙_}
+use Rattle.scopeparts.proofs.Held.{trees-few, places-few}
+use Rattle.scopeparts.proofs.Keys.{grouped}
+use Rattle.scopeparts.proofs.Marking.{reads-same, let-reads, later-reads, stmt-group}
 use borrow.Author.Needs.{needs}
 use Rattle.scopeparts.proofs.mark_stmt.Statement.{statement}
 use Rattle.scopeparts.proofs.mark_stmt.Tie as tie
@@ -6,37 +12,29 @@ use Rattle.scopeparts.proofs.mark_stmt.Lts as lts
 use Rattle.scopeparts.proofs.mark_let.Reads as mark-let-reads
 use Rattle.scopeparts.proofs.mark_match.Reads as mark-match-reads
 
--- src/lib.rt:275:16
 sub-lets : tie.Need-sub-lets
-sub-lets c = search needs
+sub-lets c = c .before .before .before .before .before .before .before .before .pre .0 .enough
 
--- src/lib.rt:275:16
 add-lets : tie.Need-add-lets
-add-lets c = search needs
+add-lets c = let p = c .before .before .before .before .before .before .before .before .pre .0 in omega (arith, trees-few p, places-few p)
 
--- src/lib.rt:277:9
 mark-let-requires : tie.Need-mark-let-requires
-mark-let-requires c κs = search needs
+mark-let-requires c κs = (c .before .before .before .before .before .before .before .before .before .before .pre .0, c .before .if1 .taken)
 
--- src/lib.rt:291:9
 mark-match-requires : tie.Need-mark-match-requires
-mark-match-requires c κs = ?
+mark-match-requires c κs = let p = c .before .before .before .before .before .before .before .before .before .before .pre .0 in (grouped p, stmt-group p (c .before .before .before .before .before .before .before .before .before .before .args .p) (c .before .if1 .left) (c .before .before .before .before .before .before .before .before .before .before .pre .1))
 
--- src/lib.rt:257:1
 same-length : tie.Need-same-length
 same-length c = search needs
 
--- src/lib.rt:257:1
 returns : tie.Need-returns
-returns c = ?
+returns c = c .before .before .mark-let .ensures ∙ reads-same (c .before .before .before .before .before .before .before .before .before .before .before .before .before .args .first) _ (c .before .before .before .before .before .before .before .before .before .before .before .before .before .args .numbers .now) (c .before .before .before .before .before .before .before .before .before .before .before .before .before .args .ends .now) _ _ (c .before .before .before .before .before .before .before .before .before .before .before .before .before .args .p) (c .before .before .before .before .before .before .before .before .before .before .before .before .before .args .bits .now) (let-reads (c .before .before .before .before .before .before .before .before .before .before .before .before .before .pre .0) (c .before .before .before .before .before .before .before .before .before .before .before .before .before .args .p) (c .before .before .before .before .if1 .taken))
 
--- src/lib.rt:257:1
 same-length-2 : tie.Need-same-length-2
 same-length-2 c = search needs
 
--- src/lib.rt:257:1
 returns-2 : tie.Need-returns-2
-returns-2 c = ?
+returns-2 c = c .before .before .mark-match .ensures ∙ reads-same (c .before .before .before .before .before .before .before .before .before .before .before .before .before .args .first) _ (c .before .before .before .before .before .before .before .before .before .before .before .before .before .args .numbers .now) (c .before .before .before .before .before .before .before .before .before .before .before .before .before .args .ends .now) _ _ (c .before .before .before .before .before .before .before .before .before .before .before .before .before .args .p) (c .before .before .before .before .before .before .before .before .before .before .before .before .before .args .bits .now) (later-reads (c .before .before .before .before .before .before .before .before .before .before .before .before .before .pre .0) (c .before .before .before .before .before .before .before .before .before .before .before .before .before .args .p) (c .before .before .before .before .if1 .left))
 
 pub mark-stmt-spec : {M : Type 1} → statement M
 mark-stmt-spec =

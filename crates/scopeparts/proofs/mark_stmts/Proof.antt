@@ -1,3 +1,8 @@
+-- `scopeparts::mark_stmts` meets its contract: the first statements are marked. Assumes nothing.
+use Prim.Native.Nat.{_-_}
+use native.Mathlib.Omega.{arith}
+use Rattle.scopeparts.proofs.Marking.{Marked, marked-begins, marked-turns, marked-ends}
+use borrow.Author.Needs.{needs}
 use Rattle.scopeparts.proofs.mark_stmts.Statement.{statement}
 use Rattle.scopeparts.proofs.mark_stmts.Tie as tie
 use Rattle.scopeparts.proofs.mark_stmts.Reads as reads
@@ -5,38 +10,31 @@ use Rattle.scopeparts.proofs.mark_stmts.Lts as lts
 use Rattle.scopeparts.proofs.mark_stmt.Reads as mark-stmt-reads
 
 abbrev Inv-loop : tie.InvT-loop
-Inv-loop tokens results first places held starts members ends numbers count bits₀ p₀ bits p = ?
+Inv-loop tokens results first places held starts members ends numbers count bits₀ p₀ bits p = Marked tokens results first places numbers bits₀ count bits p
 
 abbrev μ-loop : tie.MeasureT-loop
-μ-loop tokens results first places held starts members ends numbers count bits₀ p₀ bits p = ?
+μ-loop tokens results first places held starts members ends numbers count bits₀ p₀ bits p = count - p
 
--- src/lib.rt:314:5
 loop-holds : tie.Need-loop-holds Inv-loop μ-loop
-loop-holds c = ?
+loop-holds c = marked-begins (c .before .before .before .before .before .before .before .before .pre .0) (c .before .before .before .before .before .before .before .before .args .bits .now) (c .before .before .before .before .before .before .before .before .args .count)
 
--- src/lib.rt:315:9
 mark-stmt-requires : tie.Need-mark-stmt-requires Inv-loop μ-loop
-mark-stmt-requires c κs = ?
+mark-stmt-requires c κs = (c .before .before .before .before .before .before .before .before .before .before .before .pre .0, omega (arith, c .before .loop-test .taken, c .before .before .before .before .before .before .before .before .before .before .before .pre .1))
 
--- src/lib.rt:328:9
 add-p : tie.Need-add-p Inv-loop μ-loop
-add-p c = ?
+add-p c = omega (arith, c .before .before .before .before .loop-test .taken)
 
--- src/lib.rt:314:5
 loop-less : tie.Need-loop-less Inv-loop μ-loop
-loop-less c = ?
+loop-less c = omega (arith, c .before .before .before .before .loop-test .taken)
 
--- src/lib.rt:314:5
 loop-again : tie.Need-loop-again Inv-loop μ-loop
-loop-again c = ?
+loop-again c = marked-turns (c .before .before .before .before .before .before .before .before .before .before .before .before .before .before .pre .0) (c .before .before .before .before .before .loop .inv) (c .before .before .before .before .loop-test .taken) _ (c .before .before .mark-stmt .ensures)
 
--- src/lib.rt:296:1
 same-length : tie.Need-same-length Inv-loop μ-loop
-same-length c = ?
+same-length c = c .before .loop .inv .long
 
--- src/lib.rt:296:1
 returns : tie.Need-returns Inv-loop μ-loop
-returns c = ?
+returns c = marked-ends (c .before .before .before .before .before .before .before .before .before .before .pre .0) (c .before .loop .inv) (c .loop-test .left)
 
 pub mark-stmts-spec : {M : Type 1} → statement M
 mark-stmts-spec =

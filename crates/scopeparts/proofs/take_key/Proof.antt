@@ -1,3 +1,7 @@
+-- `scopeparts::take_key` meets its contract. Assumes nothing.
+use native.Mathlib.Omega.{arith}
+use mathlib.Core.Path.{sym, _∙_}
+use Rattle.scopeparts.proofs.Keys.{begin-inside, end-inside, member-inside, key-not-broken, key-stop, stop-inside, key-stands-there, key-complete, later-fusable, key-done}
 use borrow.Author.Needs.{needs}
 use Rattle.scopeparts.proofs.take_key.Statement.{statement}
 use Rattle.scopeparts.proofs.take_key.Tie as tie
@@ -8,113 +12,86 @@ use Rattle.scopeparts.proofs.group_begin.Reads as group-begin-reads
 use Rattle.tables.proofs.put.Reads as put-reads
 use Rattle.tokens.proofs.end_of.Reads as end-of-reads
 
--- src/lib.rt:176:9
 group-begin-requires : tie.Need-group-begin-requires
-group-begin-requires c κs = search needs
+group-begin-requires c κs = c .before .before .before .before .before .pre .1 .0
 
--- src/lib.rt:177:15
 mul-end : tie.Need-mul-end
-mul-end c = search needs
+mul-end c = omega (arith, c .before .before .before .before .before .before .pre .1 .0, c .before .before .before .before .before .before .good)
 
--- src/lib.rt:177:15
 shared-slice-read-end : tie.Need-shared-slice-read-end
-shared-slice-read-end c = search needs
+shared-slice-read-end c = c .before .before .before .before .before .before .before .pre .1 .0
 
--- src/lib.rt:178:15
 mul-key : tie.Need-mul-key
-mul-key c = ?
+mul-key c = omega (arith, begin-inside (c .before .before .before .before .before .before .before .pre .0) (c .before .before .before .before .before .before .before .args .g) (c .before .before .before .before .before .before .before .pre .1 .0) (c .before .group-begin .result) (c .before .group-begin .ensures), c .before .before .before .before .before .before .before .good)
 
--- src/lib.rt:178:15
 shared-slice-read-key : tie.Need-shared-slice-read-key
-shared-slice-read-key c = ?
+shared-slice-read-key c = begin-inside (c .before .before .before .before .before .before .before .before .pre .0) (c .before .before .before .before .before .before .before .before .args .g) (c .before .before .before .before .before .before .before .before .pre .1 .0) (c .before .before .group-begin .result) (c .before .before .group-begin .ensures)
 
--- src/lib.rt:178:15
 add-key : tie.Need-add-key
-add-key c = ?
+add-key c = omega (arith, member-inside (c .before .before .before .before .before .before .before .before .pre .0) (c .before .before .before .before .before .before .before .before .args .g) (c .before .before .before .before .before .before .before .before .pre .1 .0) (c .before .before .group-begin .result) (c .before .before .group-begin .ensures), c .before .before .before .before .before .before .before .before .pre .0 .short)
 
--- src/lib.rt:179:27
 end-of-requires : tie.Need-end-of-requires
-end-of-requires c κs = search needs
+end-of-requires c κs = tt
 
--- src/lib.rt:179:19
 enum-known-stop : tie.Need-enum-known-stop
 enum-known-stop c = search needs
 
--- src/lib.rt:180:9
 enum-told : tie.Need-enum-told
 enum-told c = search needs
 
--- src/lib.rt:180:9
 returns : tie.Need-returns
-returns c = ?
+returns c = absurd (key-not-broken (c .before .before .before .before .before .before .before .before .before .before .before .pre .0) (c .before .before .before .before .before .before .before .before .before .before .before .args .g) (c .before .before .before .before .before .before .before .before .before .before .before .pre .1 .0) (c .before .before .before .before .before .group-begin .result) (c .before .before .before .before .before .group-begin .ensures) (sym (c .enum-told .given .1) ∙ c .before .before .end-of .ensures))
 
--- src/lib.rt:182:9
 mul-put : tie.Need-mul-put
-mul-put c = ?
+mul-put c = let es = key-stop (c .before .before .before .before .before .before .before .before .before .before .before .before .pre .0) (c .before .before .before .before .before .before .before .before .before .before .before .before .args .g) (c .before .before .before .before .before .before .before .before .before .before .before .before .pre .1 .0) (c .before .before .before .before .before .before .group-begin .result) (c .before .before .before .before .before .before .group-begin .ensures) (c .before .stop .given .0 .0) (sym (c .before .stop .given .1) ∙ c .before .before .before .end-of .ensures) in omega (arith, es, stop-inside (c .before .before .before .before .before .before .before .before .before .before .before .before .pre .0) (c .before .before .before .before .before .before .before .before .before .before .before .before .args .g) (c .before .before .before .before .before .before .before .before .before .before .before .before .pre .1 .0) (c .before .before .before .before .before .before .group-begin .result) (c .before .before .before .before .before .before .group-begin .ensures) _ es, c .before .before .before .before .before .before .before .before .before .before .before .before .pre .0 .short)
 
--- src/lib.rt:182:9
 sub-put : tie.Need-sub-put
-sub-put c = ?
+sub-put c = let es = key-stop (c .before .before .before .before .before .before .before .before .before .before .before .before .pre .0) (c .before .before .before .before .before .before .before .before .before .before .before .before .args .g) (c .before .before .before .before .before .before .before .before .before .before .before .before .pre .1 .0) (c .before .before .before .before .before .before .group-begin .result) (c .before .before .before .before .before .before .group-begin .ensures) (c .before .stop .given .0 .0) (sym (c .before .stop .given .1) ∙ c .before .before .before .end-of .ensures) in omega (arith, es)
 
--- src/lib.rt:182:9
 part-put-start : tie.Need-part-put-start
-part-put-start c = ?
+part-put-start c = let es = key-stop (c .before .before .before .before .before .before .before .before .before .before .before .before .pre .0) (c .before .before .before .before .before .before .before .before .before .before .before .before .args .g) (c .before .before .before .before .before .before .before .before .before .before .before .before .pre .1 .0) (c .before .before .before .before .before .before .group-begin .result) (c .before .before .before .before .before .before .group-begin .ensures) (c .before .stop .given .0 .0) (sym (c .before .stop .given .1) ∙ c .before .before .before .end-of .ensures) in omega (arith, es)
 
--- src/lib.rt:182:9
 part-put-end : tie.Need-part-put-end
-part-put-end c = ?
+part-put-end c = let es = key-stop (c .before .before .before .before .before .before .before .before .before .before .before .before .pre .0) (c .before .before .before .before .before .before .before .before .before .before .before .before .args .g) (c .before .before .before .before .before .before .before .before .before .before .before .before .pre .1 .0) (c .before .before .before .before .before .before .group-begin .result) (c .before .before .before .before .before .before .group-begin .ensures) (c .before .stop .given .0 .0) (sym (c .before .stop .given .1) ∙ c .before .before .before .end-of .ensures) in omega (arith, es, stop-inside (c .before .before .before .before .before .before .before .before .before .before .before .before .pre .0) (c .before .before .before .before .before .before .before .before .before .before .before .before .args .g) (c .before .before .before .before .before .before .before .before .before .before .before .before .pre .1 .0) (c .before .before .before .before .before .before .group-begin .result) (c .before .before .before .before .before .before .group-begin .ensures) _ es)
 
--- src/lib.rt:182:5
 put-requires : tie.Need-put-requires
-put-requires c κs = search needs
+put-requires c κs = tt
 
--- src/lib.rt:183:22
 mul-fuse-words : tie.Need-mul-fuse-words
-mul-fuse-words c = ?
+mul-fuse-words c = omega (arith, end-inside (c .before .before .before .before .before .before .before .before .before .before .before .before .before .before .before .before .before .pre .0) (c .before .before .before .before .before .before .before .before .before .before .before .before .before .before .before .before .before .args .g) (c .before .before .before .before .before .before .before .before .before .before .before .before .before .before .before .before .before .pre .1 .0), c .before .before .before .before .before .before .before .before .before .before .before .before .before .before .before .before .before .good)
 
--- src/lib.rt:183:22
 sub-fuse-words : tie.Need-sub-fuse-words
-sub-fuse-words c = ?
+sub-fuse-words c = omega (arith, end-inside (c .before .before .before .before .before .before .before .before .before .before .before .before .before .before .before .before .before .pre .0) (c .before .before .before .before .before .before .before .before .before .before .before .before .before .before .before .before .before .args .g) (c .before .before .before .before .before .before .before .before .before .before .before .before .before .before .before .before .before .pre .1 .0))
 
--- src/lib.rt:183:22
 part-fuse-words-start : tie.Need-part-fuse-words-start
-part-fuse-words-start c = ?
+part-fuse-words-start c = omega (arith, end-inside (c .before .before .before .before .before .before .before .before .before .before .before .before .before .before .before .before .before .pre .0) (c .before .before .before .before .before .before .before .before .before .before .before .before .before .before .before .before .before .args .g) (c .before .before .before .before .before .before .before .before .before .before .before .before .before .before .before .before .before .pre .1 .0))
 
--- src/lib.rt:183:22
 part-fuse-words-end : tie.Need-part-fuse-words-end
 part-fuse-words-end c = search needs
 
--- src/lib.rt:183:39
 mul-fuse-words-2 : tie.Need-mul-fuse-words-2
-mul-fuse-words-2 c = ?
+mul-fuse-words-2 c = omega (arith, end-inside (c .before .before .before .before .before .before .before .before .before .before .before .before .before .before .before .before .before .before .pre .0) (c .before .before .before .before .before .before .before .before .before .before .before .before .before .before .before .before .before .before .args .g) (c .before .before .before .before .before .before .before .before .before .before .before .before .before .before .before .before .before .before .pre .1 .0), c .before .before .before .before .before .before .before .before .before .before .before .before .before .before .before .before .before .before .good)
 
--- src/lib.rt:183:39
 sub-fuse-words-2 : tie.Need-sub-fuse-words-2
-sub-fuse-words-2 c = ?
+sub-fuse-words-2 c = omega (arith, end-inside (c .before .before .before .before .before .before .before .before .before .before .before .before .before .before .before .before .before .before .pre .0) (c .before .before .before .before .before .before .before .before .before .before .before .before .before .before .before .before .before .before .args .g) (c .before .before .before .before .before .before .before .before .before .before .before .before .before .before .before .before .before .before .pre .1 .0), c .before .before .before .before .before .before .before .before .before .before .before .before .before .before .before .before .before .before .pre .0 .numbered)
 
--- src/lib.rt:183:39
 part-fuse-words-start-2 : tie.Need-part-fuse-words-start-2
-part-fuse-words-start-2 c = ?
+part-fuse-words-start-2 c = omega (arith, end-inside (c .before .before .before .before .before .before .before .before .before .before .before .before .before .before .before .before .before .before .pre .0) (c .before .before .before .before .before .before .before .before .before .before .before .before .before .before .before .before .before .before .args .g) (c .before .before .before .before .before .before .before .before .before .before .before .before .before .before .before .before .before .before .pre .1 .0), c .before .before .before .before .before .before .before .before .before .before .before .before .before .before .before .before .before .before .pre .0 .numbered)
 
--- src/lib.rt:183:39
 part-fuse-words-end-2 : tie.Need-part-fuse-words-end-2
 part-fuse-words-end-2 c = search needs
 
--- src/lib.rt:183:62
 sub-fuse-words-3 : tie.Need-sub-fuse-words-3
-sub-fuse-words-3 c = ?
+sub-fuse-words-3 c = let es = key-stop (c .before .before .before .before .before .before .before .before .before .before .before .before .before .before .before .before .before .before .before .before .pre .0) (c .before .before .before .before .before .before .before .before .before .before .before .before .before .before .before .before .before .before .before .before .args .g) (c .before .before .before .before .before .before .before .before .before .before .before .before .before .before .before .before .before .before .before .before .pre .1 .0) (c .before .before .before .before .before .before .before .before .before .before .before .before .before .before .group-begin .result) (c .before .before .before .before .before .before .before .before .before .before .before .before .before .before .group-begin .ensures) (c .before .before .before .before .before .before .before .before .before .stop .given .0 .0) (sym (c .before .before .before .before .before .before .before .before .before .stop .given .1) ∙ c .before .before .before .before .before .before .before .before .before .before .before .end-of .ensures) in omega (arith, es)
 
--- src/lib.rt:183:5
 fuse-words-requires : tie.Need-fuse-words-requires
-fuse-words-requires c κs = ?
+fuse-words-requires c κs = let es = key-stop (c .before .before .before .before .before .before .before .before .before .before .before .before .before .before .before .before .before .before .before .before .pre .0) (c .before .before .before .before .before .before .before .before .before .before .before .before .before .before .before .before .before .before .before .before .args .g) (c .before .before .before .before .before .before .before .before .before .before .before .before .before .before .before .before .before .before .before .before .pre .1 .0) (c .before .before .before .before .before .before .before .before .before .before .before .before .before .before .group-begin .result) (c .before .before .before .before .before .before .before .before .before .before .before .before .before .before .group-begin .ensures) (c .before .before .before .before .before .before .before .before .before .stop .given .0 .0) (sym (c .before .before .before .before .before .before .before .before .before .stop .given .1) ∙ c .before .before .before .before .before .before .before .before .before .before .before .end-of .ensures) in let s = key-stands-there (c .before .before .before .before .before .before .before .before .before .before .before .before .before .before .before .before .before .before .before .before .pre .0) (c .before .before .before .before .before .before .before .before .before .before .before .before .before .before .before .before .before .before .before .before .args .g) (c .before .before .before .before .before .before .before .before .before .before .before .before .before .before .before .before .before .before .before .before .pre .1 .0) (c .before .before .before .before .before .before .before .before .before .before .before .before .before .before .group-begin .result) (c .before .before .before .before .before .before .before .before .before .before .before .before .before .before .group-begin .ensures) _ es (c .before .before .before .before .before .before .before .before .before .before .before .before .before .before .before .before .before .before .before .before .args .tree .now) _ (c .before .before .before .before .before .before .before .before .before .before .before .before .before .before .before .before .before .before .before .before .pre .1 .1) (c .before .before .before .before .before .put .ensures) in (later-fusable (c .before .before .before .before .before .before .before .before .before .before .before .before .before .before .before .before .before .before .before .before .pre .0) (c .before .before .before .before .before .before .before .before .before .before .before .before .before .before .before .before .before .before .before .before .args .g) (c .before .before .before .before .before .before .before .before .before .before .before .before .before .before .before .before .before .before .before .before .pre .1 .0) (c .before .before .before .before .before .before .before .before .before .before .before .before .before .before .group-begin .result) (c .before .before .before .before .before .before .before .before .before .before .before .before .before .before .group-begin .ensures) _ es, ((s .inside, omega (arith, es, stop-inside (c .before .before .before .before .before .before .before .before .before .before .before .before .before .before .before .before .before .before .before .before .pre .0) (c .before .before .before .before .before .before .before .before .before .before .before .before .before .before .before .before .before .before .before .before .args .g) (c .before .before .before .before .before .before .before .before .before .before .before .before .before .before .before .before .before .before .before .before .pre .1 .0) (c .before .before .before .before .before .before .before .before .before .before .before .before .before .before .group-begin .result) (c .before .before .before .before .before .before .before .before .before .before .before .before .before .before .group-begin .ensures) _ es, c .before .before .before .before .before .before .before .before .before .before .before .before .before .before .before .before .before .before .before .before .pre .0 .short)), key-complete (c .before .before .before .before .before .before .before .before .before .before .before .before .before .before .before .before .before .before .before .before .pre .0) (c .before .before .before .before .before .before .before .before .before .before .before .before .before .before .before .before .before .before .before .before .args .g) (c .before .before .before .before .before .before .before .before .before .before .before .before .before .before .before .before .before .before .before .before .pre .1 .0) (c .before .before .before .before .before .before .before .before .before .before .before .before .before .before .group-begin .result) (c .before .before .before .before .before .before .before .before .before .before .before .before .before .before .group-begin .ensures) _ es _ _ s))
 
--- src/lib.rt:164:1
 same-length : tie.Need-same-length
 same-length c = search needs
 
--- src/lib.rt:164:1
 returns-2 : tie.Need-returns-2
-returns-2 c = ?
+returns-2 c = let es = key-stop (c .before .before .before .before .before .before .before .before .before .before .before .before .before .before .before .before .before .before .before .before .before .before .before .pre .0) (c .before .before .before .before .before .before .before .before .before .before .before .before .before .before .before .before .before .before .before .before .before .before .before .args .g) (c .before .before .before .before .before .before .before .before .before .before .before .before .before .before .before .before .before .before .before .before .before .before .before .pre .1 .0) (c .before .before .before .before .before .before .before .before .before .before .before .before .before .before .before .before .before .group-begin .result) (c .before .before .before .before .before .before .before .before .before .before .before .before .before .before .before .before .before .group-begin .ensures) (c .before .before .before .before .before .before .before .before .before .before .before .before .stop .given .0 .0) (sym (c .before .before .before .before .before .before .before .before .before .before .before .before .stop .given .1) ∙ c .before .before .before .before .before .before .before .before .before .before .before .before .before .before .end-of .ensures) in key-done (c .before .before .before .before .before .before .before .before .before .before .before .before .before .before .before .before .before .before .before .before .before .before .before .pre .0) (c .before .before .before .before .before .before .before .before .before .before .before .before .before .before .before .before .before .before .before .before .before .before .before .args .g) (c .before .before .before .before .before .before .before .before .before .before .before .before .before .before .before .before .before .before .before .before .before .before .before .pre .1 .0) (c .before .before .before .before .before .before .before .before .before .before .before .before .before .before .before .before .before .group-begin .result) (c .before .before .before .before .before .before .before .before .before .before .before .before .before .before .before .before .before .group-begin .ensures) _ es _ _ (key-stands-there (c .before .before .before .before .before .before .before .before .before .before .before .before .before .before .before .before .before .before .before .before .before .before .before .pre .0) (c .before .before .before .before .before .before .before .before .before .before .before .before .before .before .before .before .before .before .before .before .before .before .before .args .g) (c .before .before .before .before .before .before .before .before .before .before .before .before .before .before .before .before .before .before .before .before .before .before .before .pre .1 .0) (c .before .before .before .before .before .before .before .before .before .before .before .before .before .before .before .before .before .group-begin .result) (c .before .before .before .before .before .before .before .before .before .before .before .before .before .before .before .before .before .group-begin .ensures) _ es (c .before .before .before .before .before .before .before .before .before .before .before .before .before .before .before .before .before .before .before .before .before .before .before .args .tree .now) _ (c .before .before .before .before .before .before .before .before .before .before .before .before .before .before .before .before .before .before .before .before .before .before .before .pre .1 .1) (c .before .before .before .before .before .before .before .before .put .ensures)) _ _ (c .before .before .fuse-words .ensures)
 
 pub take-key-spec : {M : Type 1} → statement M
 take-key-spec =

@@ -1,3 +1,10 @@
+-- `scopeparts::write_let` meets its contract. Assumes nothing.
+use Prim.Native.Nat.{_+_}
+use native.Mathlib.Omega.{arith}
+use mathlib.Core.Path.{sym, _∙_}
+use lib.Seq.{length-take-le}
+use Rattle.scopeparts.proofs.Held.{lets-are, trees-few, places-few}
+use Rattle.scopeparts.proofs.Writing.{let-long, let-written}
 use borrow.Author.Needs.{needs}
 use Rattle.scopeparts.proofs.write_let.Statement.{statement}
 use Rattle.scopeparts.proofs.write_let.Tie as tie
@@ -7,65 +14,50 @@ use Rattle.scopeparts.proofs.take_final.Reads as take-final-reads
 use Rattle.tables.proofs.put.Reads as put-reads
 use Rattle.tables.proofs.put_word.Reads as put-word-reads
 
--- src/lib.rt:401:9
 add-take-final : tie.Need-add-take-final
-add-take-final c = ?
+add-take-final c = let p = c .before .before .before .before .before .before .before .pre .0 .1 in omega (arith, p .enough, c .before .before .before .before .before .before .before .pre .1 .0, lets-are p, trees-few p, places-few p)
 
--- src/lib.rt:402:9
 slice-aggregate-take-final : tie.Need-slice-aggregate-take-final
 slice-aggregate-take-final c = search needs
 
--- src/lib.rt:392:9
 take-final-requires : tie.Need-take-final-requires
-take-final-requires c κs = ?
+take-final-requires c κs = let p = c .before .before .before .before .before .before .before .before .pre .0 .1 in (c .before .before .before .before .before .before .before .before .pre .0, (omega (arith, p .enough, c .before .before .before .before .before .before .before .before .pre .1 .0, lets-are p), search needs))
 
--- src/lib.rt:404:39
 add-put-word : tie.Need-add-put-word
-add-put-word c = ?
+add-put-word c = let p = c .before .before .before .before .before .before .before .before .before .before .pre .0 .1 in omega (arith, p .low, c .before .before .before .before .before .before .before .before .before .before .pre .1 .0, lets-are p, trees-few p, places-few p)
 
--- src/lib.rt:404:26
 mul-put-word : tie.Need-mul-put-word
-mul-put-word c = ?
+mul-put-word c = let p = c .before .before .before .before .before .before .before .before .before .before .pre .0 .1 in omega (arith, p .low, c .before .before .before .before .before .before .before .before .before .before .pre .1 .0, lets-are p, trees-few p, places-few p)
 
--- src/lib.rt:404:14
 add-put-word-2 : tie.Need-add-put-word-2
-add-put-word-2 c = ?
+add-put-word-2 c = let p = c .before .before .before .before .before .before .before .before .before .before .pre .0 .1 in omega (arith, p .low, c .before .before .before .before .before .before .before .before .before .before .pre .1 .0, lets-are p, trees-few p, places-few p)
 
--- src/lib.rt:404:5
 put-word-requires : tie.Need-put-word-requires
-put-word-requires c κs = search needs
+put-word-requires c κs = tt
 
--- src/lib.rt:405:9
 array-share-prefix-tree : tie.Need-array-share-prefix-tree
 array-share-prefix-tree c = search needs
 
--- src/lib.rt:405:9
 slice-aggregate-put : tie.Need-slice-aggregate-put
-slice-aggregate-put c = ?
+slice-aggregate-put c = sym (length-take-le _ _ (c .before .before .before .before .before .before .take-final .ensures .inside))
 
--- src/lib.rt:405:21
 add-put : tie.Need-add-put
 add-put c = search needs
 
--- src/lib.rt:405:5
 put-requires : tie.Need-put-requires
-put-requires c κs = search needs
+put-requires c κs = tt
 
--- src/lib.rt:406:5
 add-result : tie.Need-add-result
 add-result c = search needs
 
--- src/lib.rt:406:5
 add-result-2 : tie.Need-add-result-2
 add-result-2 c = search needs
 
--- src/lib.rt:372:1
 same-length : tie.Need-same-length
 same-length c = search needs
 
--- src/lib.rt:372:1
 returns : tie.Need-returns
-returns c = ?
+returns c = let-written (c .before .before .before .before .before .before .before .before .before .before .before .before .before .before .before .before .before .before .before .args .at) (c .before .before .before .before .before .before .before .before .before .before .before .before .before .before .before .before .before .before .before .args .first + c .before .before .before .before .before .before .before .before .before .before .before .before .before .before .before .before .before .before .before .args .p) _ (c .before .before .before .before .before .before .before .before .before .before .before .before .before .before .before .before .before .before .before .args .table .now) _ _ _ _ (c .before .before .before .before .before .before .before .before .before .before .take-final .ensures) (c .before .before .before .before .before .before .before .put-word .ensures) (c .before .before .put .ensures)
 
 pub write-let-spec : {M : Type 1} → statement M
 write-let-spec =

@@ -1,3 +1,9 @@
+-- `scopeparts::write_match_head` meets its contract. Assumes nothing.
+use native.Mathlib.Omega.{arith}
+use mathlib.Core.Path.{sym, _∙_}
+use lib.Seq.{length-take-le}
+use Rattle.scopeparts.proofs.Keys.{begin-before, begin-inside, end-inside}
+use Rattle.scopeparts.proofs.Writing.{head-long, head-written}
 use borrow.Author.Needs.{needs}
 use Rattle.scopeparts.proofs.write_match_head.Statement.{statement}
 use Rattle.scopeparts.proofs.write_match_head.Tie as tie
@@ -10,101 +16,77 @@ use Rattle.tables.proofs.put.Reads as put-reads
 use Rattle.tables.proofs.put_names.Reads as put-names-reads
 use Rattle.tables.proofs.put_word.Reads as put-word-reads
 
--- src/lib.rt:518:55
 slice-aggregate-take-key : tie.Need-slice-aggregate-take-key
 slice-aggregate-take-key c = search needs
 
--- src/lib.rt:518:9
 take-key-requires : tie.Need-take-key-requires
-take-key-requires c κs = search needs
+take-key-requires c κs = (c .before .before .before .before .before .before .pre .0, (c .before .before .before .before .before .before .pre .1 .0, search needs))
 
--- src/lib.rt:519:9
 group-begin-requires : tie.Need-group-begin-requires
-group-begin-requires c κs = search needs
+group-begin-requires c κs = c .before .before .before .before .before .before .before .before .pre .1 .0
 
--- src/lib.rt:520:15
 mul-end : tie.Need-mul-end
-mul-end c = search needs
+mul-end c = omega (arith, c .before .before .before .before .before .before .before .before .before .pre .1 .0, c .before .before .before .before .before .before .before .before .before .good)
 
--- src/lib.rt:520:15
 shared-slice-read-end : tie.Need-shared-slice-read-end
-shared-slice-read-end c = search needs
+shared-slice-read-end c = c .before .before .before .before .before .before .before .before .before .before .pre .1 .0
 
--- src/lib.rt:521:14
 head-row-requires : tie.Need-head-row-requires
-head-row-requires c κs = search needs
+head-row-requires c κs = (c .before .before .before .before .before .before .before .before .before .before .pre .0, c .before .before .before .before .before .before .before .before .before .before .pre .1 .0)
 
--- src/lib.rt:521:5
 put-word-requires : tie.Need-put-word-requires
-put-word-requires c κs = search needs
+put-word-requires c κs = tt
 
--- src/lib.rt:522:9
 array-share-prefix-tree : tie.Need-array-share-prefix-tree
 array-share-prefix-tree c = search needs
 
--- src/lib.rt:522:9
 slice-aggregate-put : tie.Need-slice-aggregate-put
-slice-aggregate-put c = ?
+slice-aggregate-put c = sym (length-take-le _ _ (c .before .before .before .before .before .before .before .before .before .take-key .ensures .inside))
 
--- src/lib.rt:522:21
 add-put : tie.Need-add-put
-add-put c = search needs
+add-put c = omega (arith, c .before .before .before .before .before .before .before .before .before .before .before .before .before .before .before .before .pre .1 .1, head-long (c .before .before .before .before .before .before .before .before .before .before .before .before .before .before .before .before .pre .0) (c .before .before .before .before .before .before .before .before .before .before .before .before .before .before .before .before .args .g) (c .before .before .before .before .before .before .before .before .before .before .before .before .before .before .before .before .pre .1 .0) (c .before .before .before .before .before .before .before .group-begin .result) (c .before .before .before .before .before .before .before .group-begin .ensures))
 
--- src/lib.rt:522:5
 put-requires : tie.Need-put-requires
-put-requires c κs = search needs
+put-requires c κs = tt
 
--- src/lib.rt:523:15
 mul-put-names : tie.Need-mul-put-names
-mul-put-names c = ?
+mul-put-names c = omega (arith, begin-inside (c .before .before .before .before .before .before .before .before .before .before .before .before .before .before .before .before .before .before .before .before .pre .0) (c .before .before .before .before .before .before .before .before .before .before .before .before .before .before .before .before .before .before .before .before .args .g) (c .before .before .before .before .before .before .before .before .before .before .before .before .before .before .before .before .before .before .before .before .pre .1 .0) (c .before .before .before .before .before .before .before .before .before .before .before .group-begin .result) (c .before .before .before .before .before .before .before .before .before .before .before .group-begin .ensures), c .before .before .before .before .before .before .before .before .before .before .before .before .before .before .before .before .before .before .before .before .good)
 
--- src/lib.rt:523:15
 sub-put-names : tie.Need-sub-put-names
-sub-put-names c = ?
+sub-put-names c = omega (arith, begin-before (c .before .before .before .before .before .before .before .before .before .before .before .before .before .before .before .before .before .before .before .before .pre .0) (c .before .before .before .before .before .before .before .before .before .before .before .before .before .before .before .before .before .before .before .before .args .g) (c .before .before .before .before .before .before .before .before .before .before .before .before .before .before .before .before .before .before .before .before .pre .1 .0) (c .before .before .before .before .before .before .before .before .before .before .before .group-begin .result) (c .before .before .before .before .before .before .before .before .before .before .before .group-begin .ensures))
 
--- src/lib.rt:523:15
 part-put-names-start : tie.Need-part-put-names-start
-part-put-names-start c = ?
+part-put-names-start c = omega (arith, begin-before (c .before .before .before .before .before .before .before .before .before .before .before .before .before .before .before .before .before .before .before .before .pre .0) (c .before .before .before .before .before .before .before .before .before .before .before .before .before .before .before .before .before .before .before .before .args .g) (c .before .before .before .before .before .before .before .before .before .before .before .before .before .before .before .before .before .before .before .before .pre .1 .0) (c .before .before .before .before .before .before .before .before .before .before .before .group-begin .result) (c .before .before .before .before .before .before .before .before .before .before .before .group-begin .ensures))
 
--- src/lib.rt:523:15
 part-put-names-end : tie.Need-part-put-names-end
-part-put-names-end c = ?
+part-put-names-end c = omega (arith, end-inside (c .before .before .before .before .before .before .before .before .before .before .before .before .before .before .before .before .before .before .before .before .pre .0) (c .before .before .before .before .before .before .before .before .before .before .before .before .before .before .before .before .before .before .before .before .args .g) (c .before .before .before .before .before .before .before .before .before .before .before .before .before .before .before .before .before .before .before .before .pre .1 .0), c .before .before .before .before .before .before .before .before .before .before .before .before .before .before .before .before .before .before .before .before .pre .0 .numbered)
 
--- src/lib.rt:523:37
 add-put-names : tie.Need-add-put-names
-add-put-names c = search needs
+add-put-names c = omega (arith, c .before .before .before .before .before .before .before .before .before .before .before .before .before .before .before .before .before .before .before .before .before .pre .1 .1, head-long (c .before .before .before .before .before .before .before .before .before .before .before .before .before .before .before .before .before .before .before .before .before .pre .0) (c .before .before .before .before .before .before .before .before .before .before .before .before .before .before .before .before .before .before .before .before .before .args .g) (c .before .before .before .before .before .before .before .before .before .before .before .before .before .before .before .before .before .before .before .before .before .pre .1 .0) (c .before .before .before .before .before .before .before .before .before .before .before .before .group-begin .result) (c .before .before .before .before .before .before .before .before .before .before .before .before .group-begin .ensures), c .before .before .before .before .before .before .before .before .before .before .before .before .before .before .take-key .ensures .many)
 
--- src/lib.rt:523:37
 add-put-names-2 : tie.Need-add-put-names-2
-add-put-names-2 c = search needs
+add-put-names-2 c = omega (arith, c .before .before .before .before .before .before .before .before .before .before .before .before .before .before .before .before .before .before .before .before .before .pre .1 .1, head-long (c .before .before .before .before .before .before .before .before .before .before .before .before .before .before .before .before .before .before .before .before .before .pre .0) (c .before .before .before .before .before .before .before .before .before .before .before .before .before .before .before .before .before .before .before .before .before .args .g) (c .before .before .before .before .before .before .before .before .before .before .before .before .before .before .before .before .before .before .before .before .before .pre .1 .0) (c .before .before .before .before .before .before .before .before .before .before .before .before .group-begin .result) (c .before .before .before .before .before .before .before .before .before .before .before .before .group-begin .ensures), c .before .before .before .before .before .before .before .before .before .before .before .before .before .before .take-key .ensures .many)
 
--- src/lib.rt:523:5
 put-names-requires : tie.Need-put-names-requires
-put-names-requires c κs = search needs
+put-names-requires c κs = tt
 
--- src/lib.rt:524:5
 add-result : tie.Need-add-result
-add-result c = ?
+add-result c = omega (arith, c .before .before .before .before .before .before .before .before .before .before .before .before .before .before .before .before .before .before .before .before .before .before .before .before .before .pre .1 .1, head-long (c .before .before .before .before .before .before .before .before .before .before .before .before .before .before .before .before .before .before .before .before .before .before .before .before .before .pre .0) (c .before .before .before .before .before .before .before .before .before .before .before .before .before .before .before .before .before .before .before .before .before .before .before .before .before .args .g) (c .before .before .before .before .before .before .before .before .before .before .before .before .before .before .before .before .before .before .before .before .before .before .before .before .before .pre .1 .0) (c .before .before .before .before .before .before .before .before .before .before .before .before .before .before .before .before .group-begin .result) (c .before .before .before .before .before .before .before .before .before .before .before .before .before .before .before .before .group-begin .ensures), c .before .before .before .before .before .before .before .before .before .before .before .before .before .before .before .before .before .before .take-key .ensures .many)
 
--- src/lib.rt:524:5
 add-result-2 : tie.Need-add-result-2
-add-result-2 c = ?
+add-result-2 c = omega (arith, c .before .before .before .before .before .before .before .before .before .before .before .before .before .before .before .before .before .before .before .before .before .before .before .before .before .pre .1 .1, head-long (c .before .before .before .before .before .before .before .before .before .before .before .before .before .before .before .before .before .before .before .before .before .before .before .before .before .pre .0) (c .before .before .before .before .before .before .before .before .before .before .before .before .before .before .before .before .before .before .before .before .before .before .before .before .before .args .g) (c .before .before .before .before .before .before .before .before .before .before .before .before .before .before .before .before .before .before .before .before .before .before .before .before .before .pre .1 .0) (c .before .before .before .before .before .before .before .before .before .before .before .before .before .before .before .before .group-begin .result) (c .before .before .before .before .before .before .before .before .before .before .before .before .before .before .before .before .group-begin .ensures), c .before .before .before .before .before .before .before .before .before .before .before .before .before .before .before .before .before .before .take-key .ensures .many)
 
--- src/lib.rt:524:19
 sub-result : tie.Need-sub-result
-sub-result c = ?
+sub-result c = omega (arith, begin-before (c .before .before .before .before .before .before .before .before .before .before .before .before .before .before .before .before .before .before .before .before .before .before .before .before .before .pre .0) (c .before .before .before .before .before .before .before .before .before .before .before .before .before .before .before .before .before .before .before .before .before .before .before .before .before .args .g) (c .before .before .before .before .before .before .before .before .before .before .before .before .before .before .before .before .before .before .before .before .before .before .before .before .before .pre .1 .0) (c .before .before .before .before .before .before .before .before .before .before .before .before .before .before .before .before .group-begin .result) (c .before .before .before .before .before .before .before .before .before .before .before .before .before .before .before .before .group-begin .ensures))
 
--- src/lib.rt:524:5
 add-result-3 : tie.Need-add-result-3
-add-result-3 c = ?
+add-result-3 c = omega (arith, c .before .before .before .before .before .before .before .before .before .before .before .before .before .before .before .before .before .before .before .before .before .before .before .before .before .pre .1 .1, head-long (c .before .before .before .before .before .before .before .before .before .before .before .before .before .before .before .before .before .before .before .before .before .before .before .before .before .pre .0) (c .before .before .before .before .before .before .before .before .before .before .before .before .before .before .before .before .before .before .before .before .before .before .before .before .before .args .g) (c .before .before .before .before .before .before .before .before .before .before .before .before .before .before .before .before .before .before .before .before .before .before .before .before .before .pre .1 .0) (c .before .before .before .before .before .before .before .before .before .before .before .before .before .before .before .before .group-begin .result) (c .before .before .before .before .before .before .before .before .before .before .before .before .before .before .before .before .group-begin .ensures), c .before .before .before .before .before .before .before .before .before .before .before .before .before .before .before .before .before .before .take-key .ensures .many)
 
--- src/lib.rt:502:1
 same-length : tie.Need-same-length
 same-length c = search needs
 
--- src/lib.rt:502:1
 returns : tie.Need-returns
-returns c = ?
+returns c = head-written (c .before .before .before .before .before .before .before .before .before .before .before .before .before .before .before .before .before .before .before .before .before .before .before .before .before .pre .0) (c .before .before .before .before .before .before .before .before .before .before .before .before .before .before .before .before .before .before .before .before .before .before .before .before .before .args .g) (c .before .before .before .before .before .before .before .before .before .before .before .before .before .before .before .before .before .before .before .before .before .before .before .before .before .pre .1 .0) (c .before .before .before .before .before .before .before .before .before .before .before .before .before .before .before .before .group-begin .result) (c .before .before .before .before .before .before .before .before .before .before .before .before .before .before .before .before .group-begin .ensures) (c .before .before .before .before .before .before .before .before .before .before .before .before .before .before .before .before .before .before .before .before .before .before .before .before .before .args .at) _ (c .before .before .before .before .before .before .before .before .before .before .before .before .before .before .before .before .before .before .before .before .before .before .before .before .before .args .table .now) _ _ _ _ _ (c .before .before .before .before .before .before .before .before .before .before .before .before .before .before .head-row .ensures) (c .before .before .before .before .before .before .before .before .before .before .before .before .before .before .before .before .before .before .take-key .ensures) (c .before .before .before .before .before .before .before .before .before .before .before .before .put-word .ensures) (c .before .before .before .before .before .before .before .put .ensures) (c .before .before .put-names .ensures .1)
 
 pub write-match-head-spec : {M : Type 1} → statement M
 write-match-head-spec =
