@@ -7,7 +7,7 @@ use mathlib.Core.Option.{some}
 use mathlib.Core.List.{List, [], _∷_, _++_}
 use lib.Dec.{T}
 use lib.ListN.{length, getD, take, drop, length-drop}
-use lib.Seq.{getD-drop, length-take-le}
+use lib.Seq.{getD-drop, length-take-le, take-all}
 use Rattle.tree.specs.Facts.{size}
 use Rattle.tree.specs.Tokens.{tokens, read, numbered, run-at, trees-in, kind-of, below-of, takes, word}
 use Rattle.tree.proofs.TokenLaws.{complete-end, complete-length, complete-within, operation-takes}
@@ -43,6 +43,10 @@ pub next-begins : (ends : List ℕ) (g : ℕ) → (g ≡ 0 → ⊥) → getD end
 unfolding begin-of
 next-begins ends zero ne = absurd (ne refl)
 next-begins ends (suc g) ne = ap (λ (i : ℕ). getD ends i 0) (let z : suc g - 1 ≡ g = omega arith in z)
+
+-- what is left of a list from a place on, as a part of it
+rest-is : (e : ℕ) (l : List ℕ) → take (length l - e) (drop e l) ≡ drop e l
+rest-is e l = take-all (length l - e) (drop e l) (omega (arith, length-drop e l))
 
 pub grouped : {ws : List ℕ} {k first : ℕ} {places held starts members ends numbers : List ℕ} → Prepared ws k first places held starts members ends numbers → Grouped held members ends numbers
 grouped p = record { complete = held-complete p; short = p .short; members-are = p .members-are; ends-are = p .ends-are; numbered = p .numbered; small = p .small }
@@ -157,8 +161,8 @@ module _ {held members ends numbers : List ℕ} (G : Grouped held members ends n
       pub key-complete : (out : List ℕ) (n : ℕ) → Stands (words-at held (getD members b 0 + 1)) out n → Complete (take n out)
       key-complete out n t = (1, ap trees-in (t .words) ∙ key-one)
 
-      pub later-fusable : Fusable held (drop (getD ends g 0) members) (drop (getD ends g 0) numbers)
-      later-fusable =
+      later : Fusable held (drop (getD ends g 0) members) (drop (getD ends g 0) numbers)
+      later =
           record {
             there = subst (λ (l : List ℕ). All-there held (drop (getD ends g 0) l)) (sym (G .members-are)) (members-there held (G .complete) (getD ends g 0));
             numbered = omega (arith, length-drop (getD ends g 0) members, length-drop (getD ends g 0) numbers, G .numbered);
@@ -166,6 +170,12 @@ module _ {held members ends numbers : List ℕ} (G : Grouped held members ends n
                 subst (λ (x : ℕ). x ≤ most) (sym (getD-drop (getD ends g 0) numbers i 0))
                 (G .small (getD ends g 0 + i) (omega (arith, w, length-drop (getD ends g 0) members, G .numbered)));
           }
+
+      pub later-fusable :
+          Fusable held (take (length members - getD ends g 0) (drop (getD ends g 0) members)) (take (length numbers - getD ends g 0) (drop (getD ends g 0) numbers))
+      later-fusable =
+          subst (λ (l : List ℕ). Fusable held l (take (length numbers - getD ends g 0) (drop (getD ends g 0) numbers))) (sym (rest-is (getD ends g 0) members))
+          (subst (λ (l : List ℕ). Fusable held (drop (getD ends g 0) members) l) (sym (rest-is (getD ends g 0) numbers)) later)
 
       key-final : fused-by held (drop (getD ends g 0) members) (drop (getD ends g 0) numbers) (words-at held k) ≡ key-run held gs numbers g
       unfolding fused-by key-run steps-from key-place
@@ -179,11 +189,14 @@ module _ {held members ends numbers : List ℕ} (G : Grouped held members ends n
 
       pub key-done :
           (mid : List ℕ) (len : ℕ) → Stands (words-at held (getD members b 0 + 1)) mid len → (out : List ℕ) (n : ℕ)
-          → Stands (fused-by held (drop (getD ends g 0) members) (drop (getD ends g 0) numbers) (take len mid)) out n
+          → Stands
+          (fused-by held (take (length members - getD ends g 0) (drop (getD ends g 0) members)) (take (length numbers - getD ends g 0) (drop (getD ends g 0) numbers)) (take len mid)) out n
           → Stands (key-run held (place-groups held) numbers g) out n
       key-done mid len t out n u =
-          stands-as (fused-by held (drop (getD ends g 0) members) (drop (getD ends g 0) numbers) (take len mid)) (key-run held gs numbers g) out n
-          (ap (fused-by held (drop (getD ends g 0) members) (drop (getD ends g 0) numbers)) (t .words) ∙ key-final) u
+          stands-as _ (key-run held gs numbers g) out n
+          (ap (λ (l : List ℕ). fused-by held l (take (length numbers - getD ends g 0) (drop (getD ends g 0) numbers)) (take len mid)) (rest-is (getD ends g 0) members)
+          ∙ (ap (λ (l : List ℕ). fused-by held (drop (getD ends g 0) members) l (take len mid)) (rest-is (getD ends g 0) numbers)
+          ∙ (ap (fused-by held (drop (getD ends g 0) members) (drop (getD ends g 0) numbers)) (t .words) ∙ key-final))) u
 
     -- ---- the match's row
 
