@@ -200,11 +200,10 @@ module _ {ws : List ℕ} {k first : ℕ} {places held starts members ends number
         let wide : 16384 ≤ length bits = omega (arith, ap length e, needs-long p count zeros, zeros-long, z) in
         let enough = roomy wide in
         let same : positions-taken (table-of bits count)
-            ≡ positions-taken (table-of (needs-table ws k first places numbers (stmts-count ws k first places numbers) (replicate 16384 0)) (stmts-count ws k first places numbers)) =
+        ≡ positions-taken (table-of (needs-table ws k first places numbers (stmts-count ws k first places numbers) (replicate 16384 0)) (stmts-count ws k first places numbers)) =
         ap (λ (t : List ℕ). positions-taken (table-of t count)) (e ∙ ap (λ (n : ℕ). needs-table ws k first places numbers count (replicate n 0)) z)
         ∙ ap (λ (c : ℕ). positions-taken (table-of (needs-table ws k first places numbers c (replicate 16384 0)) c)) ec in
-        let turned : stmts-order ws k first places numbers ≡ reverse (positions-taken (table-of bits count)) = order-is ∙ ap reverse (sym same) in
-        (
+        let turned : stmts-order ws k first places numbers ≡ reverse (positions-taken (table-of bits count)) = order-is ∙ ap reverse (sym same) in (
           o .answer-is ∙ (ap (λ (b : Bool). order-answer b count (positions-taken (table-of bits count))) enough ∙ told-as (positions-taken (table-of bits count)) (stmts-order ws k first places numbers) turned),
           o .taken-is ∙ (ap (λ (b : Bool). order-written b (positions-taken (table-of bits count)) taken) enough ∙ written-as (positions-taken (table-of bits count)) (stmts-order ws k first places numbers) turned),
         )

@@ -169,11 +169,10 @@ module _ {held members ends numbers : List ℕ} (G : Grouped held members ends n
       let names = names-run held gs numbers g in
       let both : t2 ≡ overlay at (w ∷ key) old = row-written at w key old t1 t2 tree n s e1 e2 in
       let z : at + 1 + n ≡ at + length (w ∷ key) = omega (arith, s .many) in
-      let put : t3 ≡ overlay (at + 1 + n) (rows-of-names part) t2 = e3 ∙ ap (λ (x : Bool). names-put x part (at + 1 + n) t2) (fit-each part part-small) in
-      (
+      let put : t3 ≡ overlay (at + 1 + n) (rows-of-names part) t2 = e3 ∙ ap (λ (x : Bool). names-put x part (at + 1 + n) t2) (fit-each part part-small) in (
         omega (arith, s .many, length-append key names, names-count),
         put
-        ∙ (ap (λ (l : List ℕ). overlay (at + 1 + n) l t2) names-are
-        ∙ (ap₂ (λ (x : ℕ) (t : List ℕ). overlay x names t) z both
-        ∙ (sym (overlay-append at (w ∷ key) names old) ∙ ap (λ (x : ℕ). overlay at (x ∷ (key ++ names)) old) ew))),
+            ∙ (ap (λ (l : List ℕ). overlay (at + 1 + n) l t2) names-are
+            ∙ (ap₂ (λ (x : ℕ) (t : List ℕ). overlay x names t) z both
+            ∙ (sym (overlay-append at (w ∷ key) names old) ∙ ap (λ (x : ℕ). overlay at (x ∷ (key ++ names)) old) ew))),
       )

@@ -6,57 +6,19 @@ use Rattle.scopeparts.proofs.Writing.{value-long, value-written}
 use borrow.Author.Needs.{needs}
 use Rattle.scopeparts.proofs.write_value.Statement.{statement}
 use Rattle.scopeparts.proofs.write_value.Tie as tie
-use Rattle.scopeparts.proofs.write_value.Reads as reads
-use Rattle.scopeparts.proofs.write_value.Lts as lts
-use Rattle.scopeparts.proofs.take_final.Reads as take-final-reads
-use Rattle.tables.proofs.put.Reads as put-reads
-use Rattle.tables.proofs.put_word.Reads as put-word-reads
-
-slice-aggregate-take-final : tie.Need-slice-aggregate-take-final
-slice-aggregate-take-final c = search needs
-
-take-final-requires : tie.Need-take-final-requires
-take-final-requires c κs = (c .before .before .before .before .before .before .before .before .pre .0, (omega (arith, c .before .before .before .before .before .before .before .before .pre .0 .1 .enough, c .before .before .before .before .before .before .before .before .pre .1 .0), search needs))
-
-put-word-requires : tie.Need-put-word-requires
-put-word-requires c κs = tt
-
-array-share-prefix-tree : tie.Need-array-share-prefix-tree
-array-share-prefix-tree c = search needs
-
-slice-aggregate-put : tie.Need-slice-aggregate-put
-slice-aggregate-put c = sym (length-take-le _ _ (c .before .before .before .before .before .before .take-final .ensures .inside))
-
-add-put : tie.Need-add-put
-add-put c = search needs
-
-put-requires : tie.Need-put-requires
-put-requires c κs = tt
-
-add-result : tie.Need-add-result
-add-result c = search needs
-
-add-result-2 : tie.Need-add-result-2
-add-result-2 c = search needs
-
-same-length : tie.Need-same-length
-same-length c = search needs
-
-returns : tie.Need-returns
-returns c = value-written (c .before .before .before .before .before .before .before .before .before .before .before .before .before .before .before .before .before .before .before .args .at) (c .before .before .before .before .before .before .before .before .before .before .before .before .before .before .before .before .before .before .before .args .row) _ (c .before .before .before .before .before .before .before .before .before .before .before .before .before .before .before .before .before .before .before .args .table .now) _ _ _ _ (c .before .before .before .before .before .before .before .before .before .before .take-final .ensures) (c .before .before .before .before .before .before .before .put-word .ensures) (c .before .before .put .ensures)
 
 pub write-value-spec : {M : Type 1} → statement M
 write-value-spec =
     tie.close
     (tie.spec
-    slice-aggregate-take-final
-    take-final-requires
-    put-word-requires
-    array-share-prefix-tree
-    slice-aggregate-put
-    add-put
-    put-requires
-    add-result
-    add-result-2
-    same-length
-    returns)
+    (λ c. search needs)
+    (λ c κs. (c .before .before .before .before .before .before .before .before .pre .0, (omega (arith, c .before .before .before .before .before .before .before .before .pre .0 .1 .enough, c .before .before .before .before .before .before .before .before .pre .1 .0), search needs)))
+    (λ c κs. tt)
+    (λ c. search needs)
+    (λ c. sym (length-take-le _ _ (c .before .before .before .before .before .before .take-final .ensures .inside)))
+    (λ c. search needs)
+    (λ c κs. tt)
+    (λ c. search needs)
+    (λ c. search needs)
+    (λ c. search needs)
+    (λ c. value-written (c .before .before .before .before .before .before .before .before .before .before .before .before .before .before .before .before .before .before .before .args .at) (c .before .before .before .before .before .before .before .before .before .before .before .before .before .before .before .before .before .before .before .args .row) _ (c .before .before .before .before .before .before .before .before .before .before .before .before .before .before .before .before .before .before .before .args .table .now) _ _ _ _ (c .before .before .before .before .before .before .before .before .before .before .take-final .ensures) (c .before .before .before .before .before .before .before .put-word .ensures) (c .before .before .put .ensures)))

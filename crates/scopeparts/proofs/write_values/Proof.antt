@@ -2,12 +2,8 @@
 use Prim.Native.Nat.{_-_, _≤_}
 use native.Mathlib.Omega.{arith}
 use Rattle.scopeparts.proofs.Writing.{Laid, laid-begins, laid-room, laid-turns, value, values-done, values-room}
-use borrow.Author.Needs.{needs}
 use Rattle.scopeparts.proofs.write_values.Statement.{statement}
 use Rattle.scopeparts.proofs.write_values.Tie as tie
-use Rattle.scopeparts.proofs.write_values.Reads as reads
-use Rattle.scopeparts.proofs.write_values.Lts as lts
-use Rattle.scopeparts.proofs.write_value.Reads as write-value-reads
 
 abbrev Inv-loop : tie.InvT-loop
 Inv-loop tokens results first places held starts members numbers row at table₀ to₀ i₀ table to i = (i ≤ results) × Laid (value tokens results first places numbers row) at table₀ table to i
@@ -15,37 +11,16 @@ Inv-loop tokens results first places held starts members numbers row at table₀
 abbrev μ-loop : tie.MeasureT-loop
 μ-loop tokens results first places held starts members numbers row at table₀ to₀ i₀ table to i = results - i
 
-loop-holds : tie.Need-loop-holds Inv-loop μ-loop
-loop-holds c = (omega arith, laid-begins (value (c .before .before .before .before .before .before .before .args .tokens .now) (c .before .before .before .before .before .before .before .args .results) (c .before .before .before .before .before .before .before .args .first) (c .before .before .before .before .before .before .before .args .places .now) (c .before .before .before .before .before .before .before .args .numbers .now) (c .before .before .before .before .before .before .before .args .row)) (c .before .before .before .before .before .before .before .args .at) (c .before .before .before .before .before .before .before .args .table .now))
-
-write-value-requires : tie.Need-write-value-requires Inv-loop μ-loop
-write-value-requires c κs = (c .before .before .before .before .before .before .before .before .before .before .pre .0, (c .before .loop-test .taken, laid-room (value (c .before .before .before .before .before .before .before .before .before .before .args .tokens .now) (c .before .before .before .before .before .before .before .before .before .before .args .results) (c .before .before .before .before .before .before .before .before .before .before .args .first) (c .before .before .before .before .before .before .before .before .before .before .args .places .now) (c .before .before .before .before .before .before .before .before .before .before .args .numbers .now) (c .before .before .before .before .before .before .before .before .before .before .args .row)) (c .before .before .before .before .before .before .before .before .before .before .args .at) (c .before .before .before .before .before .before .before .before .before .before .args .table .now) (c .before .before .loop .inv .1) (c .before .before .before .before .before .before .before .before .before .before .args .results) 9223372036854775808 (c .before .loop-test .taken) (values-room (c .before .before .before .before .before .before .before .before .before .before .args .tokens .now) (c .before .before .before .before .before .before .before .before .before .before .args .results) (c .before .before .before .before .before .before .before .before .before .before .args .first) (c .before .before .before .before .before .before .before .before .before .before .args .places .now) (c .before .before .before .before .before .before .before .before .before .before .args .numbers .now) (c .before .before .before .before .before .before .before .before .before .before .args .row) (c .before .before .before .before .before .before .before .before .before .before .args .at) (c .before .before .before .before .before .before .before .before .before .before .args .results) 9223372036854775808 (c .before .before .before .before .before .before .before .before .before .before .pre .1))))
-
-add-i : tie.Need-add-i Inv-loop μ-loop
-add-i c = omega (arith, c .before .before .before .before .loop-test .taken)
-
-loop-less : tie.Need-loop-less Inv-loop μ-loop
-loop-less c = omega (arith, c .before .before .before .before .loop-test .taken)
-
-loop-again : tie.Need-loop-again Inv-loop μ-loop
-loop-again c = (omega (arith, c .before .before .before .before .loop-test .taken), laid-turns (value (c .before .before .before .before .before .before .before .before .before .before .before .before .before .args .tokens .now) (c .before .before .before .before .before .before .before .before .before .before .before .before .before .args .results) (c .before .before .before .before .before .before .before .before .before .before .before .before .before .args .first) (c .before .before .before .before .before .before .before .before .before .before .before .before .before .args .places .now) (c .before .before .before .before .before .before .before .before .before .before .before .before .before .args .numbers .now) (c .before .before .before .before .before .before .before .before .before .before .before .before .before .args .row)) (c .before .before .before .before .before .before .before .before .before .before .before .before .before .args .at) (c .before .before .before .before .before .before .before .before .before .before .before .before .before .args .table .now) (c .before .before .before .before .before .loop .inv .1) _ _ (c .before .before .write-value .ensures .0) (c .before .before .write-value .ensures .1))
-
-same-length : tie.Need-same-length Inv-loop μ-loop
-same-length c = c .before .loop .inv .1 .long
-
-returns : tie.Need-returns Inv-loop μ-loop
-returns c = values-done (c .before .before .before .before .before .before .before .before .before .args .tokens .now) (c .before .before .before .before .before .before .before .before .before .args .results) (c .before .before .before .before .before .before .before .before .before .args .first) (c .before .before .before .before .before .before .before .before .before .args .places .now) (c .before .before .before .before .before .before .before .before .before .args .numbers .now) (c .before .before .before .before .before .before .before .before .before .args .row) (c .before .before .before .before .before .before .before .before .before .args .at) (c .before .before .before .before .before .before .before .before .before .args .table .now) _ _ _ (c .before .loop .inv .1) (omega (arith, c .before .loop .inv .0, c .loop-test .left))
-
 pub write-values-spec : {M : Type 1} → statement M
 write-values-spec =
     tie.close
     (tie.spec
     Inv-loop
     μ-loop
-    loop-holds
-    write-value-requires
-    add-i
-    loop-less
-    loop-again
-    same-length
-    returns)
+    (λ c. (omega arith, laid-begins (value (c .before .before .before .before .before .before .before .args .tokens .now) (c .before .before .before .before .before .before .before .args .results) (c .before .before .before .before .before .before .before .args .first) (c .before .before .before .before .before .before .before .args .places .now) (c .before .before .before .before .before .before .before .args .numbers .now) (c .before .before .before .before .before .before .before .args .row)) (c .before .before .before .before .before .before .before .args .at) (c .before .before .before .before .before .before .before .args .table .now)))
+    (λ c κs. (c .before .before .before .before .before .before .before .before .before .before .pre .0, (c .before .loop-test .taken, laid-room (value (c .before .before .before .before .before .before .before .before .before .before .args .tokens .now) (c .before .before .before .before .before .before .before .before .before .before .args .results) (c .before .before .before .before .before .before .before .before .before .before .args .first) (c .before .before .before .before .before .before .before .before .before .before .args .places .now) (c .before .before .before .before .before .before .before .before .before .before .args .numbers .now) (c .before .before .before .before .before .before .before .before .before .before .args .row)) (c .before .before .before .before .before .before .before .before .before .before .args .at) (c .before .before .before .before .before .before .before .before .before .before .args .table .now) (c .before .before .loop .inv .1) (c .before .before .before .before .before .before .before .before .before .before .args .results) 9223372036854775808 (c .before .loop-test .taken) (values-room (c .before .before .before .before .before .before .before .before .before .before .args .tokens .now) (c .before .before .before .before .before .before .before .before .before .before .args .results) (c .before .before .before .before .before .before .before .before .before .before .args .first) (c .before .before .before .before .before .before .before .before .before .before .args .places .now) (c .before .before .before .before .before .before .before .before .before .before .args .numbers .now) (c .before .before .before .before .before .before .before .before .before .before .args .row) (c .before .before .before .before .before .before .before .before .before .before .args .at) (c .before .before .before .before .before .before .before .before .before .before .args .results) 9223372036854775808 (c .before .before .before .before .before .before .before .before .before .before .pre .1)))))
+    (λ c. omega (arith, c .before .before .before .before .loop-test .taken))
+    (λ c. omega (arith, c .before .before .before .before .loop-test .taken))
+    (λ c. (omega (arith, c .before .before .before .before .loop-test .taken), laid-turns (value (c .before .before .before .before .before .before .before .before .before .before .before .before .before .args .tokens .now) (c .before .before .before .before .before .before .before .before .before .before .before .before .before .args .results) (c .before .before .before .before .before .before .before .before .before .before .before .before .before .args .first) (c .before .before .before .before .before .before .before .before .before .before .before .before .before .args .places .now) (c .before .before .before .before .before .before .before .before .before .before .before .before .before .args .numbers .now) (c .before .before .before .before .before .before .before .before .before .before .before .before .before .args .row)) (c .before .before .before .before .before .before .before .before .before .before .before .before .before .args .at) (c .before .before .before .before .before .before .before .before .before .before .before .before .before .args .table .now) (c .before .before .before .before .before .loop .inv .1) _ _ (c .before .before .write-value .ensures .0) (c .before .before .write-value .ensures .1)))
+    (λ c. c .before .loop .inv .1 .long)
+    (λ c. values-done (c .before .before .before .before .before .before .before .before .before .args .tokens .now) (c .before .before .before .before .before .before .before .before .before .args .results) (c .before .before .before .before .before .before .before .before .before .args .first) (c .before .before .before .before .before .before .before .before .before .args .places .now) (c .before .before .before .before .before .before .before .before .before .args .numbers .now) (c .before .before .before .before .before .before .before .before .before .args .row) (c .before .before .before .before .before .before .before .before .before .args .at) (c .before .before .before .before .before .before .before .before .before .args .table .now) _ _ _ (c .before .loop .inv .1) (omega (arith, c .before .loop .inv .0, c .loop-test .left))))
