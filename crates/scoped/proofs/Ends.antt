@@ -1,0 +1,141 @@
+-- What the scoped form answers and leaves, by what unfolding and the scope of the roots answer (01, "Turned down": Extract). Assumes nothing.
+use Prim.Native.Nat.{ℕ, suc, _+_, _≤_}
+use native.Mathlib.Nat.{zero-add}
+use native.Mathlib.Omega.{arith}
+use mathlib.Core.Path.{_≡_, refl, sym, _∙_, ap, subst}
+use mathlib.Core.Bool.{Bool, true, false, _||_, cond}
+use mathlib.Core.List.{List}
+use lib.ListN.{length}
+use lib.Dec.{T, ltb}
+use Rattle.tree.specs.Outcome.{Outcome, ok, refused, by, _>>=_}
+use Rattle.tree.specs.Layout.{table-of, laid-out}
+use Rattle.tree.proofs.Tests.{is-true}
+use Rattle.cse.specs.AnswerRows.{result-row}
+use Rattle.cse.specs.Call.{Extracted, work-words, work-bytes, extract-call, table-after}
+use Rattle.checked.specs.Check.{rows-in}
+use Rattle.renaming.proofs.RowNames.{tree-words}
+use Rattle.scopeplaces.specs.Whole.{Told, scope-told}
+use Rattle.extractlaws.specs.Parts.{extract-from}
+use Rattle.extractlaws.proofs.Ending.{call-short, call-enough}
+use Rattle.extract.specs.Answers.{extraction-answer}
+use Rattle.extract.specs.declared.Extraction.{Extraction}
+use Rattle.extract.specs.declared.Extraction.the-variants as extraction
+use Rattle.extract.proofs.Ends.{Answers-by, refuses}
+use Rattle.scope.specs.Answers.{scope-answer, scope-table, told-rows}
+use Rattle.scope.specs.declared.Scoped.{Scoped}
+use Rattle.scope.specs.declared.Scoped.the-variants as scoped
+use Rattle.scopedlaws.specs.Roots.{scopes, roots-told, told-or-12, roots-rows}
+use Rattle.scopedlaws.proofs.Measuring.{too-few, enough, table-told}
+
+-- what the scope of the roots answers and leaves in a table
+abbrev pub Scopes-by : Outcome Told → List ℕ → Scoped → List ℕ → Type 0
+Scopes-by o old r new = (r ≡ scope-answer o 0) × (new ≡ scope-table o 0 old)
+
+-- ---- the scope of the roots
+
+module _ (rows roots : List ℕ) where
+  abbrev by-layout : Bool → Outcome Told
+  by-layout b = cond b (scope-told (rows-in rows) scopes result-row 0 (tree-words (table-of rows roots))) (refused (by 9))
+
+  roots-are : roots-told rows roots ≡ by-layout (laid-out rows roots)
+  unfolding roots-told
+  roots-are = refl
+
+  pub scope-nine : laid-out rows roots ≡ false → (table : List ℕ) → Scopes-by (roots-told rows roots) table (scoped.Refused 9) table
+  unfolding scope-answer scope-table
+  scope-nine e table = subst (λ (o : Outcome Told). Scopes-by o table (scoped.Refused 9) table) (sym (roots-are ∙ ap by-layout e)) (refl, refl)
+
+  module _ (h : T (laid-out rows roots)) (ws : List ℕ) (same : ws ≡ tree-words (table-of rows roots)) where
+    roots-scope : roots-told rows roots ≡ scope-told (rows-in rows) scopes result-row 0 ws
+    roots-scope = roots-are ∙ ap by-layout (is-true (laid-out rows roots) h) ∙ ap (scope-told (rows-in rows) scopes result-row 0) (sym same)
+
+    pub scope-within : (n : ℕ) → told-rows (roots-told rows roots) ≤ n → 0 + told-rows (scope-told (rows-in rows) scopes result-row 0 ws) ≤ n
+    scope-within n b = omega (arith, ap told-rows roots-scope, b)
+
+    pub scope-there : (old : List ℕ) (r : Scoped) (new : List ℕ) → Scopes-by (scope-told (rows-in rows) scopes result-row 0 ws) old r new → Scopes-by (roots-told rows roots) old r new
+    scope-there old r new g = subst (λ (o : Outcome Told). Scopes-by o old r new) (sym roots-scope) g
+
+-- ---- its rows, counted
+
+told-end : Scoped → ℕ
+told-end (scoped.Told n s m x) = n
+told-end (scoped.Refused q) = 0
+
+end-is : (o : Outcome Told) → told-end (scope-answer o 0) ≡ told-rows o
+unfolding told-end scope-answer told-rows
+end-is (ok a) = zero-add (length (a .words))
+end-is (refused i) = refl
+
+module _ (o : Outcome Told) (r : Scoped) (is : r ≡ scope-answer o 0) where
+  pub counts-rows : (n s m x : ℕ) → r ≡ scoped.Told n s m x → n ≡ told-rows o
+  unfolding told-end
+  counts-rows n s m x e = ap told-end (sym e ∙ is) ∙ end-is o
+
+  pub counts-none : (q : ℕ) → r ≡ scoped.Refused q → 0 ≡ told-rows o
+  unfolding told-end
+  counts-none q e = ap told-end (sym e ∙ is) ∙ end-is o
+
+-- ---- and written
+
+module _ (rows roots table : List ℕ) where
+  abbrev o : Outcome Told
+  o = roots-told rows roots
+
+  abbrev call : Outcome Extracted
+  call = roots-rows rows roots (length table)
+
+  abbrev rest : Outcome Told → Outcome Extracted
+  rest p = p >>= λ a. told-or-12 (length table) a
+
+  call-is : call ≡ rest o
+  unfolding roots-rows
+  call-is = refl
+
+  module _ (count : ℕ) (is : count ≡ told-rows o) where
+    pub twelve : suc (length table) ≤ count → Answers-by call table (extraction.Refused 12) table
+    unfolding told-rows
+    twelve h = refuses call (by 12) (call-is ∙ go o (omega (arith, is, h))) table
+      where
+        go : (p : Outcome Told) → suc (length table) ≤ told-rows p → rest p ≡ refused (by 12)
+        go (ok a) g = too-few (length table) a g
+        go (refused i) g = absurd (omega arith)
+
+    module _ (h : count ≤ length table) (r : Scoped) (new : List ℕ) (given : Scopes-by o table r new) where
+      abbrev By : Scoped → Type 0
+      By (scoped.Told n s m x) = Answers-by call table (extraction.Rows n x) new
+      By (scoped.Refused q) = Answers-by call table (extraction.Refused q) new
+
+      by-outcome : (p : Outcome Told) → o ≡ p → new ≡ scope-table p 0 table → told-rows p ≤ length table → By (scope-answer p 0)
+      unfolding scope-answer scope-table told-rows extraction-answer table-after
+      by-outcome (ok a) e t l =
+          subst (λ (x : Outcome Extracted). Answers-by x table (extraction.Rows (0 + length (a .words)) (a .extracted)) new)
+          (sym (call-is ∙ ap rest e ∙ enough (length table) a l))
+          (ap (λ (n : ℕ). extraction.Rows n (a .extracted)) (zero-add (length (a .words))), t ∙ table-told a table l ∙ ap (λ (x : Outcome Extracted). table-after x table) (enough (length table) a l))
+      by-outcome (refused i) e t l =
+          subst (λ (x : Outcome Extracted). Answers-by x table (extraction.Refused (i .number)) new) (sym (call-is ∙ ap rest e)) (refl, t)
+
+      written : By r
+      written = subst By (sym (given .0)) (by-outcome o refl (given .1) (omega (arith, is, h)))
+
+      pub writes-rows : (n s m x : ℕ) → r ≡ scoped.Told n s m x → Answers-by call table (extraction.Rows n x) new
+      writes-rows n s m x e = subst By e written
+
+      pub writes-none : (q : ℕ) → r ≡ scoped.Refused q → Answers-by call table (extraction.Refused q) new
+      writes-none q e = subst By e written
+
+-- ---- the whole
+
+module _ (rows roots : List ℕ) (words bytes : ℕ) (table : List ℕ) where
+  abbrev whole : Outcome Extracted
+  whole = extract-call true words bytes rows roots (length table)
+
+  abbrev short : Bool
+  short = ltb words work-words || ltb bytes work-bytes
+
+  pub is-eight : short ≡ true → Answers-by whole table (extraction.Refused 8) table
+  is-eight e = refuses whole (by 8) (call-short true words bytes rows roots (length table) e) table
+
+  pub is-rest :
+      extract-from true rows roots (length table) ≡ roots-rows rows roots (length table) → short ≡ false → (r : Extraction) (new : List ℕ)
+      → Answers-by (roots-rows rows roots (length table)) table r new → Answers-by whole table r new
+  is-rest law e r new h = subst (λ (o : Outcome Extracted). Answers-by o table r new) (sym (call-enough true words bytes rows roots (length table) e ∙ law)) h

@@ -1,0 +1,105 @@
+// The public operation Extract in the scoped form, `cse_scoped` of the source (01, "Turned down": Extract): node rows and roots in, rows of the answer out. The
+// scope of the roots is done twice: the first time to count its rows, which finds every refusal before anything is written, and the second time to write them.
+ghost use mathlib.Core.Path.{_≡_};
+ghost use mathlib.Core.Bool.{true};
+ghost use Prim.Native.Nat.{_≤_};
+ghost use lib.ListN.{length};
+ghost use Rattle.cse.specs.Call.{extract-call, table-after};
+ghost use Rattle.extract.specs.Answers.{extraction-answer};
+ghost use Rattle.scope.specs.Answers.{scope-answer, scope-table, told-rows};
+ghost use Rattle.scope.specs.Frame.{most-rows};
+ghost use Rattle.scopedlaws.specs.Roots.{roots-told, roots-rows};
+use extract::Extraction;
+use scope::Scoped;
+use scope::scope;
+use unfold::Unfolded;
+use unfold::unfold;
+use workarea::is_short;
+
+// How many scopes may be open at once.
+const SCOPES: usize = 9;
+
+// The kind of a result's row.
+const RESULT: u64 = 36;
+
+const SHORT_WORK: u64 = 8;
+
+const BAD_ROWS: u64 = 9;
+
+const FEW_ROWS: u64 = 12;
+
+// The scope of the roots' trees, whose words are written into the work area anew, or 9. Its rows are laid over the front of the table.
+fn scope_roots(
+    rows: &[u64],
+    roots: &[u64],
+    work: &mut [u64],
+    text: &mut [u8],
+    table: &mut [u64],
+) -> Scoped
+    requires { ⌜ (65536 ≤ length (now work)) × (131072 ≤ length (now text)) ⌝ }
+    requires { ⌜ told-rows (roots-told (now rows) (now roots)) ≤ most-rows ⌝ }
+    ensures { λ r. ⌜ (r ≡ scope-answer (roots-told (now (rows .entry)) (now (roots .entry))) 0)
+        × (now (table .exit) ≡ scope-table (roots-told (now (rows .entry)) (now (roots .entry))) 0 (now (table .entry))) ⌝ }
+{
+    let unfolded = unfold(rows, roots, work);
+    let Unfolded::Tokens(len) = unfolded else {
+        return Scoped::Refused(BAD_ROWS);
+    };
+    scope(rows, work, len, SCOPES, RESULT, 0, text, 0, table)
+}
+
+// How many rows that scope has, 0 where it is refused. A table of one word takes the first, and the rest are dropped.
+fn count_rows(rows: &[u64], roots: &[u64], work: &mut [u64], text: &mut [u8]) -> usize
+    requires { ⌜ (65536 ≤ length (now work)) × (131072 ≤ length (now text)) ⌝ }
+    requires { ⌜ told-rows (roots-told (now rows) (now roots)) ≤ most-rows ⌝ }
+    ensures { λ r. ⌜ r ≡ told-rows (roots-told (now (rows .entry)) (now (roots .entry))) ⌝ }
+{
+    let mut first = [0u64; 1];
+    let measured = scope_roots(rows, roots, work, text, &mut first);
+    match measured {
+        Scoped::Told(end, steps, next, extracted) => end,
+        Scoped::Refused(number) => 0,
+    }
+}
+
+// The scoped form after 8: 12 where the table has too few rows, before any is written.
+fn write_rows(
+    rows: &[u64],
+    roots: &[u64],
+    work: &mut [u64],
+    text: &mut [u8],
+    table: &mut [u64],
+) -> Extraction
+    requires { ⌜ (65536 ≤ length (now work)) × (131072 ≤ length (now text)) ⌝ }
+    requires { ⌜ told-rows (roots-told (now rows) (now roots)) ≤ most-rows ⌝ }
+    ensures { λ r. ⌜ (r ≡ extraction-answer (roots-rows (now (rows .entry)) (now (roots .entry)) (length (now (table .entry)))))
+        × (now (table .exit) ≡ table-after (roots-rows (now (rows .entry)) (now (roots .entry)) (length (now (table .entry)))) (now (table .entry))) ⌝ }
+{
+    let count = count_rows(rows, roots, work, text);
+    if table.len() < count {
+        return Extraction::Refused(FEW_ROWS);
+    }
+    let written = scope_roots(rows, roots, work, text, table);
+    match written {
+        Scoped::Told(end, steps, next, extracted) => Extraction::Rows(end, extracted),
+        Scoped::Refused(number) => Extraction::Refused(number),
+    }
+}
+
+// The scoped answer's rows in front of what stands in the table, and the extraction count; or 8, 9, 10, 11, 23 or 12, with nothing written to the table. What is
+// left in the work area is free.
+pub fn cse_scoped(
+    rows: &[u64],
+    roots: &[u64],
+    work: &mut [u64],
+    text: &mut [u8],
+    table: &mut [u64],
+) -> Extraction
+    ensures { λ r. ⌜ (r ≡ extraction-answer (extract-call true (length (now (work .entry))) (length (now (text .entry))) (now (rows .entry)) (now (roots .entry)) (length (now (table .entry)))))
+        × (now (table .exit) ≡ table-after (extract-call true (length (now (work .entry))) (length (now (text .entry))) (now (rows .entry)) (now (roots .entry)) (length (now (table .entry)))) (now (table .entry))) ⌝ }
+{
+    if is_short(work.len(), text.len()) {
+        return Extraction::Refused(SHORT_WORK);
+    }
+    write_rows(rows, roots, work, text, table)
+}
