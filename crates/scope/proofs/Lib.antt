@@ -1,0 +1,4 @@
+pub mod Overlays
+pub mod ArmLaws
+pub mod Owed
+pub mod Asking

@@ -1,0 +1,60 @@
+-- What an arm asks of its scope and what the arms of a group ask of each arm is given, and their sums are words (01, "Scoped fusion"). Assumes nothing.
+use Prim.Native.Nat.{ℕ, zero, suc, _+_, _-_, _*_, _≤_, _<_}
+use native.Mathlib.Omega.{arith}
+use mathlib.Core.Path.{_≡_, refl, sym, _∙_, ap, subst}
+use mathlib.Core.List.{List, [], _∷_, _++_}
+use lib.ListN.{length, getD, take}
+use lib.Dec.{T}
+use Rattle.tree.specs.Outcome.{Refusal, Outcome, ok, refused, by}
+use Rattle.tree.specs.Rows.{Row}
+use Rattle.renaming.specs.Names.{is-number, symbols-pass}
+use Rattle.kept.specs.Sound.{extractable}
+use Rattle.switchplaces.specs.Switches.{arm-count}
+use Rattle.switchplaces.specs.Columns.{column-words}
+use Rattle.scopeplaces.specs.Whole.{Told, Arms-told, arms-told, scope-told}
+use Rattle.scope.specs.Answers.{scope-answer, told-rows, inner, arm-told, arms-answer}
+use Rattle.scope.specs.Frame.{most-rows, Lent, Holds, Is-group, Arm-fits, Arms-fit}
+use Rattle.scope.specs.declared.Scoped.{Scoped}
+use Rattle.scope.specs.declared.Scoped.the-variants as scoped
+use Rattle.scope.specs.declared.Armed.{Armed}
+use Rattle.scope.specs.declared.Armed.the-variants as armed
+use Rattle.scope.proofs.ArmLaws.{Arm-done, done-refused, arm-refused, arm-of, arm-ok, Arms-so}
+use Rattle.scope.proofs.Owed.{Small, told-small, column-good, column-pass, arms-few, group-few, holds-later}
+
+pub lent-on : (fuel : ℕ) (work text work' text' : List ℕ) → Lent fuel work text → length work' ≡ length work → length text' ≡ length text → Lent fuel work' text'
+lent-on fuel work text work' text' l e f = record { words = omega (arith, l .words, e); bytes = omega (arith, l .bytes, f); depth = l .depth }
+
+-- ---- one arm
+
+module _ (rows : List Row) (fuel next : ℕ) (held group : List ℕ) (h : Holds rows next held) (g : Is-group held group) (a : ℕ) (l : a < arm-count held (getD group 0 0)) where
+  pub column-room : (work text : List ℕ) → Lent fuel work text → 0 < fuel → length held ≤ length work
+  column-room work text lent p = omega (arith, lent .words, h .few)
+
+  abbrev column : List ℕ
+  column = column-words held group a
+
+  module _ (at : ℕ) (fits : Arm-fits rows fuel held group next a at) (n : ℕ) (work : List ℕ) (is : take n work ≡ column) where
+    pub column-scoped : T (extractable rows next (take n work)) × T (symbols-pass (is-number rows) (take n work))
+    column-scoped =
+        (subst (λ (ws : List ℕ). T (extractable rows next ws)) (sym is) (column-good rows next held group h g a l), subst (λ (ws : List ℕ). T (symbols-pass (is-number rows) ws)) (sym is) (column-pass rows next held group h g a l))
+
+    pub column-fits : at + 1 + told-rows (scope-told rows fuel 35 next (take n work)) ≤ most-rows
+    column-fits = subst (λ (ws : List ℕ). at + 1 + told-rows (scope-told rows fuel 35 next ws) ≤ most-rows) (sym is) (omega (arith, fits))
+
+    -- what it answers is small
+    module _ (lent : fuel ≤ 64) (r : Scoped) (given : r ≡ scope-answer (scope-told rows fuel 35 next (take n work)) (at + 1)) where
+      abbrev Answer-small : Scoped → Type 0
+      Answer-small (scoped.Told end steps after extracted) = steps ≤ 1024
+      Answer-small (scoped.Refused q) = Unit {0}
+
+      answer-small : (o : Outcome Told) → scope-told rows fuel 35 next (take n work) ≡ o → Answer-small (scope-answer o (at + 1))
+      unfolding scope-answer
+      answer-small (ok t) e = told-small rows fuel 35 next (take n work) lent (column-scoped .0) (column-scoped .1) t e .steps
+      answer-small (refused i) e = tt
+
+      pub steps-few : (end steps after extracted : ℕ) → r ≡ scoped.Told end steps after extracted → steps ≤ 1024
+      steps-few end steps after extracted e = subst Answer-small (sym given ∙ e) (answer-small (scope-told rows fuel 35 next (take n work)) refl)
+
+  pub arm-too-deep : fuel ≡ 0 → (at : ℕ) (old : List ℕ) → Arm-done (arm-told (inner rows fuel) held group next a) at old (armed.Refused 23) old
+  unfolding scope-told
+  arm-too-deep z at old = subst (λ (f : ℕ). Arm-done (arm-told (inner rows f) held group next a) at old (armed.Refused 23) old) (sym z) (done-refused (arm-told (inner rows 0) held group next a) (by 23) (arm-refused (inner rows 0) held group next a (by 23) refl) at old old)
