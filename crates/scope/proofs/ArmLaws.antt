@@ -17,7 +17,7 @@ use Rattle.scope.specs.declared.Scoped.{Scoped}
 use Rattle.scope.specs.declared.Scoped.the-variants as scoped
 use Rattle.scope.specs.declared.Armed.{Armed}
 use Rattle.scope.specs.declared.Armed.the-variants as armed
-use Rattle.scope.proofs.Overlays.{overlay-none, overlay-append, overlay-row-last}
+use Rattle.tables.proofs.Laws.{overlay-none, overlay-append, overlay-row-last}
 
 -- arms and then one more
 abbrev pub and-arm : Arms-told → Arms-told → Arms-told
@@ -154,8 +154,8 @@ module _ (scope : ℕ → List ℕ → Outcome Told) (hs g : List ℕ) (next at 
     more-by : More-by r
     more-by = subst More-by (sym (given .0)) (more-by-outcome (arm-told scope hs g number n) refl (given .1))
 
-    pub arms-go-on : (place after more : ℕ) → r ≡ armed.Rows place after more → Arms-so (suc n) place after (extracted + more) new
-    arms-go-on place after more e = subst More-by e more-by
+    pub arms-go-on : (place after more : ℕ) → r ≡ armed.Rows place after more → Arms-so (n + 1) place after (extracted + more) new
+    arms-go-on place after more e = subst (λ (k : ℕ). Arms-so k place after (extracted + more) new) (omega arith) (subst More-by e more-by)
 
     pub arms-end-refused : (count : ℕ) → n < count → (q : ℕ) → r ≡ armed.Refused q → (z : ℕ) → z ≡ refusal-number r → Arm-done (arms-told scope hs g next count) at old (armed.Refused z) new
     unfolding refusal-number
@@ -170,3 +170,38 @@ module _ (scope : ℕ → List ℕ → Outcome Told) (hs g : List ℕ) (next at 
       (subst (λ (k : ℕ). Arm-done (arms-told scope hs g next n) at old (armed.Rows end k extracted) table) (sym (so .number-is))
       (subst (λ (k : ℕ). Arm-done (arms-told scope hs g next n) at old (armed.Rows end (so .done .next) k) table) (sym (so .extracted-is))
       (done-ok (arms-told scope hs g next n) (so .done) (so .told) at old table (so .table-is) end (so .end-is))))
+
+-- ---- the arms before the last
+
+pub got : {A : Type 0} {a b : A} → _≡_ {A = Outcome A} (ok a) (ok b) → a ≡ b
+got {A} {a} {b} e = subst Is e refl
+  where
+    Is : Outcome A → Type 0
+    Is (ok c) = a ≡ c
+    Is (refused i) = ⊥
+
+pub never-ok : {A : Type 0} {a : A} {i : Refusal} → _≡_ {A = Outcome A} (refused i) (ok a) → ⊥
+never-ok {A} {a} {i} e = subst Is e tt
+  where
+    Is : Outcome A → Type 0
+    Is (ok c) = ⊥
+    Is (refused i) = Unit {0}
+
+module _ (scope : ℕ → List ℕ → Outcome Told) (hs g : List ℕ) (next n : ℕ) (r : Arms-told) where
+  pub record Arms-back : Type 0 where
+    pub before : Arms-told
+    pub last : Told
+    pub before-told : arms-told scope hs g next n ≡ ok before
+    pub last-told : scope (before .next) (column-words hs g n) ≡ ok last
+    pub is : and-arm before (arm-of g last) ≡ r
+
+  pub arms-back : arms-told scope hs g next (suc n) ≡ ok r → Arms-back
+  unfolding arms-told
+  arms-back e = first (arms-told scope hs g next n) refl e
+    where
+      second : (b : Arms-told) → arms-told scope hs g next n ≡ ok b → (o : Outcome Told) → scope (b .next) (column-words hs g n) ≡ o → (o >>= λ a. ok (and-arm b (arm-of g a))) ≡ ok r → Arms-back
+      second b f (ok t) s q = record { before = b; last = t; before-told = f; last-told = s; is = got q }
+      second b f (refused i) s q = absurd (never-ok q)
+      first : (o : Outcome Arms-told) → arms-told scope hs g next n ≡ o → (o >>= λ r. scope (r .next) (column-words hs g n) >>= λ a. ok (and-arm r (arm-of g a))) ≡ ok r → Arms-back
+      first (ok b) f q = second b f (scope (b .next) (column-words hs g n)) refl q
+      first (refused i) f q = absurd (never-ok q)

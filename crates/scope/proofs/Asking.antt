@@ -3,7 +3,7 @@ use Prim.Native.Nat.{ℕ, zero, suc, _+_, _-_, _*_, _≤_, _<_}
 use native.Mathlib.Omega.{arith}
 use mathlib.Core.Path.{_≡_, refl, sym, _∙_, ap, subst}
 use mathlib.Core.List.{List, [], _∷_, _++_}
-use lib.ListN.{length, getD, take}
+use lib.ListN.{length, getD, take, length-append}
 use lib.Dec.{T}
 use Rattle.tree.specs.Outcome.{Refusal, Outcome, ok, refused, by}
 use Rattle.tree.specs.Rows.{Row}
@@ -12,13 +12,13 @@ use Rattle.kept.specs.Sound.{extractable}
 use Rattle.switchplaces.specs.Switches.{arm-count}
 use Rattle.switchplaces.specs.Columns.{column-words}
 use Rattle.scopeplaces.specs.Whole.{Told, Arms-told, arms-told, scope-told}
-use Rattle.scope.specs.Answers.{scope-answer, told-rows, inner, arm-told, arms-answer}
+use Rattle.scope.specs.Answers.{scope-answer, scope-table, told-rows, inner, arm-told, arms-answer}
 use Rattle.scope.specs.Frame.{most-rows, Lent, Holds, Is-group, Arm-fits, Arms-fit}
 use Rattle.scope.specs.declared.Scoped.{Scoped}
 use Rattle.scope.specs.declared.Scoped.the-variants as scoped
 use Rattle.scope.specs.declared.Armed.{Armed}
 use Rattle.scope.specs.declared.Armed.the-variants as armed
-use Rattle.scope.proofs.ArmLaws.{Arm-done, done-refused, arm-refused, arm-of, arm-ok, Arms-so}
+use Rattle.scope.proofs.ArmLaws.{Arm-done, done-refused, arm-refused, arm-of, arm-ok, Arms-so, got, Arms-back, arms-back}
 use Rattle.scope.proofs.Owed.{Small, told-small, column-good, column-pass, arms-few, group-few, holds-later}
 
 pub lent-on : (fuel : ℕ) (work text work' text' : List ℕ) → Lent fuel work text → length work' ≡ length work → length text' ≡ length text → Lent fuel work' text'
@@ -58,3 +58,53 @@ module _ (rows : List Row) (fuel next : ℕ) (held group : List ℕ) (h : Holds 
   pub arm-too-deep : fuel ≡ 0 → (at : ℕ) (old : List ℕ) → Arm-done (arm-told (inner rows fuel) held group next a) at old (armed.Refused 23) old
   unfolding scope-told
   arm-too-deep z at old = subst (λ (f : ℕ). Arm-done (arm-told (inner rows f) held group next a) at old (armed.Refused 23) old) (sym z) (done-refused (arm-told (inner rows 0) held group next a) (by 23) (arm-refused (inner rows 0) held group next a (by 23) refl) at old old)
+
+-- what the scope of a column in front of the work area answers is what that of the column does
+pub column-answers : (rows : List Row) (fuel next : ℕ) (held group : List ℕ) (a at : ℕ) (old : List ℕ) (n : ℕ) (work : List ℕ) → take n work ≡ column-words held group a → (r : Scoped) (new : List ℕ)
+    → (r ≡ scope-answer (scope-told rows fuel 35 next (take n work)) (at + 1)) × (new ≡ scope-table (scope-told rows fuel 35 next (take n work)) (at + 1) old)
+    → (r ≡ scope-answer (inner rows fuel next (column-words held group a)) (at + 1)) × (new ≡ scope-table (inner rows fuel next (column-words held group a)) (at + 1) old)
+column-answers rows fuel next held group a at old n work is r new given =
+    subst (λ (ws : List ℕ). (r ≡ scope-answer (scope-told rows fuel 35 next ws) (at + 1)) × (new ≡ scope-table (scope-told rows fuel 35 next ws) (at + 1) old)) is given
+
+-- ---- all arms of a group
+
+-- how large the answer of n arms is
+pub record Arms-small (next n : ℕ) (r : Arms-told) : Type 0 where
+  pub rows : length (r .words) ≤ n * 1099511627777
+  pub made : r .extracted ≤ n * 1099511627776
+  pub grows : next ≤ r .next
+  pub low : 0 < n → r .next ≤ 4294967296
+
+module _ (rows : List Row) (fuel next : ℕ) (held group : List ℕ) (depth : fuel ≤ 64) (h : Holds rows next held) (g : Is-group held group) where
+  abbrev told-arms : ℕ → Outcome Arms-told
+  told-arms n = arms-told (inner rows fuel) held group next n
+
+  pub arms-small : (n : ℕ) → n ≤ arm-count held (getD group 0 0) → (r : Arms-told) → told-arms n ≡ ok r → Arms-small next n r
+  unfolding arms-told
+  arms-small zero l r e = subst (Arms-small next 0) (got e) (record { rows = omega arith; made = omega arith; grows = omega arith; low = λ p. absurd (omega arith) })
+  arms-small (suc n) l r e =
+      let b = arms-back (inner rows fuel) held group next n r e in
+      let s = arms-small n (omega arith) (b .before) (b .before-told) in
+      let later = holds-later rows next (b .before .next) held (s .grows) h in
+      let t = told-small rows fuel 35 (b .before .next) (column-words held group n) depth
+          (column-good rows (b .before .next) held group later g n (omega arith)) (column-pass rows (b .before .next) held group later g n (omega arith)) (b .last) (b .last-told) in
+      subst (Arms-small next (suc n)) (b .is) (record {
+        rows = omega (arith, length-append (b .before .words) (arm-of group (b .last) .words), s .rows, t .rows);
+        made = omega (arith, s .made, t .made);
+        grows = omega (arith, s .grows, t .grows);
+        low = λ p. t .low;
+      })
+
+  module _ (at : ℕ) (old : List ℕ) (n end number extracted : ℕ) (table : List ℕ) (so : Arms-so (inner rows fuel) held group next at old n end number extracted table) where
+    pub so-small : n ≤ arm-count held (getD group 0 0) → Arms-small next n (so .done)
+    so-small l = arms-small n l (so .done) (so .told)
+
+    pub so-holds : n ≤ arm-count held (getD group 0 0) → Holds rows number held
+    so-holds l = holds-later rows next number held (omega (arith, so-small l .grows, so .number-is)) h
+
+    pub so-fits : n < arm-count held (getD group 0 0) → Arms-fit rows fuel held group next at → Arm-fits rows fuel held group number n end
+    so-fits l fits =
+        subst (λ (k : ℕ). Arm-fits rows fuel held group number n k) (sym (so .end-is)) (subst (λ (k : ℕ). Arm-fits rows fuel held group k n (at + length (so .done .words))) (sym (so .number-is)) (fits n (so .done) l (so .told)))
+
+    pub so-made : n ≤ arm-count held (getD group 0 0) → extracted ≤ 1125899906842624
+    so-made l = omega (arith, so-small l .made, so .extracted-is, arms-few rows next held group h g)

@@ -1,4 +1,3 @@
-pub mod Overlays
 pub mod ArmLaws
 pub mod Owed
 pub mod Asking

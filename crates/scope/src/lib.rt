@@ -18,6 +18,7 @@ ghost use Rattle.scope.specs.Answers.{scope-answer, scope-table, told-ro
 ghost use Rattle.scope.specs.Frame.{most-rows, Lent, Holds, Is-group, Arm-fits, Arms-fit, Members, groups-told};
 use rounds::Rounds;
 use rounds::extract_all;
+use tables::put_word;
 use tobind::ToBind;
 use tobind::divisors_to_bind;
 use tokens::operand_count;
@@ -77,14 +78,6 @@ fn column(held: &[u64], group: &[u64], a: usize, work: &mut [u64]) -> usize
     ensures { λ r. ⌜ (take r (now (work .exit)) ≡ column-words (now (held .entry)) (now (group .entry)) a) × (r ≤ length (now (work .exit))) ⌝ }
 {
     0
-}
-
-fn put_word(word: u64, at: usize, table: &mut [u64])
-    ensures { λ _. ⌜ now (table .exit) ≡ overlay at (word ∷ []) (now (table .entry)) ⌝ }
-{
-    if at < table.len() {
-        table[at] = word;
-    }
 }
 
 // How many arms each switch of a group has.
