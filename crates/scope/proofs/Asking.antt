@@ -22,7 +22,7 @@ use Rattle.scope.proofs.ArmLaws.{Arm-done, done-refused, arm-refused, a
 use Rattle.scope.proofs.Owed.{Small, told-small, column-good, column-pass, arms-few, group-few, holds-later}
 
 pub lent-on : (fuel : ℕ) (work text work' text' : List ℕ) → Lent fuel work text → length work' ≡ length work → length text' ≡ length text → Lent fuel work' text'
-lent-on fuel work text work' text' l e f = record { words = omega (arith, l .words, e); bytes = omega (arith, l .bytes, f); depth = l .depth }
+lent-on fuel work text work' text' l e f = record { words = omega (arith, l .words, e); bytes = omega (arith, l .bytes, f) }
 
 -- ---- one arm
 
@@ -42,14 +42,14 @@ module _ (rows : List Row) (fuel next : ℕ) (held group : List ℕ) (h : Holds 
     column-fits = subst (λ (ws : List ℕ). at + 1 + told-rows (scope-told rows fuel 35 next ws) ≤ most-rows) (sym is) (omega (arith, fits))
 
     -- what it answers is small
-    module _ (lent : fuel ≤ 64) (r : Scoped) (given : r ≡ scope-answer (scope-told rows fuel 35 next (take n work)) (at + 1)) where
+    module _ (r : Scoped) (given : r ≡ scope-answer (scope-told rows fuel 35 next (take n work)) (at + 1)) where
       abbrev Answer-small : Scoped → Type 0
       Answer-small (scoped.Told end steps after extracted) = steps ≤ 1024
       Answer-small (scoped.Refused q) = Unit {0}
 
       answer-small : (o : Outcome Told) → scope-told rows fuel 35 next (take n work) ≡ o → Answer-small (scope-answer o (at + 1))
       unfolding scope-answer
-      answer-small (ok t) e = told-small rows fuel 35 next (take n work) lent (column-scoped .0) (column-scoped .1) t e .steps
+      answer-small (ok t) e = told-small rows fuel 35 next (take n work) (column-scoped .0) (column-scoped .1) t e .steps
       answer-small (refused i) e = tt
 
       pub steps-few : (end steps after extracted : ℕ) → r ≡ scoped.Told end steps after extracted → steps ≤ 1024
@@ -70,12 +70,12 @@ column-answers rows fuel next held group a at old n work is r new given =
 
 -- how large the answer of n arms is
 pub record Arms-small (next n : ℕ) (r : Arms-told) : Type 0 where
-  pub rows : length (r .words) ≤ n * 1099511627777
-  pub made : r .extracted ≤ n * 1099511627776
+  pub rows : length (r .words) ≤ n * 144115188075855873
+  pub made : r .extracted ≤ n * 4294967296
   pub grows : next ≤ r .next
-  pub low : 0 < n → r .next ≤ 4294967296
+  pub low : 0 < n → r .next ≤ 2147484672
 
-module _ (rows : List Row) (fuel next : ℕ) (held group : List ℕ) (depth : fuel ≤ 64) (h : Holds rows next held) (g : Is-group held group) where
+module _ (rows : List Row) (fuel next : ℕ) (held group : List ℕ) (h : Holds rows next held) (g : Is-group held group) where
   abbrev told-arms : ℕ → Outcome Arms-told
   told-arms n = arms-told (inner rows fuel) held group next n
 
@@ -86,7 +86,7 @@ module _ (rows : List Row) (fuel next : ℕ) (held group : List ℕ) (depth : fu
       let b = arms-back (inner rows fuel) held group next n r e in
       let s = arms-small n (omega arith) (b .before) (b .before-told) in
       let later = holds-later rows next (b .before .next) held (s .grows) h in
-      let t = told-small rows fuel 35 (b .before .next) (column-words held group n) depth
+      let t = told-small rows fuel 35 (b .before .next) (column-words held group n)
           (column-good rows (b .before .next) held group later g n (omega arith)) (column-pass rows (b .before .next) held group later g n (omega arith)) (b .last) (b .last-told) in
       subst (Arms-small next (suc n)) (b .is) (record {
         rows = omega (arith, length-append (b .before .words) (arm-of group (b .last) .words), s .rows, t .rows);
@@ -106,5 +106,5 @@ module _ (rows : List Row) (fuel next : ℕ) (held group : List ℕ) (depth : fu
     so-fits l fits =
         subst (λ (k : ℕ). Arm-fits rows fuel held group number n k) (sym (so .end-is)) (subst (λ (k : ℕ). Arm-fits rows fuel held group k n (at + length (so .done .words))) (sym (so .number-is)) (fits n (so .done) l (so .told)))
 
-    pub so-made : n ≤ arm-count held (getD group 0 0) → extracted ≤ 1125899906842624
+    pub so-made : n ≤ arm-count held (getD group 0 0) → extracted ≤ 1099511627776
     so-made l = omega (arith, so-small l .made, so .extracted-is, arms-few rows next held group h g)

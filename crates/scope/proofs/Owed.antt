@@ -16,15 +16,15 @@ use Rattle.scope.specs.Frame.{Lent, Holds, Is-group}
 
 -- how large a scope's answer is
 pub record Small (next : ℕ) (t : Told) : Type 0 where
-  pub rows : length (t .words) ≤ 1099511627776
+  pub rows : length (t .words) ≤ 144115188075855872
   pub steps : t .steps ≤ 1024
-  pub made : t .extracted ≤ 1099511627776
+  pub made : t .extracted ≤ 4294967296
   pub grows : next ≤ t .next
-  pub low : t .next ≤ 4294967296
+  pub low : t .next ≤ 2147484672
 
-pub told-small : (rows : List Row) (fuel row next : ℕ) (ws : List ℕ) → fuel ≤ 64 → T (extractable rows next ws) → T (symbols-pass (is-number rows) ws)
+pub told-small : (rows : List Row) (fuel row next : ℕ) (ws : List ℕ) → T (extractable rows next ws) → T (symbols-pass (is-number rows) ws)
     → (t : Told) → scope-told rows fuel row next ws ≡ ok t → Small next t
-told-small rows fuel row next ws f g p t e = ?
+told-small rows fuel row next ws g p t e = ?
 
 module _ (rows : List Row) (next : ℕ) (held group : List ℕ) (h : Holds rows next held) (g : Is-group held group) where
   pub column-good : (a : ℕ) → a < arm-count held (getD group 0 0) → T (extractable rows next (column-words held group a))
@@ -33,7 +33,7 @@ module _ (rows : List Row) (next : ℕ) (held group : List ℕ) (h : Holds rows 
   pub column-pass : (a : ℕ) → a < arm-count held (getD group 0 0) → T (symbols-pass (is-number rows) (column-words held group a))
   column-pass a l = ?
 
-  pub arms-few : arm-count held (getD group 0 0) ≤ 1024
+  pub arms-few : arm-count held (getD group 0 0) ≤ 17
   arms-few = ?
 
   pub group-few : length group ≤ 1024

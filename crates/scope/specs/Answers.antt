@@ -1,15 +1,16 @@
 -- What a scope, an arm, the arms of a match and the groups of a scope answer, and what they leave in the table, by cases (01, "Scoped fusion"). Assumes nothing.
-use Prim.Native.Nat.{ℕ, suc, _+_, _≤_}
+use Prim.Native.Nat.{ℕ, suc, _+_, _≤_, _<_}
 use mathlib.Core.Path.{_≡_}
-use mathlib.Core.Bool.{Bool}
+use mathlib.Core.Bool.{true}
 use mathlib.Core.List.{List, [], _∷_, map}
 use lib.ListN.{length, take}
-use Rattle.tree.specs.Outcome.{Outcome, ok, refused, _>>=_}
+use Rattle.tree.specs.Outcome.{Refusal, Outcome, ok, refused, _>>=_}
 use Rattle.tree.specs.Rows.{Row}
-use Rattle.tree.specs.Tokens.{word}
+use Rattle.tree.specs.Tokens.{word, name-in}
 use Rattle.cse.specs.AnswerRows.{arm-row, value-row}
 use Rattle.switchplaces.specs.Columns.{column-words}
-use Rattle.extractlaws.specs.Parts.{Rounds-listed, Rounds-refused}
+use Rattle.renaming.specs.Places.{divisors-to-bind}
+use Rattle.rounds.specs.Rounds.{all-rounds}
 use Rattle.scopeplaces.specs.Overlay.{overlay}
 use Rattle.scopeplaces.specs.Whole.{Told, Arms-told, Walk, scope-told}
 use Rattle.scope.specs.declared.Scoped.{Scoped}
@@ -18,6 +19,8 @@ use Rattle.scope.specs.declared.Armed.{Armed}
 use Rattle.scope.specs.declared.Armed.the-variants as armed
 use Rattle.scope.specs.declared.Walked.{Walked}
 use Rattle.scope.specs.declared.Walked.the-variants as walked
+use Rattle.scope.specs.declared.Holding.{Holding}
+use Rattle.scope.specs.declared.Holding.the-variants as holding
 use Rattle.scope.specs.declared.Listed.{Listed}
 use Rattle.scope.specs.declared.Listed.the-variants as listed
 
@@ -40,9 +43,10 @@ told-rows (ok t) = length (t .words)
 told-rows (refused i) = 0
 
 -- the words after the rounds stand in front, and so do the places of their divisors to bind; or the rounds are refused
-abbrev pub Lists : List Row → Bool → ℕ → List ℕ → Listed → List ℕ → List ℕ → Type 0
-Lists rows scoped first ws (listed.Words n m d) tokens places = Rounds-listed rows scoped first ws n m d tokens places
-Lists rows scoped first ws listed.Refused tokens places = Rounds-refused rows scoped first ws
+abbrev pub Lists : List Row → ℕ → List ℕ → Listed → List ℕ → List ℕ → Type 0
+Lists rows first ws (listed.Words n d) tokens places =
+    (all-rounds rows true first ws ≡ ok (take n tokens)) × (take d places ≡ divisors-to-bind (take n tokens) (name-in rows) true) × (n ≤ length tokens) × (d ≤ length places)
+Lists rows first ws listed.Refused tokens places = (i : Refusal) × (all-rounds rows true first ws ≡ refused i)
 
 -- ---- arms
 
@@ -83,6 +87,20 @@ Walk-wrote (refused i) numbers sizes = Unit {0}
 unfoldable pub arms-of : Outcome Walk → List (List ℕ)
 arms-of (ok l) = l .arms
 arms-of (refused i) = []
+
+-- the rows of some arms
+unfoldable pub words-of : Outcome Arms-told → List ℕ
+words-of (ok t) = t .words
+words-of (refused i) = []
+
+-- what a scope holds in front, at most 1,024 words
+abbrev pub Holding-so : List ℕ → Holding → List ℕ → Type 0
+Holding-so hs (holding.Words n) held = (take n held ≡ hs) × (n ≤ length held) × (length hs ≤ 1024)
+Holding-so hs holding.TooMany held = 1024 < length hs
+
+unfoldable pub walk-refusal : Walked → ℕ
+walk-refusal (walked.Done next extracted) = 0
+walk-refusal (walked.Refused n) = n
 
 -- the refusal's number, 0 where there is none
 unfoldable pub refusal-number : Armed → ℕ
