@@ -1,4 +1,15 @@
-use Prim.Native.Nat.{ℕ, _<_}
+-- `scope::scope`, `scope::arms` and `scope::arm` meet their contracts. A scope calls with one scope less that may be opened, and the others pass it on. Assumes nothing.
+use native.Mathlib.Omega.{arith}
+use mathlib.Core.Path.{_≡_, refl, sym, _∙_}
+use lib.ListN.{length, take, getD}
+use Rattle.checked.specs.Check.{rows-in}
+use Rattle.switchplaces.specs.Switches.{arm-count}
+use Rattle.scope.specs.Answers.{inner}
+use Rattle.scope.proofs.ArmLaws.{Arms-so, arm-ends, arm-stops, arms-begin, arms-go-on, arms-end-refused, arms-all}
+use Rattle.scope.proofs.Asking.{lent-on, column-room, column-scoped, column-fits, column-answers, steps-few, arm-too-deep, arms-small, so-small, so-holds, so-fits, so-made}
+use Rattle.scope.proofs.Owed.{group-few, arms-few}
+use borrow.Author.Needs.{needs}
+use Prim.Native.Nat.{ℕ, _<_, _+_, _-_, _*_, _≤_}
 use borrow.Fn.Kinds.{In}
 use borrow.Fn.PlainCycle.{Measures, is, falls, and}
 use Rattle.scope.proofs.arm.Reads as arm
@@ -62,40 +73,40 @@ use Rattle.scope.proofs.+arm+arms+measure+scope+scope_grouped+scope_hel
 }
 
 abbrev μ-arm : Measures 6 arm-kinds.ps ℕ
-μ-arm κs a = ?
+μ-arm κs a = 16 * (a .1 .1 .1 .1 .1 .0) + 1
 
 abbrev μ-arms : Measures 6 arms-kinds.ps ℕ
-μ-arms κs a = ?
+μ-arms κs a = 16 * (a .1 .1 .1 .1 .0) + 2
 
 abbrev μ-measure : Measures 5 measure-kinds.ps ℕ
-μ-measure κs a = ?
+μ-measure κs a = 16 * (a .1 .1 .1 .1 .0) + 3
 
 abbrev μ-scope : Measures 4 scope-kinds.ps ℕ
-μ-scope κs a = ?
+μ-scope κs a = 16 * (a .1 .1 .1 .0)
 
 abbrev μ-scope-grouped : Measures 10 scope-grouped-kinds.ps ℕ
-μ-scope-grouped κs a = ?
+μ-scope-grouped κs a = 16 * (a .1 .1 .1 .1 .1 .1 .1 .1 .1 .1 .0) + 9
 
 abbrev μ-scope-held : Measures 7 scope-held-kinds.ps ℕ
-μ-scope-held κs a = ?
+μ-scope-held κs a = 16 * (a .1 .1 .1 .1 .1 .1 .1 .1 .0) + 10
 
 abbrev μ-scope-listed : Measures 5 scope-listed-kinds.ps ℕ
-μ-scope-listed κs a = ?
+μ-scope-listed κs a = 16 * (a .1 .1 .1 .1 .1 .1 .0) + 11
 
 abbrev μ-walk : Measures 8 walk-kinds.ps ℕ
-μ-walk κs a = ?
+μ-walk κs a = 16 * (a .1 .1 .1 .1 .1 .0) + 4
 
 abbrev μ-write-match : Measures 8 write-match-kinds.ps ℕ
-μ-write-match κs a = ?
+μ-write-match κs a = 16 * (a .1 .1 .1 .1 .1 .1 .1 .1 .0) + 5
 
 abbrev μ-write-scope : Measures 12 write-scope-kinds.ps ℕ
-μ-write-scope κs a = ?
+μ-write-scope κs a = 16 * (a .1 .1 .1 .1 .1 .1 .1 .1 .1 .1 .1 .1 .0) + 8
 
 abbrev μ-write-stmt : Measures 12 write-stmt-kinds.ps ℕ
-μ-write-stmt κs a = ?
+μ-write-stmt κs a = 16 * (a .1 .1 .1 .1 .1 .1 .1 .1 .1 .1 .1 .1 .1 .0) + 6
 
 abbrev μ-write-stmts : Measures 13 write-stmts-kinds.ps ℕ
-μ-write-stmts κs a = ?
+μ-write-stmts κs a = 16 * (a .1 .1 .1 .1 .1 .1 .1 .1 .1 .1 .1 .1 .1 .0) + 7
 
 abbrev arm-at : ℕ → In 6 arm-kinds.ps
 arm-at t = and 6 arm-kinds.ps (is 6 arm-kinds.ps μ-arm t) arm.Pre
@@ -195,806 +206,244 @@ abbrev write-stmts-below : ℕ → In 13 write-stmts-kinds.ps
 write-stmts-below t =
     and 13 write-stmts-kinds.ps (falls 13 write-stmts-kinds.ps _<_ μ-write-stmts t) write-stmts.Pre
 
--- src/lib.rt:283:9
-arm-returns : (t : ℕ) → arm-lts.Need-returns (
-  column-reads.Asked,
-  column-reads.Learnt,
-  scope-below t,
-  scope.Post,
-  put-word-reads.Asked,
-  put-word-reads.Learnt,
-) (arm-at t) arm.Post
-arm-returns t c = ?
+arm-returns : (t : ℕ) → arm-lts.Need-returns (column-reads.Asked, column-reads.Learnt, scope-below t, scope.Post, put-word-reads.Asked, put-word-reads.Learnt) (arm-at t) arm.Post
+arm-returns t c = let s = c .before .before .before .before .before .before .before in let a = s .args in arm-too-deep (rows-in (a .rows .now)) (a .fuel) (a .next) (a .held .now) (a .group .now) (s .pre .1 .0 .1) (s .pre .1 .1 .0 .0) (a .a) (s .pre .1 .1 .0 .1) (c .if1 .taken) (a .at) (a .table .now)
 
--- src/lib.rt:285:9
-arm-column-requires : (t : ℕ) → arm-lts.Need-column-requires (
-  column-reads.Asked,
-  column-reads.Learnt,
-  scope-below t,
-  scope.Post,
-  put-word-reads.Asked,
-  put-word-reads.Learnt,
-) (arm-at t) arm.Post
-arm-column-requires t c κs = ?
+arm-column-requires : (t : ℕ) → arm-lts.Need-column-requires (column-reads.Asked, column-reads.Learnt, scope-below t, scope.Post, put-word-reads.Asked, put-word-reads.Learnt) (arm-at t) arm.Post
+arm-column-requires t c κs = let s = c .before .before .before .before .before .before .before .before in let a = s .args in (s .pre .1 .1 .0 .0, s .pre .1 .1 .0 .1, column-room (rows-in (a .rows .now)) (a .fuel) (a .next) (a .held .now) (a .group .now) (s .pre .1 .0 .1) (s .pre .1 .1 .0 .0) (a .a) (s .pre .1 .1 .0 .1) (a .work .now) (a .text .now) (s .pre .1 .0 .0) (omega (arith, c .before .if1 .left)))
 
--- src/lib.rt:286:62
-arm-add-scope : (t : ℕ) → arm-lts.Need-add-scope (
-  column-reads.Asked,
-  column-reads.Learnt,
-  scope-below t,
-  scope.Post,
-  put-word-reads.Asked,
-  put-word-reads.Learnt,
-) (arm-at t) arm.Post
-arm-add-scope t c = ?
+arm-add-scope : (t : ℕ) → arm-lts.Need-add-scope (column-reads.Asked, column-reads.Learnt, scope-below t, scope.Post, put-word-reads.Asked, put-word-reads.Learnt) (arm-at t) arm.Post
+arm-add-scope t c = let s = c .before .before .before .before .before .before .before .before .before .before .before .before .before in omega (arith, s .pre .1 .1 .1)
 
--- src/lib.rt:286:9
-arm-scope-requires : (t : ℕ) → arm-lts.Need-scope-requires (
-  column-reads.Asked,
-  column-reads.Learnt,
-  scope-below t,
-  scope.Post,
-  put-word-reads.Asked,
-  put-word-reads.Learnt,
-) (arm-at t) arm.Post
-arm-scope-requires t c κs = ?
+arm-scope-requires : (t : ℕ) → arm-lts.Need-scope-requires (column-reads.Asked, column-reads.Learnt, scope-below t, scope.Post, put-word-reads.Asked, put-word-reads.Learnt) (arm-at t) arm.Post
+arm-scope-requires t c κs = let s = c .before .before .before .before .before .before .before .before .before .before .before .before .before .before in let a = s .args in let x = c .before .before .before .before .before .column in
+    (omega (arith, s .pre .0), (column-scoped (rows-in (a .rows .now)) (a .fuel) (a .next) (a .held .now) (a .group .now) (s .pre .1 .0 .1) (s .pre .1 .1 .0 .0) (a .a) (s .pre .1 .1 .0 .1) (a .at) (s .pre .1 .1 .1) (x .result) _ (x .ensures .0), ((lent-on (a .fuel) (a .work .now) (a .text .now) _ _ (s .pre .1 .0 .0) (x .kept .1 .1 .1 .0) refl, x .ensures .1), column-fits (rows-in (a .rows .now)) (a .fuel) (a .next) (a .held .now) (a .group .now) (s .pre .1 .0 .1) (s .pre .1 .1 .0 .0) (a .a) (s .pre .1 .1 .0 .1) (a .at) (s .pre .1 .1 .1) (x .result) _ (x .ensures .0))))
 
--- src/lib.rt:288:22
-arm-enum-known-told : (t : ℕ) → arm-lts.Need-enum-known-told (
-  column-reads.Asked,
-  column-reads.Learnt,
-  scope-below t,
-  scope.Post,
-  put-word-reads.Asked,
-  put-word-reads.Learnt,
-) (arm-at t) arm.Post
-arm-enum-known-told t c = ?
+arm-enum-known-told : (t : ℕ) → arm-lts.Need-enum-known-told (column-reads.Asked, column-reads.Learnt, scope-below t, scope.Post, put-word-reads.Asked, put-word-reads.Learnt) (arm-at t) arm.Post
+arm-enum-known-told t c = search needs
 
--- src/lib.rt:289:37
-arm-add-put-word : (t : ℕ) → arm-lts.Need-add-put-word (
-  column-reads.Asked,
-  column-reads.Learnt,
-  scope-below t,
-  scope.Post,
-  put-word-reads.Asked,
-  put-word-reads.Learnt,
-) (arm-at t) arm.Post
-arm-add-put-word t c = ?
+arm-add-put-word : (t : ℕ) → arm-lts.Need-add-put-word (column-reads.Asked, column-reads.Learnt, scope-below t, scope.Post, put-word-reads.Asked, put-word-reads.Learnt) (arm-at t) arm.Post
+arm-add-put-word t c = let s = c .before .before .before .before .before .before .before .before .before .before .before .before .before .before .before .before .before .before .before .before .before .before .before .before in let a = s .args in let x = c .before .before .before .before .before .before .before .before .before .before .before .before .before .before .before .column in let y = c .before .before .before .before .before .before .before .before .before .scope in let f = steps-few (rows-in (a .rows .now)) (a .fuel) (a .next) (a .held .now) (a .group .now) (s .pre .1 .0 .1) (s .pre .1 .1 .0 .0) (a .a) (s .pre .1 .1 .0 .1) (a .at) (s .pre .1 .1 .1) (x .result) _ (x .ensures .0) (y .result) (y .ensures .0) _ _ _ _ (c .before .told .given .1) in omega (arith, f, group-few (rows-in (a .rows .now)) (a .next) (a .held .now) (a .group .now) (s .pre .1 .0 .1) (s .pre .1 .1 .0 .0))
 
--- src/lib.rt:289:28
-arm-mul-put-word : (t : ℕ) → arm-lts.Need-mul-put-word (
-  column-reads.Asked,
-  column-reads.Learnt,
-  scope-below t,
-  scope.Post,
-  put-word-reads.Asked,
-  put-word-reads.Learnt,
-) (arm-at t) arm.Post
-arm-mul-put-word t c = ?
+arm-mul-put-word : (t : ℕ) → arm-lts.Need-mul-put-word (column-reads.Asked, column-reads.Learnt, scope-below t, scope.Post, put-word-reads.Asked, put-word-reads.Learnt) (arm-at t) arm.Post
+arm-mul-put-word t c = let s = c .before .before .before .before .before .before .before .before .before .before .before .before .before .before .before .before .before .before .before .before .before .before .before .before in let a = s .args in let x = c .before .before .before .before .before .before .before .before .before .before .before .before .before .before .before .column in let y = c .before .before .before .before .before .before .before .before .before .scope in let f = steps-few (rows-in (a .rows .now)) (a .fuel) (a .next) (a .held .now) (a .group .now) (s .pre .1 .0 .1) (s .pre .1 .1 .0 .0) (a .a) (s .pre .1 .1 .0 .1) (a .at) (s .pre .1 .1 .1) (x .result) _ (x .ensures .0) (y .result) (y .ensures .0) _ _ _ _ (c .before .told .given .1) in omega (arith, f, group-few (rows-in (a .rows .now)) (a .next) (a .held .now) (a .group .now) (s .pre .1 .0 .1) (s .pre .1 .1 .0 .0))
 
--- src/lib.rt:289:22
-arm-add-put-word-2 : (t : ℕ) → arm-lts.Need-add-put-word-2 (
-  column-reads.Asked,
-  column-reads.Learnt,
-  scope-below t,
-  scope.Post,
-  put-word-reads.Asked,
-  put-word-reads.Learnt,
-) (arm-at t) arm.Post
-arm-add-put-word-2 t c = ?
+arm-add-put-word-2 : (t : ℕ) → arm-lts.Need-add-put-word-2 (column-reads.Asked, column-reads.Learnt, scope-below t, scope.Post, put-word-reads.Asked, put-word-reads.Learnt) (arm-at t) arm.Post
+arm-add-put-word-2 t c = let s = c .before .before .before .before .before .before .before .before .before .before .before .before .before .before .before .before .before .before .before .before .before .before .before .before in let a = s .args in let x = c .before .before .before .before .before .before .before .before .before .before .before .before .before .before .before .column in let y = c .before .before .before .before .before .before .before .before .before .scope in let f = steps-few (rows-in (a .rows .now)) (a .fuel) (a .next) (a .held .now) (a .group .now) (s .pre .1 .0 .1) (s .pre .1 .1 .0 .0) (a .a) (s .pre .1 .1 .0 .1) (a .at) (s .pre .1 .1 .1) (x .result) _ (x .ensures .0) (y .result) (y .ensures .0) _ _ _ _ (c .before .told .given .1) in omega (arith, f, group-few (rows-in (a .rows .now)) (a .next) (a .held .now) (a .group .now) (s .pre .1 .0 .1) (s .pre .1 .1 .0 .0))
 
--- src/lib.rt:289:13
-arm-put-word-requires : (t : ℕ) → arm-lts.Need-put-word-requires (
-  column-reads.Asked,
-  column-reads.Learnt,
-  scope-below t,
-  scope.Post,
-  put-word-reads.Asked,
-  put-word-reads.Learnt,
-) (arm-at t) arm.Post
-arm-put-word-requires t c κs = ?
+arm-put-word-requires : (t : ℕ) → arm-lts.Need-put-word-requires (column-reads.Asked, column-reads.Learnt, scope-below t, scope.Post, put-word-reads.Asked, put-word-reads.Learnt) (arm-at t) arm.Post
+arm-put-word-requires t c κs = search needs
 
--- src/lib.rt:292:25
-arm-enum-known-told-2 : (t : ℕ) → arm-lts.Need-enum-known-told-2 (
-  column-reads.Asked,
-  column-reads.Learnt,
-  scope-below t,
-  scope.Post,
-  put-word-reads.Asked,
-  put-word-reads.Learnt,
-) (arm-at t) arm.Post
-arm-enum-known-told-2 t c = ?
+arm-enum-known-told-2 : (t : ℕ) → arm-lts.Need-enum-known-told-2 (column-reads.Asked, column-reads.Learnt, scope-below t, scope.Post, put-word-reads.Asked, put-word-reads.Learnt) (arm-at t) arm.Post
+arm-enum-known-told-2 t c = search needs
 
--- src/lib.rt:264:1
-arm-same-length : (t : ℕ) → arm-lts.Need-same-length (
-  column-reads.Asked,
-  column-reads.Learnt,
-  scope-below t,
-  scope.Post,
-  put-word-reads.Asked,
-  put-word-reads.Learnt,
-) (arm-at t) arm.Post
-arm-same-length t c = ?
+arm-same-length : (t : ℕ) → arm-lts.Need-same-length (column-reads.Asked, column-reads.Learnt, scope-below t, scope.Post, put-word-reads.Asked, put-word-reads.Learnt) (arm-at t) arm.Post
+arm-same-length t c = search needs
 
--- src/lib.rt:264:1
-arm-same-length-2 : (t : ℕ) → arm-lts.Need-same-length-2 (
-  column-reads.Asked,
-  column-reads.Learnt,
-  scope-below t,
-  scope.Post,
-  put-word-reads.Asked,
-  put-word-reads.Learnt,
-) (arm-at t) arm.Post
-arm-same-length-2 t c = ?
+arm-same-length-2 : (t : ℕ) → arm-lts.Need-same-length-2 (column-reads.Asked, column-reads.Learnt, scope-below t, scope.Post, put-word-reads.Asked, put-word-reads.Learnt) (arm-at t) arm.Post
+arm-same-length-2 t c = search needs
 
--- src/lib.rt:264:1
-arm-same-length-3 : (t : ℕ) → arm-lts.Need-same-length-3 (
-  column-reads.Asked,
-  column-reads.Learnt,
-  scope-below t,
-  scope.Post,
-  put-word-reads.Asked,
-  put-word-reads.Learnt,
-) (arm-at t) arm.Post
-arm-same-length-3 t c = ?
+arm-same-length-3 : (t : ℕ) → arm-lts.Need-same-length-3 (column-reads.Asked, column-reads.Learnt, scope-below t, scope.Post, put-word-reads.Asked, put-word-reads.Learnt) (arm-at t) arm.Post
+arm-same-length-3 t c = search needs
 
--- src/lib.rt:264:1
-arm-returns-2 : (t : ℕ) → arm-lts.Need-returns-2 (
-  column-reads.Asked,
-  column-reads.Learnt,
-  scope-below t,
-  scope.Post,
-  put-word-reads.Asked,
-  put-word-reads.Learnt,
-) (arm-at t) arm.Post
-arm-returns-2 t c = ?
+arm-returns-2 : (t : ℕ) → arm-lts.Need-returns-2 (column-reads.Asked, column-reads.Learnt, scope-below t, scope.Post, put-word-reads.Asked, put-word-reads.Learnt) (arm-at t) arm.Post
+arm-returns-2 t c = let s = c .before .before .before .before .before .before .before .before .before .before .before .before .before .before .before .before .before .before .before .before .before .before .before .before .before .before .before .before in let a = s .args in let x = c .before .before .before .before .before .before .before .before .before .before .before .before .before .before .before .before .before .before .before .column in let y = c .before .before .before .before .before .before .before .before .before .before .before .before .before .scope in arm-ends (inner (rows-in (a .rows .now)) (a .fuel)) (a .held .now) (a .group .now) (a .next) (a .a) (a .at) (a .table .now) (y .result) _ (column-answers (rows-in (a .rows .now)) (a .fuel) (a .next) (a .held .now) (a .group .now) (a .a) (a .at) (a .table .now) (x .result) _ (x .ensures .0) (y .result) _ (y .ensures)) _ _ _ _ (c .before .before .before .before .before .told .given .1) _ (c .before .before .put-word .ensures)
 
--- src/lib.rt:264:1
-arm-same-length-4 : (t : ℕ) → arm-lts.Need-same-length-4 (
-  column-reads.Asked,
-  column-reads.Learnt,
-  scope-below t,
-  scope.Post,
-  put-word-reads.Asked,
-  put-word-reads.Learnt,
-) (arm-at t) arm.Post
-arm-same-length-4 t c = ?
+arm-same-length-4 : (t : ℕ) → arm-lts.Need-same-length-4 (column-reads.Asked, column-reads.Learnt, scope-below t, scope.Post, put-word-reads.Asked, put-word-reads.Learnt) (arm-at t) arm.Post
+arm-same-length-4 t c = search needs
 
--- src/lib.rt:264:1
-arm-same-length-5 : (t : ℕ) → arm-lts.Need-same-length-5 (
-  column-reads.Asked,
-  column-reads.Learnt,
-  scope-below t,
-  scope.Post,
-  put-word-reads.Asked,
-  put-word-reads.Learnt,
-) (arm-at t) arm.Post
-arm-same-length-5 t c = ?
+arm-same-length-5 : (t : ℕ) → arm-lts.Need-same-length-5 (column-reads.Asked, column-reads.Learnt, scope-below t, scope.Post, put-word-reads.Asked, put-word-reads.Learnt) (arm-at t) arm.Post
+arm-same-length-5 t c = search needs
 
--- src/lib.rt:264:1
-arm-same-length-6 : (t : ℕ) → arm-lts.Need-same-length-6 (
-  column-reads.Asked,
-  column-reads.Learnt,
-  scope-below t,
-  scope.Post,
-  put-word-reads.Asked,
-  put-word-reads.Learnt,
-) (arm-at t) arm.Post
-arm-same-length-6 t c = ?
+arm-same-length-6 : (t : ℕ) → arm-lts.Need-same-length-6 (column-reads.Asked, column-reads.Learnt, scope-below t, scope.Post, put-word-reads.Asked, put-word-reads.Learnt) (arm-at t) arm.Post
+arm-same-length-6 t c = search needs
 
--- src/lib.rt:264:1
-arm-returns-3 : (t : ℕ) → arm-lts.Need-returns-3 (
-  column-reads.Asked,
-  column-reads.Learnt,
-  scope-below t,
-  scope.Post,
-  put-word-reads.Asked,
-  put-word-reads.Learnt,
-) (arm-at t) arm.Post
-arm-returns-3 t c = ?
+arm-returns-3 : (t : ℕ) → arm-lts.Need-returns-3 (column-reads.Asked, column-reads.Learnt, scope-below t, scope.Post, put-word-reads.Asked, put-word-reads.Learnt) (arm-at t) arm.Post
+arm-returns-3 t c = let s = c .before .before .before .before .before .before .before .before .before .before .before .before .before .before .before .before .before .before .before .before .before .before .before .before in let a = s .args in let x = c .before .before .before .before .before .before .before .before .before .before .before .before .before .before .before .column in let y = c .before .before .before .before .before .before .before .before .before .scope in arm-stops (inner (rows-in (a .rows .now)) (a .fuel)) (a .held .now) (a .group .now) (a .next) (a .a) (a .at) (a .table .now) (y .result) _ (column-answers (rows-in (a .rows .now)) (a .fuel) (a .next) (a .held .now) (a .group .now) (a .a) (a .at) (a .table .now) (x .result) _ (x .ensures .0) (y .result) _ (y .ensures)) _ (c .before .told2 .given .1)
 
 abbrev arms-Inv-loop : arms-lts.InvT-loop
-arms-Inv-loop rows work₀ held group fuel next text₀ at table₀ count end₀ number₀ extracted₀ a₀ work text table end number extracted a =
-    ?
+arms-Inv-loop rows work₀ held group fuel next text₀ at table₀ count end₀ number₀ extracted₀ a₀ work text table end number extracted a = (a ≤ count) × Arms-so (inner (rows-in rows) fuel) held group next at table₀ a end number extracted table × (length work ≡ length work₀) × (length text ≡ length text₀) × (length table ≡ length table₀)
 
 abbrev arms-μ-loop : arms-lts.MeasureT-loop
-arms-μ-loop rows work₀ held group fuel next text₀ at table₀ count end₀ number₀ extracted₀ a₀ work text table end number extracted a =
-    ?
+arms-μ-loop rows work₀ held group fuel next text₀ at table₀ count end₀ number₀ extracted₀ a₀ work text table end number extracted a = count - a
 
--- src/lib.rt:332:9
-arms-count-arms-requires : (t : ℕ) → arms-lts.Need-count-arms-requires (
-  count-arms-reads.Asked,
-  count-arms-reads.Learnt,
-  arm-below t,
-  arm.Post,
-  refusal-of-reads.Asked,
-  refusal-of-reads.Learnt,
-) (arms-at t) arms.Post arms-Inv-loop arms-μ-loop
-arms-count-arms-requires t c κs = ?
+arms-count-arms-requires : (t : ℕ) → arms-lts.Need-count-arms-requires (count-arms-reads.Asked, count-arms-reads.Learnt, arm-below t, arm.Post, refusal-of-reads.Asked, refusal-of-reads.Learnt) (arms-at t) arms.Post arms-Inv-loop arms-μ-loop
+arms-count-arms-requires t c κs = let s = c .before .before .before .before .before .before in (s .pre .1 .1 .0, s .pre .1 .0 .1 .few)
 
--- src/lib.rt:337:5
-arms-loop-holds : (t : ℕ) → arms-lts.Need-loop-holds (
-  count-arms-reads.Asked,
-  count-arms-reads.Learnt,
-  arm-below t,
-  arm.Post,
-  refusal-of-reads.Asked,
-  refusal-of-reads.Learnt,
-) (arms-at t) arms.Post arms-Inv-loop arms-μ-loop
-arms-loop-holds t c = ?
+arms-loop-holds : (t : ℕ) → arms-lts.Need-loop-holds (count-arms-reads.Asked, count-arms-reads.Learnt, arm-below t, arm.Post, refusal-of-reads.Asked, refusal-of-reads.Learnt) (arms-at t) arms.Post arms-Inv-loop arms-μ-loop
+arms-loop-holds t c = let s = c .before .before .before .before .before .before .before in let a = s .args in (omega arith, arms-begin (inner (rows-in (a .rows .now)) (a .fuel)) (a .held .now) (a .group .now) (a .next) (a .at) (a .table .now), refl, refl, refl)
 
--- src/lib.rt:338:13
-arms-arm-requires : (t : ℕ) → arms-lts.Need-arm-requires (
-  count-arms-reads.Asked,
-  count-arms-reads.Learnt,
-  arm-below t,
-  arm.Post,
-  refusal-of-reads.Asked,
-  refusal-of-reads.Learnt,
-) (arms-at t) arms.Post arms-Inv-loop arms-μ-loop
-arms-arm-requires t c κs = ?
+arms-arm-requires : (t : ℕ) → arms-lts.Need-arm-requires (count-arms-reads.Asked, count-arms-reads.Learnt, arm-below t, arm.Post, refusal-of-reads.Asked, refusal-of-reads.Learnt) (arms-at t) arms.Post arms-Inv-loop arms-μ-loop
+arms-arm-requires t c κs = let s = c .before .before .before .before .before .before .before .before .before .before .before .before in let a = s .args in let l = c .before .before .before .before .loop in let e = c .before .before .before .before .before .count-arms .ensures in
+    (omega (arith, s .pre .0), ((lent-on (a .fuel) (a .work .now) (a .text .now) _ _ (s .pre .1 .0 .0) (l .inv .2) (l .inv .3), so-holds (rows-in (a .rows .now)) (a .fuel) (a .next) (a .held .now) (a .group .now) (s .pre .1 .0 .1) (s .pre .1 .1 .0) (a .at) (a .table .now) _ _ _ _ _ (l .inv .1) (omega (arith, e, c .before .before .before .loop-test .taken))), ((s .pre .1 .1 .0, omega (arith, e, c .before .before .before .loop-test .taken)), so-fits (rows-in (a .rows .now)) (a .fuel) (a .next) (a .held .now) (a .group .now) (s .pre .1 .0 .1) (s .pre .1 .1 .0) (a .at) (a .table .now) _ _ _ _ _ (l .inv .1) (omega (arith, e, c .before .before .before .loop-test .taken)) (s .pre .1 .1 .1 .0))))
 
--- src/lib.rt:341:25
-arms-enum-known-armed : (t : ℕ) → arms-lts.Need-enum-known-armed (
-  count-arms-reads.Asked,
-  count-arms-reads.Learnt,
-  arm-below t,
-  arm.Post,
-  refusal-of-reads.Asked,
-  refusal-of-reads.Learnt,
-) (arms-at t) arms.Post arms-Inv-loop arms-μ-loop
-arms-enum-known-armed t c = ?
+arms-enum-known-armed : (t : ℕ) → arms-lts.Need-enum-known-armed (count-arms-reads.Asked, count-arms-reads.Learnt, arm-below t, arm.Post, refusal-of-reads.Asked, refusal-of-reads.Learnt) (arms-at t) arms.Post arms-Inv-loop arms-μ-loop
+arms-enum-known-armed t c = search needs
 
--- src/lib.rt:342:35
-arms-enum-told : (t : ℕ) → arms-lts.Need-enum-told (
-  count-arms-reads.Asked,
-  count-arms-reads.Learnt,
-  arm-below t,
-  arm.Post,
-  refusal-of-reads.Asked,
-  refusal-of-reads.Learnt,
-) (arms-at t) arms.Post arms-Inv-loop arms-μ-loop
-arms-enum-told t c = ?
+arms-enum-told : (t : ℕ) → arms-lts.Need-enum-told (count-arms-reads.Asked, count-arms-reads.Learnt, arm-below t, arm.Post, refusal-of-reads.Asked, refusal-of-reads.Learnt) (arms-at t) arms.Post arms-Inv-loop arms-μ-loop
+arms-enum-told t c = search needs
 
--- src/lib.rt:342:35
-arms-refusal-of-requires : (t : ℕ) → arms-lts.Need-refusal-of-requires (
-  count-arms-reads.Asked,
-  count-arms-reads.Learnt,
-  arm-below t,
-  arm.Post,
-  refusal-of-reads.Asked,
-  refusal-of-reads.Learnt,
-) (arms-at t) arms.Post arms-Inv-loop arms-μ-loop
-arms-refusal-of-requires t c κs = ?
+arms-refusal-of-requires : (t : ℕ) → arms-lts.Need-refusal-of-requires (count-arms-reads.Asked, count-arms-reads.Learnt, arm-below t, arm.Post, refusal-of-reads.Asked, refusal-of-reads.Learnt) (arms-at t) arms.Post arms-Inv-loop arms-μ-loop
+arms-refusal-of-requires t c κs = search needs
 
--- src/lib.rt:342:13
-arms-same-length : (t : ℕ) → arms-lts.Need-same-length (
-  count-arms-reads.Asked,
-  count-arms-reads.Learnt,
-  arm-below t,
-  arm.Post,
-  refusal-of-reads.Asked,
-  refusal-of-reads.Learnt,
-) (arms-at t) arms.Post arms-Inv-loop arms-μ-loop
-arms-same-length t c = ?
+arms-same-length : (t : ℕ) → arms-lts.Need-same-length (count-arms-reads.Asked, count-arms-reads.Learnt, arm-below t, arm.Post, refusal-of-reads.Asked, refusal-of-reads.Learnt) (arms-at t) arms.Post arms-Inv-loop arms-μ-loop
+arms-same-length t c = search needs
 
--- src/lib.rt:342:13
-arms-same-length-2 : (t : ℕ) → arms-lts.Need-same-length-2 (
-  count-arms-reads.Asked,
-  count-arms-reads.Learnt,
-  arm-below t,
-  arm.Post,
-  refusal-of-reads.Asked,
-  refusal-of-reads.Learnt,
-) (arms-at t) arms.Post arms-Inv-loop arms-μ-loop
-arms-same-length-2 t c = ?
+arms-same-length-2 : (t : ℕ) → arms-lts.Need-same-length-2 (count-arms-reads.Asked, count-arms-reads.Learnt, arm-below t, arm.Post, refusal-of-reads.Asked, refusal-of-reads.Learnt) (arms-at t) arms.Post arms-Inv-loop arms-μ-loop
+arms-same-length-2 t c = search needs
 
--- src/lib.rt:342:13
-arms-same-length-3 : (t : ℕ) → arms-lts.Need-same-length-3 (
-  count-arms-reads.Asked,
-  count-arms-reads.Learnt,
-  arm-below t,
-  arm.Post,
-  refusal-of-reads.Asked,
-  refusal-of-reads.Learnt,
-) (arms-at t) arms.Post arms-Inv-loop arms-μ-loop
-arms-same-length-3 t c = ?
+arms-same-length-3 : (t : ℕ) → arms-lts.Need-same-length-3 (count-arms-reads.Asked, count-arms-reads.Learnt, arm-below t, arm.Post, refusal-of-reads.Asked, refusal-of-reads.Learnt) (arms-at t) arms.Post arms-Inv-loop arms-μ-loop
+arms-same-length-3 t c = search needs
 
--- src/lib.rt:342:13
-arms-returns : (t : ℕ) → arms-lts.Need-returns (
-  count-arms-reads.Asked,
-  count-arms-reads.Learnt,
-  arm-below t,
-  arm.Post,
-  refusal-of-reads.Asked,
-  refusal-of-reads.Learnt,
-) (arms-at t) arms.Post arms-Inv-loop arms-μ-loop
-arms-returns t c = ?
+arms-returns : (t : ℕ) → arms-lts.Need-returns (count-arms-reads.Asked, count-arms-reads.Learnt, arm-below t, arm.Post, refusal-of-reads.Asked, refusal-of-reads.Learnt) (arms-at t) arms.Post arms-Inv-loop arms-μ-loop
+arms-returns t c = let s = c .before .before .before .before .before .before .before .before .before .before .before .before .before .before .before .before .before .before .before .before .before .before in let a = s .args in let l = c .before .before .before .before .before .before .before .before .before .before .before .before .before .before .loop in let e = c .before .before .before .before .before .before .before .before .before .before .before .before .before .before .before .count-arms .ensures in arms-end-refused (inner (rows-in (a .rows .now)) (a .fuel)) (a .held .now) (a .group .now) (a .next) (a .at) (a .table .now) _ _ _ _ _ (l .inv .1) (c .before .before .before .before .before .before .before .before .before .arm .result) _ (c .before .before .before .before .before .before .before .before .before .arm .ensures) (arm-count (a .held .now) (getD (a .group .now) 0 0)) (omega (arith, e, c .before .before .before .before .before .before .before .before .before .before .before .before .before .loop-test .taken)) _ (c .before .enum-told .given .1) _ (c .refusal-of .ensures)
 
--- src/lib.rt:346:9
-arms-add-extracted : (t : ℕ) → arms-lts.Need-add-extracted (
-  count-arms-reads.Asked,
-  count-arms-reads.Learnt,
-  arm-below t,
-  arm.Post,
-  refusal-of-reads.Asked,
-  refusal-of-reads.Learnt,
-) (arms-at t) arms.Post arms-Inv-loop arms-μ-loop
-arms-add-extracted t c = ?
+arms-add-extracted : (t : ℕ) → arms-lts.Need-add-extracted (count-arms-reads.Asked, count-arms-reads.Learnt, arm-below t, arm.Post, refusal-of-reads.Asked, refusal-of-reads.Learnt) (arms-at t) arms.Post arms-Inv-loop arms-μ-loop
+arms-add-extracted t c = let s = c .before .before .before .before .before .before .before .before .before .before .before .before .before .before .before .before .before .before .before .before .before .before in let a = s .args in let l = c .before .before .before .before .before .before .before .before .before .before .before .before .before .before .loop in let e = c .before .before .before .before .before .before .before .before .before .before .before .before .before .before .before .count-arms .ensures in let g = arms-go-on (inner (rows-in (a .rows .now)) (a .fuel)) (a .held .now) (a .group .now) (a .next) (a .at) (a .table .now) _ _ _ _ _ (l .inv .1) (c .before .before .before .before .before .before .before .before .before .arm .result) _ (c .before .before .before .before .before .before .before .before .before .arm .ensures) _ _ _ (c .before .armed .given .1) in omega (arith, so-made (rows-in (a .rows .now)) (a .fuel) (a .next) (a .held .now) (a .group .now) (s .pre .1 .0 .1) (s .pre .1 .1 .0) (a .at) (a .table .now) _ _ _ _ _ g (omega (arith, e, c .before .before .before .before .before .before .before .before .before .before .before .before .before .loop-test .taken)))
 
--- src/lib.rt:347:9
-arms-add-a : (t : ℕ) → arms-lts.Need-add-a (
-  count-arms-reads.Asked,
-  count-arms-reads.Learnt,
-  arm-below t,
-  arm.Post,
-  refusal-of-reads.Asked,
-  refusal-of-reads.Learnt,
-) (arms-at t) arms.Post arms-Inv-loop arms-μ-loop
-arms-add-a t c = ?
+arms-add-a : (t : ℕ) → arms-lts.Need-add-a (count-arms-reads.Asked, count-arms-reads.Learnt, arm-below t, arm.Post, refusal-of-reads.Asked, refusal-of-reads.Learnt) (arms-at t) arms.Post arms-Inv-loop arms-μ-loop
+arms-add-a t c = let s = c .before .before .before .before .before .before .before .before .before .before .before .before .before .before .before .before .before .before .before .before .before .before in let a = s .args in omega (arith, c .before .before .before .before .before .before .before .before .before .before .before .before .before .before .before .count-arms .ensures, c .before .before .before .before .before .before .before .before .before .before .before .before .before .loop-test .taken, arms-few (rows-in (a .rows .now)) (a .next) (a .held .now) (a .group .now) (s .pre .1 .0 .1) (s .pre .1 .1 .0))
 
--- src/lib.rt:337:5
-arms-loop-less : (t : ℕ) → arms-lts.Need-loop-less (
-  count-arms-reads.Asked,
-  count-arms-reads.Learnt,
-  arm-below t,
-  arm.Post,
-  refusal-of-reads.Asked,
-  refusal-of-reads.Learnt,
-) (arms-at t) arms.Post arms-Inv-loop arms-μ-loop
-arms-loop-less t c = ?
+arms-loop-less : (t : ℕ) → arms-lts.Need-loop-less (count-arms-reads.Asked, count-arms-reads.Learnt, arm-below t, arm.Post, refusal-of-reads.Asked, refusal-of-reads.Learnt) (arms-at t) arms.Post arms-Inv-loop arms-μ-loop
+arms-loop-less t c = search needs
 
--- src/lib.rt:337:5
-arms-loop-again : (t : ℕ) → arms-lts.Need-loop-again (
-  count-arms-reads.Asked,
-  count-arms-reads.Learnt,
-  arm-below t,
-  arm.Post,
-  refusal-of-reads.Asked,
-  refusal-of-reads.Learnt,
-) (arms-at t) arms.Post arms-Inv-loop arms-μ-loop
-arms-loop-again t c = ?
+arms-loop-again : (t : ℕ) → arms-lts.Need-loop-again (count-arms-reads.Asked, count-arms-reads.Learnt, arm-below t, arm.Post, refusal-of-reads.Asked, refusal-of-reads.Learnt) (arms-at t) arms.Post arms-Inv-loop arms-μ-loop
+arms-loop-again t c = let s = c .before .before .before .before .before .before .before .before .before .before .before .before .before .before .before .before .before .before .before .before .before .before in let a = s .args in let l = c .before .before .before .before .before .before .before .before .before .before .before .before .before .before .loop in let e = c .before .before .before .before .before .before .before .before .before .before .before .before .before .before .before .count-arms .ensures in let x = c .before .before .before .before .before .before .before .before .before .arm in (omega (arith, c .before .before .before .before .before .before .before .before .before .before .before .before .before .loop-test .taken), arms-go-on (inner (rows-in (a .rows .now)) (a .fuel)) (a .held .now) (a .group .now) (a .next) (a .at) (a .table .now) _ _ _ _ _ (l .inv .1) (c .before .before .before .before .before .before .before .before .before .arm .result) _ (c .before .before .before .before .before .before .before .before .before .arm .ensures) _ _ _ (c .before .armed .given .1), x .kept .1 .0 ∙ l .inv .2, x .kept .1 .1 .1 .1 .1 .1 .1 .0 ∙ l .inv .3, x .kept .1 .1 .1 .1 .1 .1 .1 .1 .1 .0 ∙ l .inv .4)
 
--- src/lib.rt:315:1
-arms-same-length-4 : (t : ℕ) → arms-lts.Need-same-length-4 (
-  count-arms-reads.Asked,
-  count-arms-reads.Learnt,
-  arm-below t,
-  arm.Post,
-  refusal-of-reads.Asked,
-  refusal-of-reads.Learnt,
-) (arms-at t) arms.Post arms-Inv-loop arms-μ-loop
-arms-same-length-4 t c = ?
+arms-same-length-4 : (t : ℕ) → arms-lts.Need-same-length-4 (count-arms-reads.Asked, count-arms-reads.Learnt, arm-below t, arm.Post, refusal-of-reads.Asked, refusal-of-reads.Learnt) (arms-at t) arms.Post arms-Inv-loop arms-μ-loop
+arms-same-length-4 t c = search needs
 
--- src/lib.rt:315:1
-arms-same-length-5 : (t : ℕ) → arms-lts.Need-same-length-5 (
-  count-arms-reads.Asked,
-  count-arms-reads.Learnt,
-  arm-below t,
-  arm.Post,
-  refusal-of-reads.Asked,
-  refusal-of-reads.Learnt,
-) (arms-at t) arms.Post arms-Inv-loop arms-μ-loop
-arms-same-length-5 t c = ?
+arms-same-length-5 : (t : ℕ) → arms-lts.Need-same-length-5 (count-arms-reads.Asked, count-arms-reads.Learnt, arm-below t, arm.Post, refusal-of-reads.Asked, refusal-of-reads.Learnt) (arms-at t) arms.Post arms-Inv-loop arms-μ-loop
+arms-same-length-5 t c = search needs
 
--- src/lib.rt:315:1
-arms-same-length-6 : (t : ℕ) → arms-lts.Need-same-length-6 (
-  count-arms-reads.Asked,
-  count-arms-reads.Learnt,
-  arm-below t,
-  arm.Post,
-  refusal-of-reads.Asked,
-  refusal-of-reads.Learnt,
-) (arms-at t) arms.Post arms-Inv-loop arms-μ-loop
-arms-same-length-6 t c = ?
+arms-same-length-6 : (t : ℕ) → arms-lts.Need-same-length-6 (count-arms-reads.Asked, count-arms-reads.Learnt, arm-below t, arm.Post, refusal-of-reads.Asked, refusal-of-reads.Learnt) (arms-at t) arms.Post arms-Inv-loop arms-μ-loop
+arms-same-length-6 t c = search needs
 
--- src/lib.rt:315:1
-arms-returns-2 : (t : ℕ) → arms-lts.Need-returns-2 (
-  count-arms-reads.Asked,
-  count-arms-reads.Learnt,
-  arm-below t,
-  arm.Post,
-  refusal-of-reads.Asked,
-  refusal-of-reads.Learnt,
-) (arms-at t) arms.Post arms-Inv-loop arms-μ-loop
-arms-returns-2 t c = ?
+arms-returns-2 : (t : ℕ) → arms-lts.Need-returns-2 (count-arms-reads.Asked, count-arms-reads.Learnt, arm-below t, arm.Post, refusal-of-reads.Asked, refusal-of-reads.Learnt) (arms-at t) arms.Post arms-Inv-loop arms-μ-loop
+arms-returns-2 t c = let s = c .before .before .before .before .before .before .before .before .before in let a = s .args in let l = c .before .loop in let e = c .before .before .count-arms .ensures in arms-all (inner (rows-in (a .rows .now)) (a .fuel)) (a .held .now) (a .group .now) (a .next) (a .at) (a .table .now) _ _ _ _ _ (l .inv .1) (arm-count (a .held .now) (getD (a .group .now) 0 0)) (omega (arith, e, l .inv .0, c .loop-test .left))
 
--- src/lib.rt:367:17
 measure-add-first :
     (t : ℕ) → measure-lts.Need-add-first (arms-below t, arms.Post) (measure-at t) measure.Post
 measure-add-first t c = ?
 
--- src/lib.rt:368:57
-measure-slice-aggregate-arms : (t : ℕ) → measure-lts.Need-slice-aggregate-arms (
-  arms-below t,
-  arms.Post,
-) (measure-at t) measure.Post
+measure-slice-aggregate-arms : (t : ℕ) → measure-lts.Need-slice-aggregate-arms (arms-below t, arms.Post) (measure-at t) measure.Post
 measure-slice-aggregate-arms t c = ?
 
--- src/lib.rt:368:5
 measure-arms-requires :
     (t : ℕ) → measure-lts.Need-arms-requires (arms-below t, arms.Post) (measure-at t) measure.Post
 measure-arms-requires t c κs = ?
 
--- src/lib.rt:353:1
 measure-same-length :
     (t : ℕ) → measure-lts.Need-same-length (arms-below t, arms.Post) (measure-at t) measure.Post
 measure-same-length t c = ?
 
--- src/lib.rt:353:1
 measure-same-length-2 :
     (t : ℕ) → measure-lts.Need-same-length-2 (arms-below t, arms.Post) (measure-at t) measure.Post
 measure-same-length-2 t c = ?
 
--- src/lib.rt:353:1
 measure-returns :
     (t : ℕ) → measure-lts.Need-returns (arms-below t, arms.Post) (measure-at t) measure.Post
 measure-returns t c = ?
 
--- src/lib.rt:792:9
-scope-returns : (t : ℕ) → scope-lts.Need-returns (
-  tree-count-reads.Asked,
-  tree-count-reads.Learnt,
-  extract-and-list-reads.Asked,
-  extract-and-list-reads.Learnt,
-  scope-listed-below t,
-  scope-listed.Post,
-) (scope-at t) scope.Post
+scope-returns : (t : ℕ) → scope-lts.Need-returns (tree-count-reads.Asked, tree-count-reads.Learnt, extract-and-list-reads.Asked, extract-and-list-reads.Learnt, scope-listed-below t, scope-listed.Post) (scope-at t) scope.Post
 scope-returns t c = ?
 
--- src/lib.rt:795:9
-scope-returns-2 : (t : ℕ) → scope-lts.Need-returns-2 (
-  tree-count-reads.Asked,
-  tree-count-reads.Learnt,
-  extract-and-list-reads.Asked,
-  extract-and-list-reads.Learnt,
-  scope-listed-below t,
-  scope-listed.Post,
-) (scope-at t) scope.Post
+scope-returns-2 : (t : ℕ) → scope-lts.Need-returns-2 (tree-count-reads.Asked, tree-count-reads.Learnt, extract-and-list-reads.Asked, extract-and-list-reads.Learnt, scope-listed-below t, scope-listed.Post) (scope-at t) scope.Post
 scope-returns-2 t c = ?
 
--- src/lib.rt:798:9
-scope-returns-3 : (t : ℕ) → scope-lts.Need-returns-3 (
-  tree-count-reads.Asked,
-  tree-count-reads.Learnt,
-  extract-and-list-reads.Asked,
-  extract-and-list-reads.Learnt,
-  scope-listed-below t,
-  scope-listed.Post,
-) (scope-at t) scope.Post
+scope-returns-3 : (t : ℕ) → scope-lts.Need-returns-3 (tree-count-reads.Asked, tree-count-reads.Learnt, extract-and-list-reads.Asked, extract-and-list-reads.Learnt, scope-listed-below t, scope-listed.Post) (scope-at t) scope.Post
 scope-returns-3 t c = ?
 
--- src/lib.rt:801:30
-scope-slice-reshare-prefix-tree-count : (t : ℕ) → scope-lts.Need-slice-reshare-prefix-tree-count (
-  tree-count-reads.Asked,
-  tree-count-reads.Learnt,
-  extract-and-list-reads.Asked,
-  extract-and-list-reads.Learnt,
-  scope-listed-below t,
-  scope-listed.Post,
-) (scope-at t) scope.Post
+scope-slice-reshare-prefix-tree-count : (t : ℕ) → scope-lts.Need-slice-reshare-prefix-tree-count (tree-count-reads.Asked, tree-count-reads.Learnt, extract-and-list-reads.Asked, extract-and-list-reads.Learnt, scope-listed-below t, scope-listed.Post) (scope-at t) scope.Post
 scope-slice-reshare-prefix-tree-count t c = ?
 
--- src/lib.rt:801:30
-scope-slice-aggregate-tree-count : (t : ℕ) → scope-lts.Need-slice-aggregate-tree-count (
-  tree-count-reads.Asked,
-  tree-count-reads.Learnt,
-  extract-and-list-reads.Asked,
-  extract-and-list-reads.Learnt,
-  scope-listed-below t,
-  scope-listed.Post,
-) (scope-at t) scope.Post
+scope-slice-aggregate-tree-count : (t : ℕ) → scope-lts.Need-slice-aggregate-tree-count (tree-count-reads.Asked, tree-count-reads.Learnt, extract-and-list-reads.Asked, extract-and-list-reads.Learnt, scope-listed-below t, scope-listed.Post) (scope-at t) scope.Post
 scope-slice-aggregate-tree-count t c = ?
 
--- src/lib.rt:801:9
-scope-tree-count-requires : (t : ℕ) → scope-lts.Need-tree-count-requires (
-  tree-count-reads.Asked,
-  tree-count-reads.Learnt,
-  extract-and-list-reads.Asked,
-  extract-and-list-reads.Learnt,
-  scope-listed-below t,
-  scope-listed.Post,
-) (scope-at t) scope.Post
+scope-tree-count-requires : (t : ℕ) → scope-lts.Need-tree-count-requires (tree-count-reads.Asked, tree-count-reads.Learnt, extract-and-list-reads.Asked, extract-and-list-reads.Learnt, scope-listed-below t, scope-listed.Post) (scope-at t) scope.Post
 scope-tree-count-requires t c κs = ?
 
--- src/lib.rt:802:64
-scope-slice-aggregate-extract-and-list : (t : ℕ) → scope-lts.Need-slice-aggregate-extract-and-list (
-  tree-count-reads.Asked,
-  tree-count-reads.Learnt,
-  extract-and-list-reads.Asked,
-  extract-and-list-reads.Learnt,
-  scope-listed-below t,
-  scope-listed.Post,
-) (scope-at t) scope.Post
+scope-slice-aggregate-extract-and-list : (t : ℕ) → scope-lts.Need-slice-aggregate-extract-and-list (tree-count-reads.Asked, tree-count-reads.Learnt, extract-and-list-reads.Asked, extract-and-list-reads.Learnt, scope-listed-below t, scope-listed.Post) (scope-at t) scope.Post
 scope-slice-aggregate-extract-and-list t c = ?
 
--- src/lib.rt:802:9
-scope-extract-and-list-requires : (t : ℕ) → scope-lts.Need-extract-and-list-requires (
-  tree-count-reads.Asked,
-  tree-count-reads.Learnt,
-  extract-and-list-reads.Asked,
-  extract-and-list-reads.Learnt,
-  scope-listed-below t,
-  scope-listed.Post,
-) (scope-at t) scope.Post
+scope-extract-and-list-requires : (t : ℕ) → scope-lts.Need-extract-and-list-requires (tree-count-reads.Asked, tree-count-reads.Learnt, extract-and-list-reads.Asked, extract-and-list-reads.Learnt, scope-listed-below t, scope-listed.Post) (scope-at t) scope.Post
 scope-extract-and-list-requires t c κs = ?
 
--- src/lib.rt:803:23
-scope-enum-known-listed : (t : ℕ) → scope-lts.Need-enum-known-listed (
-  tree-count-reads.Asked,
-  tree-count-reads.Learnt,
-  extract-and-list-reads.Asked,
-  extract-and-list-reads.Learnt,
-  scope-listed-below t,
-  scope-listed.Post,
-) (scope-at t) scope.Post
+scope-enum-known-listed : (t : ℕ) → scope-lts.Need-enum-known-listed (tree-count-reads.Asked, tree-count-reads.Learnt, extract-and-list-reads.Asked, extract-and-list-reads.Learnt, scope-listed-below t, scope-listed.Post) (scope-at t) scope.Post
 scope-enum-known-listed t c = ?
 
--- src/lib.rt:804:9
-scope-enum-told : (t : ℕ) → scope-lts.Need-enum-told (
-  tree-count-reads.Asked,
-  tree-count-reads.Learnt,
-  extract-and-list-reads.Asked,
-  extract-and-list-reads.Learnt,
-  scope-listed-below t,
-  scope-listed.Post,
-) (scope-at t) scope.Post
+scope-enum-told : (t : ℕ) → scope-lts.Need-enum-told (tree-count-reads.Asked, tree-count-reads.Learnt, extract-and-list-reads.Asked, extract-and-list-reads.Learnt, scope-listed-below t, scope-listed.Post) (scope-at t) scope.Post
 scope-enum-told t c = ?
 
--- src/lib.rt:804:9
-scope-same-length : (t : ℕ) → scope-lts.Need-same-length (
-  tree-count-reads.Asked,
-  tree-count-reads.Learnt,
-  extract-and-list-reads.Asked,
-  extract-and-list-reads.Learnt,
-  scope-listed-below t,
-  scope-listed.Post,
-) (scope-at t) scope.Post
+scope-same-length : (t : ℕ) → scope-lts.Need-same-length (tree-count-reads.Asked, tree-count-reads.Learnt, extract-and-list-reads.Asked, extract-and-list-reads.Learnt, scope-listed-below t, scope-listed.Post) (scope-at t) scope.Post
 scope-same-length t c = ?
 
--- src/lib.rt:804:9
-scope-same-length-2 : (t : ℕ) → scope-lts.Need-same-length-2 (
-  tree-count-reads.Asked,
-  tree-count-reads.Learnt,
-  extract-and-list-reads.Asked,
-  extract-and-list-reads.Learnt,
-  scope-listed-below t,
-  scope-listed.Post,
-) (scope-at t) scope.Post
+scope-same-length-2 : (t : ℕ) → scope-lts.Need-same-length-2 (tree-count-reads.Asked, tree-count-reads.Learnt, extract-and-list-reads.Asked, extract-and-list-reads.Learnt, scope-listed-below t, scope-listed.Post) (scope-at t) scope.Post
 scope-same-length-2 t c = ?
 
--- src/lib.rt:804:9
-scope-returns-4 : (t : ℕ) → scope-lts.Need-returns-4 (
-  tree-count-reads.Asked,
-  tree-count-reads.Learnt,
-  extract-and-list-reads.Asked,
-  extract-and-list-reads.Learnt,
-  scope-listed-below t,
-  scope-listed.Post,
-) (scope-at t) scope.Post
+scope-returns-4 : (t : ℕ) → scope-lts.Need-returns-4 (tree-count-reads.Asked, tree-count-reads.Learnt, extract-and-list-reads.Asked, extract-and-list-reads.Learnt, scope-listed-below t, scope-listed.Post) (scope-at t) scope.Post
 scope-returns-4 t c = ?
 
--- src/lib.rt:812:9
-scope-array-share-prefix-places : (t : ℕ) → scope-lts.Need-array-share-prefix-places (
-  tree-count-reads.Asked,
-  tree-count-reads.Learnt,
-  extract-and-list-reads.Asked,
-  extract-and-list-reads.Learnt,
-  scope-listed-below t,
-  scope-listed.Post,
-) (scope-at t) scope.Post
+scope-array-share-prefix-places : (t : ℕ) → scope-lts.Need-array-share-prefix-places (tree-count-reads.Asked, tree-count-reads.Learnt, extract-and-list-reads.Asked, extract-and-list-reads.Learnt, scope-listed-below t, scope-listed.Post) (scope-at t) scope.Post
 scope-array-share-prefix-places t c = ?
 
--- src/lib.rt:812:9
-scope-slice-aggregate-scope-listed : (t : ℕ) → scope-lts.Need-slice-aggregate-scope-listed (
-  tree-count-reads.Asked,
-  tree-count-reads.Learnt,
-  extract-and-list-reads.Asked,
-  extract-and-list-reads.Learnt,
-  scope-listed-below t,
-  scope-listed.Post,
-) (scope-at t) scope.Post
+scope-slice-aggregate-scope-listed : (t : ℕ) → scope-lts.Need-slice-aggregate-scope-listed (tree-count-reads.Asked, tree-count-reads.Learnt, extract-and-list-reads.Asked, extract-and-list-reads.Learnt, scope-listed-below t, scope-listed.Post) (scope-at t) scope.Post
 scope-slice-aggregate-scope-listed t c = ?
 
--- src/lib.rt:813:9
-scope-sub-scope-listed : (t : ℕ) → scope-lts.Need-sub-scope-listed (
-  tree-count-reads.Asked,
-  tree-count-reads.Learnt,
-  extract-and-list-reads.Asked,
-  extract-and-list-reads.Learnt,
-  scope-listed-below t,
-  scope-listed.Post,
-) (scope-at t) scope.Post
+scope-sub-scope-listed : (t : ℕ) → scope-lts.Need-sub-scope-listed (tree-count-reads.Asked, tree-count-reads.Learnt, extract-and-list-reads.Asked, extract-and-list-reads.Learnt, scope-listed-below t, scope-listed.Post) (scope-at t) scope.Post
 scope-sub-scope-listed t c = ?
 
--- src/lib.rt:806:5
-scope-scope-listed-requires : (t : ℕ) → scope-lts.Need-scope-listed-requires (
-  tree-count-reads.Asked,
-  tree-count-reads.Learnt,
-  extract-and-list-reads.Asked,
-  extract-and-list-reads.Learnt,
-  scope-listed-below t,
-  scope-listed.Post,
-) (scope-at t) scope.Post
+scope-scope-listed-requires : (t : ℕ) → scope-lts.Need-scope-listed-requires (tree-count-reads.Asked, tree-count-reads.Learnt, extract-and-list-reads.Asked, extract-and-list-reads.Learnt, scope-listed-below t, scope-listed.Post) (scope-at t) scope.Post
 scope-scope-listed-requires t c κs = ?
 
--- src/lib.rt:774:1
-scope-same-length-3 : (t : ℕ) → scope-lts.Need-same-length-3 (
-  tree-count-reads.Asked,
-  tree-count-reads.Learnt,
-  extract-and-list-reads.Asked,
-  extract-and-list-reads.Learnt,
-  scope-listed-below t,
-  scope-listed.Post,
-) (scope-at t) scope.Post
+scope-same-length-3 : (t : ℕ) → scope-lts.Need-same-length-3 (tree-count-reads.Asked, tree-count-reads.Learnt, extract-and-list-reads.Asked, extract-and-list-reads.Learnt, scope-listed-below t, scope-listed.Post) (scope-at t) scope.Post
 scope-same-length-3 t c = ?
 
--- src/lib.rt:774:1
-scope-same-length-4 : (t : ℕ) → scope-lts.Need-same-length-4 (
-  tree-count-reads.Asked,
-  tree-count-reads.Learnt,
-  extract-and-list-reads.Asked,
-  extract-and-list-reads.Learnt,
-  scope-listed-below t,
-  scope-listed.Post,
-) (scope-at t) scope.Post
+scope-same-length-4 : (t : ℕ) → scope-lts.Need-same-length-4 (tree-count-reads.Asked, tree-count-reads.Learnt, extract-and-list-reads.Asked, extract-and-list-reads.Learnt, scope-listed-below t, scope-listed.Post) (scope-at t) scope.Post
 scope-same-length-4 t c = ?
 
--- src/lib.rt:774:1
-scope-same-length-5 : (t : ℕ) → scope-lts.Need-same-length-5 (
-  tree-count-reads.Asked,
-  tree-count-reads.Learnt,
-  extract-and-list-reads.Asked,
-  extract-and-list-reads.Learnt,
-  scope-listed-below t,
-  scope-listed.Post,
-) (scope-at t) scope.Post
+scope-same-length-5 : (t : ℕ) → scope-lts.Need-same-length-5 (tree-count-reads.Asked, tree-count-reads.Learnt, extract-and-list-reads.Asked, extract-and-list-reads.Learnt, scope-listed-below t, scope-listed.Post) (scope-at t) scope.Post
 scope-same-length-5 t c = ?
 
--- src/lib.rt:774:1
-scope-returns-5 : (t : ℕ) → scope-lts.Need-returns-5 (
-  tree-count-reads.Asked,
-  tree-count-reads.Learnt,
-  extract-and-list-reads.Asked,
-  extract-and-list-reads.Learnt,
-  scope-listed-below t,
-  scope-listed.Post,
-) (scope-at t) scope.Post
+scope-returns-5 : (t : ℕ) → scope-lts.Need-returns-5 (tree-count-reads.Asked, tree-count-reads.Learnt, extract-and-list-reads.Asked, extract-and-list-reads.Learnt, scope-listed-below t, scope-listed.Post) (scope-at t) scope.Post
 scope-returns-5 t c = ?
 
--- src/lib.rt:637:25
-scope-grouped-sub-next : (t : ℕ) → scope-grouped-lts.Need-sub-next (
-  walk-below t,
-  walk.Post,
-  walk-refusal-reads.Asked,
-  walk-refusal-reads.Learnt,
-  write-scope-below t,
-  write-scope.Post,
-) (scope-grouped-at t) scope-grouped.Post
+scope-grouped-sub-next : (t : ℕ) → scope-grouped-lts.Need-sub-next (walk-below t, walk.Post, walk-refusal-reads.Asked, walk-refusal-reads.Learnt, write-scope-below t, write-scope.Post) (scope-grouped-at t) scope-grouped.Post
 scope-grouped-sub-next t c = ?
 
--- src/lib.rt:637:25
-scope-grouped-add-next : (t : ℕ) → scope-grouped-lts.Need-add-next (
-  walk-below t,
-  walk.Post,
-  walk-refusal-reads.Asked,
-  walk-refusal-reads.Learnt,
-  write-scope-below t,
-  write-scope.Post,
-) (scope-grouped-at t) scope-grouped.Post
+scope-grouped-add-next : (t : ℕ) → scope-grouped-lts.Need-add-next (walk-below t, walk.Post, walk-refusal-reads.Asked, walk-refusal-reads.Learnt, write-scope-below t, write-scope.Post) (scope-grouped-at t) scope-grouped.Post
 scope-grouped-add-next t c = ?
 
--- src/lib.rt:637:16
-scope-grouped-add-next-2 : (t : ℕ) → scope-grouped-lts.Need-add-next-2 (
-  walk-below t,
-  walk.Post,
-  walk-refusal-reads.Asked,
-  walk-refusal-reads.Learnt,
-  write-scope-below t,
-  write-scope.Post,
-) (scope-grouped-at t) scope-grouped.Post
+scope-grouped-add-next-2 : (t : ℕ) → scope-grouped-lts.Need-add-next-2 (walk-below t, walk.Post, walk-refusal-reads.Asked, walk-refusal-reads.Learnt, write-scope-below t, write-scope.Post) (scope-grouped-at t) scope-grouped.Post
 scope-grouped-add-next-2 t c = ?
 
--- src/lib.rt:647:9
-scope-grouped-slice-aggregate-walk : (t : ℕ) → scope-grouped-lts.Need-slice-aggregate-walk (
-  walk-below t,
-  walk.Post,
-  walk-refusal-reads.Asked,
-  walk-refusal-reads.Learnt,
-  write-scope-below t,
-  write-scope.Post,
-) (scope-grouped-at t) scope-grouped.Post
+scope-grouped-slice-aggregate-walk : (t : ℕ) → scope-grouped-lts.Need-slice-aggregate-walk (walk-below t, walk.Post, walk-refusal-reads.Asked, walk-refusal-reads.Learnt, write-scope-below t, write-scope.Post) (scope-grouped-at t) scope-grouped.Post
 scope-grouped-slice-aggregate-walk t c = ?
 
--- src/lib.rt:648:9
-scope-grouped-slice-aggregate-walk-2 : (t : ℕ) → scope-grouped-lts.Need-slice-aggregate-walk-2 (
-  walk-below t,
-  walk.Post,
-  walk-refusal-reads.Asked,
-  walk-refusal-reads.Learnt,
-  write-scope-below t,
-  write-scope.Post,
-) (scope-grouped-at t) scope-grouped.Post
+scope-grouped-slice-aggregate-walk-2 : (t : ℕ) → scope-grouped-lts.Need-slice-aggregate-walk-2 (walk-below t, walk.Post, walk-refusal-reads.Asked, walk-refusal-reads.Learnt, write-scope-below t, write-scope.Post) (scope-grouped-at t) scope-grouped.Post
 scope-grouped-slice-aggregate-walk-2 t c = ?
 
--- src/lib.rt:638:9
-scope-grouped-walk-requires : (t : ℕ) → scope-grouped-lts.Need-walk-requires (
-  walk-below t,
-  walk.Post,
-  walk-refusal-reads.Asked,
-  walk-refusal-reads.Learnt,
-  write-scope-below t,
-  write-scope.Post,
-) (scope-grouped-at t) scope-grouped.Post
+scope-grouped-walk-requires : (t : ℕ) → scope-grouped-lts.Need-walk-requires (walk-below t, walk.Post, walk-refusal-reads.Asked, walk-refusal-reads.Learnt, write-scope-below t, write-scope.Post) (scope-grouped-at t) scope-grouped.Post
 scope-grouped-walk-requires t c κs = ?
 
--- src/lib.rt:650:22
-scope-grouped-enum-known-walked : (t : ℕ) → scope-grouped-lts.Need-enum-known-walked (
-  walk-below t,
-  walk.Post,
-  walk-refusal-reads.Asked,
-  walk-refusal-reads.Learnt,
-  write-scope-below t,
-  write-scope.Post,
-) (scope-grouped-at t) scope-grouped.Post
+scope-grouped-enum-known-walked : (t : ℕ) → scope-grouped-lts.Need-enum-known-walked (walk-below t, walk.Post, walk-refusal-reads.Asked, walk-refusal-reads.Learnt, write-scope-below t, write-scope.Post) (scope-grouped-at t) scope-grouped.Post
 scope-grouped-enum-known-walked t c = ?
 
--- src/lib.rt:651:32
-scope-grouped-enum-told : (t : ℕ) → scope-grouped-lts.Need-enum-told (
-  walk-below t,
-  walk.Post,
-  walk-refusal-reads.Asked,
-  walk-refusal-reads.Learnt,
-  write-scope-below t,
-  write-scope.Post,
-) (scope-grouped-at t) scope-grouped.Post
+scope-grouped-enum-told : (t : ℕ) → scope-grouped-lts.Need-enum-told (walk-below t, walk.Post, walk-refusal-reads.Asked, walk-refusal-reads.Learnt, write-scope-below t, write-scope.Post) (scope-grouped-at t) scope-grouped.Post
 scope-grouped-enum-told t c = ?
 
--- src/lib.rt:651:32
-scope-grouped-walk-refusal-requires : (t : ℕ) → scope-grouped-lts.Need-walk-refusal-requires (
-  walk-below t,
-  walk.Post,
-  walk-refusal-reads.Asked,
-  walk-refusal-reads.Learnt,
-  write-scope-below t,
-  write-scope.Post,
-) (scope-grouped-at t) scope-grouped.Post
+scope-grouped-walk-refusal-requires : (t : ℕ) → scope-grouped-lts.Need-walk-refusal-requires (walk-below t, walk.Post, walk-refusal-reads.Asked, walk-refusal-reads.Learnt, write-scope-below t, write-scope.Post) (scope-grouped-at t) scope-grouped.Post
 scope-grouped-walk-refusal-requires t c κs = ?
 
--- src/lib.rt:651:9
-scope-grouped-same-length : (t : ℕ) → scope-grouped-lts.Need-same-length (
-  walk-below t,
-  walk.Post,
-  walk-refusal-reads.Asked,
-  walk-refusal-reads.Learnt,
-  write-scope-below t,
-  write-scope.Post,
-) (scope-grouped-at t) scope-grouped.Post
+scope-grouped-same-length : (t : ℕ) → scope-grouped-lts.Need-same-length (walk-below t, walk.Post, walk-refusal-reads.Asked, walk-refusal-reads.Learnt, write-scope-below t, write-scope.Post) (scope-grouped-at t) scope-grouped.Post
 scope-grouped-same-length t c = ?
 
--- src/lib.rt:651:9
-scope-grouped-same-length-2 : (t : ℕ) → scope-grouped-lts.Need-same-length-2 (
-  walk-below t,
-  walk.Post,
-  walk-refusal-reads.Asked,
-  walk-refusal-reads.Learnt,
-  write-scope-below t,
-  write-scope.Post,
-) (scope-grouped-at t) scope-grouped.Post
+scope-grouped-same-length-2 : (t : ℕ) → scope-grouped-lts.Need-same-length-2 (walk-below t, walk.Post, walk-refusal-reads.Asked, walk-refusal-reads.Learnt, write-scope-below t, write-scope.Post) (scope-grouped-at t) scope-grouped.Post
 scope-grouped-same-length-2 t c = ?
 
--- src/lib.rt:651:9
-scope-grouped-returns : (t : ℕ) → scope-grouped-lts.Need-returns (
-  walk-below t,
-  walk.Post,
-  walk-refusal-reads.Asked,
-  walk-refusal-reads.Learnt,
-  write-scope-below t,
-  write-scope.Post,
-) (scope-grouped-at t) scope-grouped.Post
+scope-grouped-returns : (t : ℕ) → scope-grouped-lts.Need-returns (walk-below t, walk.Post, walk-refusal-reads.Asked, walk-refusal-reads.Learnt, write-scope-below t, write-scope.Post) (scope-grouped-at t) scope-grouped.Post
 scope-grouped-returns t c = ?
 
--- src/lib.rt:666:9
 scope-grouped-array-share-prefix-numbers :
     (t : ℕ) → scope-grouped-lts.Need-array-share-prefix-numbers (
       walk-below t,
@@ -1006,7 +455,6 @@ scope-grouped-array-share-prefix-numbers :
     ) (scope-grouped-at t) scope-grouped.Post
 scope-grouped-array-share-prefix-numbers t c = ?
 
--- src/lib.rt:666:9
 scope-grouped-slice-aggregate-write-scope :
     (t : ℕ) → scope-grouped-lts.Need-slice-aggregate-write-scope (
       walk-below t,
@@ -1018,18 +466,9 @@ scope-grouped-slice-aggregate-write-scope :
     ) (scope-grouped-at t) scope-grouped.Post
 scope-grouped-slice-aggregate-write-scope t c = ?
 
--- src/lib.rt:667:9
-scope-grouped-array-share-prefix-sizes : (t : ℕ) → scope-grouped-lts.Need-array-share-prefix-sizes (
-  walk-below t,
-  walk.Post,
-  walk-refusal-reads.Asked,
-  walk-refusal-reads.Learnt,
-  write-scope-below t,
-  write-scope.Post,
-) (scope-grouped-at t) scope-grouped.Post
+scope-grouped-array-share-prefix-sizes : (t : ℕ) → scope-grouped-lts.Need-array-share-prefix-sizes (walk-below t, walk.Post, walk-refusal-reads.Asked, walk-refusal-reads.Learnt, write-scope-below t, write-scope.Post) (scope-grouped-at t) scope-grouped.Post
 scope-grouped-array-share-prefix-sizes t c = ?
 
--- src/lib.rt:667:9
 scope-grouped-slice-aggregate-write-scope-2 :
     (t : ℕ) → scope-grouped-lts.Need-slice-aggregate-write-scope-2 (
       walk-below t,
@@ -1041,128 +480,39 @@ scope-grouped-slice-aggregate-write-scope-2 :
     ) (scope-grouped-at t) scope-grouped.Post
 scope-grouped-slice-aggregate-write-scope-2 t c = ?
 
--- src/lib.rt:655:5
-scope-grouped-write-scope-requires : (t : ℕ) → scope-grouped-lts.Need-write-scope-requires (
-  walk-below t,
-  walk.Post,
-  walk-refusal-reads.Asked,
-  walk-refusal-reads.Learnt,
-  write-scope-below t,
-  write-scope.Post,
-) (scope-grouped-at t) scope-grouped.Post
+scope-grouped-write-scope-requires : (t : ℕ) → scope-grouped-lts.Need-write-scope-requires (walk-below t, walk.Post, walk-refusal-reads.Asked, walk-refusal-reads.Learnt, write-scope-below t, write-scope.Post) (scope-grouped-at t) scope-grouped.Post
 scope-grouped-write-scope-requires t c κs = ?
 
--- src/lib.rt:612:1
-scope-grouped-same-length-3 : (t : ℕ) → scope-grouped-lts.Need-same-length-3 (
-  walk-below t,
-  walk.Post,
-  walk-refusal-reads.Asked,
-  walk-refusal-reads.Learnt,
-  write-scope-below t,
-  write-scope.Post,
-) (scope-grouped-at t) scope-grouped.Post
+scope-grouped-same-length-3 : (t : ℕ) → scope-grouped-lts.Need-same-length-3 (walk-below t, walk.Post, walk-refusal-reads.Asked, walk-refusal-reads.Learnt, write-scope-below t, write-scope.Post) (scope-grouped-at t) scope-grouped.Post
 scope-grouped-same-length-3 t c = ?
 
--- src/lib.rt:612:1
-scope-grouped-same-length-4 : (t : ℕ) → scope-grouped-lts.Need-same-length-4 (
-  walk-below t,
-  walk.Post,
-  walk-refusal-reads.Asked,
-  walk-refusal-reads.Learnt,
-  write-scope-below t,
-  write-scope.Post,
-) (scope-grouped-at t) scope-grouped.Post
+scope-grouped-same-length-4 : (t : ℕ) → scope-grouped-lts.Need-same-length-4 (walk-below t, walk.Post, walk-refusal-reads.Asked, walk-refusal-reads.Learnt, write-scope-below t, write-scope.Post) (scope-grouped-at t) scope-grouped.Post
 scope-grouped-same-length-4 t c = ?
 
--- src/lib.rt:612:1
-scope-grouped-same-length-5 : (t : ℕ) → scope-grouped-lts.Need-same-length-5 (
-  walk-below t,
-  walk.Post,
-  walk-refusal-reads.Asked,
-  walk-refusal-reads.Learnt,
-  write-scope-below t,
-  write-scope.Post,
-) (scope-grouped-at t) scope-grouped.Post
+scope-grouped-same-length-5 : (t : ℕ) → scope-grouped-lts.Need-same-length-5 (walk-below t, walk.Post, walk-refusal-reads.Asked, walk-refusal-reads.Learnt, write-scope-below t, write-scope.Post) (scope-grouped-at t) scope-grouped.Post
 scope-grouped-same-length-5 t c = ?
 
--- src/lib.rt:612:1
-scope-grouped-returns-2 : (t : ℕ) → scope-grouped-lts.Need-returns-2 (
-  walk-below t,
-  walk.Post,
-  walk-refusal-reads.Asked,
-  walk-refusal-reads.Learnt,
-  write-scope-below t,
-  write-scope.Post,
-) (scope-grouped-at t) scope-grouped.Post
+scope-grouped-returns-2 : (t : ℕ) → scope-grouped-lts.Need-returns-2 (walk-below t, walk.Post, walk-refusal-reads.Asked, walk-refusal-reads.Learnt, write-scope-below t, write-scope.Post) (scope-grouped-at t) scope-grouped.Post
 scope-grouped-returns-2 t c = ?
 
--- src/lib.rt:703:22
-scope-held-slice-aggregate-list-trees : (t : ℕ) → scope-held-lts.Need-slice-aggregate-list-trees (
-  list-trees-reads.Asked,
-  list-trees-reads.Learnt,
-  group-all-reads.Asked,
-  group-all-reads.Learnt,
-  scope-grouped-below t,
-  scope-grouped.Post,
-) (scope-held-at t) scope-held.Post
+scope-held-slice-aggregate-list-trees : (t : ℕ) → scope-held-lts.Need-slice-aggregate-list-trees (list-trees-reads.Asked, list-trees-reads.Learnt, group-all-reads.Asked, group-all-reads.Learnt, scope-grouped-below t, scope-grouped.Post) (scope-held-at t) scope-held.Post
 scope-held-slice-aggregate-list-trees t c = ?
 
--- src/lib.rt:703:5
-scope-held-list-trees-requires : (t : ℕ) → scope-held-lts.Need-list-trees-requires (
-  list-trees-reads.Asked,
-  list-trees-reads.Learnt,
-  group-all-reads.Asked,
-  group-all-reads.Learnt,
-  scope-grouped-below t,
-  scope-grouped.Post,
-) (scope-held-at t) scope-held.Post
+scope-held-list-trees-requires : (t : ℕ) → scope-held-lts.Need-list-trees-requires (list-trees-reads.Asked, list-trees-reads.Learnt, group-all-reads.Asked, group-all-reads.Learnt, scope-grouped-below t, scope-grouped.Post) (scope-held-at t) scope-held.Post
 scope-held-list-trees-requires t c κs = ?
 
--- src/lib.rt:704:33
-scope-held-slice-aggregate-group-all : (t : ℕ) → scope-held-lts.Need-slice-aggregate-group-all (
-  list-trees-reads.Asked,
-  list-trees-reads.Learnt,
-  group-all-reads.Asked,
-  group-all-reads.Learnt,
-  scope-grouped-below t,
-  scope-grouped.Post,
-) (scope-held-at t) scope-held.Post
+scope-held-slice-aggregate-group-all : (t : ℕ) → scope-held-lts.Need-slice-aggregate-group-all (list-trees-reads.Asked, list-trees-reads.Learnt, group-all-reads.Asked, group-all-reads.Learnt, scope-grouped-below t, scope-grouped.Post) (scope-held-at t) scope-held.Post
 scope-held-slice-aggregate-group-all t c = ?
 
--- src/lib.rt:704:47
-scope-held-slice-aggregate-group-all-2 : (t : ℕ) → scope-held-lts.Need-slice-aggregate-group-all-2 (
-  list-trees-reads.Asked,
-  list-trees-reads.Learnt,
-  group-all-reads.Asked,
-  group-all-reads.Learnt,
-  scope-grouped-below t,
-  scope-grouped.Post,
-) (scope-held-at t) scope-held.Post
+scope-held-slice-aggregate-group-all-2 : (t : ℕ) → scope-held-lts.Need-slice-aggregate-group-all-2 (list-trees-reads.Asked, list-trees-reads.Learnt, group-all-reads.Asked, group-all-reads.Learnt, scope-grouped-below t, scope-grouped.Post) (scope-held-at t) scope-held.Post
 scope-held-slice-aggregate-group-all-2 t c = ?
 
--- src/lib.rt:704:9
-scope-held-group-all-requires : (t : ℕ) → scope-held-lts.Need-group-all-requires (
-  list-trees-reads.Asked,
-  list-trees-reads.Learnt,
-  group-all-reads.Asked,
-  group-all-reads.Learnt,
-  scope-grouped-below t,
-  scope-grouped.Post,
-) (scope-held-at t) scope-held.Post
+scope-held-group-all-requires : (t : ℕ) → scope-held-lts.Need-group-all-requires (list-trees-reads.Asked, list-trees-reads.Learnt, group-all-reads.Asked, group-all-reads.Learnt, scope-grouped-below t, scope-grouped.Post) (scope-held-at t) scope-held.Post
 scope-held-group-all-requires t c κs = ?
 
--- src/lib.rt:715:9
-scope-held-array-share-prefix-starts : (t : ℕ) → scope-held-lts.Need-array-share-prefix-starts (
-  list-trees-reads.Asked,
-  list-trees-reads.Learnt,
-  group-all-reads.Asked,
-  group-all-reads.Learnt,
-  scope-grouped-below t,
-  scope-grouped.Post,
-) (scope-held-at t) scope-held.Post
+scope-held-array-share-prefix-starts : (t : ℕ) → scope-held-lts.Need-array-share-prefix-starts (list-trees-reads.Asked, list-trees-reads.Learnt, group-all-reads.Asked, group-all-reads.Learnt, scope-grouped-below t, scope-grouped.Post) (scope-held-at t) scope-held.Post
 scope-held-array-share-prefix-starts t c = ?
 
--- src/lib.rt:715:9
 scope-held-slice-aggregate-scope-grouped :
     (t : ℕ) → scope-held-lts.Need-slice-aggregate-scope-grouped (
       list-trees-reads.Asked,
@@ -1174,18 +524,9 @@ scope-held-slice-aggregate-scope-grouped :
     ) (scope-held-at t) scope-held.Post
 scope-held-slice-aggregate-scope-grouped t c = ?
 
--- src/lib.rt:716:9
-scope-held-array-share-prefix-members : (t : ℕ) → scope-held-lts.Need-array-share-prefix-members (
-  list-trees-reads.Asked,
-  list-trees-reads.Learnt,
-  group-all-reads.Asked,
-  group-all-reads.Learnt,
-  scope-grouped-below t,
-  scope-grouped.Post,
-) (scope-held-at t) scope-held.Post
+scope-held-array-share-prefix-members : (t : ℕ) → scope-held-lts.Need-array-share-prefix-members (list-trees-reads.Asked, list-trees-reads.Learnt, group-all-reads.Asked, group-all-reads.Learnt, scope-grouped-below t, scope-grouped.Post) (scope-held-at t) scope-held.Post
 scope-held-array-share-prefix-members t c = ?
 
--- src/lib.rt:716:9
 scope-held-slice-aggregate-scope-grouped-2 :
     (t : ℕ) → scope-held-lts.Need-slice-aggregate-scope-grouped-2 (
       list-trees-reads.Asked,
@@ -1197,18 +538,9 @@ scope-held-slice-aggregate-scope-grouped-2 :
     ) (scope-held-at t) scope-held.Post
 scope-held-slice-aggregate-scope-grouped-2 t c = ?
 
--- src/lib.rt:717:9
-scope-held-array-share-prefix-ends : (t : ℕ) → scope-held-lts.Need-array-share-prefix-ends (
-  list-trees-reads.Asked,
-  list-trees-reads.Learnt,
-  group-all-reads.Asked,
-  group-all-reads.Learnt,
-  scope-grouped-below t,
-  scope-grouped.Post,
-) (scope-held-at t) scope-held.Post
+scope-held-array-share-prefix-ends : (t : ℕ) → scope-held-lts.Need-array-share-prefix-ends (list-trees-reads.Asked, list-trees-reads.Learnt, group-all-reads.Asked, group-all-reads.Learnt, scope-grouped-below t, scope-grouped.Post) (scope-held-at t) scope-held.Post
 scope-held-array-share-prefix-ends t c = ?
 
--- src/lib.rt:717:9
 scope-held-slice-aggregate-scope-grouped-3 :
     (t : ℕ) → scope-held-lts.Need-slice-aggregate-scope-grouped-3 (
       list-trees-reads.Asked,
@@ -1220,127 +552,36 @@ scope-held-slice-aggregate-scope-grouped-3 :
     ) (scope-held-at t) scope-held.Post
 scope-held-slice-aggregate-scope-grouped-3 t c = ?
 
--- src/lib.rt:707:5
-scope-held-scope-grouped-requires : (t : ℕ) → scope-held-lts.Need-scope-grouped-requires (
-  list-trees-reads.Asked,
-  list-trees-reads.Learnt,
-  group-all-reads.Asked,
-  group-all-reads.Learnt,
-  scope-grouped-below t,
-  scope-grouped.Post,
-) (scope-held-at t) scope-held.Post
+scope-held-scope-grouped-requires : (t : ℕ) → scope-held-lts.Need-scope-grouped-requires (list-trees-reads.Asked, list-trees-reads.Learnt, group-all-reads.Asked, group-all-reads.Learnt, scope-grouped-below t, scope-grouped.Post) (scope-held-at t) scope-held.Post
 scope-held-scope-grouped-requires t c κs = ?
 
--- src/lib.rt:679:1
-scope-held-same-length : (t : ℕ) → scope-held-lts.Need-same-length (
-  list-trees-reads.Asked,
-  list-trees-reads.Learnt,
-  group-all-reads.Asked,
-  group-all-reads.Learnt,
-  scope-grouped-below t,
-  scope-grouped.Post,
-) (scope-held-at t) scope-held.Post
+scope-held-same-length : (t : ℕ) → scope-held-lts.Need-same-length (list-trees-reads.Asked, list-trees-reads.Learnt, group-all-reads.Asked, group-all-reads.Learnt, scope-grouped-below t, scope-grouped.Post) (scope-held-at t) scope-held.Post
 scope-held-same-length t c = ?
 
--- src/lib.rt:679:1
-scope-held-same-length-2 : (t : ℕ) → scope-held-lts.Need-same-length-2 (
-  list-trees-reads.Asked,
-  list-trees-reads.Learnt,
-  group-all-reads.Asked,
-  group-all-reads.Learnt,
-  scope-grouped-below t,
-  scope-grouped.Post,
-) (scope-held-at t) scope-held.Post
+scope-held-same-length-2 : (t : ℕ) → scope-held-lts.Need-same-length-2 (list-trees-reads.Asked, list-trees-reads.Learnt, group-all-reads.Asked, group-all-reads.Learnt, scope-grouped-below t, scope-grouped.Post) (scope-held-at t) scope-held.Post
 scope-held-same-length-2 t c = ?
 
--- src/lib.rt:679:1
-scope-held-same-length-3 : (t : ℕ) → scope-held-lts.Need-same-length-3 (
-  list-trees-reads.Asked,
-  list-trees-reads.Learnt,
-  group-all-reads.Asked,
-  group-all-reads.Learnt,
-  scope-grouped-below t,
-  scope-grouped.Post,
-) (scope-held-at t) scope-held.Post
+scope-held-same-length-3 : (t : ℕ) → scope-held-lts.Need-same-length-3 (list-trees-reads.Asked, list-trees-reads.Learnt, group-all-reads.Asked, group-all-reads.Learnt, scope-grouped-below t, scope-grouped.Post) (scope-held-at t) scope-held.Post
 scope-held-same-length-3 t c = ?
 
--- src/lib.rt:679:1
-scope-held-returns : (t : ℕ) → scope-held-lts.Need-returns (
-  list-trees-reads.Asked,
-  list-trees-reads.Learnt,
-  group-all-reads.Asked,
-  group-all-reads.Learnt,
-  scope-grouped-below t,
-  scope-grouped.Post,
-) (scope-held-at t) scope-held.Post
+scope-held-returns : (t : ℕ) → scope-held-lts.Need-returns (list-trees-reads.Asked, list-trees-reads.Learnt, group-all-reads.Asked, group-all-reads.Learnt, scope-grouped-below t, scope-grouped.Post) (scope-held-at t) scope-held.Post
 scope-held-returns t c = ?
 
--- src/lib.rt:748:9
-scope-listed-slice-reshare-prefix-put : (t : ℕ) → scope-listed-lts.Need-slice-reshare-prefix-put (
-  put-reads.Asked,
-  put-reads.Learnt,
-  tree-count-reads.Asked,
-  tree-count-reads.Learnt,
-  hold-all-reads.Asked,
-  hold-all-reads.Learnt,
-  scope-held-below t,
-  scope-held.Post,
-) (scope-listed-at t) scope-listed.Post
+scope-listed-slice-reshare-prefix-put : (t : ℕ) → scope-listed-lts.Need-slice-reshare-prefix-put (put-reads.Asked, put-reads.Learnt, tree-count-reads.Asked, tree-count-reads.Learnt, hold-all-reads.Asked, hold-all-reads.Learnt, scope-held-below t, scope-held.Post) (scope-listed-at t) scope-listed.Post
 scope-listed-slice-reshare-prefix-put t c = ?
 
--- src/lib.rt:748:9
-scope-listed-slice-aggregate-put : (t : ℕ) → scope-listed-lts.Need-slice-aggregate-put (
-  put-reads.Asked,
-  put-reads.Learnt,
-  tree-count-reads.Asked,
-  tree-count-reads.Learnt,
-  hold-all-reads.Asked,
-  hold-all-reads.Learnt,
-  scope-held-below t,
-  scope-held.Post,
-) (scope-listed-at t) scope-listed.Post
+scope-listed-slice-aggregate-put : (t : ℕ) → scope-listed-lts.Need-slice-aggregate-put (put-reads.Asked, put-reads.Learnt, tree-count-reads.Asked, tree-count-reads.Learnt, hold-all-reads.Asked, hold-all-reads.Learnt, scope-held-below t, scope-held.Post) (scope-listed-at t) scope-listed.Post
 scope-listed-slice-aggregate-put t c = ?
 
--- src/lib.rt:748:27
-scope-listed-slice-aggregate-put-2 : (t : ℕ) → scope-listed-lts.Need-slice-aggregate-put-2 (
-  put-reads.Asked,
-  put-reads.Learnt,
-  tree-count-reads.Asked,
-  tree-count-reads.Learnt,
-  hold-all-reads.Asked,
-  hold-all-reads.Learnt,
-  scope-held-below t,
-  scope-held.Post,
-) (scope-listed-at t) scope-listed.Post
+scope-listed-slice-aggregate-put-2 : (t : ℕ) → scope-listed-lts.Need-slice-aggregate-put-2 (put-reads.Asked, put-reads.Learnt, tree-count-reads.Asked, tree-count-reads.Learnt, hold-all-reads.Asked, hold-all-reads.Learnt, scope-held-below t, scope-held.Post) (scope-listed-at t) scope-listed.Post
 scope-listed-slice-aggregate-put-2 t c = ?
 
--- src/lib.rt:748:5
-scope-listed-put-requires : (t : ℕ) → scope-listed-lts.Need-put-requires (
-  put-reads.Asked,
-  put-reads.Learnt,
-  tree-count-reads.Asked,
-  tree-count-reads.Learnt,
-  hold-all-reads.Asked,
-  hold-all-reads.Learnt,
-  scope-held-below t,
-  scope-held.Post,
-) (scope-listed-at t) scope-listed.Post
+scope-listed-put-requires : (t : ℕ) → scope-listed-lts.Need-put-requires (put-reads.Asked, put-reads.Learnt, tree-count-reads.Asked, tree-count-reads.Learnt, hold-all-reads.Asked, hold-all-reads.Learnt, scope-held-below t, scope-held.Post) (scope-listed-at t) scope-listed.Post
 scope-listed-put-requires t c κs = ?
 
--- src/lib.rt:749:28
-scope-listed-array-share-prefix-tokens : (t : ℕ) → scope-listed-lts.Need-array-share-prefix-tokens (
-  put-reads.Asked,
-  put-reads.Learnt,
-  tree-count-reads.Asked,
-  tree-count-reads.Learnt,
-  hold-all-reads.Asked,
-  hold-all-reads.Learnt,
-  scope-held-below t,
-  scope-held.Post,
-) (scope-listed-at t) scope-listed.Post
+scope-listed-array-share-prefix-tokens : (t : ℕ) → scope-listed-lts.Need-array-share-prefix-tokens (put-reads.Asked, put-reads.Learnt, tree-count-reads.Asked, tree-count-reads.Learnt, hold-all-reads.Asked, hold-all-reads.Learnt, scope-held-below t, scope-held.Post) (scope-listed-at t) scope-listed.Post
 scope-listed-array-share-prefix-tokens t c = ?
 
--- src/lib.rt:749:28
 scope-listed-slice-aggregate-tree-count :
     (t : ℕ) → scope-listed-lts.Need-slice-aggregate-tree-count (
       put-reads.Asked,
@@ -1354,46 +595,15 @@ scope-listed-slice-aggregate-tree-count :
     ) (scope-listed-at t) scope-listed.Post
 scope-listed-slice-aggregate-tree-count t c = ?
 
--- src/lib.rt:749:9
-scope-listed-tree-count-requires : (t : ℕ) → scope-listed-lts.Need-tree-count-requires (
-  put-reads.Asked,
-  put-reads.Learnt,
-  tree-count-reads.Asked,
-  tree-count-reads.Learnt,
-  hold-all-reads.Asked,
-  hold-all-reads.Learnt,
-  scope-held-below t,
-  scope-held.Post,
-) (scope-listed-at t) scope-listed.Post
+scope-listed-tree-count-requires : (t : ℕ) → scope-listed-lts.Need-tree-count-requires (put-reads.Asked, put-reads.Learnt, tree-count-reads.Asked, tree-count-reads.Learnt, hold-all-reads.Asked, hold-all-reads.Learnt, scope-held-below t, scope-held.Post) (scope-listed-at t) scope-listed.Post
 scope-listed-tree-count-requires t c κs = ?
 
--- src/lib.rt:750:27
-scope-listed-sub-number : (t : ℕ) → scope-listed-lts.Need-sub-number (
-  put-reads.Asked,
-  put-reads.Learnt,
-  tree-count-reads.Asked,
-  tree-count-reads.Learnt,
-  hold-all-reads.Asked,
-  hold-all-reads.Learnt,
-  scope-held-below t,
-  scope-held.Post,
-) (scope-listed-at t) scope-listed.Post
+scope-listed-sub-number : (t : ℕ) → scope-listed-lts.Need-sub-number (put-reads.Asked, put-reads.Learnt, tree-count-reads.Asked, tree-count-reads.Learnt, hold-all-reads.Asked, hold-all-reads.Learnt, scope-held-below t, scope-held.Post) (scope-listed-at t) scope-listed.Post
 scope-listed-sub-number t c = ?
 
--- src/lib.rt:750:18
-scope-listed-add-number : (t : ℕ) → scope-listed-lts.Need-add-number (
-  put-reads.Asked,
-  put-reads.Learnt,
-  tree-count-reads.Asked,
-  tree-count-reads.Learnt,
-  hold-all-reads.Asked,
-  hold-all-reads.Learnt,
-  scope-held-below t,
-  scope-held.Post,
-) (scope-listed-at t) scope-listed.Post
+scope-listed-add-number : (t : ℕ) → scope-listed-lts.Need-add-number (put-reads.Asked, put-reads.Learnt, tree-count-reads.Asked, tree-count-reads.Learnt, hold-all-reads.Asked, hold-all-reads.Learnt, scope-held-below t, scope-held.Post) (scope-listed-at t) scope-listed.Post
 scope-listed-add-number t c = ?
 
--- src/lib.rt:751:28
 scope-listed-array-share-prefix-tokens-2 :
     (t : ℕ) → scope-listed-lts.Need-array-share-prefix-tokens-2 (
       put-reads.Asked,
@@ -1407,20 +617,9 @@ scope-listed-array-share-prefix-tokens-2 :
     ) (scope-listed-at t) scope-listed.Post
 scope-listed-array-share-prefix-tokens-2 t c = ?
 
--- src/lib.rt:751:28
-scope-listed-slice-aggregate-hold-all : (t : ℕ) → scope-listed-lts.Need-slice-aggregate-hold-all (
-  put-reads.Asked,
-  put-reads.Learnt,
-  tree-count-reads.Asked,
-  tree-count-reads.Learnt,
-  hold-all-reads.Asked,
-  hold-all-reads.Learnt,
-  scope-held-below t,
-  scope-held.Post,
-) (scope-listed-at t) scope-listed.Post
+scope-listed-slice-aggregate-hold-all : (t : ℕ) → scope-listed-lts.Need-slice-aggregate-hold-all (put-reads.Asked, put-reads.Learnt, tree-count-reads.Asked, tree-count-reads.Learnt, hold-all-reads.Asked, hold-all-reads.Learnt, scope-held-below t, scope-held.Post) (scope-listed-at t) scope-listed.Post
 scope-listed-slice-aggregate-hold-all t c = ?
 
--- src/lib.rt:751:61
 scope-listed-slice-aggregate-hold-all-2 :
     (t : ℕ) → scope-listed-lts.Need-slice-aggregate-hold-all-2 (
       put-reads.Asked,
@@ -1434,124 +633,33 @@ scope-listed-slice-aggregate-hold-all-2 :
     ) (scope-listed-at t) scope-listed.Post
 scope-listed-slice-aggregate-hold-all-2 t c = ?
 
--- src/lib.rt:751:9
-scope-listed-hold-all-requires : (t : ℕ) → scope-listed-lts.Need-hold-all-requires (
-  put-reads.Asked,
-  put-reads.Learnt,
-  tree-count-reads.Asked,
-  tree-count-reads.Learnt,
-  hold-all-reads.Asked,
-  hold-all-reads.Learnt,
-  scope-held-below t,
-  scope-held.Post,
-) (scope-listed-at t) scope-listed.Post
+scope-listed-hold-all-requires : (t : ℕ) → scope-listed-lts.Need-hold-all-requires (put-reads.Asked, put-reads.Learnt, tree-count-reads.Asked, tree-count-reads.Learnt, hold-all-reads.Asked, hold-all-reads.Learnt, scope-held-below t, scope-held.Post) (scope-listed-at t) scope-listed.Post
 scope-listed-hold-all-requires t c κs = ?
 
--- src/lib.rt:752:24
-scope-listed-enum-known-holding : (t : ℕ) → scope-listed-lts.Need-enum-known-holding (
-  put-reads.Asked,
-  put-reads.Learnt,
-  tree-count-reads.Asked,
-  tree-count-reads.Learnt,
-  hold-all-reads.Asked,
-  hold-all-reads.Learnt,
-  scope-held-below t,
-  scope-held.Post,
-) (scope-listed-at t) scope-listed.Post
+scope-listed-enum-known-holding : (t : ℕ) → scope-listed-lts.Need-enum-known-holding (put-reads.Asked, put-reads.Learnt, tree-count-reads.Asked, tree-count-reads.Learnt, hold-all-reads.Asked, hold-all-reads.Learnt, scope-held-below t, scope-held.Post) (scope-listed-at t) scope-listed.Post
 scope-listed-enum-known-holding t c = ?
 
--- src/lib.rt:753:9
-scope-listed-enum-told : (t : ℕ) → scope-listed-lts.Need-enum-told (
-  put-reads.Asked,
-  put-reads.Learnt,
-  tree-count-reads.Asked,
-  tree-count-reads.Learnt,
-  hold-all-reads.Asked,
-  hold-all-reads.Learnt,
-  scope-held-below t,
-  scope-held.Post,
-) (scope-listed-at t) scope-listed.Post
+scope-listed-enum-told : (t : ℕ) → scope-listed-lts.Need-enum-told (put-reads.Asked, put-reads.Learnt, tree-count-reads.Asked, tree-count-reads.Learnt, hold-all-reads.Asked, hold-all-reads.Learnt, scope-held-below t, scope-held.Post) (scope-listed-at t) scope-listed.Post
 scope-listed-enum-told t c = ?
 
--- src/lib.rt:753:9
-scope-listed-same-length : (t : ℕ) → scope-listed-lts.Need-same-length (
-  put-reads.Asked,
-  put-reads.Learnt,
-  tree-count-reads.Asked,
-  tree-count-reads.Learnt,
-  hold-all-reads.Asked,
-  hold-all-reads.Learnt,
-  scope-held-below t,
-  scope-held.Post,
-) (scope-listed-at t) scope-listed.Post
+scope-listed-same-length : (t : ℕ) → scope-listed-lts.Need-same-length (put-reads.Asked, put-reads.Learnt, tree-count-reads.Asked, tree-count-reads.Learnt, hold-all-reads.Asked, hold-all-reads.Learnt, scope-held-below t, scope-held.Post) (scope-listed-at t) scope-listed.Post
 scope-listed-same-length t c = ?
 
--- src/lib.rt:753:9
-scope-listed-returns : (t : ℕ) → scope-listed-lts.Need-returns (
-  put-reads.Asked,
-  put-reads.Learnt,
-  tree-count-reads.Asked,
-  tree-count-reads.Learnt,
-  hold-all-reads.Asked,
-  hold-all-reads.Learnt,
-  scope-held-below t,
-  scope-held.Post,
-) (scope-listed-at t) scope-listed.Post
+scope-listed-returns : (t : ℕ) → scope-listed-lts.Need-returns (put-reads.Asked, put-reads.Learnt, tree-count-reads.Asked, tree-count-reads.Learnt, hold-all-reads.Asked, hold-all-reads.Learnt, scope-held-below t, scope-held.Post) (scope-listed-at t) scope-listed.Post
 scope-listed-returns t c = ?
 
--- src/lib.rt:757:9
-scope-listed-mul-scope-held : (t : ℕ) → scope-listed-lts.Need-mul-scope-held (
-  put-reads.Asked,
-  put-reads.Learnt,
-  tree-count-reads.Asked,
-  tree-count-reads.Learnt,
-  hold-all-reads.Asked,
-  hold-all-reads.Learnt,
-  scope-held-below t,
-  scope-held.Post,
-) (scope-listed-at t) scope-listed.Post
+scope-listed-mul-scope-held : (t : ℕ) → scope-listed-lts.Need-mul-scope-held (put-reads.Asked, put-reads.Learnt, tree-count-reads.Asked, tree-count-reads.Learnt, hold-all-reads.Asked, hold-all-reads.Learnt, scope-held-below t, scope-held.Post) (scope-listed-at t) scope-listed.Post
 scope-listed-mul-scope-held t c = ?
 
--- src/lib.rt:757:9
-scope-listed-sub-scope-held : (t : ℕ) → scope-listed-lts.Need-sub-scope-held (
-  put-reads.Asked,
-  put-reads.Learnt,
-  tree-count-reads.Asked,
-  tree-count-reads.Learnt,
-  hold-all-reads.Asked,
-  hold-all-reads.Learnt,
-  scope-held-below t,
-  scope-held.Post,
-) (scope-listed-at t) scope-listed.Post
+scope-listed-sub-scope-held : (t : ℕ) → scope-listed-lts.Need-sub-scope-held (put-reads.Asked, put-reads.Learnt, tree-count-reads.Asked, tree-count-reads.Learnt, hold-all-reads.Asked, hold-all-reads.Learnt, scope-held-below t, scope-held.Post) (scope-listed-at t) scope-listed.Post
 scope-listed-sub-scope-held t c = ?
 
--- src/lib.rt:757:9
-scope-listed-part-scope-held-start : (t : ℕ) → scope-listed-lts.Need-part-scope-held-start (
-  put-reads.Asked,
-  put-reads.Learnt,
-  tree-count-reads.Asked,
-  tree-count-reads.Learnt,
-  hold-all-reads.Asked,
-  hold-all-reads.Learnt,
-  scope-held-below t,
-  scope-held.Post,
-) (scope-listed-at t) scope-listed.Post
+scope-listed-part-scope-held-start : (t : ℕ) → scope-listed-lts.Need-part-scope-held-start (put-reads.Asked, put-reads.Learnt, tree-count-reads.Asked, tree-count-reads.Learnt, hold-all-reads.Asked, hold-all-reads.Learnt, scope-held-below t, scope-held.Post) (scope-listed-at t) scope-listed.Post
 scope-listed-part-scope-held-start t c = ?
 
--- src/lib.rt:757:9
-scope-listed-part-scope-held-end : (t : ℕ) → scope-listed-lts.Need-part-scope-held-end (
-  put-reads.Asked,
-  put-reads.Learnt,
-  tree-count-reads.Asked,
-  tree-count-reads.Learnt,
-  hold-all-reads.Asked,
-  hold-all-reads.Learnt,
-  scope-held-below t,
-  scope-held.Post,
-) (scope-listed-at t) scope-listed.Post
+scope-listed-part-scope-held-end : (t : ℕ) → scope-listed-lts.Need-part-scope-held-end (put-reads.Asked, put-reads.Learnt, tree-count-reads.Asked, tree-count-reads.Learnt, hold-all-reads.Asked, hold-all-reads.Learnt, scope-held-below t, scope-held.Post) (scope-listed-at t) scope-listed.Post
 scope-listed-part-scope-held-end t c = ?
 
--- src/lib.rt:758:9
 scope-listed-array-share-prefix-tokens-3 :
     (t : ℕ) → scope-listed-lts.Need-array-share-prefix-tokens-3 (
       put-reads.Asked,
@@ -1565,7 +673,6 @@ scope-listed-array-share-prefix-tokens-3 :
     ) (scope-listed-at t) scope-listed.Post
 scope-listed-array-share-prefix-tokens-3 t c = ?
 
--- src/lib.rt:758:9
 scope-listed-slice-aggregate-scope-held :
     (t : ℕ) → scope-listed-lts.Need-slice-aggregate-scope-held (
       put-reads.Asked,
@@ -1579,20 +686,9 @@ scope-listed-slice-aggregate-scope-held :
     ) (scope-listed-at t) scope-listed.Post
 scope-listed-slice-aggregate-scope-held t c = ?
 
--- src/lib.rt:763:9
-scope-listed-array-share-prefix-held : (t : ℕ) → scope-listed-lts.Need-array-share-prefix-held (
-  put-reads.Asked,
-  put-reads.Learnt,
-  tree-count-reads.Asked,
-  tree-count-reads.Learnt,
-  hold-all-reads.Asked,
-  hold-all-reads.Learnt,
-  scope-held-below t,
-  scope-held.Post,
-) (scope-listed-at t) scope-listed.Post
+scope-listed-array-share-prefix-held : (t : ℕ) → scope-listed-lts.Need-array-share-prefix-held (put-reads.Asked, put-reads.Learnt, tree-count-reads.Asked, tree-count-reads.Learnt, hold-all-reads.Asked, hold-all-reads.Learnt, scope-held-below t, scope-held.Post) (scope-listed-at t) scope-listed.Post
 scope-listed-array-share-prefix-held t c = ?
 
--- src/lib.rt:763:9
 scope-listed-slice-aggregate-scope-held-2 :
     (t : ℕ) → scope-listed-lts.Need-slice-aggregate-scope-held-2 (
       put-reads.Asked,
@@ -1606,718 +702,201 @@ scope-listed-slice-aggregate-scope-held-2 :
     ) (scope-listed-at t) scope-listed.Post
 scope-listed-slice-aggregate-scope-held-2 t c = ?
 
--- src/lib.rt:755:5
-scope-listed-scope-held-requires : (t : ℕ) → scope-listed-lts.Need-scope-held-requires (
-  put-reads.Asked,
-  put-reads.Learnt,
-  tree-count-reads.Asked,
-  tree-count-reads.Learnt,
-  hold-all-reads.Asked,
-  hold-all-reads.Learnt,
-  scope-held-below t,
-  scope-held.Post,
-) (scope-listed-at t) scope-listed.Post
+scope-listed-scope-held-requires : (t : ℕ) → scope-listed-lts.Need-scope-held-requires (put-reads.Asked, put-reads.Learnt, tree-count-reads.Asked, tree-count-reads.Learnt, hold-all-reads.Asked, hold-all-reads.Learnt, scope-held-below t, scope-held.Post) (scope-listed-at t) scope-listed.Post
 scope-listed-scope-held-requires t c κs = ?
 
--- src/lib.rt:727:1
-scope-listed-same-length-2 : (t : ℕ) → scope-listed-lts.Need-same-length-2 (
-  put-reads.Asked,
-  put-reads.Learnt,
-  tree-count-reads.Asked,
-  tree-count-reads.Learnt,
-  hold-all-reads.Asked,
-  hold-all-reads.Learnt,
-  scope-held-below t,
-  scope-held.Post,
-) (scope-listed-at t) scope-listed.Post
+scope-listed-same-length-2 : (t : ℕ) → scope-listed-lts.Need-same-length-2 (put-reads.Asked, put-reads.Learnt, tree-count-reads.Asked, tree-count-reads.Learnt, hold-all-reads.Asked, hold-all-reads.Learnt, scope-held-below t, scope-held.Post) (scope-listed-at t) scope-listed.Post
 scope-listed-same-length-2 t c = ?
 
--- src/lib.rt:727:1
-scope-listed-same-length-3 : (t : ℕ) → scope-listed-lts.Need-same-length-3 (
-  put-reads.Asked,
-  put-reads.Learnt,
-  tree-count-reads.Asked,
-  tree-count-reads.Learnt,
-  hold-all-reads.Asked,
-  hold-all-reads.Learnt,
-  scope-held-below t,
-  scope-held.Post,
-) (scope-listed-at t) scope-listed.Post
+scope-listed-same-length-3 : (t : ℕ) → scope-listed-lts.Need-same-length-3 (put-reads.Asked, put-reads.Learnt, tree-count-reads.Asked, tree-count-reads.Learnt, hold-all-reads.Asked, hold-all-reads.Learnt, scope-held-below t, scope-held.Post) (scope-listed-at t) scope-listed.Post
 scope-listed-same-length-3 t c = ?
 
--- src/lib.rt:727:1
-scope-listed-same-length-4 : (t : ℕ) → scope-listed-lts.Need-same-length-4 (
-  put-reads.Asked,
-  put-reads.Learnt,
-  tree-count-reads.Asked,
-  tree-count-reads.Learnt,
-  hold-all-reads.Asked,
-  hold-all-reads.Learnt,
-  scope-held-below t,
-  scope-held.Post,
-) (scope-listed-at t) scope-listed.Post
+scope-listed-same-length-4 : (t : ℕ) → scope-listed-lts.Need-same-length-4 (put-reads.Asked, put-reads.Learnt, tree-count-reads.Asked, tree-count-reads.Learnt, hold-all-reads.Asked, hold-all-reads.Learnt, scope-held-below t, scope-held.Post) (scope-listed-at t) scope-listed.Post
 scope-listed-same-length-4 t c = ?
 
--- src/lib.rt:727:1
-scope-listed-returns-2 : (t : ℕ) → scope-listed-lts.Need-returns-2 (
-  put-reads.Asked,
-  put-reads.Learnt,
-  tree-count-reads.Asked,
-  tree-count-reads.Learnt,
-  hold-all-reads.Asked,
-  hold-all-reads.Learnt,
-  scope-held-below t,
-  scope-held.Post,
-) (scope-listed-at t) scope-listed.Post
+scope-listed-returns-2 : (t : ℕ) → scope-listed-lts.Need-returns-2 (put-reads.Asked, put-reads.Learnt, tree-count-reads.Asked, tree-count-reads.Learnt, hold-all-reads.Asked, hold-all-reads.Learnt, scope-held-below t, scope-held.Post) (scope-listed-at t) scope-listed.Post
 scope-listed-returns-2 t c = ?
 
 abbrev walk-Inv-loop : walk-lts.InvT-loop
-walk-Inv-loop rows work₀ held members ends fuel next text₀ numbers₀ sizes₀ number₀ extracted₀ start₀ g₀ work text numbers sizes number extracted start g =
-    ?
+walk-Inv-loop rows work₀ held members ends fuel next text₀ numbers₀ sizes₀ number₀ extracted₀ start₀ g₀ work text numbers sizes number extracted start g = ?
 
 abbrev walk-μ-loop : walk-lts.MeasureT-loop
-walk-μ-loop rows work₀ held members ends fuel next text₀ numbers₀ sizes₀ number₀ extracted₀ start₀ g₀ work text numbers sizes number extracted start g =
-    ?
+walk-μ-loop rows work₀ held members ends fuel next text₀ numbers₀ sizes₀ number₀ extracted₀ start₀ g₀ work text numbers sizes number extracted start g = ?
 
--- src/lib.rt:406:5
-walk-loop-holds : (t : ℕ) → walk-lts.Need-loop-holds (
-  number-members-reads.Asked,
-  number-members-reads.Learnt,
-  measure-below t,
-  measure.Post,
-  refusal-of-reads.Asked,
-  refusal-of-reads.Learnt,
-) (walk-at t) walk.Post walk-Inv-loop walk-μ-loop
+walk-loop-holds : (t : ℕ) → walk-lts.Need-loop-holds (number-members-reads.Asked, number-members-reads.Learnt, measure-below t, measure.Post, refusal-of-reads.Asked, refusal-of-reads.Learnt) (walk-at t) walk.Post walk-Inv-loop walk-μ-loop
 walk-loop-holds t c = ?
 
--- src/lib.rt:407:19
-walk-mul-end : (t : ℕ) → walk-lts.Need-mul-end (
-  number-members-reads.Asked,
-  number-members-reads.Learnt,
-  measure-below t,
-  measure.Post,
-  refusal-of-reads.Asked,
-  refusal-of-reads.Learnt,
-) (walk-at t) walk.Post walk-Inv-loop walk-μ-loop
+walk-mul-end : (t : ℕ) → walk-lts.Need-mul-end (number-members-reads.Asked, number-members-reads.Learnt, measure-below t, measure.Post, refusal-of-reads.Asked, refusal-of-reads.Learnt) (walk-at t) walk.Post walk-Inv-loop walk-μ-loop
 walk-mul-end t c = ?
 
--- src/lib.rt:407:19
-walk-shared-slice-read-end : (t : ℕ) → walk-lts.Need-shared-slice-read-end (
-  number-members-reads.Asked,
-  number-members-reads.Learnt,
-  measure-below t,
-  measure.Post,
-  refusal-of-reads.Asked,
-  refusal-of-reads.Learnt,
-) (walk-at t) walk.Post walk-Inv-loop walk-μ-loop
+walk-shared-slice-read-end : (t : ℕ) → walk-lts.Need-shared-slice-read-end (number-members-reads.Asked, number-members-reads.Learnt, measure-below t, measure.Post, refusal-of-reads.Asked, refusal-of-reads.Learnt) (walk-at t) walk.Post walk-Inv-loop walk-μ-loop
 walk-shared-slice-read-end t c = ?
 
--- src/lib.rt:408:32
-walk-sub-number-members : (t : ℕ) → walk-lts.Need-sub-number-members (
-  number-members-reads.Asked,
-  number-members-reads.Learnt,
-  measure-below t,
-  measure.Post,
-  refusal-of-reads.Asked,
-  refusal-of-reads.Learnt,
-) (walk-at t) walk.Post walk-Inv-loop walk-μ-loop
+walk-sub-number-members : (t : ℕ) → walk-lts.Need-sub-number-members (number-members-reads.Asked, number-members-reads.Learnt, measure-below t, measure.Post, refusal-of-reads.Asked, refusal-of-reads.Learnt) (walk-at t) walk.Post walk-Inv-loop walk-μ-loop
 walk-sub-number-members t c = ?
 
--- src/lib.rt:408:9
-walk-number-members-requires : (t : ℕ) → walk-lts.Need-number-members-requires (
-  number-members-reads.Asked,
-  number-members-reads.Learnt,
-  measure-below t,
-  measure.Post,
-  refusal-of-reads.Asked,
-  refusal-of-reads.Learnt,
-) (walk-at t) walk.Post walk-Inv-loop walk-μ-loop
+walk-number-members-requires : (t : ℕ) → walk-lts.Need-number-members-requires (number-members-reads.Asked, number-members-reads.Learnt, measure-below t, measure.Post, refusal-of-reads.Asked, refusal-of-reads.Learnt) (walk-at t) walk.Post walk-Inv-loop walk-μ-loop
 walk-number-members-requires t c κs = ?
 
--- src/lib.rt:409:47
-walk-mul-measure : (t : ℕ) → walk-lts.Need-mul-measure (
-  number-members-reads.Asked,
-  number-members-reads.Learnt,
-  measure-below t,
-  measure.Post,
-  refusal-of-reads.Asked,
-  refusal-of-reads.Learnt,
-) (walk-at t) walk.Post walk-Inv-loop walk-μ-loop
+walk-mul-measure : (t : ℕ) → walk-lts.Need-mul-measure (number-members-reads.Asked, number-members-reads.Learnt, measure-below t, measure.Post, refusal-of-reads.Asked, refusal-of-reads.Learnt) (walk-at t) walk.Post walk-Inv-loop walk-μ-loop
 walk-mul-measure t c = ?
 
--- src/lib.rt:409:47
-walk-sub-measure : (t : ℕ) → walk-lts.Need-sub-measure (
-  number-members-reads.Asked,
-  number-members-reads.Learnt,
-  measure-below t,
-  measure.Post,
-  refusal-of-reads.Asked,
-  refusal-of-reads.Learnt,
-) (walk-at t) walk.Post walk-Inv-loop walk-μ-loop
+walk-sub-measure : (t : ℕ) → walk-lts.Need-sub-measure (number-members-reads.Asked, number-members-reads.Learnt, measure-below t, measure.Post, refusal-of-reads.Asked, refusal-of-reads.Learnt) (walk-at t) walk.Post walk-Inv-loop walk-μ-loop
 walk-sub-measure t c = ?
 
--- src/lib.rt:409:47
-walk-part-measure-start : (t : ℕ) → walk-lts.Need-part-measure-start (
-  number-members-reads.Asked,
-  number-members-reads.Learnt,
-  measure-below t,
-  measure.Post,
-  refusal-of-reads.Asked,
-  refusal-of-reads.Learnt,
-) (walk-at t) walk.Post walk-Inv-loop walk-μ-loop
+walk-part-measure-start : (t : ℕ) → walk-lts.Need-part-measure-start (number-members-reads.Asked, number-members-reads.Learnt, measure-below t, measure.Post, refusal-of-reads.Asked, refusal-of-reads.Learnt) (walk-at t) walk.Post walk-Inv-loop walk-μ-loop
 walk-part-measure-start t c = ?
 
--- src/lib.rt:409:47
-walk-part-measure-end : (t : ℕ) → walk-lts.Need-part-measure-end (
-  number-members-reads.Asked,
-  number-members-reads.Learnt,
-  measure-below t,
-  measure.Post,
-  refusal-of-reads.Asked,
-  refusal-of-reads.Learnt,
-) (walk-at t) walk.Post walk-Inv-loop walk-μ-loop
+walk-part-measure-end : (t : ℕ) → walk-lts.Need-part-measure-end (number-members-reads.Asked, number-members-reads.Learnt, measure-below t, measure.Post, refusal-of-reads.Asked, refusal-of-reads.Learnt) (walk-at t) walk.Post walk-Inv-loop walk-μ-loop
 walk-part-measure-end t c = ?
 
--- src/lib.rt:409:13
-walk-measure-requires : (t : ℕ) → walk-lts.Need-measure-requires (
-  number-members-reads.Asked,
-  number-members-reads.Learnt,
-  measure-below t,
-  measure.Post,
-  refusal-of-reads.Asked,
-  refusal-of-reads.Learnt,
-) (walk-at t) walk.Post walk-Inv-loop walk-μ-loop
+walk-measure-requires : (t : ℕ) → walk-lts.Need-measure-requires (number-members-reads.Asked, number-members-reads.Learnt, measure-below t, measure.Post, refusal-of-reads.Asked, refusal-of-reads.Learnt) (walk-at t) walk.Post walk-Inv-loop walk-μ-loop
 walk-measure-requires t c κs = ?
 
--- src/lib.rt:410:25
-walk-enum-known-armed : (t : ℕ) → walk-lts.Need-enum-known-armed (
-  number-members-reads.Asked,
-  number-members-reads.Learnt,
-  measure-below t,
-  measure.Post,
-  refusal-of-reads.Asked,
-  refusal-of-reads.Learnt,
-) (walk-at t) walk.Post walk-Inv-loop walk-μ-loop
+walk-enum-known-armed : (t : ℕ) → walk-lts.Need-enum-known-armed (number-members-reads.Asked, number-members-reads.Learnt, measure-below t, measure.Post, refusal-of-reads.Asked, refusal-of-reads.Learnt) (walk-at t) walk.Post walk-Inv-loop walk-μ-loop
 walk-enum-known-armed t c = ?
 
--- src/lib.rt:411:36
-walk-enum-told : (t : ℕ) → walk-lts.Need-enum-told (
-  number-members-reads.Asked,
-  number-members-reads.Learnt,
-  measure-below t,
-  measure.Post,
-  refusal-of-reads.Asked,
-  refusal-of-reads.Learnt,
-) (walk-at t) walk.Post walk-Inv-loop walk-μ-loop
+walk-enum-told : (t : ℕ) → walk-lts.Need-enum-told (number-members-reads.Asked, number-members-reads.Learnt, measure-below t, measure.Post, refusal-of-reads.Asked, refusal-of-reads.Learnt) (walk-at t) walk.Post walk-Inv-loop walk-μ-loop
 walk-enum-told t c = ?
 
--- src/lib.rt:411:36
-walk-refusal-of-requires : (t : ℕ) → walk-lts.Need-refusal-of-requires (
-  number-members-reads.Asked,
-  number-members-reads.Learnt,
-  measure-below t,
-  measure.Post,
-  refusal-of-reads.Asked,
-  refusal-of-reads.Learnt,
-) (walk-at t) walk.Post walk-Inv-loop walk-μ-loop
+walk-refusal-of-requires : (t : ℕ) → walk-lts.Need-refusal-of-requires (number-members-reads.Asked, number-members-reads.Learnt, measure-below t, measure.Post, refusal-of-reads.Asked, refusal-of-reads.Learnt) (walk-at t) walk.Post walk-Inv-loop walk-μ-loop
 walk-refusal-of-requires t c κs = ?
 
--- src/lib.rt:411:13
-walk-same-length : (t : ℕ) → walk-lts.Need-same-length (
-  number-members-reads.Asked,
-  number-members-reads.Learnt,
-  measure-below t,
-  measure.Post,
-  refusal-of-reads.Asked,
-  refusal-of-reads.Learnt,
-) (walk-at t) walk.Post walk-Inv-loop walk-μ-loop
+walk-same-length : (t : ℕ) → walk-lts.Need-same-length (number-members-reads.Asked, number-members-reads.Learnt, measure-below t, measure.Post, refusal-of-reads.Asked, refusal-of-reads.Learnt) (walk-at t) walk.Post walk-Inv-loop walk-μ-loop
 walk-same-length t c = ?
 
--- src/lib.rt:411:13
-walk-same-length-2 : (t : ℕ) → walk-lts.Need-same-length-2 (
-  number-members-reads.Asked,
-  number-members-reads.Learnt,
-  measure-below t,
-  measure.Post,
-  refusal-of-reads.Asked,
-  refusal-of-reads.Learnt,
-) (walk-at t) walk.Post walk-Inv-loop walk-μ-loop
+walk-same-length-2 : (t : ℕ) → walk-lts.Need-same-length-2 (number-members-reads.Asked, number-members-reads.Learnt, measure-below t, measure.Post, refusal-of-reads.Asked, refusal-of-reads.Learnt) (walk-at t) walk.Post walk-Inv-loop walk-μ-loop
 walk-same-length-2 t c = ?
 
--- src/lib.rt:411:13
-walk-same-length-3 : (t : ℕ) → walk-lts.Need-same-length-3 (
-  number-members-reads.Asked,
-  number-members-reads.Learnt,
-  measure-below t,
-  measure.Post,
-  refusal-of-reads.Asked,
-  refusal-of-reads.Learnt,
-) (walk-at t) walk.Post walk-Inv-loop walk-μ-loop
+walk-same-length-3 : (t : ℕ) → walk-lts.Need-same-length-3 (number-members-reads.Asked, number-members-reads.Learnt, measure-below t, measure.Post, refusal-of-reads.Asked, refusal-of-reads.Learnt) (walk-at t) walk.Post walk-Inv-loop walk-μ-loop
 walk-same-length-3 t c = ?
 
--- src/lib.rt:411:13
-walk-same-length-4 : (t : ℕ) → walk-lts.Need-same-length-4 (
-  number-members-reads.Asked,
-  number-members-reads.Learnt,
-  measure-below t,
-  measure.Post,
-  refusal-of-reads.Asked,
-  refusal-of-reads.Learnt,
-) (walk-at t) walk.Post walk-Inv-loop walk-μ-loop
+walk-same-length-4 : (t : ℕ) → walk-lts.Need-same-length-4 (number-members-reads.Asked, number-members-reads.Learnt, measure-below t, measure.Post, refusal-of-reads.Asked, refusal-of-reads.Learnt) (walk-at t) walk.Post walk-Inv-loop walk-μ-loop
 walk-same-length-4 t c = ?
 
--- src/lib.rt:411:13
-walk-returns : (t : ℕ) → walk-lts.Need-returns (
-  number-members-reads.Asked,
-  number-members-reads.Learnt,
-  measure-below t,
-  measure.Post,
-  refusal-of-reads.Asked,
-  refusal-of-reads.Learnt,
-) (walk-at t) walk.Post walk-Inv-loop walk-μ-loop
+walk-returns : (t : ℕ) → walk-lts.Need-returns (number-members-reads.Asked, number-members-reads.Learnt, measure-below t, measure.Post, refusal-of-reads.Asked, refusal-of-reads.Learnt) (walk-at t) walk.Post walk-Inv-loop walk-μ-loop
 walk-returns t c = ?
 
--- src/lib.rt:413:9
-walk-mul-sizes : (t : ℕ) → walk-lts.Need-mul-sizes (
-  number-members-reads.Asked,
-  number-members-reads.Learnt,
-  measure-below t,
-  measure.Post,
-  refusal-of-reads.Asked,
-  refusal-of-reads.Learnt,
-) (walk-at t) walk.Post walk-Inv-loop walk-μ-loop
+walk-mul-sizes : (t : ℕ) → walk-lts.Need-mul-sizes (number-members-reads.Asked, number-members-reads.Learnt, measure-below t, measure.Post, refusal-of-reads.Asked, refusal-of-reads.Learnt) (walk-at t) walk.Post walk-Inv-loop walk-μ-loop
 walk-mul-sizes t c = ?
 
--- src/lib.rt:413:9
-walk-slice-write-sizes : (t : ℕ) → walk-lts.Need-slice-write-sizes (
-  number-members-reads.Asked,
-  number-members-reads.Learnt,
-  measure-below t,
-  measure.Post,
-  refusal-of-reads.Asked,
-  refusal-of-reads.Learnt,
-) (walk-at t) walk.Post walk-Inv-loop walk-μ-loop
+walk-slice-write-sizes : (t : ℕ) → walk-lts.Need-slice-write-sizes (number-members-reads.Asked, number-members-reads.Learnt, measure-below t, measure.Post, refusal-of-reads.Asked, refusal-of-reads.Learnt) (walk-at t) walk.Post walk-Inv-loop walk-μ-loop
 walk-slice-write-sizes t c = ?
 
--- src/lib.rt:415:9
-walk-add-extracted : (t : ℕ) → walk-lts.Need-add-extracted (
-  number-members-reads.Asked,
-  number-members-reads.Learnt,
-  measure-below t,
-  measure.Post,
-  refusal-of-reads.Asked,
-  refusal-of-reads.Learnt,
-) (walk-at t) walk.Post walk-Inv-loop walk-μ-loop
+walk-add-extracted : (t : ℕ) → walk-lts.Need-add-extracted (number-members-reads.Asked, number-members-reads.Learnt, measure-below t, measure.Post, refusal-of-reads.Asked, refusal-of-reads.Learnt) (walk-at t) walk.Post walk-Inv-loop walk-μ-loop
 walk-add-extracted t c = ?
 
--- src/lib.rt:417:9
-walk-add-g : (t : ℕ) → walk-lts.Need-add-g (
-  number-members-reads.Asked,
-  number-members-reads.Learnt,
-  measure-below t,
-  measure.Post,
-  refusal-of-reads.Asked,
-  refusal-of-reads.Learnt,
-) (walk-at t) walk.Post walk-Inv-loop walk-μ-loop
+walk-add-g : (t : ℕ) → walk-lts.Need-add-g (number-members-reads.Asked, number-members-reads.Learnt, measure-below t, measure.Post, refusal-of-reads.Asked, refusal-of-reads.Learnt) (walk-at t) walk.Post walk-Inv-loop walk-μ-loop
 walk-add-g t c = ?
 
--- src/lib.rt:406:5
-walk-loop-less : (t : ℕ) → walk-lts.Need-loop-less (
-  number-members-reads.Asked,
-  number-members-reads.Learnt,
-  measure-below t,
-  measure.Post,
-  refusal-of-reads.Asked,
-  refusal-of-reads.Learnt,
-) (walk-at t) walk.Post walk-Inv-loop walk-μ-loop
+walk-loop-less : (t : ℕ) → walk-lts.Need-loop-less (number-members-reads.Asked, number-members-reads.Learnt, measure-below t, measure.Post, refusal-of-reads.Asked, refusal-of-reads.Learnt) (walk-at t) walk.Post walk-Inv-loop walk-μ-loop
 walk-loop-less t c = ?
 
--- src/lib.rt:406:5
-walk-loop-again : (t : ℕ) → walk-lts.Need-loop-again (
-  number-members-reads.Asked,
-  number-members-reads.Learnt,
-  measure-below t,
-  measure.Post,
-  refusal-of-reads.Asked,
-  refusal-of-reads.Learnt,
-) (walk-at t) walk.Post walk-Inv-loop walk-μ-loop
+walk-loop-again : (t : ℕ) → walk-lts.Need-loop-again (number-members-reads.Asked, number-members-reads.Learnt, measure-below t, measure.Post, refusal-of-reads.Asked, refusal-of-reads.Learnt) (walk-at t) walk.Post walk-Inv-loop walk-μ-loop
 walk-loop-again t c = ?
 
--- src/lib.rt:384:1
-walk-same-length-5 : (t : ℕ) → walk-lts.Need-same-length-5 (
-  number-members-reads.Asked,
-  number-members-reads.Learnt,
-  measure-below t,
-  measure.Post,
-  refusal-of-reads.Asked,
-  refusal-of-reads.Learnt,
-) (walk-at t) walk.Post walk-Inv-loop walk-μ-loop
+walk-same-length-5 : (t : ℕ) → walk-lts.Need-same-length-5 (number-members-reads.Asked, number-members-reads.Learnt, measure-below t, measure.Post, refusal-of-reads.Asked, refusal-of-reads.Learnt) (walk-at t) walk.Post walk-Inv-loop walk-μ-loop
 walk-same-length-5 t c = ?
 
--- src/lib.rt:384:1
-walk-same-length-6 : (t : ℕ) → walk-lts.Need-same-length-6 (
-  number-members-reads.Asked,
-  number-members-reads.Learnt,
-  measure-below t,
-  measure.Post,
-  refusal-of-reads.Asked,
-  refusal-of-reads.Learnt,
-) (walk-at t) walk.Post walk-Inv-loop walk-μ-loop
+walk-same-length-6 : (t : ℕ) → walk-lts.Need-same-length-6 (number-members-reads.Asked, number-members-reads.Learnt, measure-below t, measure.Post, refusal-of-reads.Asked, refusal-of-reads.Learnt) (walk-at t) walk.Post walk-Inv-loop walk-μ-loop
 walk-same-length-6 t c = ?
 
--- src/lib.rt:384:1
-walk-same-length-7 : (t : ℕ) → walk-lts.Need-same-length-7 (
-  number-members-reads.Asked,
-  number-members-reads.Learnt,
-  measure-below t,
-  measure.Post,
-  refusal-of-reads.Asked,
-  refusal-of-reads.Learnt,
-) (walk-at t) walk.Post walk-Inv-loop walk-μ-loop
+walk-same-length-7 : (t : ℕ) → walk-lts.Need-same-length-7 (number-members-reads.Asked, number-members-reads.Learnt, measure-below t, measure.Post, refusal-of-reads.Asked, refusal-of-reads.Learnt) (walk-at t) walk.Post walk-Inv-loop walk-μ-loop
 walk-same-length-7 t c = ?
 
--- src/lib.rt:384:1
-walk-same-length-8 : (t : ℕ) → walk-lts.Need-same-length-8 (
-  number-members-reads.Asked,
-  number-members-reads.Learnt,
-  measure-below t,
-  measure.Post,
-  refusal-of-reads.Asked,
-  refusal-of-reads.Learnt,
-) (walk-at t) walk.Post walk-Inv-loop walk-μ-loop
+walk-same-length-8 : (t : ℕ) → walk-lts.Need-same-length-8 (number-members-reads.Asked, number-members-reads.Learnt, measure-below t, measure.Post, refusal-of-reads.Asked, refusal-of-reads.Learnt) (walk-at t) walk.Post walk-Inv-loop walk-μ-loop
 walk-same-length-8 t c = ?
 
--- src/lib.rt:384:1
-walk-returns-2 : (t : ℕ) → walk-lts.Need-returns-2 (
-  number-members-reads.Asked,
-  number-members-reads.Learnt,
-  measure-below t,
-  measure.Post,
-  refusal-of-reads.Asked,
-  refusal-of-reads.Learnt,
-) (walk-at t) walk.Post walk-Inv-loop walk-μ-loop
+walk-returns-2 : (t : ℕ) → walk-lts.Need-returns-2 (number-members-reads.Asked, number-members-reads.Learnt, measure-below t, measure.Post, refusal-of-reads.Asked, refusal-of-reads.Learnt) (walk-at t) walk.Post walk-Inv-loop walk-μ-loop
 walk-returns-2 t c = ?
 
--- src/lib.rt:444:9
-write-match-write-match-head-requires : (t : ℕ) → write-match-lts.Need-write-match-head-requires (
-  write-match-head-reads.Asked,
-  write-match-head-reads.Learnt,
-  group-begin-reads.Asked,
-  group-begin-reads.Learnt,
-  arms-below t,
-  arms.Post,
-) (write-match-at t) write-match.Post
+write-match-write-match-head-requires : (t : ℕ) → write-match-lts.Need-write-match-head-requires (write-match-head-reads.Asked, write-match-head-reads.Learnt, group-begin-reads.Asked, group-begin-reads.Learnt, arms-below t, arms.Post) (write-match-at t) write-match.Post
 write-match-write-match-head-requires t c κs = ?
 
--- src/lib.rt:446:16
-write-match-add-result : (t : ℕ) → write-match-lts.Need-add-result (
-  write-match-head-reads.Asked,
-  write-match-head-reads.Learnt,
-  group-begin-reads.Asked,
-  group-begin-reads.Learnt,
-  arms-below t,
-  arms.Post,
-) (write-match-at t) write-match.Post
+write-match-add-result : (t : ℕ) → write-match-lts.Need-add-result (write-match-head-reads.Asked, write-match-head-reads.Learnt, group-begin-reads.Asked, group-begin-reads.Learnt, arms-below t, arms.Post) (write-match-at t) write-match.Post
 write-match-add-result t c = ?
 
--- src/lib.rt:446:9
-write-match-same-length : (t : ℕ) → write-match-lts.Need-same-length (
-  write-match-head-reads.Asked,
-  write-match-head-reads.Learnt,
-  group-begin-reads.Asked,
-  group-begin-reads.Learnt,
-  arms-below t,
-  arms.Post,
-) (write-match-at t) write-match.Post
+write-match-same-length : (t : ℕ) → write-match-lts.Need-same-length (write-match-head-reads.Asked, write-match-head-reads.Learnt, group-begin-reads.Asked, group-begin-reads.Learnt, arms-below t, arms.Post) (write-match-at t) write-match.Post
 write-match-same-length t c = ?
 
--- src/lib.rt:446:9
-write-match-returns : (t : ℕ) → write-match-lts.Need-returns (
-  write-match-head-reads.Asked,
-  write-match-head-reads.Learnt,
-  group-begin-reads.Asked,
-  group-begin-reads.Learnt,
-  arms-below t,
-  arms.Post,
-) (write-match-at t) write-match.Post
+write-match-returns : (t : ℕ) → write-match-lts.Need-returns (write-match-head-reads.Asked, write-match-head-reads.Learnt, group-begin-reads.Asked, group-begin-reads.Learnt, arms-below t, arms.Post) (write-match-at t) write-match.Post
 write-match-returns t c = ?
 
--- src/lib.rt:448:9
-write-match-group-begin-requires : (t : ℕ) → write-match-lts.Need-group-begin-requires (
-  write-match-head-reads.Asked,
-  write-match-head-reads.Learnt,
-  group-begin-reads.Asked,
-  group-begin-reads.Learnt,
-  arms-below t,
-  arms.Post,
-) (write-match-at t) write-match.Post
+write-match-group-begin-requires : (t : ℕ) → write-match-lts.Need-group-begin-requires (write-match-head-reads.Asked, write-match-head-reads.Learnt, group-begin-reads.Asked, group-begin-reads.Learnt, arms-below t, arms.Post) (write-match-at t) write-match.Post
 write-match-group-begin-requires t c κs = ?
 
--- src/lib.rt:449:15
-write-match-mul-end : (t : ℕ) → write-match-lts.Need-mul-end (
-  write-match-head-reads.Asked,
-  write-match-head-reads.Learnt,
-  group-begin-reads.Asked,
-  group-begin-reads.Learnt,
-  arms-below t,
-  arms.Post,
-) (write-match-at t) write-match.Post
+write-match-mul-end : (t : ℕ) → write-match-lts.Need-mul-end (write-match-head-reads.Asked, write-match-head-reads.Learnt, group-begin-reads.Asked, group-begin-reads.Learnt, arms-below t, arms.Post) (write-match-at t) write-match.Post
 write-match-mul-end t c = ?
 
--- src/lib.rt:449:15
-write-match-shared-slice-read-end : (t : ℕ) → write-match-lts.Need-shared-slice-read-end (
-  write-match-head-reads.Asked,
-  write-match-head-reads.Learnt,
-  group-begin-reads.Asked,
-  group-begin-reads.Learnt,
-  arms-below t,
-  arms.Post,
-) (write-match-at t) write-match.Post
+write-match-shared-slice-read-end : (t : ℕ) → write-match-lts.Need-shared-slice-read-end (write-match-head-reads.Asked, write-match-head-reads.Learnt, group-begin-reads.Asked, group-begin-reads.Learnt, arms-below t, arms.Post) (write-match-at t) write-match.Post
 write-match-shared-slice-read-end t c = ?
 
--- src/lib.rt:450:17
-write-match-mul-first : (t : ℕ) → write-match-lts.Need-mul-first (
-  write-match-head-reads.Asked,
-  write-match-head-reads.Learnt,
-  group-begin-reads.Asked,
-  group-begin-reads.Learnt,
-  arms-below t,
-  arms.Post,
-) (write-match-at t) write-match.Post
+write-match-mul-first : (t : ℕ) → write-match-lts.Need-mul-first (write-match-head-reads.Asked, write-match-head-reads.Learnt, group-begin-reads.Asked, group-begin-reads.Learnt, arms-below t, arms.Post) (write-match-at t) write-match.Post
 write-match-mul-first t c = ?
 
--- src/lib.rt:450:17
-write-match-shared-slice-read-first : (t : ℕ) → write-match-lts.Need-shared-slice-read-first (
-  write-match-head-reads.Asked,
-  write-match-head-reads.Learnt,
-  group-begin-reads.Asked,
-  group-begin-reads.Learnt,
-  arms-below t,
-  arms.Post,
-) (write-match-at t) write-match.Post
+write-match-shared-slice-read-first : (t : ℕ) → write-match-lts.Need-shared-slice-read-first (write-match-head-reads.Asked, write-match-head-reads.Learnt, group-begin-reads.Asked, group-begin-reads.Learnt, arms-below t, arms.Post) (write-match-at t) write-match.Post
 write-match-shared-slice-read-first t c = ?
 
--- src/lib.rt:450:35
-write-match-sub-first : (t : ℕ) → write-match-lts.Need-sub-first (
-  write-match-head-reads.Asked,
-  write-match-head-reads.Learnt,
-  group-begin-reads.Asked,
-  group-begin-reads.Learnt,
-  arms-below t,
-  arms.Post,
-) (write-match-at t) write-match.Post
+write-match-sub-first : (t : ℕ) → write-match-lts.Need-sub-first (write-match-head-reads.Asked, write-match-head-reads.Learnt, group-begin-reads.Asked, group-begin-reads.Learnt, arms-below t, arms.Post) (write-match-at t) write-match.Post
 write-match-sub-first t c = ?
 
--- src/lib.rt:450:17
-write-match-add-first : (t : ℕ) → write-match-lts.Need-add-first (
-  write-match-head-reads.Asked,
-  write-match-head-reads.Learnt,
-  group-begin-reads.Asked,
-  group-begin-reads.Learnt,
-  arms-below t,
-  arms.Post,
-) (write-match-at t) write-match.Post
+write-match-add-first : (t : ℕ) → write-match-lts.Need-add-first (write-match-head-reads.Asked, write-match-head-reads.Learnt, group-begin-reads.Asked, group-begin-reads.Learnt, arms-below t, arms.Post) (write-match-at t) write-match.Post
 write-match-add-first t c = ?
 
--- src/lib.rt:455:9
-write-match-mul-arms : (t : ℕ) → write-match-lts.Need-mul-arms (
-  write-match-head-reads.Asked,
-  write-match-head-reads.Learnt,
-  group-begin-reads.Asked,
-  group-begin-reads.Learnt,
-  arms-below t,
-  arms.Post,
-) (write-match-at t) write-match.Post
+write-match-mul-arms : (t : ℕ) → write-match-lts.Need-mul-arms (write-match-head-reads.Asked, write-match-head-reads.Learnt, group-begin-reads.Asked, group-begin-reads.Learnt, arms-below t, arms.Post) (write-match-at t) write-match.Post
 write-match-mul-arms t c = ?
 
--- src/lib.rt:455:9
-write-match-sub-arms : (t : ℕ) → write-match-lts.Need-sub-arms (
-  write-match-head-reads.Asked,
-  write-match-head-reads.Learnt,
-  group-begin-reads.Asked,
-  group-begin-reads.Learnt,
-  arms-below t,
-  arms.Post,
-) (write-match-at t) write-match.Post
+write-match-sub-arms : (t : ℕ) → write-match-lts.Need-sub-arms (write-match-head-reads.Asked, write-match-head-reads.Learnt, group-begin-reads.Asked, group-begin-reads.Learnt, arms-below t, arms.Post) (write-match-at t) write-match.Post
 write-match-sub-arms t c = ?
 
--- src/lib.rt:455:9
-write-match-part-arms-start : (t : ℕ) → write-match-lts.Need-part-arms-start (
-  write-match-head-reads.Asked,
-  write-match-head-reads.Learnt,
-  group-begin-reads.Asked,
-  group-begin-reads.Learnt,
-  arms-below t,
-  arms.Post,
-) (write-match-at t) write-match.Post
+write-match-part-arms-start : (t : ℕ) → write-match-lts.Need-part-arms-start (write-match-head-reads.Asked, write-match-head-reads.Learnt, group-begin-reads.Asked, group-begin-reads.Learnt, arms-below t, arms.Post) (write-match-at t) write-match.Post
 write-match-part-arms-start t c = ?
 
--- src/lib.rt:455:9
-write-match-part-arms-end : (t : ℕ) → write-match-lts.Need-part-arms-end (
-  write-match-head-reads.Asked,
-  write-match-head-reads.Learnt,
-  group-begin-reads.Asked,
-  group-begin-reads.Learnt,
-  arms-below t,
-  arms.Post,
-) (write-match-at t) write-match.Post
+write-match-part-arms-end : (t : ℕ) → write-match-lts.Need-part-arms-end (write-match-head-reads.Asked, write-match-head-reads.Learnt, group-begin-reads.Asked, group-begin-reads.Learnt, arms-below t, arms.Post) (write-match-at t) write-match.Post
 write-match-part-arms-end t c = ?
 
--- src/lib.rt:451:9
-write-match-arms-requires : (t : ℕ) → write-match-lts.Need-arms-requires (
-  write-match-head-reads.Asked,
-  write-match-head-reads.Learnt,
-  group-begin-reads.Asked,
-  group-begin-reads.Learnt,
-  arms-below t,
-  arms.Post,
-) (write-match-at t) write-match.Post
+write-match-arms-requires : (t : ℕ) → write-match-lts.Need-arms-requires (write-match-head-reads.Asked, write-match-head-reads.Learnt, group-begin-reads.Asked, group-begin-reads.Learnt, arms-below t, arms.Post) (write-match-at t) write-match.Post
 write-match-arms-requires t c κs = ?
 
--- src/lib.rt:462:21
-write-match-enum-known-armed : (t : ℕ) → write-match-lts.Need-enum-known-armed (
-  write-match-head-reads.Asked,
-  write-match-head-reads.Learnt,
-  group-begin-reads.Asked,
-  group-begin-reads.Learnt,
-  arms-below t,
-  arms.Post,
-) (write-match-at t) write-match.Post
+write-match-enum-known-armed : (t : ℕ) → write-match-lts.Need-enum-known-armed (write-match-head-reads.Asked, write-match-head-reads.Learnt, group-begin-reads.Asked, group-begin-reads.Learnt, arms-below t, arms.Post) (write-match-at t) write-match.Post
 write-match-enum-known-armed t c = ?
 
--- src/lib.rt:463:9
-write-match-enum-told : (t : ℕ) → write-match-lts.Need-enum-told (
-  write-match-head-reads.Asked,
-  write-match-head-reads.Learnt,
-  group-begin-reads.Asked,
-  group-begin-reads.Learnt,
-  arms-below t,
-  arms.Post,
-) (write-match-at t) write-match.Post
+write-match-enum-told : (t : ℕ) → write-match-lts.Need-enum-told (write-match-head-reads.Asked, write-match-head-reads.Learnt, group-begin-reads.Asked, group-begin-reads.Learnt, arms-below t, arms.Post) (write-match-at t) write-match.Post
 write-match-enum-told t c = ?
 
--- src/lib.rt:463:9
-write-match-same-length-2 : (t : ℕ) → write-match-lts.Need-same-length-2 (
-  write-match-head-reads.Asked,
-  write-match-head-reads.Learnt,
-  group-begin-reads.Asked,
-  group-begin-reads.Learnt,
-  arms-below t,
-  arms.Post,
-) (write-match-at t) write-match.Post
+write-match-same-length-2 : (t : ℕ) → write-match-lts.Need-same-length-2 (write-match-head-reads.Asked, write-match-head-reads.Learnt, group-begin-reads.Asked, group-begin-reads.Learnt, arms-below t, arms.Post) (write-match-at t) write-match.Post
 write-match-same-length-2 t c = ?
 
--- src/lib.rt:463:9
-write-match-same-length-3 : (t : ℕ) → write-match-lts.Need-same-length-3 (
-  write-match-head-reads.Asked,
-  write-match-head-reads.Learnt,
-  group-begin-reads.Asked,
-  group-begin-reads.Learnt,
-  arms-below t,
-  arms.Post,
-) (write-match-at t) write-match.Post
+write-match-same-length-3 : (t : ℕ) → write-match-lts.Need-same-length-3 (write-match-head-reads.Asked, write-match-head-reads.Learnt, group-begin-reads.Asked, group-begin-reads.Learnt, arms-below t, arms.Post) (write-match-at t) write-match.Post
 write-match-same-length-3 t c = ?
 
--- src/lib.rt:463:9
-write-match-same-length-4 : (t : ℕ) → write-match-lts.Need-same-length-4 (
-  write-match-head-reads.Asked,
-  write-match-head-reads.Learnt,
-  group-begin-reads.Asked,
-  group-begin-reads.Learnt,
-  arms-below t,
-  arms.Post,
-) (write-match-at t) write-match.Post
+write-match-same-length-4 : (t : ℕ) → write-match-lts.Need-same-length-4 (write-match-head-reads.Asked, write-match-head-reads.Learnt, group-begin-reads.Asked, group-begin-reads.Learnt, arms-below t, arms.Post) (write-match-at t) write-match.Post
 write-match-same-length-4 t c = ?
 
--- src/lib.rt:463:9
-write-match-returns-2 : (t : ℕ) → write-match-lts.Need-returns-2 (
-  write-match-head-reads.Asked,
-  write-match-head-reads.Learnt,
-  group-begin-reads.Asked,
-  group-begin-reads.Learnt,
-  arms-below t,
-  arms.Post,
-) (write-match-at t) write-match.Post
+write-match-returns-2 : (t : ℕ) → write-match-lts.Need-returns-2 (write-match-head-reads.Asked, write-match-head-reads.Learnt, group-begin-reads.Asked, group-begin-reads.Learnt, arms-below t, arms.Post) (write-match-at t) write-match.Post
 write-match-returns-2 t c = ?
 
--- src/lib.rt:424:1
-write-match-same-length-5 : (t : ℕ) → write-match-lts.Need-same-length-5 (
-  write-match-head-reads.Asked,
-  write-match-head-reads.Learnt,
-  group-begin-reads.Asked,
-  group-begin-reads.Learnt,
-  arms-below t,
-  arms.Post,
-) (write-match-at t) write-match.Post
+write-match-same-length-5 : (t : ℕ) → write-match-lts.Need-same-length-5 (write-match-head-reads.Asked, write-match-head-reads.Learnt, group-begin-reads.Asked, group-begin-reads.Learnt, arms-below t, arms.Post) (write-match-at t) write-match.Post
 write-match-same-length-5 t c = ?
 
--- src/lib.rt:424:1
-write-match-same-length-6 : (t : ℕ) → write-match-lts.Need-same-length-6 (
-  write-match-head-reads.Asked,
-  write-match-head-reads.Learnt,
-  group-begin-reads.Asked,
-  group-begin-reads.Learnt,
-  arms-below t,
-  arms.Post,
-) (write-match-at t) write-match.Post
+write-match-same-length-6 : (t : ℕ) → write-match-lts.Need-same-length-6 (write-match-head-reads.Asked, write-match-head-reads.Learnt, group-begin-reads.Asked, group-begin-reads.Learnt, arms-below t, arms.Post) (write-match-at t) write-match.Post
 write-match-same-length-6 t c = ?
 
--- src/lib.rt:424:1
-write-match-same-length-7 : (t : ℕ) → write-match-lts.Need-same-length-7 (
-  write-match-head-reads.Asked,
-  write-match-head-reads.Learnt,
-  group-begin-reads.Asked,
-  group-begin-reads.Learnt,
-  arms-below t,
-  arms.Post,
-) (write-match-at t) write-match.Post
+write-match-same-length-7 : (t : ℕ) → write-match-lts.Need-same-length-7 (write-match-head-reads.Asked, write-match-head-reads.Learnt, group-begin-reads.Asked, group-begin-reads.Learnt, arms-below t, arms.Post) (write-match-at t) write-match.Post
 write-match-same-length-7 t c = ?
 
--- src/lib.rt:424:1
-write-match-returns-3 : (t : ℕ) → write-match-lts.Need-returns-3 (
-  write-match-head-reads.Asked,
-  write-match-head-reads.Learnt,
-  group-begin-reads.Asked,
-  group-begin-reads.Learnt,
-  arms-below t,
-  arms.Post,
-) (write-match-at t) write-match.Post
+write-match-returns-3 : (t : ℕ) → write-match-lts.Need-returns-3 (write-match-head-reads.Asked, write-match-head-reads.Learnt, group-begin-reads.Asked, group-begin-reads.Learnt, arms-below t, arms.Post) (write-match-at t) write-match.Post
 write-match-returns-3 t c = ?
 
--- src/lib.rt:575:16
-write-scope-sub-made : (t : ℕ) → write-scope-lts.Need-sub-made (
-  order-stmts-reads.Asked,
-  order-stmts-reads.Learnt,
-  write-stmts-below t,
-  write-stmts.Post,
-  write-values-reads.Asked,
-  write-values-reads.Learnt,
-) (write-scope-at t) write-scope.Post
+write-scope-sub-made : (t : ℕ) → write-scope-lts.Need-sub-made (order-stmts-reads.Asked, order-stmts-reads.Learnt, write-stmts-below t, write-stmts.Post, write-values-reads.Asked, write-values-reads.Learnt) (write-scope-at t) write-scope.Post
 write-scope-sub-made t c = ?
 
--- src/lib.rt:576:17
-write-scope-add-count : (t : ℕ) → write-scope-lts.Need-add-count (
-  order-stmts-reads.Asked,
-  order-stmts-reads.Learnt,
-  write-stmts-below t,
-  write-stmts.Post,
-  write-values-reads.Asked,
-  write-values-reads.Learnt,
-) (write-scope-at t) write-scope.Post
+write-scope-add-count : (t : ℕ) → write-scope-lts.Need-add-count (order-stmts-reads.Asked, order-stmts-reads.Learnt, write-stmts-below t, write-stmts.Post, write-values-reads.Asked, write-values-reads.Learnt) (write-scope-at t) write-scope.Post
 write-scope-add-count t c = ?
 
--- src/lib.rt:576:17
-write-scope-add-count-2 : (t : ℕ) → write-scope-lts.Need-add-count-2 (
-  order-stmts-reads.Asked,
-  order-stmts-reads.Learnt,
-  write-stmts-below t,
-  write-stmts.Post,
-  write-values-reads.Asked,
-  write-values-reads.Learnt,
-) (write-scope-at t) write-scope.Post
+write-scope-add-count-2 : (t : ℕ) → write-scope-lts.Need-add-count-2 (order-stmts-reads.Asked, order-stmts-reads.Learnt, write-stmts-below t, write-stmts.Post, write-values-reads.Asked, write-values-reads.Learnt) (write-scope-at t) write-scope.Post
 write-scope-add-count-2 t c = ?
 
--- src/lib.rt:578:79
 write-scope-slice-aggregate-order-stmts :
     (t : ℕ) → write-scope-lts.Need-slice-aggregate-order-stmts (
       order-stmts-reads.Asked,
@@ -2329,40 +908,15 @@ write-scope-slice-aggregate-order-stmts :
     ) (write-scope-at t) write-scope.Post
 write-scope-slice-aggregate-order-stmts t c = ?
 
--- src/lib.rt:577:9
-write-scope-order-stmts-requires : (t : ℕ) → write-scope-lts.Need-order-stmts-requires (
-  order-stmts-reads.Asked,
-  order-stmts-reads.Learnt,
-  write-stmts-below t,
-  write-stmts.Post,
-  write-values-reads.Asked,
-  write-values-reads.Learnt,
-) (write-scope-at t) write-scope.Post
+write-scope-order-stmts-requires : (t : ℕ) → write-scope-lts.Need-order-stmts-requires (order-stmts-reads.Asked, order-stmts-reads.Learnt, write-stmts-below t, write-stmts.Post, write-values-reads.Asked, write-values-reads.Learnt) (write-scope-at t) write-scope.Post
 write-scope-order-stmts-requires t c κs = ?
 
--- src/lib.rt:584:17
-write-scope-enum-told : (t : ℕ) → write-scope-lts.Need-enum-told (
-  order-stmts-reads.Asked,
-  order-stmts-reads.Learnt,
-  write-stmts-below t,
-  write-stmts.Post,
-  write-values-reads.Asked,
-  write-values-reads.Learnt,
-) (write-scope-at t) write-scope.Post
+write-scope-enum-told : (t : ℕ) → write-scope-lts.Need-enum-told (order-stmts-reads.Asked, order-stmts-reads.Learnt, write-stmts-below t, write-stmts.Post, write-values-reads.Asked, write-values-reads.Learnt) (write-scope-at t) write-scope.Post
 write-scope-enum-told t c = ?
 
--- src/lib.rt:595:17
-write-scope-array-share-prefix-taken : (t : ℕ) → write-scope-lts.Need-array-share-prefix-taken (
-  order-stmts-reads.Asked,
-  order-stmts-reads.Learnt,
-  write-stmts-below t,
-  write-stmts.Post,
-  write-values-reads.Asked,
-  write-values-reads.Learnt,
-) (write-scope-at t) write-scope.Post
+write-scope-array-share-prefix-taken : (t : ℕ) → write-scope-lts.Need-array-share-prefix-taken (order-stmts-reads.Asked, order-stmts-reads.Learnt, write-stmts-below t, write-stmts.Post, write-values-reads.Asked, write-values-reads.Learnt) (write-scope-at t) write-scope.Post
 write-scope-array-share-prefix-taken t c = ?
 
--- src/lib.rt:595:17
 write-scope-slice-aggregate-write-stmts :
     (t : ℕ) → write-scope-lts.Need-slice-aggregate-write-stmts (
       order-stmts-reads.Asked,
@@ -2374,251 +928,84 @@ write-scope-slice-aggregate-write-stmts :
     ) (write-scope-at t) write-scope.Post
 write-scope-slice-aggregate-write-stmts t c = ?
 
--- src/lib.rt:582:17
-write-scope-write-stmts-requires : (t : ℕ) → write-scope-lts.Need-write-stmts-requires (
-  order-stmts-reads.Asked,
-  order-stmts-reads.Learnt,
-  write-stmts-below t,
-  write-stmts.Post,
-  write-values-reads.Asked,
-  write-values-reads.Learnt,
-) (write-scope-at t) write-scope.Post
+write-scope-write-stmts-requires : (t : ℕ) → write-scope-lts.Need-write-stmts-requires (order-stmts-reads.Asked, order-stmts-reads.Learnt, write-stmts-below t, write-stmts.Post, write-values-reads.Asked, write-values-reads.Learnt) (write-scope-at t) write-scope.Post
 write-scope-write-stmts-requires t c κs = ?
 
--- src/lib.rt:601:17
-write-scope-write-values-requires : (t : ℕ) → write-scope-lts.Need-write-values-requires (
-  order-stmts-reads.Asked,
-  order-stmts-reads.Learnt,
-  write-stmts-below t,
-  write-stmts.Post,
-  write-values-reads.Asked,
-  write-values-reads.Learnt,
-) (write-scope-at t) write-scope.Post
+write-scope-write-values-requires : (t : ℕ) → write-scope-lts.Need-write-values-requires (order-stmts-reads.Asked, order-stmts-reads.Learnt, write-stmts-below t, write-stmts.Post, write-values-reads.Asked, write-values-reads.Learnt) (write-scope-at t) write-scope.Post
 write-scope-write-values-requires t c κs = ?
 
--- src/lib.rt:604:47
-write-scope-add-t42 : (t : ℕ) → write-scope-lts.Need-add-t42 (
-  order-stmts-reads.Asked,
-  order-stmts-reads.Learnt,
-  write-stmts-below t,
-  write-stmts.Post,
-  write-values-reads.Asked,
-  write-values-reads.Learnt,
-) (write-scope-at t) write-scope.Post
+write-scope-add-t42 : (t : ℕ) → write-scope-lts.Need-add-t42 (order-stmts-reads.Asked, order-stmts-reads.Learnt, write-stmts-below t, write-stmts.Post, write-values-reads.Asked, write-values-reads.Learnt) (write-scope-at t) write-scope.Post
 write-scope-add-t42 t c = ?
 
--- src/lib.rt:606:29
-write-scope-enum-told-2 : (t : ℕ) → write-scope-lts.Need-enum-told-2 (
-  order-stmts-reads.Asked,
-  order-stmts-reads.Learnt,
-  write-stmts-below t,
-  write-stmts.Post,
-  write-values-reads.Asked,
-  write-values-reads.Learnt,
-) (write-scope-at t) write-scope.Post
+write-scope-enum-told-2 : (t : ℕ) → write-scope-lts.Need-enum-told-2 (order-stmts-reads.Asked, order-stmts-reads.Learnt, write-stmts-below t, write-stmts.Post, write-values-reads.Asked, write-values-reads.Learnt) (write-scope-at t) write-scope.Post
 write-scope-enum-told-2 t c = ?
 
--- src/lib.rt:607:28
-write-scope-enum-told-3 : (t : ℕ) → write-scope-lts.Need-enum-told-3 (
-  order-stmts-reads.Asked,
-  order-stmts-reads.Learnt,
-  write-stmts-below t,
-  write-stmts.Post,
-  write-values-reads.Asked,
-  write-values-reads.Learnt,
-) (write-scope-at t) write-scope.Post
+write-scope-enum-told-3 : (t : ℕ) → write-scope-lts.Need-enum-told-3 (order-stmts-reads.Asked, order-stmts-reads.Learnt, write-stmts-below t, write-stmts.Post, write-values-reads.Asked, write-values-reads.Learnt) (write-scope-at t) write-scope.Post
 write-scope-enum-told-3 t c = ?
 
--- src/lib.rt:547:1
-write-scope-same-length : (t : ℕ) → write-scope-lts.Need-same-length (
-  order-stmts-reads.Asked,
-  order-stmts-reads.Learnt,
-  write-stmts-below t,
-  write-stmts.Post,
-  write-values-reads.Asked,
-  write-values-reads.Learnt,
-) (write-scope-at t) write-scope.Post
+write-scope-same-length : (t : ℕ) → write-scope-lts.Need-same-length (order-stmts-reads.Asked, order-stmts-reads.Learnt, write-stmts-below t, write-stmts.Post, write-values-reads.Asked, write-values-reads.Learnt) (write-scope-at t) write-scope.Post
 write-scope-same-length t c = ?
 
--- src/lib.rt:547:1
-write-scope-same-length-2 : (t : ℕ) → write-scope-lts.Need-same-length-2 (
-  order-stmts-reads.Asked,
-  order-stmts-reads.Learnt,
-  write-stmts-below t,
-  write-stmts.Post,
-  write-values-reads.Asked,
-  write-values-reads.Learnt,
-) (write-scope-at t) write-scope.Post
+write-scope-same-length-2 : (t : ℕ) → write-scope-lts.Need-same-length-2 (order-stmts-reads.Asked, order-stmts-reads.Learnt, write-stmts-below t, write-stmts.Post, write-values-reads.Asked, write-values-reads.Learnt) (write-scope-at t) write-scope.Post
 write-scope-same-length-2 t c = ?
 
--- src/lib.rt:547:1
-write-scope-same-length-3 : (t : ℕ) → write-scope-lts.Need-same-length-3 (
-  order-stmts-reads.Asked,
-  order-stmts-reads.Learnt,
-  write-stmts-below t,
-  write-stmts.Post,
-  write-values-reads.Asked,
-  write-values-reads.Learnt,
-) (write-scope-at t) write-scope.Post
+write-scope-same-length-3 : (t : ℕ) → write-scope-lts.Need-same-length-3 (order-stmts-reads.Asked, order-stmts-reads.Learnt, write-stmts-below t, write-stmts.Post, write-values-reads.Asked, write-values-reads.Learnt) (write-scope-at t) write-scope.Post
 write-scope-same-length-3 t c = ?
 
--- src/lib.rt:547:1
-write-scope-returns : (t : ℕ) → write-scope-lts.Need-returns (
-  order-stmts-reads.Asked,
-  order-stmts-reads.Learnt,
-  write-stmts-below t,
-  write-stmts.Post,
-  write-values-reads.Asked,
-  write-values-reads.Learnt,
-) (write-scope-at t) write-scope.Post
+write-scope-returns : (t : ℕ) → write-scope-lts.Need-returns (order-stmts-reads.Asked, order-stmts-reads.Learnt, write-stmts-below t, write-stmts.Post, write-values-reads.Asked, write-values-reads.Learnt) (write-scope-at t) write-scope.Post
 write-scope-returns t c = ?
 
--- src/lib.rt:547:1
-write-scope-returns-2 : (t : ℕ) → write-scope-lts.Need-returns-2 (
-  order-stmts-reads.Asked,
-  order-stmts-reads.Learnt,
-  write-stmts-below t,
-  write-stmts.Post,
-  write-values-reads.Asked,
-  write-values-reads.Learnt,
-) (write-scope-at t) write-scope.Post
+write-scope-returns-2 : (t : ℕ) → write-scope-lts.Need-returns-2 (order-stmts-reads.Asked, order-stmts-reads.Learnt, write-stmts-below t, write-stmts.Post, write-values-reads.Asked, write-values-reads.Learnt) (write-scope-at t) write-scope.Post
 write-scope-returns-2 t c = ?
 
--- src/lib.rt:547:1
-write-scope-returns-3 : (t : ℕ) → write-scope-lts.Need-returns-3 (
-  order-stmts-reads.Asked,
-  order-stmts-reads.Learnt,
-  write-stmts-below t,
-  write-stmts.Post,
-  write-values-reads.Asked,
-  write-values-reads.Learnt,
-) (write-scope-at t) write-scope.Post
+write-scope-returns-3 : (t : ℕ) → write-scope-lts.Need-returns-3 (order-stmts-reads.Asked, order-stmts-reads.Learnt, write-stmts-below t, write-stmts.Post, write-values-reads.Asked, write-values-reads.Learnt) (write-scope-at t) write-scope.Post
 write-scope-returns-3 t c = ?
 
--- src/lib.rt:494:16
-write-stmt-sub-lets : (t : ℕ) → write-stmt-lts.Need-sub-lets (
-  write-let-reads.Asked,
-  write-let-reads.Learnt,
-  write-match-below t,
-  write-match.Post,
-) (write-stmt-at t) write-stmt.Post
+write-stmt-sub-lets : (t : ℕ) → write-stmt-lts.Need-sub-lets (write-let-reads.Asked, write-let-reads.Learnt, write-match-below t, write-match.Post) (write-stmt-at t) write-stmt.Post
 write-stmt-sub-lets t c = ?
 
--- src/lib.rt:494:16
-write-stmt-add-lets : (t : ℕ) → write-stmt-lts.Need-add-lets (
-  write-let-reads.Asked,
-  write-let-reads.Learnt,
-  write-match-below t,
-  write-match.Post,
-) (write-stmt-at t) write-stmt.Post
+write-stmt-add-lets : (t : ℕ) → write-stmt-lts.Need-add-lets (write-let-reads.Asked, write-let-reads.Learnt, write-match-below t, write-match.Post) (write-stmt-at t) write-stmt.Post
 write-stmt-add-lets t c = ?
 
--- src/lib.rt:496:9
-write-stmt-write-let-requires : (t : ℕ) → write-stmt-lts.Need-write-let-requires (
-  write-let-reads.Asked,
-  write-let-reads.Learnt,
-  write-match-below t,
-  write-match.Post,
-) (write-stmt-at t) write-stmt.Post
+write-stmt-write-let-requires : (t : ℕ) → write-stmt-lts.Need-write-let-requires (write-let-reads.Asked, write-let-reads.Learnt, write-match-below t, write-match.Post) (write-stmt-at t) write-stmt.Post
 write-stmt-write-let-requires t c κs = ?
 
--- src/lib.rt:496:9
-write-stmt-same-length : (t : ℕ) → write-stmt-lts.Need-same-length (
-  write-let-reads.Asked,
-  write-let-reads.Learnt,
-  write-match-below t,
-  write-match.Post,
-) (write-stmt-at t) write-stmt.Post
+write-stmt-same-length : (t : ℕ) → write-stmt-lts.Need-same-length (write-let-reads.Asked, write-let-reads.Learnt, write-match-below t, write-match.Post) (write-stmt-at t) write-stmt.Post
 write-stmt-same-length t c = ?
 
--- src/lib.rt:496:9
-write-stmt-returns : (t : ℕ) → write-stmt-lts.Need-returns (
-  write-let-reads.Asked,
-  write-let-reads.Learnt,
-  write-match-below t,
-  write-match.Post,
-) (write-stmt-at t) write-stmt.Post
+write-stmt-returns : (t : ℕ) → write-stmt-lts.Need-returns (write-let-reads.Asked, write-let-reads.Learnt, write-match-below t, write-match.Post) (write-stmt-at t) write-stmt.Post
 write-stmt-returns t c = ?
 
--- src/lib.rt:501:16
-write-stmt-mul-size : (t : ℕ) → write-stmt-lts.Need-mul-size (
-  write-let-reads.Asked,
-  write-let-reads.Learnt,
-  write-match-below t,
-  write-match.Post,
-) (write-stmt-at t) write-stmt.Post
+write-stmt-mul-size : (t : ℕ) → write-stmt-lts.Need-mul-size (write-let-reads.Asked, write-let-reads.Learnt, write-match-below t, write-match.Post) (write-stmt-at t) write-stmt.Post
 write-stmt-mul-size t c = ?
 
--- src/lib.rt:501:16
-write-stmt-shared-slice-read-size : (t : ℕ) → write-stmt-lts.Need-shared-slice-read-size (
-  write-let-reads.Asked,
-  write-let-reads.Learnt,
-  write-match-below t,
-  write-match.Post,
-) (write-stmt-at t) write-stmt.Post
+write-stmt-shared-slice-read-size : (t : ℕ) → write-stmt-lts.Need-shared-slice-read-size (write-let-reads.Asked, write-let-reads.Learnt, write-match-below t, write-match.Post) (write-stmt-at t) write-stmt.Post
 write-stmt-shared-slice-read-size t c = ?
 
--- src/lib.rt:502:5
-write-stmt-write-match-requires : (t : ℕ) → write-stmt-lts.Need-write-match-requires (
-  write-let-reads.Asked,
-  write-let-reads.Learnt,
-  write-match-below t,
-  write-match.Post,
-) (write-stmt-at t) write-stmt.Post
+write-stmt-write-match-requires : (t : ℕ) → write-stmt-lts.Need-write-match-requires (write-let-reads.Asked, write-let-reads.Learnt, write-match-below t, write-match.Post) (write-stmt-at t) write-stmt.Post
 write-stmt-write-match-requires t c κs = ?
 
--- src/lib.rt:469:1
-write-stmt-same-length-2 : (t : ℕ) → write-stmt-lts.Need-same-length-2 (
-  write-let-reads.Asked,
-  write-let-reads.Learnt,
-  write-match-below t,
-  write-match.Post,
-) (write-stmt-at t) write-stmt.Post
+write-stmt-same-length-2 : (t : ℕ) → write-stmt-lts.Need-same-length-2 (write-let-reads.Asked, write-let-reads.Learnt, write-match-below t, write-match.Post) (write-stmt-at t) write-stmt.Post
 write-stmt-same-length-2 t c = ?
 
--- src/lib.rt:469:1
-write-stmt-same-length-3 : (t : ℕ) → write-stmt-lts.Need-same-length-3 (
-  write-let-reads.Asked,
-  write-let-reads.Learnt,
-  write-match-below t,
-  write-match.Post,
-) (write-stmt-at t) write-stmt.Post
+write-stmt-same-length-3 : (t : ℕ) → write-stmt-lts.Need-same-length-3 (write-let-reads.Asked, write-let-reads.Learnt, write-match-below t, write-match.Post) (write-stmt-at t) write-stmt.Post
 write-stmt-same-length-3 t c = ?
 
--- src/lib.rt:469:1
-write-stmt-same-length-4 : (t : ℕ) → write-stmt-lts.Need-same-length-4 (
-  write-let-reads.Asked,
-  write-let-reads.Learnt,
-  write-match-below t,
-  write-match.Post,
-) (write-stmt-at t) write-stmt.Post
+write-stmt-same-length-4 : (t : ℕ) → write-stmt-lts.Need-same-length-4 (write-let-reads.Asked, write-let-reads.Learnt, write-match-below t, write-match.Post) (write-stmt-at t) write-stmt.Post
 write-stmt-same-length-4 t c = ?
 
--- src/lib.rt:469:1
-write-stmt-returns-2 : (t : ℕ) → write-stmt-lts.Need-returns-2 (
-  write-let-reads.Asked,
-  write-let-reads.Learnt,
-  write-match-below t,
-  write-match.Post,
-) (write-stmt-at t) write-stmt.Post
+write-stmt-returns-2 : (t : ℕ) → write-stmt-lts.Need-returns-2 (write-let-reads.Asked, write-let-reads.Learnt, write-match-below t, write-match.Post) (write-stmt-at t) write-stmt.Post
 write-stmt-returns-2 t c = ?
 
 abbrev write-stmts-Inv-loop : write-stmts-lts.InvT-loop
-write-stmts-Inv-loop rows work₀ tokens results first places held starts members ends numbers sizes taken fuel text₀ at table₀ to₀ q₀ work text table to q =
-    ?
+write-stmts-Inv-loop rows work₀ tokens results first places held starts members ends numbers sizes taken fuel text₀ at table₀ to₀ q₀ work text table to q = ?
 
 abbrev write-stmts-μ-loop : write-stmts-lts.MeasureT-loop
-write-stmts-μ-loop rows work₀ tokens results first places held starts members ends numbers sizes taken fuel text₀ at table₀ to₀ q₀ work text table to q =
-    ?
+write-stmts-μ-loop rows work₀ tokens results first places held starts members ends numbers sizes taken fuel text₀ at table₀ to₀ q₀ work text table to q = ?
 
--- src/lib.rt:535:5
-write-stmts-loop-holds : (t : ℕ) → write-stmts-lts.Need-loop-holds (
-  write-stmt-below t,
-  write-stmt.Post,
-) (write-stmts-at t) write-stmts.Post write-stmts-Inv-loop write-stmts-μ-loop
+write-stmts-loop-holds : (t : ℕ) → write-stmts-lts.Need-loop-holds (write-stmt-below t, write-stmt.Post) (write-stmts-at t) write-stmts.Post write-stmts-Inv-loop write-stmts-μ-loop
 write-stmts-loop-holds t c = ?
 
--- src/lib.rt:536:17
 write-stmts-mul-p :
     (t : ℕ) →
     write-stmts-lts.Need-mul-p
@@ -2629,21 +1016,12 @@ write-stmts-mul-p :
     write-stmts-μ-loop
 write-stmts-mul-p t c = ?
 
--- src/lib.rt:536:17
-write-stmts-shared-slice-read-p : (t : ℕ) → write-stmts-lts.Need-shared-slice-read-p (
-  write-stmt-below t,
-  write-stmt.Post,
-) (write-stmts-at t) write-stmts.Post write-stmts-Inv-loop write-stmts-μ-loop
+write-stmts-shared-slice-read-p : (t : ℕ) → write-stmts-lts.Need-shared-slice-read-p (write-stmt-below t, write-stmt.Post) (write-stmts-at t) write-stmts.Post write-stmts-Inv-loop write-stmts-μ-loop
 write-stmts-shared-slice-read-p t c = ?
 
--- src/lib.rt:537:9
-write-stmts-write-stmt-requires : (t : ℕ) → write-stmts-lts.Need-write-stmt-requires (
-  write-stmt-below t,
-  write-stmt.Post,
-) (write-stmts-at t) write-stmts.Post write-stmts-Inv-loop write-stmts-μ-loop
+write-stmts-write-stmt-requires : (t : ℕ) → write-stmts-lts.Need-write-stmt-requires (write-stmt-below t, write-stmt.Post) (write-stmts-at t) write-stmts.Post write-stmts-Inv-loop write-stmts-μ-loop
 write-stmts-write-stmt-requires t c κs = ?
 
--- src/lib.rt:541:9
 write-stmts-add-q :
     (t : ℕ) →
     write-stmts-lts.Need-add-q
@@ -2654,42 +1032,21 @@ write-stmts-add-q :
     write-stmts-μ-loop
 write-stmts-add-q t c = ?
 
--- src/lib.rt:535:5
-write-stmts-loop-less : (t : ℕ) → write-stmts-lts.Need-loop-less (
-  write-stmt-below t,
-  write-stmt.Post,
-) (write-stmts-at t) write-stmts.Post write-stmts-Inv-loop write-stmts-μ-loop
+write-stmts-loop-less : (t : ℕ) → write-stmts-lts.Need-loop-less (write-stmt-below t, write-stmt.Post) (write-stmts-at t) write-stmts.Post write-stmts-Inv-loop write-stmts-μ-loop
 write-stmts-loop-less t c = ?
 
--- src/lib.rt:535:5
-write-stmts-loop-again : (t : ℕ) → write-stmts-lts.Need-loop-again (
-  write-stmt-below t,
-  write-stmt.Post,
-) (write-stmts-at t) write-stmts.Post write-stmts-Inv-loop write-stmts-μ-loop
+write-stmts-loop-again : (t : ℕ) → write-stmts-lts.Need-loop-again (write-stmt-below t, write-stmt.Post) (write-stmts-at t) write-stmts.Post write-stmts-Inv-loop write-stmts-μ-loop
 write-stmts-loop-again t c = ?
 
--- src/lib.rt:508:1
-write-stmts-same-length : (t : ℕ) → write-stmts-lts.Need-same-length (
-  write-stmt-below t,
-  write-stmt.Post,
-) (write-stmts-at t) write-stmts.Post write-stmts-Inv-loop write-stmts-μ-loop
+write-stmts-same-length : (t : ℕ) → write-stmts-lts.Need-same-length (write-stmt-below t, write-stmt.Post) (write-stmts-at t) write-stmts.Post write-stmts-Inv-loop write-stmts-μ-loop
 write-stmts-same-length t c = ?
 
--- src/lib.rt:508:1
-write-stmts-same-length-2 : (t : ℕ) → write-stmts-lts.Need-same-length-2 (
-  write-stmt-below t,
-  write-stmt.Post,
-) (write-stmts-at t) write-stmts.Post write-stmts-Inv-loop write-stmts-μ-loop
+write-stmts-same-length-2 : (t : ℕ) → write-stmts-lts.Need-same-length-2 (write-stmt-below t, write-stmt.Post) (write-stmts-at t) write-stmts.Post write-stmts-Inv-loop write-stmts-μ-loop
 write-stmts-same-length-2 t c = ?
 
--- src/lib.rt:508:1
-write-stmts-same-length-3 : (t : ℕ) → write-stmts-lts.Need-same-length-3 (
-  write-stmt-below t,
-  write-stmt.Post,
-) (write-stmts-at t) write-stmts.Post write-stmts-Inv-loop write-stmts-μ-loop
+write-stmts-same-length-3 : (t : ℕ) → write-stmts-lts.Need-same-length-3 (write-stmt-below t, write-stmt.Post) (write-stmts-at t) write-stmts.Post write-stmts-Inv-loop write-stmts-μ-loop
 write-stmts-same-length-3 t c = ?
 
--- src/lib.rt:508:1
 write-stmts-returns :
     (t : ℕ) →
     write-stmts-lts.Need-returns
