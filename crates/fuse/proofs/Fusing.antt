@@ -8,7 +8,6 @@ use mathlib.Core.List.{List, [], _∷_, _++_}
 use borrow.Author.Tests.{le-leb, lt-leb}
 use lib.ListN.{length, getD, take, drop}
 use lib.Seq.{length-take-le, take-at}
-use lib.Dec.{leb}
 use Rattle.tree.specs.Tree.{Name, mname}
 use Rattle.tree.specs.Tokens.{run-at, trees-in}
 use Rattle.rewrite.specs.Rewrite.{replace-outside-arms}

@@ -1,6 +1,6 @@
 -- One step of fusing: the member is a tree of the base, the words of which are read as that tree, and what `replace_outside_arms` leaves is what the step makes.
 -- Assumes nothing.
-use Prim.Native.Nat.{ℕ, _+_, _-_, _≤_}
+use Prim.Native.Nat.{ℕ, _-_, _≤_}
 use native.Mathlib.Omega.{arith}
 use mathlib.Core.Path.{_≡_, refl, sym, _∙_, ap, subst}
 use mathlib.Core.Option.{Option, none, some}

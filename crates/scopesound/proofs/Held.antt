@@ -5,24 +5,21 @@ use native.Mathlib.Omega.{arith}
 use mathlib.Core.Path.{_≡_, refl, sym, _∙_, ap, subst}
 use mathlib.Core.Bool.{Bool, true, false, _&&_}
 use mathlib.Core.Option.{Option, none, some}
-use mathlib.Core.List.{List, [], _∷_, _++_, map}
-use lib.IntN.{pos}
+use mathlib.Core.List.{List, [], _∷_, map}
 use lib.ListN.{length, getD, drop}
 use lib.Dec.{T, eqb, ltb, lt→ltb}
 use borrow.Author.Tests.{ltb-true, ltb-false}
-use Rattle.tree.specs.Bytes.{every}
 use Rattle.tree.specs.Tree.{Name, xname, Tree, Forest, Sym, Const, Op, nil, _◂_}
 use Rattle.tree.specs.Kinds.{Mul, Div}
-use Rattle.tree.specs.Facts.{all-nodes}
 use Rattle.tree.specs.Passes.{of-paper, operands-ok}
 use Rattle.tree.specs.Rows.{Row}
 use Rattle.tree.specs.Tokens.{read, numbered, trees-in, trees-at, run-at, words-of}
 use Rattle.tree.proofs.Formed.{operand-count}
 use Rattle.tree.proofs.Logic.{and-left, and-right, and-both}
 use Rattle.tree.proofs.TokenLaws.{places-are-nodes, trees-length}
-use Rattle.tree.proofs.TokenCode.{fits-word, known-name, coded, coded-each, all-coded, unnumbered}
+use Rattle.tree.proofs.TokenCode.{known-name, coded, all-coded, unnumbered}
 use Rattle.rewrite.specs.Rewrite.{divides-by, replace-divisor, replace-divisors, dividend}
-use Rattle.rewrite.proofs.Names.{holds, holds-each, holds-all, weaken, all-nodes-hold, divisor-holds}
+use Rattle.rewrite.proofs.Names.{holds, holds-all, weaken, all-nodes-hold, divisor-holds}
 use Rattle.cse.proofs.RoundsCount.{made-before, made-le}
 use Rattle.renaming.specs.Names.{symbols-pass}
 use Rattle.renaming.specs.Places.{numbered-at}
@@ -32,7 +29,7 @@ use Rattle.renaming.proofs.RowNames.{all-code}
 use Rattle.renaming.proofs.Coded.{is-alone, divisor-fits, read-fits, read-again}
 use Rattle.renaming.proofs.WordRounds.{In-code, written, place-fits, written-complete}
 use Rattle.reciprocals.proofs.Parts.{settle-tree, reciprocal, settled-reciprocals, All-there}
-use Rattle.kept.specs.Sound.{extractable, numbered-below}
+use Rattle.kept.specs.Sound.{extractable}
 use Rattle.kept.proofs.Passing.{taken, taken-each, all-taken}
 use Rattle.kept.proofs.Words.{name-ok, made-ok, taken-at, names-below}
 use Rattle.kept.proofs.Steps.{Ready, ready-of, ready-so}
