@@ -1,10 +1,10 @@
 -- The groups of switches at some places, and what `group_switches` answers and leaves, by cases (01, "Scoped fusion"). Assumes nothing.
-use Prim.Native.Nat.{ℕ, _+_, _<_}
+use Prim.Native.Nat.{ℕ}
 use mathlib.Core.Path.{_≡_}
 use mathlib.Core.Bool.{Bool, true, false, _&&_}
-use mathlib.Core.List.{List, [], _∷_, _++_, map}
-use lib.ListN.{length, take, drop}
-use lib.Dec.{T, leb, ltb}
+use mathlib.Core.List.{List, _++_, map}
+use lib.ListN.{length, drop}
+use lib.Dec.{leb, ltb}
 use Rattle.tree.specs.Bytes.{every}
 use Rattle.tree.specs.Tokens.{trees-in}
 use Rattle.words.specs.Words.{some-trees}

@@ -1,7 +1,7 @@
 // Which switches are fused in one match (01, "Scoped fusion"): those of equal kind, key, arm count and default, as places among words of trees.
 ghost use mathlib.Core.Path.{_≡_};
-ghost use Prim.Native.Nat.{_≤_, _<_, _+_};
-ghost use lib.ListN.{length, getD};
+ghost use Prim.Native.Nat.{_≤_, _<_};
+ghost use lib.ListN.{length};
 ghost use lib.Dec.{T};
 ghost use Rattle.tree.specs.Tree.{eq-tree};
 ghost use Rattle.words.specs.Words.{Complete};
