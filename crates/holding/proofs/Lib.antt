@@ -1,0 +1,4 @@
+pub mod Switch
+pub mod Taking
+pub mod Gathering
+pub mod Ends
