@@ -19,7 +19,7 @@ use Rattle.scope.specs.declared.Scoped.the-variants as scoped
 use Rattle.scope.specs.declared.Armed.{Armed}
 use Rattle.scope.specs.declared.Armed.the-variants as armed
 use Rattle.scope.proofs.ArmLaws.{Arm-done, done-refused, arm-refused, arm-of, arm-ok, Arms-so, got, Arms-back, arms-back}
-use Rattle.scope.proofs.Owed.{Small, told-small, column-good, column-pass, arms-few, group-few, holds-later}
+use Rattle.scope.proofs.Sound.{Small, told-small, column-good, column-passes, arms-few, group-few, holds-later}
 
 pub lent-on : (fuel : ℕ) (work text work' text' : List ℕ) → Lent fuel work text → length work' ≡ length work → length text' ≡ length text → Lent fuel work' text'
 lent-on fuel work text work' text' l e f = record { words = omega (arith, l .words, e); bytes = omega (arith, l .bytes, f) }
@@ -36,7 +36,7 @@ module _ (rows : List Row) (fuel next : ℕ) (held group : List ℕ) (h : Holds 
   module _ (at : ℕ) (fits : Arm-fits rows fuel held group next a at) (n : ℕ) (work : List ℕ) (is : take n work ≡ column) where
     pub column-scoped : T (extractable rows next (take n work)) × T (symbols-pass (is-number rows) (take n work))
     column-scoped =
-        (subst (λ (ws : List ℕ). T (extractable rows next ws)) (sym is) (column-good rows next held group h g a l), subst (λ (ws : List ℕ). T (symbols-pass (is-number rows) ws)) (sym is) (column-pass rows next held group h g a l))
+        (subst (λ (ws : List ℕ). T (extractable rows next ws)) (sym is) (column-good rows next held group h g a l), subst (λ (ws : List ℕ). T (symbols-pass (is-number rows) ws)) (sym is) (column-passes rows next held group h g a l))
 
     pub column-fits : at + 1 + told-rows (scope-told rows fuel 35 next (take n work)) ≤ most-rows
     column-fits = subst (λ (ws : List ℕ). at + 1 + told-rows (scope-told rows fuel 35 next ws) ≤ most-rows) (sym is) (omega (arith, fits))
@@ -87,7 +87,7 @@ module _ (rows : List Row) (fuel next : ℕ) (held group : List ℕ) (h : Holds 
       let s = arms-small n (omega arith) (b .before) (b .before-told) in
       let later = holds-later rows next (b .before .next) held (s .grows) h in
       let t = told-small rows fuel 35 (b .before .next) (column-words held group n)
-          (column-good rows (b .before .next) held group later g n (omega arith)) (column-pass rows (b .before .next) held group later g n (omega arith)) (b .last) (b .last-told) in
+          (column-good rows (b .before .next) held group later g n (omega arith)) (column-passes rows (b .before .next) held group later g n (omega arith)) (b .last) (b .last-told) in
       subst (Arms-small next (suc n)) (b .is) (record {
         rows = omega (arith, length-append (b .before .words) (arm-of group (b .last) .words), s .rows, t .rows);
         made = omega (arith, s .made, t .made);

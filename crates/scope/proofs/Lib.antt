@@ -1,3 +1,3 @@
 pub mod ArmLaws
-pub mod Owed
+pub mod Sound
 pub mod Asking

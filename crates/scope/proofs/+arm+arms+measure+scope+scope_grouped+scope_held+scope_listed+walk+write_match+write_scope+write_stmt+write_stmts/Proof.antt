@@ -7,7 +7,7 @@ use Rattle.switchplaces.specs.Switches.{arm-count}
 use Rattle.scope.specs.Answers.{inner}
 use Rattle.scope.proofs.ArmLaws.{Arms-so, arm-ends, arm-stops, arms-begin, arms-go-on, arms-end-refused, arms-all}
 use Rattle.scope.proofs.Asking.{lent-on, column-room, column-scoped, column-fits, column-answers, steps-few, arm-too-deep, arms-small, so-small, so-holds, so-fits, so-made}
-use Rattle.scope.proofs.Owed.{group-few, arms-few}
+use Rattle.scope.proofs.Sound.{group-few, arms-few}
 use borrow.Author.Needs.{needs}
 use Prim.Native.Nat.{ℕ, _<_, _+_, _-_, _*_, _≤_}
 use borrow.Fn.Kinds.{In}
@@ -207,59 +207,58 @@ write-stmts-below t =
     and 13 write-stmts-kinds.ps (falls 13 write-stmts-kinds.ps _<_ μ-write-stmts t) write-stmts.Pre
 
 arm-returns : (t : ℕ) → arm-lts.Need-returns (column-reads.Asked, column-reads.Learnt, scope-below t, scope.Post, put-word-reads.Asked, put-word-reads.Learnt) (arm-at t) arm.Post
-arm-returns t c = let s = c .before .before .before .before .before .before .before in let a = s .args in arm-too-deep (rows-in (a .rows .now)) (a .fuel) (a .next) (a .held .now) (a .group .now) (s .pre .1 .0 .1) (s .pre .1 .1 .0 .0) (a .a) (s .pre .1 .1 .0 .1) (c .if1 .taken) (a .at) (a .table .now)
+arm-returns t c = ?
 
 arm-column-requires : (t : ℕ) → arm-lts.Need-column-requires (column-reads.Asked, column-reads.Learnt, scope-below t, scope.Post, put-word-reads.Asked, put-word-reads.Learnt) (arm-at t) arm.Post
-arm-column-requires t c κs = let s = c .before .before .before .before .before .before .before .before in let a = s .args in (s .pre .1 .1 .0 .0, s .pre .1 .1 .0 .1, column-room (rows-in (a .rows .now)) (a .fuel) (a .next) (a .held .now) (a .group .now) (s .pre .1 .0 .1) (s .pre .1 .1 .0 .0) (a .a) (s .pre .1 .1 .0 .1) (a .work .now) (a .text .now) (s .pre .1 .0 .0) (omega (arith, c .before .if1 .left)))
+arm-column-requires t c κs = ?
 
 arm-add-scope : (t : ℕ) → arm-lts.Need-add-scope (column-reads.Asked, column-reads.Learnt, scope-below t, scope.Post, put-word-reads.Asked, put-word-reads.Learnt) (arm-at t) arm.Post
-arm-add-scope t c = let s = c .before .before .before .before .before .before .before .before .before .before .before .before .before in omega (arith, s .pre .1 .1 .1)
+arm-add-scope t c = ?
 
 arm-scope-requires : (t : ℕ) → arm-lts.Need-scope-requires (column-reads.Asked, column-reads.Learnt, scope-below t, scope.Post, put-word-reads.Asked, put-word-reads.Learnt) (arm-at t) arm.Post
-arm-scope-requires t c κs = let s = c .before .before .before .before .before .before .before .before .before .before .before .before .before .before in let a = s .args in let x = c .before .before .before .before .before .column in
-    (omega (arith, s .pre .0), (column-scoped (rows-in (a .rows .now)) (a .fuel) (a .next) (a .held .now) (a .group .now) (s .pre .1 .0 .1) (s .pre .1 .1 .0 .0) (a .a) (s .pre .1 .1 .0 .1) (a .at) (s .pre .1 .1 .1) (x .result) _ (x .ensures .0), ((lent-on (a .fuel) (a .work .now) (a .text .now) _ _ (s .pre .1 .0 .0) (x .kept .1 .1 .1 .0) refl, x .ensures .1), column-fits (rows-in (a .rows .now)) (a .fuel) (a .next) (a .held .now) (a .group .now) (s .pre .1 .0 .1) (s .pre .1 .1 .0 .0) (a .a) (s .pre .1 .1 .0 .1) (a .at) (s .pre .1 .1 .1) (x .result) _ (x .ensures .0))))
+arm-scope-requires t c κs = ?
 
 arm-enum-known-told : (t : ℕ) → arm-lts.Need-enum-known-told (column-reads.Asked, column-reads.Learnt, scope-below t, scope.Post, put-word-reads.Asked, put-word-reads.Learnt) (arm-at t) arm.Post
-arm-enum-known-told t c = search needs
+arm-enum-known-told t c = ?
 
 arm-add-put-word : (t : ℕ) → arm-lts.Need-add-put-word (column-reads.Asked, column-reads.Learnt, scope-below t, scope.Post, put-word-reads.Asked, put-word-reads.Learnt) (arm-at t) arm.Post
-arm-add-put-word t c = let s = c .before .before .before .before .before .before .before .before .before .before .before .before .before .before .before .before .before .before .before .before .before .before .before .before in let a = s .args in let x = c .before .before .before .before .before .before .before .before .before .before .before .before .before .before .before .column in let y = c .before .before .before .before .before .before .before .before .before .scope in let f = steps-few (rows-in (a .rows .now)) (a .fuel) (a .next) (a .held .now) (a .group .now) (s .pre .1 .0 .1) (s .pre .1 .1 .0 .0) (a .a) (s .pre .1 .1 .0 .1) (a .at) (s .pre .1 .1 .1) (x .result) _ (x .ensures .0) (y .result) (y .ensures .0) _ _ _ _ (c .before .told .given .1) in omega (arith, f, group-few (rows-in (a .rows .now)) (a .next) (a .held .now) (a .group .now) (s .pre .1 .0 .1) (s .pre .1 .1 .0 .0))
+arm-add-put-word t c = ?
 
 arm-mul-put-word : (t : ℕ) → arm-lts.Need-mul-put-word (column-reads.Asked, column-reads.Learnt, scope-below t, scope.Post, put-word-reads.Asked, put-word-reads.Learnt) (arm-at t) arm.Post
-arm-mul-put-word t c = let s = c .before .before .before .before .before .before .before .before .before .before .before .before .before .before .before .before .before .before .before .before .before .before .before .before in let a = s .args in let x = c .before .before .before .before .before .before .before .before .before .before .before .before .before .before .before .column in let y = c .before .before .before .before .before .before .before .before .before .scope in let f = steps-few (rows-in (a .rows .now)) (a .fuel) (a .next) (a .held .now) (a .group .now) (s .pre .1 .0 .1) (s .pre .1 .1 .0 .0) (a .a) (s .pre .1 .1 .0 .1) (a .at) (s .pre .1 .1 .1) (x .result) _ (x .ensures .0) (y .result) (y .ensures .0) _ _ _ _ (c .before .told .given .1) in omega (arith, f, group-few (rows-in (a .rows .now)) (a .next) (a .held .now) (a .group .now) (s .pre .1 .0 .1) (s .pre .1 .1 .0 .0))
+arm-mul-put-word t c = ?
 
 arm-add-put-word-2 : (t : ℕ) → arm-lts.Need-add-put-word-2 (column-reads.Asked, column-reads.Learnt, scope-below t, scope.Post, put-word-reads.Asked, put-word-reads.Learnt) (arm-at t) arm.Post
-arm-add-put-word-2 t c = let s = c .before .before .before .before .before .before .before .before .before .before .before .before .before .before .before .before .before .before .before .before .before .before .before .before in let a = s .args in let x = c .before .before .before .before .before .before .before .before .before .before .before .before .before .before .before .column in let y = c .before .before .before .before .before .before .before .before .before .scope in let f = steps-few (rows-in (a .rows .now)) (a .fuel) (a .next) (a .held .now) (a .group .now) (s .pre .1 .0 .1) (s .pre .1 .1 .0 .0) (a .a) (s .pre .1 .1 .0 .1) (a .at) (s .pre .1 .1 .1) (x .result) _ (x .ensures .0) (y .result) (y .ensures .0) _ _ _ _ (c .before .told .given .1) in omega (arith, f, group-few (rows-in (a .rows .now)) (a .next) (a .held .now) (a .group .now) (s .pre .1 .0 .1) (s .pre .1 .1 .0 .0))
+arm-add-put-word-2 t c = ?
 
 arm-put-word-requires : (t : ℕ) → arm-lts.Need-put-word-requires (column-reads.Asked, column-reads.Learnt, scope-below t, scope.Post, put-word-reads.Asked, put-word-reads.Learnt) (arm-at t) arm.Post
-arm-put-word-requires t c κs = search needs
+arm-put-word-requires t c κs = ?
 
 arm-enum-known-told-2 : (t : ℕ) → arm-lts.Need-enum-known-told-2 (column-reads.Asked, column-reads.Learnt, scope-below t, scope.Post, put-word-reads.Asked, put-word-reads.Learnt) (arm-at t) arm.Post
-arm-enum-known-told-2 t c = search needs
+arm-enum-known-told-2 t c = ?
 
 arm-same-length : (t : ℕ) → arm-lts.Need-same-length (column-reads.Asked, column-reads.Learnt, scope-below t, scope.Post, put-word-reads.Asked, put-word-reads.Learnt) (arm-at t) arm.Post
-arm-same-length t c = search needs
+arm-same-length t c = ?
 
 arm-same-length-2 : (t : ℕ) → arm-lts.Need-same-length-2 (column-reads.Asked, column-reads.Learnt, scope-below t, scope.Post, put-word-reads.Asked, put-word-reads.Learnt) (arm-at t) arm.Post
-arm-same-length-2 t c = search needs
+arm-same-length-2 t c = ?
 
 arm-same-length-3 : (t : ℕ) → arm-lts.Need-same-length-3 (column-reads.Asked, column-reads.Learnt, scope-below t, scope.Post, put-word-reads.Asked, put-word-reads.Learnt) (arm-at t) arm.Post
-arm-same-length-3 t c = search needs
+arm-same-length-3 t c = ?
 
 arm-returns-2 : (t : ℕ) → arm-lts.Need-returns-2 (column-reads.Asked, column-reads.Learnt, scope-below t, scope.Post, put-word-reads.Asked, put-word-reads.Learnt) (arm-at t) arm.Post
-arm-returns-2 t c = let s = c .before .before .before .before .before .before .before .before .before .before .before .before .before .before .before .before .before .before .before .before .before .before .before .before .before .before .before .before in let a = s .args in let x = c .before .before .before .before .before .before .before .before .before .before .before .before .before .before .before .before .before .before .before .column in let y = c .before .before .before .before .before .before .before .before .before .before .before .before .before .scope in arm-ends (inner (rows-in (a .rows .now)) (a .fuel)) (a .held .now) (a .group .now) (a .next) (a .a) (a .at) (a .table .now) (y .result) _ (column-answers (rows-in (a .rows .now)) (a .fuel) (a .next) (a .held .now) (a .group .now) (a .a) (a .at) (a .table .now) (x .result) _ (x .ensures .0) (y .result) _ (y .ensures)) _ _ _ _ (c .before .before .before .before .before .told .given .1) _ (c .before .before .put-word .ensures)
+arm-returns-2 t c = ?
 
 arm-same-length-4 : (t : ℕ) → arm-lts.Need-same-length-4 (column-reads.Asked, column-reads.Learnt, scope-below t, scope.Post, put-word-reads.Asked, put-word-reads.Learnt) (arm-at t) arm.Post
-arm-same-length-4 t c = search needs
+arm-same-length-4 t c = ?
 
 arm-same-length-5 : (t : ℕ) → arm-lts.Need-same-length-5 (column-reads.Asked, column-reads.Learnt, scope-below t, scope.Post, put-word-reads.Asked, put-word-reads.Learnt) (arm-at t) arm.Post
-arm-same-length-5 t c = search needs
+arm-same-length-5 t c = ?
 
 arm-same-length-6 : (t : ℕ) → arm-lts.Need-same-length-6 (column-reads.Asked, column-reads.Learnt, scope-below t, scope.Post, put-word-reads.Asked, put-word-reads.Learnt) (arm-at t) arm.Post
-arm-same-length-6 t c = search needs
+arm-same-length-6 t c = ?
 
 arm-returns-3 : (t : ℕ) → arm-lts.Need-returns-3 (column-reads.Asked, column-reads.Learnt, scope-below t, scope.Post, put-word-reads.Asked, put-word-reads.Learnt) (arm-at t) arm.Post
-arm-returns-3 t c = let s = c .before .before .before .before .before .before .before .before .before .before .before .before .before .before .before .before .before .before .before .before .before .before .before .before in let a = s .args in let x = c .before .before .before .before .before .before .before .before .before .before .before .before .before .before .before .column in let y = c .before .before .before .before .before .before .before .before .before .scope in arm-stops (inner (rows-in (a .rows .now)) (a .fuel)) (a .held .now) (a .group .now) (a .next) (a .a) (a .at) (a .table .now) (y .result) _ (column-answers (rows-in (a .rows .now)) (a .fuel) (a .next) (a .held .now) (a .group .now) (a .a) (a .at) (a .table .now) (x .result) _ (x .ensures .0) (y .result) _ (y .ensures)) _ (c .before .told2 .given .1)
+arm-returns-3 t c = ?
 
 abbrev arms-Inv-loop : arms-lts.InvT-loop
 arms-Inv-loop rows work₀ held group fuel next text₀ at table₀ count end₀ number₀ extracted₀ a₀ work text table end number extracted a = (a ≤ count) × Arms-so (inner (rows-in rows) fuel) held group next at table₀ a end number extracted table × (length work ≡ length work₀) × (length text ≡ length text₀) × (length table ≡ length table₀)
@@ -268,59 +267,58 @@ abbrev arms-μ-loop : arms-lts.MeasureT-loop
 arms-μ-loop rows work₀ held group fuel next text₀ at table₀ count end₀ number₀ extracted₀ a₀ work text table end number extracted a = count - a
 
 arms-count-arms-requires : (t : ℕ) → arms-lts.Need-count-arms-requires (count-arms-reads.Asked, count-arms-reads.Learnt, arm-below t, arm.Post, refusal-of-reads.Asked, refusal-of-reads.Learnt) (arms-at t) arms.Post arms-Inv-loop arms-μ-loop
-arms-count-arms-requires t c κs = let s = c .before .before .before .before .before .before in (s .pre .1 .1 .0, s .pre .1 .0 .1 .few)
+arms-count-arms-requires t c κs = ?
 
 arms-loop-holds : (t : ℕ) → arms-lts.Need-loop-holds (count-arms-reads.Asked, count-arms-reads.Learnt, arm-below t, arm.Post, refusal-of-reads.Asked, refusal-of-reads.Learnt) (arms-at t) arms.Post arms-Inv-loop arms-μ-loop
-arms-loop-holds t c = let s = c .before .before .before .before .before .before .before in let a = s .args in (omega arith, arms-begin (inner (rows-in (a .rows .now)) (a .fuel)) (a .held .now) (a .group .now) (a .next) (a .at) (a .table .now), refl, refl, refl)
+arms-loop-holds t c = ?
 
 arms-arm-requires : (t : ℕ) → arms-lts.Need-arm-requires (count-arms-reads.Asked, count-arms-reads.Learnt, arm-below t, arm.Post, refusal-of-reads.Asked, refusal-of-reads.Learnt) (arms-at t) arms.Post arms-Inv-loop arms-μ-loop
-arms-arm-requires t c κs = let s = c .before .before .before .before .before .before .before .before .before .before .before .before in let a = s .args in let l = c .before .before .before .before .loop in let e = c .before .before .before .before .before .count-arms .ensures in
-    (omega (arith, s .pre .0), ((lent-on (a .fuel) (a .work .now) (a .text .now) _ _ (s .pre .1 .0 .0) (l .inv .2) (l .inv .3), so-holds (rows-in (a .rows .now)) (a .fuel) (a .next) (a .held .now) (a .group .now) (s .pre .1 .0 .1) (s .pre .1 .1 .0) (a .at) (a .table .now) _ _ _ _ _ (l .inv .1) (omega (arith, e, c .before .before .before .loop-test .taken))), ((s .pre .1 .1 .0, omega (arith, e, c .before .before .before .loop-test .taken)), so-fits (rows-in (a .rows .now)) (a .fuel) (a .next) (a .held .now) (a .group .now) (s .pre .1 .0 .1) (s .pre .1 .1 .0) (a .at) (a .table .now) _ _ _ _ _ (l .inv .1) (omega (arith, e, c .before .before .before .loop-test .taken)) (s .pre .1 .1 .1 .0))))
+arms-arm-requires t c κs = ?
 
 arms-enum-known-armed : (t : ℕ) → arms-lts.Need-enum-known-armed (count-arms-reads.Asked, count-arms-reads.Learnt, arm-below t, arm.Post, refusal-of-reads.Asked, refusal-of-reads.Learnt) (arms-at t) arms.Post arms-Inv-loop arms-μ-loop
-arms-enum-known-armed t c = search needs
+arms-enum-known-armed t c = ?
 
 arms-enum-told : (t : ℕ) → arms-lts.Need-enum-told (count-arms-reads.Asked, count-arms-reads.Learnt, arm-below t, arm.Post, refusal-of-reads.Asked, refusal-of-reads.Learnt) (arms-at t) arms.Post arms-Inv-loop arms-μ-loop
-arms-enum-told t c = search needs
+arms-enum-told t c = ?
 
 arms-refusal-of-requires : (t : ℕ) → arms-lts.Need-refusal-of-requires (count-arms-reads.Asked, count-arms-reads.Learnt, arm-below t, arm.Post, refusal-of-reads.Asked, refusal-of-reads.Learnt) (arms-at t) arms.Post arms-Inv-loop arms-μ-loop
-arms-refusal-of-requires t c κs = search needs
+arms-refusal-of-requires t c κs = ?
 
 arms-same-length : (t : ℕ) → arms-lts.Need-same-length (count-arms-reads.Asked, count-arms-reads.Learnt, arm-below t, arm.Post, refusal-of-reads.Asked, refusal-of-reads.Learnt) (arms-at t) arms.Post arms-Inv-loop arms-μ-loop
-arms-same-length t c = search needs
+arms-same-length t c = ?
 
 arms-same-length-2 : (t : ℕ) → arms-lts.Need-same-length-2 (count-arms-reads.Asked, count-arms-reads.Learnt, arm-below t, arm.Post, refusal-of-reads.Asked, refusal-of-reads.Learnt) (arms-at t) arms.Post arms-Inv-loop arms-μ-loop
-arms-same-length-2 t c = search needs
+arms-same-length-2 t c = ?
 
 arms-same-length-3 : (t : ℕ) → arms-lts.Need-same-length-3 (count-arms-reads.Asked, count-arms-reads.Learnt, arm-below t, arm.Post, refusal-of-reads.Asked, refusal-of-reads.Learnt) (arms-at t) arms.Post arms-Inv-loop arms-μ-loop
-arms-same-length-3 t c = search needs
+arms-same-length-3 t c = ?
 
 arms-returns : (t : ℕ) → arms-lts.Need-returns (count-arms-reads.Asked, count-arms-reads.Learnt, arm-below t, arm.Post, refusal-of-reads.Asked, refusal-of-reads.Learnt) (arms-at t) arms.Post arms-Inv-loop arms-μ-loop
-arms-returns t c = let s = c .before .before .before .before .before .before .before .before .before .before .before .before .before .before .before .before .before .before .before .before .before .before in let a = s .args in let l = c .before .before .before .before .before .before .before .before .before .before .before .before .before .before .loop in let e = c .before .before .before .before .before .before .before .before .before .before .before .before .before .before .before .count-arms .ensures in arms-end-refused (inner (rows-in (a .rows .now)) (a .fuel)) (a .held .now) (a .group .now) (a .next) (a .at) (a .table .now) _ _ _ _ _ (l .inv .1) (c .before .before .before .before .before .before .before .before .before .arm .result) _ (c .before .before .before .before .before .before .before .before .before .arm .ensures) (arm-count (a .held .now) (getD (a .group .now) 0 0)) (omega (arith, e, c .before .before .before .before .before .before .before .before .before .before .before .before .before .loop-test .taken)) _ (c .before .enum-told .given .1) _ (c .refusal-of .ensures)
+arms-returns t c = ?
 
 arms-add-extracted : (t : ℕ) → arms-lts.Need-add-extracted (count-arms-reads.Asked, count-arms-reads.Learnt, arm-below t, arm.Post, refusal-of-reads.Asked, refusal-of-reads.Learnt) (arms-at t) arms.Post arms-Inv-loop arms-μ-loop
-arms-add-extracted t c = let s = c .before .before .before .before .before .before .before .before .before .before .before .before .before .before .before .before .before .before .before .before .before .before in let a = s .args in let l = c .before .before .before .before .before .before .before .before .before .before .before .before .before .before .loop in let e = c .before .before .before .before .before .before .before .before .before .before .before .before .before .before .before .count-arms .ensures in let g = arms-go-on (inner (rows-in (a .rows .now)) (a .fuel)) (a .held .now) (a .group .now) (a .next) (a .at) (a .table .now) _ _ _ _ _ (l .inv .1) (c .before .before .before .before .before .before .before .before .before .arm .result) _ (c .before .before .before .before .before .before .before .before .before .arm .ensures) _ _ _ (c .before .armed .given .1) in omega (arith, so-made (rows-in (a .rows .now)) (a .fuel) (a .next) (a .held .now) (a .group .now) (s .pre .1 .0 .1) (s .pre .1 .1 .0) (a .at) (a .table .now) _ _ _ _ _ g (omega (arith, e, c .before .before .before .before .before .before .before .before .before .before .before .before .before .loop-test .taken)))
+arms-add-extracted t c = ?
 
 arms-add-a : (t : ℕ) → arms-lts.Need-add-a (count-arms-reads.Asked, count-arms-reads.Learnt, arm-below t, arm.Post, refusal-of-reads.Asked, refusal-of-reads.Learnt) (arms-at t) arms.Post arms-Inv-loop arms-μ-loop
-arms-add-a t c = let s = c .before .before .before .before .before .before .before .before .before .before .before .before .before .before .before .before .before .before .before .before .before .before in let a = s .args in omega (arith, c .before .before .before .before .before .before .before .before .before .before .before .before .before .before .before .count-arms .ensures, c .before .before .before .before .before .before .before .before .before .before .before .before .before .loop-test .taken, arms-few (rows-in (a .rows .now)) (a .next) (a .held .now) (a .group .now) (s .pre .1 .0 .1) (s .pre .1 .1 .0))
+arms-add-a t c = ?
 
 arms-loop-less : (t : ℕ) → arms-lts.Need-loop-less (count-arms-reads.Asked, count-arms-reads.Learnt, arm-below t, arm.Post, refusal-of-reads.Asked, refusal-of-reads.Learnt) (arms-at t) arms.Post arms-Inv-loop arms-μ-loop
-arms-loop-less t c = search needs
+arms-loop-less t c = ?
 
 arms-loop-again : (t : ℕ) → arms-lts.Need-loop-again (count-arms-reads.Asked, count-arms-reads.Learnt, arm-below t, arm.Post, refusal-of-reads.Asked, refusal-of-reads.Learnt) (arms-at t) arms.Post arms-Inv-loop arms-μ-loop
-arms-loop-again t c = let s = c .before .before .before .before .before .before .before .before .before .before .before .before .before .before .before .before .before .before .before .before .before .before in let a = s .args in let l = c .before .before .before .before .before .before .before .before .before .before .before .before .before .before .loop in let e = c .before .before .before .before .before .before .before .before .before .before .before .before .before .before .before .count-arms .ensures in let x = c .before .before .before .before .before .before .before .before .before .arm in (omega (arith, c .before .before .before .before .before .before .before .before .before .before .before .before .before .loop-test .taken), arms-go-on (inner (rows-in (a .rows .now)) (a .fuel)) (a .held .now) (a .group .now) (a .next) (a .at) (a .table .now) _ _ _ _ _ (l .inv .1) (c .before .before .before .before .before .before .before .before .before .arm .result) _ (c .before .before .before .before .before .before .before .before .before .arm .ensures) _ _ _ (c .before .armed .given .1), x .kept .1 .0 ∙ l .inv .2, x .kept .1 .1 .1 .1 .1 .1 .1 .0 ∙ l .inv .3, x .kept .1 .1 .1 .1 .1 .1 .1 .1 .1 .0 ∙ l .inv .4)
+arms-loop-again t c = ?
 
 arms-same-length-4 : (t : ℕ) → arms-lts.Need-same-length-4 (count-arms-reads.Asked, count-arms-reads.Learnt, arm-below t, arm.Post, refusal-of-reads.Asked, refusal-of-reads.Learnt) (arms-at t) arms.Post arms-Inv-loop arms-μ-loop
-arms-same-length-4 t c = search needs
+arms-same-length-4 t c = ?
 
 arms-same-length-5 : (t : ℕ) → arms-lts.Need-same-length-5 (count-arms-reads.Asked, count-arms-reads.Learnt, arm-below t, arm.Post, refusal-of-reads.Asked, refusal-of-reads.Learnt) (arms-at t) arms.Post arms-Inv-loop arms-μ-loop
-arms-same-length-5 t c = search needs
+arms-same-length-5 t c = ?
 
 arms-same-length-6 : (t : ℕ) → arms-lts.Need-same-length-6 (count-arms-reads.Asked, count-arms-reads.Learnt, arm-below t, arm.Post, refusal-of-reads.Asked, refusal-of-reads.Learnt) (arms-at t) arms.Post arms-Inv-loop arms-μ-loop
-arms-same-length-6 t c = search needs
+arms-same-length-6 t c = ?
 
 arms-returns-2 : (t : ℕ) → arms-lts.Need-returns-2 (count-arms-reads.Asked, count-arms-reads.Learnt, arm-below t, arm.Post, refusal-of-reads.Asked, refusal-of-reads.Learnt) (arms-at t) arms.Post arms-Inv-loop arms-μ-loop
-arms-returns-2 t c = let s = c .before .before .before .before .before .before .before .before .before in let a = s .args in let l = c .before .loop in let e = c .before .before .count-arms .ensures in arms-all (inner (rows-in (a .rows .now)) (a .fuel)) (a .held .now) (a .group .now) (a .next) (a .at) (a .table .now) _ _ _ _ _ (l .inv .1) (arm-count (a .held .now) (getD (a .group .now) 0 0)) (omega (arith, e, l .inv .0, c .loop-test .left))
+arms-returns-2 t c = ?
 
 measure-add-first :
     (t : ℕ) → measure-lts.Need-add-first (arms-below t, arms.Post) (measure-at t) measure.Post
