@@ -11,7 +11,7 @@ use Rattle.renaming.specs.Names.{is-number, symbols-pass}
 use Rattle.kept.specs.Sound.{extractable}
 use Rattle.switchplaces.specs.Switches.{arm-count}
 use Rattle.switchplaces.specs.Columns.{column-words}
-use Rattle.scopeplaces.specs.Whole.{Told, Arms-told, arms-told, scope-told}
+use Rattle.scopeplaces.specs.Whole.{Told, Arms-told, arms-told, group-told, scope-told}
 use Rattle.scope.specs.Answers.{scope-answer, scope-table, told-rows, inner, arm-told, arms-answer}
 use Rattle.scope.specs.Frame.{most-rows, Lent, Holds, Is-group, Arm-fits, Arms-fit}
 use Rattle.scope.specs.declared.Scoped.{Scoped}
@@ -108,3 +108,26 @@ module _ (rows : List Row) (fuel next : ℕ) (held group : List ℕ) (h : Holds 
 
     pub so-made : n ≤ arm-count held (getD group 0 0) → extracted ≤ 1099511627776
     so-made l = omega (arith, so-small l .made, so .extracted-is, arms-few rows next held group h g)
+
+-- ---- arms that are measured
+
+told-rows-small : (rows : List Row) (fuel row next : ℕ) (ws : List ℕ) → T (extractable rows next ws) → T (symbols-pass (is-number rows) ws) → told-rows (scope-told rows fuel row next ws) ≤ 144115188075855872
+unfolding told-rows
+told-rows-small rows fuel row next ws g p = go (scope-told rows fuel row next ws) refl
+  where
+    go : (o : Outcome Told) → scope-told rows fuel row next ws ≡ o → told-rows o ≤ 144115188075855872
+    go (ok t) e = told-small rows fuel row next ws g p t e .rows
+    go (refused i) e = omega arith
+
+-- from the start they fit
+pub measure-fits : (rows : List Row) (fuel next : ℕ) (held group : List ℕ) → Holds rows next held → Is-group held group → Arms-fit rows fuel held group next 0
+measure-fits rows fuel next held group h g n r l e =
+    let s = arms-small rows fuel next held group h g n (omega arith) r e in
+    let later = holds-later rows next (r .next) held (s .grows) h in
+    let t = told-rows-small rows fuel 35 (r .next) (column-words held group n) (column-good rows (r .next) held group later g n l) (column-passes rows (r .next) held group later g n l) in
+    omega (arith, s .rows, t, arms-few rows next held group h g)
+
+pub group-is : (rows : List Row) (fuel next : ℕ) (held group : List ℕ) (r : Armed)
+    → r ≡ arms-answer (arms-told (inner rows fuel) held group (next + length group) (arm-count held (getD group 0 0))) 0 → r ≡ arms-answer (group-told (inner rows fuel) held group next) 0
+unfolding group-told
+group-is rows fuel next held group r e = e
