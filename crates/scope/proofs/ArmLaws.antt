@@ -5,14 +5,16 @@ use native.Mathlib.Nat.{add-zero, add-assoc}
 use native.Mathlib.Omega.{arith}
 use mathlib.Core.Path.{_≡_, refl, sym, _∙_, ap, ap₂, subst}
 use mathlib.Core.List.{List, [], _∷_, _++_}
+use mathlib.Core.Bool.{Bool, true, false, not}
 use lib.ListN.{length, length-append}
+use lib.Dec.{T, ltb, ltb→lt, nltb→le}
 use Rattle.tree.specs.Outcome.{Refusal, Outcome, ok, refused, _>>=_}
 use Rattle.tree.specs.Tokens.{word}
 use Rattle.cse.specs.AnswerRows.{arm-row}
 use Rattle.switchplaces.specs.Columns.{column-words}
 use Rattle.scopeplaces.specs.Overlay.{overlay}
 use Rattle.scopeplaces.specs.Whole.{Told, Arms-told, arms-told}
-use Rattle.scope.specs.Answers.{scope-answer, scope-table, arm-told, arms-answer, Arms-wrote, refusal-number}
+use Rattle.scope.specs.Answers.{scope-answer, scope-table, told-rows, arm-told, arms-answer, Arms-wrote, refusal-number}
 use Rattle.scope.specs.declared.Scoped.{Scoped}
 use Rattle.scope.specs.declared.Scoped.the-variants as scoped
 use Rattle.scope.specs.declared.Armed.{Armed}
@@ -205,3 +207,40 @@ module _ (scope : ℕ → List ℕ → Outcome Told) (hs g : List ℕ) (next n :
       first : (o : Outcome Arms-told) → arms-told scope hs g next n ≡ o → (o >>= λ r. scope (r .next) (column-words hs g n) >>= λ a. ok (and-arm r (arm-of g a))) ≡ ok r → Arms-back
       first (ok b) f q = second b f (scope (b .next) (column-words hs g n)) refl q
       first (refused i) f q = absurd (never-ok q)
+
+-- ---- the rows of an arm among those of all
+
+data Or (A B : Type 0) : Type 0 where
+  first : A → Or A B
+  second : B → Or A B
+
+lt-or-eq : (m k : ℕ) → m ≤ k → Or (m < k) (m ≡ k)
+lt-or-eq m k h = decide (ltb m k) (ltb→lt m k) (nltb→le m k)
+  where
+    decide : (t : Bool) → (T t → m < k) → (T (not t) → k ≤ m) → Or (m < k) (m ≡ k)
+    decide true y z = first (y tt)
+    decide false y z = let w = z tt in second (omega arith)
+
+module _ (scope : ℕ → List ℕ → Outcome Told) (hs g : List ℕ) (next : ℕ) where
+  within-step : (count : ℕ) (a : Arms-told) → arms-told scope hs g next (suc count) ≡ ok a → (n : ℕ) (r : Arms-told) → arms-told scope hs g next n ≡ ok r
+      → ((b : Arms-told) → arms-told scope hs g next count ≡ ok b → n < count → length (r .words) + suc (told-rows (scope (r .next) (column-words hs g n))) ≤ length (b .words))
+      → Or (n < count) (n ≡ count) → length (r .words) + suc (told-rows (scope (r .next) (column-words hs g n))) ≤ length (a .words)
+  unfolding told-rows
+  within-step count a e n r f earlier o = by-order o
+    where
+      b : Arms-back scope hs g next count a
+      b = arms-back scope hs g next count a e
+      k : length (a .words) ≡ length (b .before .words) + suc (length (b .last .words))
+      k = sym (ap (λ (z : Arms-told). length (z .words)) (b .is)) ∙ length-append (b .before .words) (arm-of g (b .last) .words)
+      by-order : Or (n < count) (n ≡ count) → length (r .words) + suc (told-rows (scope (r .next) (column-words hs g n))) ≤ length (a .words)
+      by-order (first q) = omega (arith, earlier (b .before) (b .before-told) q, k)
+      by-order (second q) =
+          let same : r ≡ b .before = got (sym f ∙ (ap (arms-told scope hs g next) q ∙ b .before-told)) in
+          let t : told-rows (scope (r .next) (column-words hs g n)) ≡ length (b .last .words) =
+              ap told-rows (ap₂ (λ (z : Arms-told) (j : ℕ). scope (z .next) (column-words hs g j)) same q ∙ b .last-told) in
+          omega (arith, t, k, ap (λ (z : Arms-told). length (z .words)) same)
+
+  pub arms-within : (count : ℕ) (a : Arms-told) → arms-told scope hs g next count ≡ ok a
+      → (n : ℕ) (r : Arms-told) → n < count → arms-told scope hs g next n ≡ ok r → length (r .words) + suc (told-rows (scope (r .next) (column-words hs g n))) ≤ length (a .words)
+  arms-within zero a e n r l f = absurd (omega arith)
+  arms-within (suc count) a e n r l f = within-step count a e n r f (λ b p q. arms-within count b p n r q f) (lt-or-eq n count (omega arith))

@@ -4,3 +4,4 @@ pub mod Asking
 pub mod GroupLaws
 pub mod WalkLaws
 pub mod Walking
+pub mod Writing

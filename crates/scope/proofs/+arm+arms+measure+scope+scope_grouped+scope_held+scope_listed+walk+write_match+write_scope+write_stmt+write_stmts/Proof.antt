@@ -1,11 +1,11 @@
 -- `scope::scope`, `scope::arms` and `scope::arm` meet their contracts. A scope calls with one scope less that may be opened, and the others pass it on. Assumes nothing.
 use native.Mathlib.Omega.{arith}
-use mathlib.Core.Path.{_≡_, refl, sym, _∙_, ap}
+use mathlib.Core.Path.{_≡_, refl, sym, _∙_, ap, subst}
 use lib.ListN.{length, take, getD, length-set}
 use Rattle.checked.specs.Check.{rows-in}
 use Rattle.switchplaces.specs.Switches.{arm-count}
 use Rattle.scope.specs.Answers.{inner}
-use Rattle.scope.specs.Frame.{groups-told}
+use Rattle.scope.specs.Frame.{groups-told, Arms-fit}
 use Rattle.scope.proofs.ArmLaws.{Arms-so, arm-ends, arm-stops, arms-begin, arms-go-on, arms-end-refused, arms-all}
 use Rattle.scope.proofs.Asking.{lent-on, column-room, column-scoped, column-fits, column-answers, steps-few, arm-too-deep, arms-small, so-small, so-holds, so-fits, so-made}
 use Rattle.scope.proofs.Sound.{group-few, arms-few}
@@ -14,6 +14,7 @@ use Rattle.scope.proofs.Asking.{measure-fits, group-is}
 use Rattle.scope.proofs.Sound.{holds-later, group-few, all-few}
 use Rattle.scope.proofs.WalkLaws.{Walk-so, walk-begin, walk-goes-on, walk-ends-refused, walk-all}
 use Rattle.scope.proofs.Walking.{ends-many, ends-few, so-bound, number-low, number-holds, made-low, start-at, end-at, end-long, end-within, members-here, group-here, answer-here, count-here}
+use Rattle.scope.proofs.Writing.{match-is, head-fits, all-fits, begins, ends-at, ends-within, some-member, begin-within, first-small, members-few, part-is, start-under, start-within, number-small, part-group, part-holds, part-fits, match-done, match-never, match-past}
 use borrow.Author.Needs.{needs}
 use Prim.Native.Nat.{ℕ, _<_, _+_, _-_, _*_, _≤_}
 use borrow.Fn.Kinds.{In}
@@ -728,171 +729,169 @@ abbrev walk-μ-loop : walk-lts.MeasureT-loop
 walk-μ-loop rows work₀ held members ends fuel next text₀ numbers₀ sizes₀ number₀ extracted₀ start₀ g₀ work text numbers sizes number extracted start g = length ends - g
 
 walk-loop-holds : (t : ℕ) → walk-lts.Need-loop-holds (number-members-reads.Asked, number-members-reads.Learnt, measure-below t, measure.Post, refusal-of-reads.Asked, refusal-of-reads.Learnt) (walk-at t) walk.Post walk-Inv-loop walk-μ-loop
-walk-loop-holds t c = let s = c .before .before .before .before .before .before .before .before in let a = s .args in (omega arith, walk-begin (inner (rows-in (a .rows .now)) (a .fuel)) (a .held .now) (place-groups (a .held .now)) (a .next) _ _, refl, refl, refl, refl)
+walk-loop-holds t c = ?
 
 walk-mul-end : (t : ℕ) → walk-lts.Need-mul-end (number-members-reads.Asked, number-members-reads.Learnt, measure-below t, measure.Post, refusal-of-reads.Asked, refusal-of-reads.Learnt) (walk-at t) walk.Post walk-Inv-loop walk-μ-loop
-walk-mul-end t c = search needs
+walk-mul-end t c = ?
 
 walk-shared-slice-read-end : (t : ℕ) → walk-lts.Need-shared-slice-read-end (number-members-reads.Asked, number-members-reads.Learnt, measure-below t, measure.Post, refusal-of-reads.Asked, refusal-of-reads.Learnt) (walk-at t) walk.Post walk-Inv-loop walk-μ-loop
-walk-shared-slice-read-end t c = search needs
+walk-shared-slice-read-end t c = ?
 
 walk-sub-number-members : (t : ℕ) → walk-lts.Need-sub-number-members (number-members-reads.Asked, number-members-reads.Learnt, measure-below t, measure.Post, refusal-of-reads.Asked, refusal-of-reads.Learnt) (walk-at t) walk.Post walk-Inv-loop walk-μ-loop
-walk-sub-number-members t c = let s = c .before .before .before .before .before .before .before .before .before .before .before in let a = s .args in omega (arith, end-long (rows-in (a .rows .now)) (a .fuel) (a .next) (a .held .now) (a .members .now) (a .ends .now) (s .pre .1 .0 .1) (s .pre .1 .1 .0 .0) (s .pre .1 .1 .0 .1) _ _ _ _ _ _ (c .before .before .loop .inv .1) (c .before .loop-test .taken))
+walk-sub-number-members t c = ?
 
 walk-number-members-requires : (t : ℕ) → walk-lts.Need-number-members-requires (number-members-reads.Asked, number-members-reads.Learnt, measure-below t, measure.Post, refusal-of-reads.Asked, refusal-of-reads.Learnt) (walk-at t) walk.Post walk-Inv-loop walk-μ-loop
-walk-number-members-requires t c κs = let s = c .before .before .before .before .before .before .before .before .before .before .before .before in let a = s .args in (omega (arith, end-long (rows-in (a .rows .now)) (a .fuel) (a .next) (a .held .now) (a .members .now) (a .ends .now) (s .pre .1 .0 .1) (s .pre .1 .1 .0 .0) (s .pre .1 .1 .0 .1) _ _ _ _ _ _ (c .before .before .before .loop .inv .1) (c .before .before .loop-test .taken), end-within (rows-in (a .rows .now)) (a .fuel) (a .next) (a .held .now) (a .members .now) (a .ends .now) (s .pre .1 .0 .1) (s .pre .1 .1 .0 .0) (s .pre .1 .1 .0 .1) _ _ _ _ _ _ (c .before .before .before .loop .inv .1) (c .before .before .loop-test .taken), s .pre .1 .1 .1 .0, c .before .before .before .loop .inv .4), omega (arith, number-low (rows-in (a .rows .now)) (a .fuel) (a .next) (a .held .now) (a .members .now) (a .ends .now) (s .pre .1 .0 .1) (s .pre .1 .1 .0 .0) (s .pre .1 .1 .0 .1) _ _ _ _ _ _ (c .before .before .before .loop .inv .1) (c .before .before .before .loop .inv .0), end-long (rows-in (a .rows .now)) (a .fuel) (a .next) (a .held .now) (a .members .now) (a .ends .now) (s .pre .1 .0 .1) (s .pre .1 .1 .0 .0) (s .pre .1 .1 .0 .1) _ _ _ _ _ _ (c .before .before .before .loop .inv .1) (c .before .before .loop-test .taken), end-within (rows-in (a .rows .now)) (a .fuel) (a .next) (a .held .now) (a .members .now) (a .ends .now) (s .pre .1 .0 .1) (s .pre .1 .1 .0 .0) (s .pre .1 .1 .0 .1) _ _ _ _ _ _ (c .before .before .before .loop .inv .1) (c .before .before .loop-test .taken), all-few (rows-in (a .rows .now)) (a .next) (a .held .now) (s .pre .1 .0 .1), ap length (s .pre .1 .1 .0 .0 .members-are)))
+walk-number-members-requires t c κs = ?
 
 walk-mul-measure : (t : ℕ) → walk-lts.Need-mul-measure (number-members-reads.Asked, number-members-reads.Learnt, measure-below t, measure.Post, refusal-of-reads.Asked, refusal-of-reads.Learnt) (walk-at t) walk.Post walk-Inv-loop walk-μ-loop
-walk-mul-measure t c = let s = c .before .before .before .before .before .before .before .before .before .before .before .before .before .before .before .before in let a = s .args in omega (arith, end-long (rows-in (a .rows .now)) (a .fuel) (a .next) (a .held .now) (a .members .now) (a .ends .now) (s .pre .1 .0 .1) (s .pre .1 .1 .0 .0) (s .pre .1 .1 .0 .1) _ _ _ _ _ _ (c .before .before .before .before .before .before .before .loop .inv .1) (c .before .before .before .before .before .before .loop-test .taken), end-within (rows-in (a .rows .now)) (a .fuel) (a .next) (a .held .now) (a .members .now) (a .ends .now) (s .pre .1 .0 .1) (s .pre .1 .1 .0 .0) (s .pre .1 .1 .0 .1) _ _ _ _ _ _ (c .before .before .before .before .before .before .before .loop .inv .1) (c .before .before .before .before .before .before .loop-test .taken), s .good .1 .1 .1 .0)
+walk-mul-measure t c = ?
 
 walk-sub-measure : (t : ℕ) → walk-lts.Need-sub-measure (number-members-reads.Asked, number-members-reads.Learnt, measure-below t, measure.Post, refusal-of-reads.Asked, refusal-of-reads.Learnt) (walk-at t) walk.Post walk-Inv-loop walk-μ-loop
-walk-sub-measure t c = let s = c .before .before .before .before .before .before .before .before .before .before .before .before .before .before .before .before in let a = s .args in omega (arith, end-long (rows-in (a .rows .now)) (a .fuel) (a .next) (a .held .now) (a .members .now) (a .ends .now) (s .pre .1 .0 .1) (s .pre .1 .1 .0 .0) (s .pre .1 .1 .0 .1) _ _ _ _ _ _ (c .before .before .before .before .before .before .before .loop .inv .1) (c .before .before .before .before .before .before .loop-test .taken))
+walk-sub-measure t c = ?
 
 walk-part-measure-start : (t : ℕ) → walk-lts.Need-part-measure-start (number-members-reads.Asked, number-members-reads.Learnt, measure-below t, measure.Post, refusal-of-reads.Asked, refusal-of-reads.Learnt) (walk-at t) walk.Post walk-Inv-loop walk-μ-loop
-walk-part-measure-start t c = let s = c .before .before .before .before .before .before .before .before .before .before .before .before .before .before .before .before in let a = s .args in omega (arith, end-long (rows-in (a .rows .now)) (a .fuel) (a .next) (a .held .now) (a .members .now) (a .ends .now) (s .pre .1 .0 .1) (s .pre .1 .1 .0 .0) (s .pre .1 .1 .0 .1) _ _ _ _ _ _ (c .before .before .before .before .before .before .before .loop .inv .1) (c .before .before .before .before .before .before .loop-test .taken), end-within (rows-in (a .rows .now)) (a .fuel) (a .next) (a .held .now) (a .members .now) (a .ends .now) (s .pre .1 .0 .1) (s .pre .1 .1 .0 .0) (s .pre .1 .1 .0 .1) _ _ _ _ _ _ (c .before .before .before .before .before .before .before .loop .inv .1) (c .before .before .before .before .before .before .loop-test .taken))
+walk-part-measure-start t c = ?
 
 walk-part-measure-end : (t : ℕ) → walk-lts.Need-part-measure-end (number-members-reads.Asked, number-members-reads.Learnt, measure-below t, measure.Post, refusal-of-reads.Asked, refusal-of-reads.Learnt) (walk-at t) walk.Post walk-Inv-loop walk-μ-loop
-walk-part-measure-end t c = let s = c .before .before .before .before .before .before .before .before .before .before .before .before .before .before .before .before in let a = s .args in end-within (rows-in (a .rows .now)) (a .fuel) (a .next) (a .held .now) (a .members .now) (a .ends .now) (s .pre .1 .0 .1) (s .pre .1 .1 .0 .0) (s .pre .1 .1 .0 .1) _ _ _ _ _ _ (c .before .before .before .before .before .before .before .loop .inv .1) (c .before .before .before .before .before .before .loop-test .taken)
+walk-part-measure-end t c = ?
 
 walk-measure-requires : (t : ℕ) → walk-lts.Need-measure-requires (number-members-reads.Asked, number-members-reads.Learnt, measure-below t, measure.Post, refusal-of-reads.Asked, refusal-of-reads.Learnt) (walk-at t) walk.Post walk-Inv-loop walk-μ-loop
-walk-measure-requires t c κs = let s = c .before .before .before .before .before .before .before .before .before .before .before .before .before .before .before .before .before .before in let a = s .args in (omega (arith, s .pre .0), ((lent-on (a .fuel) (a .work .now) (a .text .now) _ _ (s .pre .1 .0 .0) (c .before .before .before .before .before .before .before .before .before .loop .inv .2) (c .before .before .before .before .before .before .before .before .before .loop .inv .3), number-holds (rows-in (a .rows .now)) (a .fuel) (a .next) (a .held .now) (a .members .now) (a .ends .now) (s .pre .1 .0 .1) (s .pre .1 .1 .0 .0) (s .pre .1 .1 .0 .1) _ _ _ _ _ _ (c .before .before .before .before .before .before .before .before .before .loop .inv .1) (c .before .before .before .before .before .before .before .before .before .loop .inv .0)), (group-here (rows-in (a .rows .now)) (a .fuel) (a .next) (a .held .now) (a .members .now) (a .ends .now) (s .pre .1 .0 .1) (s .pre .1 .1 .0 .0) (s .pre .1 .1 .0 .1) _ _ _ _ _ _ (c .before .before .before .before .before .before .before .before .before .loop .inv .1) (c .before .before .before .before .before .before .before .before .loop-test .taken), number-low (rows-in (a .rows .now)) (a .fuel) (a .next) (a .held .now) (a .members .now) (a .ends .now) (s .pre .1 .0 .1) (s .pre .1 .1 .0 .0) (s .pre .1 .1 .0 .1) _ _ _ _ _ _ (c .before .before .before .before .before .before .before .before .before .loop .inv .1) (c .before .before .before .before .before .before .before .before .before .loop .inv .0))))
+walk-measure-requires t c κs = ?
 
 walk-enum-known-armed : (t : ℕ) → walk-lts.Need-enum-known-armed (number-members-reads.Asked, number-members-reads.Learnt, measure-below t, measure.Post, refusal-of-reads.Asked, refusal-of-reads.Learnt) (walk-at t) walk.Post walk-Inv-loop walk-μ-loop
-walk-enum-known-armed t c = search needs
+walk-enum-known-armed t c = ?
 
 walk-enum-told : (t : ℕ) → walk-lts.Need-enum-told (number-members-reads.Asked, number-members-reads.Learnt, measure-below t, measure.Post, refusal-of-reads.Asked, refusal-of-reads.Learnt) (walk-at t) walk.Post walk-Inv-loop walk-μ-loop
-walk-enum-told t c = search needs
+walk-enum-told t c = ?
 
 walk-refusal-of-requires : (t : ℕ) → walk-lts.Need-refusal-of-requires (number-members-reads.Asked, number-members-reads.Learnt, measure-below t, measure.Post, refusal-of-reads.Asked, refusal-of-reads.Learnt) (walk-at t) walk.Post walk-Inv-loop walk-μ-loop
-walk-refusal-of-requires t c κs = search needs
+walk-refusal-of-requires t c κs = ?
 
 walk-same-length : (t : ℕ) → walk-lts.Need-same-length (number-members-reads.Asked, number-members-reads.Learnt, measure-below t, measure.Post, refusal-of-reads.Asked, refusal-of-reads.Learnt) (walk-at t) walk.Post walk-Inv-loop walk-μ-loop
-walk-same-length t c = search needs
+walk-same-length t c = ?
 
 walk-same-length-2 : (t : ℕ) → walk-lts.Need-same-length-2 (number-members-reads.Asked, number-members-reads.Learnt, measure-below t, measure.Post, refusal-of-reads.Asked, refusal-of-reads.Learnt) (walk-at t) walk.Post walk-Inv-loop walk-μ-loop
-walk-same-length-2 t c = search needs
+walk-same-length-2 t c = ?
 
 walk-same-length-3 : (t : ℕ) → walk-lts.Need-same-length-3 (number-members-reads.Asked, number-members-reads.Learnt, measure-below t, measure.Post, refusal-of-reads.Asked, refusal-of-reads.Learnt) (walk-at t) walk.Post walk-Inv-loop walk-μ-loop
-walk-same-length-3 t c = search needs
+walk-same-length-3 t c = ?
 
 walk-same-length-4 : (t : ℕ) → walk-lts.Need-same-length-4 (number-members-reads.Asked, number-members-reads.Learnt, measure-below t, measure.Post, refusal-of-reads.Asked, refusal-of-reads.Learnt) (walk-at t) walk.Post walk-Inv-loop walk-μ-loop
-walk-same-length-4 t c = search needs
+walk-same-length-4 t c = ?
 
 walk-returns : (t : ℕ) → walk-lts.Need-returns (number-members-reads.Asked, number-members-reads.Learnt, measure-below t, measure.Post, refusal-of-reads.Asked, refusal-of-reads.Learnt) (walk-at t) walk.Post walk-Inv-loop walk-μ-loop
-unfolding groups-told
-walk-returns t c = let s = c .before .before .before .before .before .before .before .before .before .before .before .before .before .before .before .before .before .before .before .before .before .before .before .before .before .before in let a = s .args in walk-ends-refused (inner (rows-in (a .rows .now)) (a .fuel)) (a .held .now) (place-groups (a .held .now)) (a .next) _ _ _ _ _ _ (c .before .before .before .before .before .before .before .before .before .before .before .before .before .before .before .before .before .loop .inv .1) (c .before .before .before .before .before .before .before .measure .result) (answer-here (rows-in (a .rows .now)) (a .fuel) (a .next) (a .held .now) (a .members .now) (a .ends .now) (s .pre .1 .0 .1) (s .pre .1 .1 .0 .0) (s .pre .1 .1 .0 .1) _ _ _ _ _ _ (c .before .before .before .before .before .before .before .before .before .before .before .before .before .before .before .before .before .loop .inv .1) (c .before .before .before .before .before .before .before .before .before .before .before .before .before .before .before .before .loop-test .taken) (c .before .before .before .before .before .before .before .measure .result) (c .before .before .before .before .before .before .before .measure .ensures)) (length (place-groups (a .held .now))) (omega (arith, c .before .before .before .before .before .before .before .before .before .before .before .before .before .before .before .before .loop-test .taken, ends-many (rows-in (a .rows .now)) (a .fuel) (a .next) (a .held .now) (a .members .now) (a .ends .now) (s .pre .1 .0 .1) (s .pre .1 .1 .0 .0) (s .pre .1 .1 .0 .1))) _ (c .before .enum-told .given .1) _ (c .refusal-of .ensures) _ _
+walk-returns t c = ?
 
 walk-mul-sizes : (t : ℕ) → walk-lts.Need-mul-sizes (number-members-reads.Asked, number-members-reads.Learnt, measure-below t, measure.Post, refusal-of-reads.Asked, refusal-of-reads.Learnt) (walk-at t) walk.Post walk-Inv-loop walk-μ-loop
-walk-mul-sizes t c = let s = c .before .before .before .before .before .before .before .before .before .before .before .before .before .before .before .before .before .before .before .before .before .before .before .before .before .before in omega (arith, s .good .1 .1 .1 .1 .1 .1 .1 .1 .1 .0, c .before .before .before .before .before .before .before .before .before .before .before .before .before .before .before .before .before .loop .inv .5, s .pre .1 .1 .1 .1, c .before .before .before .before .before .before .before .before .before .before .before .before .before .before .before .before .loop-test .taken)
+walk-mul-sizes t c = ?
 
 walk-slice-write-sizes : (t : ℕ) → walk-lts.Need-slice-write-sizes (number-members-reads.Asked, number-members-reads.Learnt, measure-below t, measure.Post, refusal-of-reads.Asked, refusal-of-reads.Learnt) (walk-at t) walk.Post walk-Inv-loop walk-μ-loop
-walk-slice-write-sizes t c = let s = c .before .before .before .before .before .before .before .before .before .before .before .before .before .before .before .before .before .before .before .before .before .before .before .before .before .before in omega (arith, c .before .before .before .before .before .before .before .before .before .before .before .before .before .before .before .before .before .loop .inv .5, s .pre .1 .1 .1 .1, c .before .before .before .before .before .before .before .before .before .before .before .before .before .before .before .before .loop-test .taken)
+walk-slice-write-sizes t c = ?
 
 walk-add-extracted : (t : ℕ) → walk-lts.Need-add-extracted (number-members-reads.Asked, number-members-reads.Learnt, measure-below t, measure.Post, refusal-of-reads.Asked, refusal-of-reads.Learnt) (walk-at t) walk.Post walk-Inv-loop walk-μ-loop
-walk-add-extracted t c = let s = c .before .before .before .before .before .before .before .before .before .before .before .before .before .before .before .before .before .before .before .before .before .before .before .before .before .before in let a = s .args in let z = (walk-goes-on (inner (rows-in (a .rows .now)) (a .fuel)) (a .held .now) (place-groups (a .held .now)) (a .next) _ _ _ _ _ _ (c .before .before .before .before .before .before .before .before .before .before .before .before .before .before .before .before .before .loop .inv .1) (c .before .before .before .before .before .before .before .measure .result) (answer-here (rows-in (a .rows .now)) (a .fuel) (a .next) (a .held .now) (a .members .now) (a .ends .now) (s .pre .1 .0 .1) (s .pre .1 .1 .0 .0) (s .pre .1 .1 .0 .1) _ _ _ _ _ _ (c .before .before .before .before .before .before .before .before .before .before .before .before .before .before .before .before .before .loop .inv .1) (c .before .before .before .before .before .before .before .before .before .before .before .before .before .before .before .before .loop-test .taken) (c .before .before .before .before .before .before .before .measure .result) (c .before .before .before .before .before .before .before .measure .ensures)) _ _ _ (c .before .armed .given .1) _ (count-here (rows-in (a .rows .now)) (a .fuel) (a .next) (a .held .now) (a .members .now) (a .ends .now) (s .pre .1 .0 .1) (s .pre .1 .1 .0 .0) (s .pre .1 .1 .0 .1) _ _ _ _ _ _ (c .before .before .before .before .before .before .before .before .before .before .before .before .before .before .before .before .before .loop .inv .1) (c .before .before .before .before .before .before .before .before .before .before .before .before .before .before .before .before .loop-test .taken)) (getD (a .ends .now) (c .before .before .before .before .before .before .before .before .before .before .before .before .before .before .before .before .before .loop .g) 0) (omega (arith, end-long (rows-in (a .rows .now)) (a .fuel) (a .next) (a .held .now) (a .members .now) (a .ends .now) (s .pre .1 .0 .1) (s .pre .1 .1 .0 .0) (s .pre .1 .1 .0 .1) _ _ _ _ _ _ (c .before .before .before .before .before .before .before .before .before .before .before .before .before .before .before .before .before .loop .inv .1) (c .before .before .before .before .before .before .before .before .before .before .before .before .before .before .before .before .loop-test .taken))) (omega (arith, end-long (rows-in (a .rows .now)) (a .fuel) (a .next) (a .held .now) (a .members .now) (a .ends .now) (s .pre .1 .0 .1) (s .pre .1 .1 .0 .0) (s .pre .1 .1 .0 .1) _ _ _ _ _ _ (c .before .before .before .before .before .before .before .before .before .before .before .before .before .before .before .before .before .loop .inv .1) (c .before .before .before .before .before .before .before .before .before .before .before .before .before .before .before .before .loop-test .taken), end-within (rows-in (a .rows .now)) (a .fuel) (a .next) (a .held .now) (a .members .now) (a .ends .now) (s .pre .1 .0 .1) (s .pre .1 .1 .0 .0) (s .pre .1 .1 .0 .1) _ _ _ _ _ _ (c .before .before .before .before .before .before .before .before .before .before .before .before .before .before .before .before .before .loop .inv .1) (c .before .before .before .before .before .before .before .before .before .before .before .before .before .before .before .before .loop-test .taken), s .pre .1 .1 .1 .0, c .before .before .before .before .before .before .before .before .before .before .before .before .before .before .before .before .before .loop .inv .4)) (omega (arith, c .before .before .before .before .before .before .before .before .before .before .before .before .before .before .before .before .before .loop .inv .5, s .pre .1 .1 .1 .1, c .before .before .before .before .before .before .before .before .before .before .before .before .before .before .before .before .loop-test .taken)) _ (c .before .before .before .before .before .before .before .before .before .before .before .before .before .number-members .ensures)) in omega (arith, made-low (rows-in (a .rows .now)) (a .fuel) (a .next) (a .held .now) (a .members .now) (a .ends .now) (s .pre .1 .0 .1) (s .pre .1 .1 .0 .0) (s .pre .1 .1 .0 .1) _ _ _ _ _ _ z (omega (arith, c .before .before .before .before .before .before .before .before .before .before .before .before .before .before .before .before .loop-test .taken)))
+walk-add-extracted t c = ?
 
 walk-add-g : (t : ℕ) → walk-lts.Need-add-g (number-members-reads.Asked, number-members-reads.Learnt, measure-below t, measure.Post, refusal-of-reads.Asked, refusal-of-reads.Learnt) (walk-at t) walk.Post walk-Inv-loop walk-μ-loop
-walk-add-g t c = let s = c .before .before .before .before .before .before .before .before .before .before .before .before .before .before .before .before .before .before .before .before .before .before .before .before .before .before in let a = s .args in omega (arith, c .before .before .before .before .before .before .before .before .before .before .before .before .before .before .before .before .loop-test .taken, ends-few (rows-in (a .rows .now)) (a .fuel) (a .next) (a .held .now) (a .members .now) (a .ends .now) (s .pre .1 .0 .1) (s .pre .1 .1 .0 .0) (s .pre .1 .1 .0 .1))
+walk-add-g t c = ?
 
 walk-loop-less : (t : ℕ) → walk-lts.Need-loop-less (number-members-reads.Asked, number-members-reads.Learnt, measure-below t, measure.Post, refusal-of-reads.Asked, refusal-of-reads.Learnt) (walk-at t) walk.Post walk-Inv-loop walk-μ-loop
-walk-loop-less t c = search needs
+walk-loop-less t c = ?
 
 walk-loop-again : (t : ℕ) → walk-lts.Need-loop-again (number-members-reads.Asked, number-members-reads.Learnt, measure-below t, measure.Post, refusal-of-reads.Asked, refusal-of-reads.Learnt) (walk-at t) walk.Post walk-Inv-loop walk-μ-loop
-walk-loop-again t c = let s = c .before .before .before .before .before .before .before .before .before .before .before .before .before .before .before .before .before .before .before .before .before .before .before .before .before .before in let a = s .args in (omega (arith, c .before .before .before .before .before .before .before .before .before .before .before .before .before .before .before .before .loop-test .taken), (walk-goes-on (inner (rows-in (a .rows .now)) (a .fuel)) (a .held .now) (place-groups (a .held .now)) (a .next) _ _ _ _ _ _ (c .before .before .before .before .before .before .before .before .before .before .before .before .before .before .before .before .before .loop .inv .1) (c .before .before .before .before .before .before .before .measure .result) (answer-here (rows-in (a .rows .now)) (a .fuel) (a .next) (a .held .now) (a .members .now) (a .ends .now) (s .pre .1 .0 .1) (s .pre .1 .1 .0 .0) (s .pre .1 .1 .0 .1) _ _ _ _ _ _ (c .before .before .before .before .before .before .before .before .before .before .before .before .before .before .before .before .before .loop .inv .1) (c .before .before .before .before .before .before .before .before .before .before .before .before .before .before .before .before .loop-test .taken) (c .before .before .before .before .before .before .before .measure .result) (c .before .before .before .before .before .before .before .measure .ensures)) _ _ _ (c .before .armed .given .1) _ (count-here (rows-in (a .rows .now)) (a .fuel) (a .next) (a .held .now) (a .members .now) (a .ends .now) (s .pre .1 .0 .1) (s .pre .1 .1 .0 .0) (s .pre .1 .1 .0 .1) _ _ _ _ _ _ (c .before .before .before .before .before .before .before .before .before .before .before .before .before .before .before .before .before .loop .inv .1) (c .before .before .before .before .before .before .before .before .before .before .before .before .before .before .before .before .loop-test .taken)) (getD (a .ends .now) (c .before .before .before .before .before .before .before .before .before .before .before .before .before .before .before .before .before .loop .g) 0) (omega (arith, end-long (rows-in (a .rows .now)) (a .fuel) (a .next) (a .held .now) (a .members .now) (a .ends .now) (s .pre .1 .0 .1) (s .pre .1 .1 .0 .0) (s .pre .1 .1 .0 .1) _ _ _ _ _ _ (c .before .before .before .before .before .before .before .before .before .before .before .before .before .before .before .before .before .loop .inv .1) (c .before .before .before .before .before .before .before .before .before .before .before .before .before .before .before .before .loop-test .taken))) (omega (arith, end-long (rows-in (a .rows .now)) (a .fuel) (a .next) (a .held .now) (a .members .now) (a .ends .now) (s .pre .1 .0 .1) (s .pre .1 .1 .0 .0) (s .pre .1 .1 .0 .1) _ _ _ _ _ _ (c .before .before .before .before .before .before .before .before .before .before .before .before .before .before .before .before .before .loop .inv .1) (c .before .before .before .before .before .before .before .before .before .before .before .before .before .before .before .before .loop-test .taken), end-within (rows-in (a .rows .now)) (a .fuel) (a .next) (a .held .now) (a .members .now) (a .ends .now) (s .pre .1 .0 .1) (s .pre .1 .1 .0 .0) (s .pre .1 .1 .0 .1) _ _ _ _ _ _ (c .before .before .before .before .before .before .before .before .before .before .before .before .before .before .before .before .before .loop .inv .1) (c .before .before .before .before .before .before .before .before .before .before .before .before .before .before .before .before .loop-test .taken), s .pre .1 .1 .1 .0, c .before .before .before .before .before .before .before .before .before .before .before .before .before .before .before .before .before .loop .inv .4)) (omega (arith, c .before .before .before .before .before .before .before .before .before .before .before .before .before .before .before .before .before .loop .inv .5, s .pre .1 .1 .1 .1, c .before .before .before .before .before .before .before .before .before .before .before .before .before .before .before .before .loop-test .taken)) _ (c .before .before .before .before .before .before .before .before .before .before .before .before .before .number-members .ensures)), c .before .before .before .before .before .before .before .measure .kept .1 .0 ∙ c .before .before .before .before .before .before .before .before .before .before .before .before .before .before .before .before .before .loop .inv .2, c .before .before .before .before .before .before .before .measure .kept .1 .1 .1 .1 .1 .1 .0 ∙ c .before .before .before .before .before .before .before .before .before .before .before .before .before .before .before .before .before .loop .inv .3, c .before .before .before .before .before .before .before .before .before .before .before .before .before .number-members .kept .1 .1 .1 .0 ∙ c .before .before .before .before .before .before .before .before .before .before .before .before .before .before .before .before .before .loop .inv .4, length-set _ _ _ ∙ c .before .before .before .before .before .before .before .before .before .before .before .before .before .before .before .before .before .loop .inv .5)
+walk-loop-again t c = ?
 
 walk-same-length-5 : (t : ℕ) → walk-lts.Need-same-length-5 (number-members-reads.Asked, number-members-reads.Learnt, measure-below t, measure.Post, refusal-of-reads.Asked, refusal-of-reads.Learnt) (walk-at t) walk.Post walk-Inv-loop walk-μ-loop
-walk-same-length-5 t c = search needs
+walk-same-length-5 t c = ?
 
 walk-same-length-6 : (t : ℕ) → walk-lts.Need-same-length-6 (number-members-reads.Asked, number-members-reads.Learnt, measure-below t, measure.Post, refusal-of-reads.Asked, refusal-of-reads.Learnt) (walk-at t) walk.Post walk-Inv-loop walk-μ-loop
-walk-same-length-6 t c = search needs
+walk-same-length-6 t c = ?
 
 walk-same-length-7 : (t : ℕ) → walk-lts.Need-same-length-7 (number-members-reads.Asked, number-members-reads.Learnt, measure-below t, measure.Post, refusal-of-reads.Asked, refusal-of-reads.Learnt) (walk-at t) walk.Post walk-Inv-loop walk-μ-loop
-walk-same-length-7 t c = search needs
+walk-same-length-7 t c = ?
 
 walk-same-length-8 : (t : ℕ) → walk-lts.Need-same-length-8 (number-members-reads.Asked, number-members-reads.Learnt, measure-below t, measure.Post, refusal-of-reads.Asked, refusal-of-reads.Learnt) (walk-at t) walk.Post walk-Inv-loop walk-μ-loop
-walk-same-length-8 t c = search needs
+walk-same-length-8 t c = ?
 
 walk-returns-2 : (t : ℕ) → walk-lts.Need-returns-2 (number-members-reads.Asked, number-members-reads.Learnt, measure-below t, measure.Post, refusal-of-reads.Asked, refusal-of-reads.Learnt) (walk-at t) walk.Post walk-Inv-loop walk-μ-loop
-unfolding groups-told
-walk-returns-2 t c = let s = c .before .before .before .before .before .before .before .before .before .before in let a = s .args in walk-all (inner (rows-in (a .rows .now)) (a .fuel)) (a .held .now) (place-groups (a .held .now)) (a .next) _ _ _ _ _ _ (c .before .loop .inv .1) (length (place-groups (a .held .now))) (omega (arith, c .before .loop .inv .0, c .loop-test .left, ends-many (rows-in (a .rows .now)) (a .fuel) (a .next) (a .held .now) (a .members .now) (a .ends .now) (s .pre .1 .0 .1) (s .pre .1 .1 .0 .0) (s .pre .1 .1 .0 .1)))
+walk-returns-2 t c = ?
 
 write-match-write-match-head-requires : (t : ℕ) → write-match-lts.Need-write-match-head-requires (write-match-head-reads.Asked, write-match-head-reads.Learnt, group-begin-reads.Asked, group-begin-reads.Learnt, arms-below t, arms.Post) (write-match-at t) write-match.Post
-write-match-write-match-head-requires t c κs = ?
+write-match-write-match-head-requires t c κs = let s = c .before .before .before .before .before .before .before .before .before in let a = s .args in (s .pre .1 .1 .0 .0, (s .pre .1 .1 .1 .0, head-fits (rows-in (a .rows .now)) (a .fuel) (a .held .now) (a .members .now) (a .ends .now) (a .numbers .now) (a .g) (a .size) (a .at) (s .pre .1 .0 .1) (s .pre .1 .1 .0 .0) (s .pre .1 .1 .0 .1) (s .pre .1 .1 .1 .0) (s .pre .1 .1 .1 .1)))
 
 write-match-add-result : (t : ℕ) → write-match-lts.Need-add-result (write-match-head-reads.Asked, write-match-head-reads.Learnt, group-begin-reads.Asked, group-begin-reads.Learnt, arms-below t, arms.Post) (write-match-at t) write-match.Post
-write-match-add-result t c = ?
+write-match-add-result t c = let s = c .before .before .before .before .before .before .before .before .before .before .before .before .before in let a = s .args in omega (arith, c .before .before .before .write-match-head .ensures .0, all-fits (rows-in (a .rows .now)) (a .fuel) (a .held .now) (a .members .now) (a .ends .now) (a .numbers .now) (a .g) (a .size) (a .at) (s .pre .1 .0 .1) (s .pre .1 .1 .0 .0) (s .pre .1 .1 .0 .1) (s .pre .1 .1 .1 .0) (s .pre .1 .1 .1 .1))
 
 write-match-same-length : (t : ℕ) → write-match-lts.Need-same-length (write-match-head-reads.Asked, write-match-head-reads.Learnt, group-begin-reads.Asked, group-begin-reads.Learnt, arms-below t, arms.Post) (write-match-at t) write-match.Post
-write-match-same-length t c = ?
+write-match-same-length t c = search needs
 
 write-match-returns : (t : ℕ) → write-match-lts.Need-returns (write-match-head-reads.Asked, write-match-head-reads.Learnt, group-begin-reads.Asked, group-begin-reads.Learnt, arms-below t, arms.Post) (write-match-at t) write-match.Post
-write-match-returns t c = ?
+write-match-returns t c = let s = c .before .before .before .before .before .before .before .before .before .before .before .before .before in let a = s .args in match-past (rows-in (a .rows .now)) (a .fuel) (a .held .now) (a .members .now) (a .ends .now) (a .numbers .now) (a .g) (a .size) (a .at) (s .pre .1 .0 .1) (s .pre .1 .1 .0 .0) (s .pre .1 .1 .0 .1) (s .pre .1 .1 .1 .0) (s .pre .1 .1 .1 .1) (a .table .now) _ (c .before .before .before .write-match-head .ensures .1) (c .before .before .before .write-match-head .result) (c .before .before .before .write-match-head .ensures .0) (omega (arith, c .if1 .taken))
 
 write-match-group-begin-requires : (t : ℕ) → write-match-lts.Need-group-begin-requires (write-match-head-reads.Asked, write-match-head-reads.Learnt, group-begin-reads.Asked, group-begin-reads.Learnt, arms-below t, arms.Post) (write-match-at t) write-match.Post
-write-match-group-begin-requires t c κs = ?
+write-match-group-begin-requires t c κs = let s = c .before .before .before .before .before .before .before .before .before .before .before .before .before in s .pre .1 .1 .1 .0
 
 write-match-mul-end : (t : ℕ) → write-match-lts.Need-mul-end (write-match-head-reads.Asked, write-match-head-reads.Learnt, group-begin-reads.Asked, group-begin-reads.Learnt, arms-below t, arms.Post) (write-match-at t) write-match.Post
-write-match-mul-end t c = ?
+write-match-mul-end t c = search needs
 
 write-match-shared-slice-read-end : (t : ℕ) → write-match-lts.Need-shared-slice-read-end (write-match-head-reads.Asked, write-match-head-reads.Learnt, group-begin-reads.Asked, group-begin-reads.Learnt, arms-below t, arms.Post) (write-match-at t) write-match.Post
-write-match-shared-slice-read-end t c = ?
+write-match-shared-slice-read-end t c = search needs
 
 write-match-mul-first : (t : ℕ) → write-match-lts.Need-mul-first (write-match-head-reads.Asked, write-match-head-reads.Learnt, group-begin-reads.Asked, group-begin-reads.Learnt, arms-below t, arms.Post) (write-match-at t) write-match.Post
-write-match-mul-first t c = ?
+write-match-mul-first t c = let s = c .before .before .before .before .before .before .before .before .before .before .before .before .before .before .before in let a = s .args in omega (arith, start-within (rows-in (a .rows .now)) (a .fuel) (a .held .now) (a .members .now) (a .ends .now) (a .numbers .now) (a .g) (a .size) (a .at) (s .pre .1 .0 .1) (s .pre .1 .1 .0 .0) (s .pre .1 .1 .0 .1) (s .pre .1 .1 .1 .0) (s .pre .1 .1 .1 .1) (c .before .group-begin .result) (c .before .group-begin .ensures), s .good .1 .1 .1 .1 .1 .0)
 
 write-match-shared-slice-read-first : (t : ℕ) → write-match-lts.Need-shared-slice-read-first (write-match-head-reads.Asked, write-match-head-reads.Learnt, group-begin-reads.Asked, group-begin-reads.Learnt, arms-below t, arms.Post) (write-match-at t) write-match.Post
-write-match-shared-slice-read-first t c = ?
+write-match-shared-slice-read-first t c = let s = c .before .before .before .before .before .before .before .before .before .before .before .before .before .before .before .before in let a = s .args in start-within (rows-in (a .rows .now)) (a .fuel) (a .held .now) (a .members .now) (a .ends .now) (a .numbers .now) (a .g) (a .size) (a .at) (s .pre .1 .0 .1) (s .pre .1 .1 .0 .0) (s .pre .1 .1 .0 .1) (s .pre .1 .1 .1 .0) (s .pre .1 .1 .1 .1) (c .before .before .group-begin .result) (c .before .before .group-begin .ensures)
 
 write-match-sub-first : (t : ℕ) → write-match-lts.Need-sub-first (write-match-head-reads.Asked, write-match-head-reads.Learnt, group-begin-reads.Asked, group-begin-reads.Learnt, arms-below t, arms.Post) (write-match-at t) write-match.Post
-write-match-sub-first t c = ?
+write-match-sub-first t c = let s = c .before .before .before .before .before .before .before .before .before .before .before .before .before .before .before .before in let a = s .args in start-under (rows-in (a .rows .now)) (a .fuel) (a .held .now) (a .members .now) (a .ends .now) (a .numbers .now) (a .g) (a .size) (a .at) (s .pre .1 .0 .1) (s .pre .1 .1 .0 .0) (s .pre .1 .1 .0 .1) (s .pre .1 .1 .1 .0) (s .pre .1 .1 .1 .1) (c .before .before .group-begin .result) (c .before .before .group-begin .ensures)
 
 write-match-add-first : (t : ℕ) → write-match-lts.Need-add-first (write-match-head-reads.Asked, write-match-head-reads.Learnt, group-begin-reads.Asked, group-begin-reads.Learnt, arms-below t, arms.Post) (write-match-at t) write-match.Post
-write-match-add-first t c = ?
+write-match-add-first t c = let s = c .before .before .before .before .before .before .before .before .before .before .before .before .before .before .before .before in let a = s .args in omega (arith, number-small (rows-in (a .rows .now)) (a .fuel) (a .held .now) (a .members .now) (a .ends .now) (a .numbers .now) (a .g) (a .size) (a .at) (s .pre .1 .0 .1) (s .pre .1 .1 .0 .0) (s .pre .1 .1 .0 .1) (s .pre .1 .1 .1 .0) (s .pre .1 .1 .1 .1) (c .before .before .group-begin .result) (c .before .before .group-begin .ensures), start-under (rows-in (a .rows .now)) (a .fuel) (a .held .now) (a .members .now) (a .ends .now) (a .numbers .now) (a .g) (a .size) (a .at) (s .pre .1 .0 .1) (s .pre .1 .1 .0 .0) (s .pre .1 .1 .0 .1) (s .pre .1 .1 .1 .0) (s .pre .1 .1 .1 .1) (c .before .before .group-begin .result) (c .before .before .group-begin .ensures), ends-within (rows-in (a .rows .now)) (a .fuel) (a .held .now) (a .members .now) (a .ends .now) (a .numbers .now) (a .g) (a .size) (a .at) (s .pre .1 .0 .1) (s .pre .1 .1 .0 .0) (s .pre .1 .1 .0 .1) (s .pre .1 .1 .1 .0) (s .pre .1 .1 .1 .1), members-few (rows-in (a .rows .now)) (a .fuel) (a .held .now) (a .members .now) (a .ends .now) (a .numbers .now) (a .g) (a .size) (a .at) (s .pre .1 .0 .1) (s .pre .1 .1 .0 .0) (s .pre .1 .1 .0 .1) (s .pre .1 .1 .1 .0) (s .pre .1 .1 .1 .1))
 
 write-match-mul-arms : (t : ℕ) → write-match-lts.Need-mul-arms (write-match-head-reads.Asked, write-match-head-reads.Learnt, group-begin-reads.Asked, group-begin-reads.Learnt, arms-below t, arms.Post) (write-match-at t) write-match.Post
-write-match-mul-arms t c = ?
+write-match-mul-arms t c = let s = c .before .before .before .before .before .before .before .before .before .before .before .before .before .before .before .before .before in let a = s .args in omega (arith, start-under (rows-in (a .rows .now)) (a .fuel) (a .held .now) (a .members .now) (a .ends .now) (a .numbers .now) (a .g) (a .size) (a .at) (s .pre .1 .0 .1) (s .pre .1 .1 .0 .0) (s .pre .1 .1 .0 .1) (s .pre .1 .1 .1 .0) (s .pre .1 .1 .1 .1) (c .before .before .before .group-begin .result) (c .before .before .before .group-begin .ensures), ends-within (rows-in (a .rows .now)) (a .fuel) (a .held .now) (a .members .now) (a .ends .now) (a .numbers .now) (a .g) (a .size) (a .at) (s .pre .1 .0 .1) (s .pre .1 .1 .0 .0) (s .pre .1 .1 .0 .1) (s .pre .1 .1 .1 .0) (s .pre .1 .1 .1 .1), members-few (rows-in (a .rows .now)) (a .fuel) (a .held .now) (a .members .now) (a .ends .now) (a .numbers .now) (a .g) (a .size) (a .at) (s .pre .1 .0 .1) (s .pre .1 .1 .0 .0) (s .pre .1 .1 .0 .1) (s .pre .1 .1 .1 .0) (s .pre .1 .1 .1 .1))
 
 write-match-sub-arms : (t : ℕ) → write-match-lts.Need-sub-arms (write-match-head-reads.Asked, write-match-head-reads.Learnt, group-begin-reads.Asked, group-begin-reads.Learnt, arms-below t, arms.Post) (write-match-at t) write-match.Post
-write-match-sub-arms t c = ?
+write-match-sub-arms t c = let s = c .before .before .before .before .before .before .before .before .before .before .before .before .before .before .before .before .before in let a = s .args in start-under (rows-in (a .rows .now)) (a .fuel) (a .held .now) (a .members .now) (a .ends .now) (a .numbers .now) (a .g) (a .size) (a .at) (s .pre .1 .0 .1) (s .pre .1 .1 .0 .0) (s .pre .1 .1 .0 .1) (s .pre .1 .1 .1 .0) (s .pre .1 .1 .1 .1) (c .before .before .before .group-begin .result) (c .before .before .before .group-begin .ensures)
 
 write-match-part-arms-start : (t : ℕ) → write-match-lts.Need-part-arms-start (write-match-head-reads.Asked, write-match-head-reads.Learnt, group-begin-reads.Asked, group-begin-reads.Learnt, arms-below t, arms.Post) (write-match-at t) write-match.Post
-write-match-part-arms-start t c = ?
+write-match-part-arms-start t c = let s = c .before .before .before .before .before .before .before .before .before .before .before .before .before .before .before .before .before in let a = s .args in omega (arith, start-under (rows-in (a .rows .now)) (a .fuel) (a .held .now) (a .members .now) (a .ends .now) (a .numbers .now) (a .g) (a .size) (a .at) (s .pre .1 .0 .1) (s .pre .1 .1 .0 .0) (s .pre .1 .1 .0 .1) (s .pre .1 .1 .1 .0) (s .pre .1 .1 .1 .1) (c .before .before .before .group-begin .result) (c .before .before .before .group-begin .ensures), ends-within (rows-in (a .rows .now)) (a .fuel) (a .held .now) (a .members .now) (a .ends .now) (a .numbers .now) (a .g) (a .size) (a .at) (s .pre .1 .0 .1) (s .pre .1 .1 .0 .0) (s .pre .1 .1 .0 .1) (s .pre .1 .1 .1 .0) (s .pre .1 .1 .1 .1))
 
 write-match-part-arms-end : (t : ℕ) → write-match-lts.Need-part-arms-end (write-match-head-reads.Asked, write-match-head-reads.Learnt, group-begin-reads.Asked, group-begin-reads.Learnt, arms-below t, arms.Post) (write-match-at t) write-match.Post
-write-match-part-arms-end t c = ?
+write-match-part-arms-end t c = let s = c .before .before .before .before .before .before .before .before .before .before .before .before .before .before .before .before .before in let a = s .args in ends-within (rows-in (a .rows .now)) (a .fuel) (a .held .now) (a .members .now) (a .ends .now) (a .numbers .now) (a .g) (a .size) (a .at) (s .pre .1 .0 .1) (s .pre .1 .1 .0 .0) (s .pre .1 .1 .0 .1) (s .pre .1 .1 .1 .0) (s .pre .1 .1 .1 .1)
 
 write-match-arms-requires : (t : ℕ) → write-match-lts.Need-arms-requires (write-match-head-reads.Asked, write-match-head-reads.Learnt, group-begin-reads.Asked, group-begin-reads.Learnt, arms-below t, arms.Post) (write-match-at t) write-match.Post
-write-match-arms-requires t c κs = ?
+write-match-arms-requires t c κs = let s = c .before .before .before .before .before .before .before .before .before .before .before .before .before .before .before .before .before .before .before .before in let a = s .args in (omega (arith, s .pre .0), ((s .pre .1 .0 .0, part-holds (rows-in (a .rows .now)) (a .fuel) (a .held .now) (a .members .now) (a .ends .now) (a .numbers .now) (a .g) (a .size) (a .at) (s .pre .1 .0 .1) (s .pre .1 .1 .0 .0) (s .pre .1 .1 .0 .1) (s .pre .1 .1 .1 .0) (s .pre .1 .1 .1 .1) (c .before .before .before .before .before .before .group-begin .result) (c .before .before .before .before .before .before .group-begin .ensures)), (part-group (rows-in (a .rows .now)) (a .fuel) (a .held .now) (a .members .now) (a .ends .now) (a .numbers .now) (a .g) (a .size) (a .at) (s .pre .1 .0 .1) (s .pre .1 .1 .0 .0) (s .pre .1 .1 .0 .1) (s .pre .1 .1 .1 .0) (s .pre .1 .1 .1 .1) (c .before .before .before .before .before .before .group-begin .result) (c .before .before .before .before .before .before .group-begin .ensures), (subst (Arms-fit (rows-in (a .rows .now)) (a .fuel) (a .held .now) _ _) (sym (c .before .before .before .before .before .before .before .before .before .before .write-match-head .ensures .0)) (part-fits (rows-in (a .rows .now)) (a .fuel) (a .held .now) (a .members .now) (a .ends .now) (a .numbers .now) (a .g) (a .size) (a .at) (s .pre .1 .0 .1) (s .pre .1 .1 .0 .0) (s .pre .1 .1 .0 .1) (s .pre .1 .1 .1 .0) (s .pre .1 .1 .1 .1) (c .before .before .before .before .before .before .group-begin .result) (c .before .before .before .before .before .before .group-begin .ensures)), omega (arith, c .before .before .before .before .before .before .before .before .before .before .write-match-head .ensures .0, head-fits (rows-in (a .rows .now)) (a .fuel) (a .held .now) (a .members .now) (a .ends .now) (a .numbers .now) (a .g) (a .size) (a .at) (s .pre .1 .0 .1) (s .pre .1 .1 .0 .0) (s .pre .1 .1 .0 .1) (s .pre .1 .1 .1 .0) (s .pre .1 .1 .1 .1))))))
 
 write-match-enum-known-armed : (t : ℕ) → write-match-lts.Need-enum-known-armed (write-match-head-reads.Asked, write-match-head-reads.Learnt, group-begin-reads.Asked, group-begin-reads.Learnt, arms-below t, arms.Post) (write-match-at t) write-match.Post
-write-match-enum-known-armed t c = ?
+write-match-enum-known-armed t c = search needs
 
 write-match-enum-told : (t : ℕ) → write-match-lts.Need-enum-told (write-match-head-reads.Asked, write-match-head-reads.Learnt, group-begin-reads.Asked, group-begin-reads.Learnt, arms-below t, arms.Post) (write-match-at t) write-match.Post
-write-match-enum-told t c = ?
+write-match-enum-told t c = search needs
 
 write-match-same-length-2 : (t : ℕ) → write-match-lts.Need-same-length-2 (write-match-head-reads.Asked, write-match-head-reads.Learnt, group-begin-reads.Asked, group-begin-reads.Learnt, arms-below t, arms.Post) (write-match-at t) write-match.Post
-write-match-same-length-2 t c = ?
+write-match-same-length-2 t c = search needs
 
 write-match-same-length-3 : (t : ℕ) → write-match-lts.Need-same-length-3 (write-match-head-reads.Asked, write-match-head-reads.Learnt, group-begin-reads.Asked, group-begin-reads.Learnt, arms-below t, arms.Post) (write-match-at t) write-match.Post
-write-match-same-length-3 t c = ?
+write-match-same-length-3 t c = search needs
 
 write-match-same-length-4 : (t : ℕ) → write-match-lts.Need-same-length-4 (write-match-head-reads.Asked, write-match-head-reads.Learnt, group-begin-reads.Asked, group-begin-reads.Learnt, arms-below t, arms.Post) (write-match-at t) write-match.Post
-write-match-same-length-4 t c = ?
+write-match-same-length-4 t c = search needs
 
 write-match-returns-2 : (t : ℕ) → write-match-lts.Need-returns-2 (write-match-head-reads.Asked, write-match-head-reads.Learnt, group-begin-reads.Asked, group-begin-reads.Learnt, arms-below t, arms.Post) (write-match-at t) write-match.Post
-write-match-returns-2 t c = ?
+write-match-returns-2 t c = let s = c .before .before .before .before .before .before .before .before .before .before .before .before .before .before .before .before .before .before .before .before .before .before .before .before .before .before .before .before .before in let a = s .args in absurd (match-never (rows-in (a .rows .now)) (a .fuel) (a .held .now) (a .members .now) (a .ends .now) (a .numbers .now) (a .g) (a .size) (a .at) (s .pre .1 .0 .1) (s .pre .1 .1 .0 .0) (s .pre .1 .1 .0 .1) (s .pre .1 .1 .1 .0) (s .pre .1 .1 .1 .1) (c .before .before .before .before .before .before .before .before .before .before .before .before .before .before .before .group-begin .result) (c .before .before .before .before .before .before .before .before .before .before .before .before .before .before .before .group-begin .ensures) (c .before .before .before .before .before .before .before .before .arms .result) (a .table .now) _ _ (c .before .before .before .before .before .before .before .before .before .before .before .before .before .before .before .before .before .before .before .write-match-head .ensures .1) (c .before .before .before .before .before .before .before .before .before .before .before .before .before .before .before .before .before .before .before .write-match-head .result) (c .before .before .before .before .before .before .before .before .before .before .before .before .before .before .before .before .before .before .before .write-match-head .ensures .0) (c .before .before .before .before .before .before .before .before .arms .ensures) _ (c .enum-told .given .1))
 
 write-match-same-length-5 : (t : ℕ) → write-match-lts.Need-same-length-5 (write-match-head-reads.Asked, write-match-head-reads.Learnt, group-begin-reads.Asked, group-begin-reads.Learnt, arms-below t, arms.Post) (write-match-at t) write-match.Post
-write-match-same-length-5 t c = ?
+write-match-same-length-5 t c = search needs
 
 write-match-same-length-6 : (t : ℕ) → write-match-lts.Need-same-length-6 (write-match-head-reads.Asked, write-match-head-reads.Learnt, group-begin-reads.Asked, group-begin-reads.Learnt, arms-below t, arms.Post) (write-match-at t) write-match.Post
-write-match-same-length-6 t c = ?
+write-match-same-length-6 t c = search needs
 
 write-match-same-length-7 : (t : ℕ) → write-match-lts.Need-same-length-7 (write-match-head-reads.Asked, write-match-head-reads.Learnt, group-begin-reads.Asked, group-begin-reads.Learnt, arms-below t, arms.Post) (write-match-at t) write-match.Post
-write-match-same-length-7 t c = ?
+write-match-same-length-7 t c = search needs
 
 write-match-returns-3 : (t : ℕ) → write-match-lts.Need-returns-3 (write-match-head-reads.Asked, write-match-head-reads.Learnt, group-begin-reads.Asked, group-begin-reads.Learnt, arms-below t, arms.Post) (write-match-at t) write-match.Post
-write-match-returns-3 t c = ?
+write-match-returns-3 t c = let s = c .before .before .before .before .before .before .before .before .before .before .before .before .before .before .before .before .before .before .before .before .before .before .before .before .before .before .before .before .before .before in let a = s .args in match-done (rows-in (a .rows .now)) (a .fuel) (a .held .now) (a .members .now) (a .ends .now) (a .numbers .now) (a .g) (a .size) (a .at) (s .pre .1 .0 .1) (s .pre .1 .1 .0 .0) (s .pre .1 .1 .0 .1) (s .pre .1 .1 .1 .0) (s .pre .1 .1 .1 .1) (c .before .before .before .before .before .before .before .before .before .before .before .before .before .before .before .before .group-begin .result) (c .before .before .before .before .before .before .before .before .before .before .before .before .before .before .before .before .group-begin .ensures) (c .before .before .before .before .before .before .before .before .before .arms .result) (a .table .now) _ _ (c .before .before .before .before .before .before .before .before .before .before .before .before .before .before .before .before .before .before .before .before .write-match-head .ensures .1) (c .before .before .before .before .before .before .before .before .before .before .before .before .before .before .before .before .before .before .before .before .write-match-head .result) (c .before .before .before .before .before .before .before .before .before .before .before .before .before .before .before .before .before .before .before .before .write-match-head .ensures .0) (c .before .before .before .before .before .before .before .before .before .arms .ensures) _ _ _ (c .before .armed .given .1)
 
 write-scope-sub-made : (t : ℕ) → write-scope-lts.Need-sub-made (order-stmts-reads.Asked, order-stmts-reads.Learnt, write-stmts-below t, write-stmts.Post, write-values-reads.Asked, write-values-reads.Learnt) (write-scope-at t) write-scope.Post
 write-scope-sub-made t c = ?
