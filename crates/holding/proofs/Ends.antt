@@ -7,7 +7,7 @@ use mathlib.Core.Bool.{Bool, true, false, _&&_}
 use mathlib.Core.Option.{Option, none, some}
 use mathlib.Core.List.{List, _++_}
 use lib.ListN.{length, take, drop}
-use lib.Seq.{take-at}
+use lib.Seq.{length-take-le, take-at}
 use lib.Dec.{T, leb}
 use Rattle.tree.specs.Tokens.{trees-in}
 use Rattle.tokens.specs.Answers.{count-answer}
@@ -127,9 +127,18 @@ module _ (ws places : List ℕ) (first : ℕ) (old : List ℕ) where
           ends (record { answer = held.TooMany; out = old })
           (by-tests true true false (sym e ∙ t) (sym g ∙ u) (lt-leb (length new) 1024 (omega (arith, c, h))))
 
-      module _ (n : ℕ) (c : n ≡ length (words-held ws first places)) (few : n ≤ 1024) (base work : List ℕ) (long : length base ≡ 1024) (w : work ≡ overlay 0 (words-held ws first places) base) where
+      module _ (n : ℕ) (c : n ≡ length (words-held ws first places)) (few : n ≤ 1024) (blank work : List ℕ) (long : length blank ≡ 1024) (w : work ≡ overlay 0 (words-held ws first places) (overlay 0 ws blank)) where
+        base-long : length (overlay 0 ws blank) ≡ 1024
+        base-long = overlay-length 0 ws blank ∙ long
+
+        pub work-long : length work ≡ 1024
+        work-long = ap length w ∙ (overlay-length 0 (words-held ws first places) (overlay 0 ws blank) ∙ base-long)
+
+        pub front-counted : n ≡ length (take n work)
+        front-counted = sym (length-take-le n work (omega (arith, few, work-long)))
+
         front-is : take n work ≡ words-held ws first places
-        front-is = ap (take n) (w ∙ overlay-front new base (omega (arith, c, few, long))) ∙ take-at new (drop (length new) base) n (sym c)
+        front-is = ap (take n) (w ∙ overlay-front new (overlay 0 ws blank) (omega (arith, c, few, base-long))) ∙ take-at new (drop (length new) (overlay 0 ws blank)) n (sym c)
 
         pub held-written : (out : List ℕ) → out ≡ overlay 0 (take n work) old → Holds ws places first old (held.Words n) out
         unfolding holding-by
@@ -137,6 +146,7 @@ module _ (ws places : List ℕ) (first : ℕ) (old : List ℕ) where
             let k =
             ends (record { answer = held.Words (length new); out = new ++ drop (length new) old })
             (by-tests true true true (sym e ∙ t) (sym g ∙ u) (le-leb (length new) 1024 (omega (arith, c, few)))) in
-            let q = room-is .1 .1 .1 in
-            (ap held.Words c ∙ k .0,
-            o ∙ (ap (λ (l : List ℕ). overlay 0 l old) front-is ∙ (overlay-front new old (omega (arith, c, few, q)) ∙ k .1)))
+            let q = room-is .1 .1 .1 in (
+              ap held.Words c ∙ k .0,
+              o ∙ (ap (λ (l : List ℕ). overlay 0 l old) front-is ∙ (overlay-front new old (omega (arith, c, few, q)) ∙ k .1)),
+            )

@@ -1,13 +1,12 @@
 -- How what is held is gathered: one reciprocal after another over what is written, after the settled trees. Assumes nothing.
-use Prim.Native.Nat.{ℕ, zero, suc, _+_, _*_, _≤_, _<_}
-use native.Mathlib.Nat.{add-zero}
+use Prim.Native.Nat.{ℕ, suc, _+_, _*_, _≤_, _<_}
 use native.Mathlib.Omega.{arith}
 use mathlib.Core.Path.{_≡_, refl, sym, _∙_, ap}
 use mathlib.Core.Bool.{Bool, true, false}
-use mathlib.Core.List.{List, [], _++_, map}
+use mathlib.Core.List.{List, _++_, map}
 use lib.ListN.{length, take, drop, length-append}
-use lib.Seq.{take-at}
-use Rattle.tree.specs.Tokens.{all-tokens, read, numbered}
+use lib.Seq.{length-take-le, take-at}
+use Rattle.tree.specs.Tokens.{read, numbered}
 use Rattle.tree.proofs.TokenCode.{all-tokens-append}
 use Rattle.words.specs.Words.{number}
 use Rattle.renaming.specs.Places.{numbered-at}
@@ -42,20 +41,24 @@ pub all-held :
 all-held ws places first n r base mid out e m q o =
     let S = settled-held ws first places in
     let R = reciprocals-held ws first places 0 in
-    let i : n ≡ 0 + length S = omega arith in
-    (omega (arith, e, q, ap length (held-parts ws places first), length-append S R),
-    o
-    ∙ (ap (λ (x : List ℕ). overlay n (reciprocals-held ws first places 0) x) m
-    ∙ (ap (λ (k : ℕ). overlay k (reciprocals-held ws first places 0) (overlay 0 (settled-held ws first places) base)) i
-    ∙ (sym (overlay-append 0 S R base) ∙ ap (λ (l : List ℕ). overlay 0 l base) (sym (held-parts ws places first))))))
+    let i : n ≡ 0 + length S = omega arith in (
+      omega (arith, e, q, ap length (held-parts ws places first), length-append S R),
+      o
+          ∙ (ap (λ (x : List ℕ). overlay n (reciprocals-held ws first places 0) x) m
+          ∙ (ap (λ (k : ℕ). overlay k (reciprocals-held ws first places 0) (overlay 0 (settled-held ws first places) base)) i
+          ∙ (sym (overlay-append 0 S R base) ∙ ap (λ (l : List ℕ). overlay 0 l base) (sym (held-parts ws places first))))),
+    )
 
 module _ (ws places : List ℕ) (first : ℕ) (ready : Ready ws places first) (j : ℕ) (more : j < length places) where
   -- ---- one of them
 
   -- its words are in front of what they were written to
-  module _ (old one : List ℕ) (m : ℕ) (lent : 1026 ≤ length old) (count : m ≡ length (reciprocal-words ws first places j)) (written : one ≡ reciprocal-words ws first places j ++ drop (length (reciprocal-words ws first places j)) old) where
+  module _ (old one : List ℕ) (m : ℕ) (count : m ≡ length (reciprocal-words ws first places j)) (written : one ≡ reciprocal-words ws first places j ++ drop (length (reciprocal-words ws first places j)) old) where
     pub one-inside : m ≤ length one
     one-inside = omega (arith, count, ap length written, length-append (reciprocal-words ws first places j) (drop (length (reciprocal-words ws first places j)) old))
+
+    pub one-counted : m ≡ length (take m one)
+    one-counted = sym (length-take-le m one one-inside)
 
     pub one-front : take m one ≡ reciprocal-words ws first places j
     one-front = ap (take m) written ∙ take-at (reciprocal-words ws first places j) (drop (length (reciprocal-words ws first places j)) old) m (sym count)
@@ -74,6 +77,13 @@ module _ (ws places : List ℕ) (first : ℕ) (ready : Ready ws places first) (j
         let some = held-one ws places first ready j more (ap no-switch-words (sym one-front) ∙ (sym e ∙ f)) in
         (omega (arith, count, ap length some), o ∙ ap (λ (l : List ℕ). overlay n l work) (one-front ∙ sym some))
 
+  -- no overflow
+  pub one-small : (m n : ℕ) → m ≡ length (reciprocal-words ws first places j) → n ≤ 8796093022208 → n + m ≤ 8796093023234
+  one-small m n c h = omega (arith, c, h, words-short ws places first ready j more)
+
+  pub place-small : (n len : ℕ) (old out : List ℕ) → Gathered ws places first len old out n j → n ≤ 8796093022208
+  place-small n len old out s = omega (arith, s .0 .1 .1, more, ready .1 .1 .1)
+
   held-short : length (reciprocal-held ws first places j) ≤ 1026
   held-short = go (no-switch-words (reciprocal-words ws first places j)) refl
     where
@@ -88,12 +98,15 @@ module _ (ws places : List ℕ) (first : ℕ) (ready : Ready ws places first) (j
       let H = reciprocal-held ws first places j in
       let i : suc j ≡ j + 1 = omega arith in
       let next : reciprocals-held ws first places j ≡ reciprocal-held ws first places j ++ reciprocals-held ws first places (j + 1) =
-      held-next ws places first ready j more ∙ ap (λ (k : ℕ). reciprocal-held ws first places j ++ reciprocals-held ws first places k) i in
-      ((omega (arith, s .0 .0, e, ap length next, length-append H (reciprocals-held ws first places (j + 1))), (omega arith, omega (arith, s .0 .1 .1, e, held-short))),
-      (ap length o ∙ (overlay-length n H out ∙ s .1 .0),
-      ap (λ (x : List ℕ). overlay r (reciprocals-held ws first places (j + 1)) x) o
-      ∙ (ap (λ (k : ℕ). overlay k (reciprocals-held ws first places (j + 1)) (overlay n H out)) e
-      ∙ (sym (overlay-append n H (reciprocals-held ws first places (j + 1)) out) ∙ (ap (λ (l : List ℕ). overlay n l out) (sym next) ∙ s .1 .1)))))
+      held-next ws places first ready j more ∙ ap (λ (k : ℕ). reciprocal-held ws first places j ++ reciprocals-held ws first places k) i in (
+        (omega (arith, s .0 .0, e, ap length next, length-append H (reciprocals-held ws first places (j + 1))), (omega arith, omega (arith, s .0 .1 .1, e, held-short))),
+        (
+          ap length o ∙ (overlay-length n H out ∙ s .1 .0),
+          ap (λ (x : List ℕ). overlay r (reciprocals-held ws first places (j + 1)) x) o
+              ∙ (ap (λ (k : ℕ). overlay k (reciprocals-held ws first places (j + 1)) (overlay n H out)) e
+              ∙ (sym (overlay-append n H (reciprocals-held ws first places (j + 1)) out) ∙ (ap (λ (l : List ℕ). overlay n l out) (sym next) ∙ s .1 .1))),
+        ),
+      )
 
 pub gathering-ends :
     (ws places : List ℕ) (first : ℕ) → Ready ws places first → (len : ℕ) (old out : List ℕ) (n j : ℕ) → length places ≤ j → Gathered ws places first len old out n j

@@ -2,3 +2,4 @@ pub mod Switch
 pub mod Taking
 pub mod Gathering
 pub mod Ends
+pub mod Always

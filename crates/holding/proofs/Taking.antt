@@ -3,23 +3,22 @@
 use Prim.Native.Nat.{ℕ, suc, _+_, _≤_, _<_}
 use native.Mathlib.Omega.{arith}
 use mathlib.Core.Path.{_≡_, refl, sym, _∙_, ap, subst}
-use mathlib.Core.Bool.{Bool, true, false, not, _&&_}
-use mathlib.Core.Option.{some}
+use mathlib.Core.Bool.{Bool, true, false, _&&_}
 use mathlib.Core.List.{List, [], _∷_, _++_, map}
 use lib.ListN.{length, take, drop, length-map, drop-of-length-le}
 use lib.Seq.{drop-cons, take-at}
 use lib.Dec.{T}
 use Rattle.tree.specs.Tree.{Tree}
-use Rattle.tree.specs.Tokens.{all-tokens, read, numbered, trees-in}
+use Rattle.tree.specs.Tokens.{all-tokens}
 use Rattle.tree.proofs.TokenCode.{all-tokens-append}
 use Rattle.tree.proofs.Logic.{and-left, and-both}
-use Rattle.words.specs.Words.{number, Complete}
+use Rattle.words.specs.Words.{number}
 use Rattle.renaming.specs.Places.{numbered-at}
 use Rattle.settle.specs.Answers.{Settling, settling}
 use Rattle.settle.specs.declared.Settled.{Settled}
 use Rattle.settle.specs.declared.Settled.the-variants as settled
 use Rattle.reciprocals.proofs.Parts.{settled-reciprocals, All-there}
-use Rattle.reciprocal.specs.Bindings.{all-there, Binding, reciprocal-answer}
+use Rattle.reciprocal.specs.Bindings.{Binding, reciprocal-answer}
 use Rattle.reciprocal.specs.declared.Bound.{Bound}
 use Rattle.reciprocal.specs.declared.Bound.the-variants as bound
 use Rattle.reciprocal.proofs.There.{tested-there}
@@ -81,11 +80,12 @@ module _ (ws places : List ℕ) (first : ℕ) (ready : Ready ws places first) wh
         → (n ≡ length (settled-held ws first places)) × (out ≡ overlay 0 (settled-held ws first places) (overlay 0 ws old))
     settled-all n out e f =
         let q : settled.Words n ≡ settled.Words (length S) = e ∙ ap (λ (s : Settling). s .answer) settling-so in
-        let p : n ≡ length S = cc in
-        (p,
-        f
-        ∙ (ap (λ (s : Settling). s .out) settling-so
-        ∙ (sym (overlay-front S mid (omega (arith, long, mid-long, settled-short))) ∙ ap (λ (m : List ℕ). overlay 0 (settled-held ws first places) m) copy)))
+        let p : n ≡ length S = cc in (
+          p,
+          f
+              ∙ (ap (λ (s : Settling). s .out) settling-so
+              ∙ (sym (overlay-front S mid (omega (arith, long, mid-long, settled-short))) ∙ ap (λ (m : List ℕ). overlay 0 (settled-held ws first places) m) copy)),
+        )
 
     pub settled-always : (b : Settled) → b ≡ settling ws places 0 first mid (length ws) .answer → (b ≡ settled.Broken → ⊥) × (b ≡ settled.NoRoom → ⊥)
     settled-always b e =

@@ -3,10 +3,9 @@
 use Prim.Native.Nat.{ℕ, _≤_}
 use mathlib.Core.Path.{_≡_}
 use mathlib.Core.Bool.{Bool, true, false, _&&_}
-use mathlib.Core.List.{List, [], _∷_, _++_, map}
+use mathlib.Core.List.{List, _++_, map}
 use lib.ListN.{length, take, drop}
 use lib.Dec.{leb}
-use Rattle.tree.specs.Tree.{Tree}
 use Rattle.tree.specs.Tokens.{all-tokens, read, numbered, trees-in}
 use Rattle.words.specs.Words.{number, some-trees, Complete}
 use Rattle.renaming.specs.Places.{numbered-at}

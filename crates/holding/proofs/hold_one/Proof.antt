@@ -1,73 +1,23 @@
+-- `holding::hold_one` meets its contract: the reciprocal is written where it holds a switch. Assumes nothing.
+use native.Mathlib.Omega.{arith}
+use Rattle.holding.proofs.Gathering.{one-inside, one-counted, one-passed, one-written, one-small}
 use borrow.Author.Needs.{needs}
 use Rattle.holding.proofs.hold_one.Statement.{statement}
 use Rattle.holding.proofs.hold_one.Tie as tie
-use Rattle.holding.proofs.hold_one.Reads as reads
-use Rattle.holding.proofs.hold_one.Lts as lts
-use Rattle.holding.proofs.no_switch.Reads as no-switch-reads
-use Rattle.holding.proofs.take_reciprocal.Reads as take-reciprocal-reads
-use Rattle.tables.proofs.put.Reads as put-reads
-
--- src/lib.rt:102:55
-slice-aggregate-take-reciprocal : tie.Need-slice-aggregate-take-reciprocal
-slice-aggregate-take-reciprocal c = search needs
-
--- src/lib.rt:102:9
-take-reciprocal-requires : tie.Need-take-reciprocal-requires
-take-reciprocal-requires c κs = search needs
-
--- src/lib.rt:103:18
-array-share-prefix-one : tie.Need-array-share-prefix-one
-array-share-prefix-one c = ?
-
--- src/lib.rt:103:18
-slice-aggregate-no-switch : tie.Need-slice-aggregate-no-switch
-slice-aggregate-no-switch c = ?
-
--- src/lib.rt:103:8
-no-switch-requires : tie.Need-no-switch-requires
-no-switch-requires c κs = search needs
-
--- src/lib.rt:104:9
-returns : tie.Need-returns
-returns c = ?
-
--- src/lib.rt:106:9
-array-share-prefix-one-2 : tie.Need-array-share-prefix-one-2
-array-share-prefix-one-2 c = ?
-
--- src/lib.rt:106:9
-slice-aggregate-put : tie.Need-slice-aggregate-put
-slice-aggregate-put c = ?
-
--- src/lib.rt:106:5
-put-requires : tie.Need-put-requires
-put-requires c κs = search needs
-
--- src/lib.rt:107:5
-add-result : tie.Need-add-result
-add-result c = ?
-
--- src/lib.rt:88:1
-same-length : tie.Need-same-length
-same-length c = search needs
-
--- src/lib.rt:88:1
-returns-2 : tie.Need-returns-2
-returns-2 c = ?
 
 pub hold-one-spec : {M : Type 1} → statement M
 hold-one-spec =
     tie.close
     (tie.spec
-    slice-aggregate-take-reciprocal
-    take-reciprocal-requires
-    array-share-prefix-one
-    slice-aggregate-no-switch
-    no-switch-requires
-    returns
-    array-share-prefix-one-2
-    slice-aggregate-put
-    put-requires
-    add-result
-    same-length
-    returns-2)
+    (λ c. search needs)
+    (λ c κs. search needs)
+    (λ c. one-inside (c .before .before .before .before .before .before .args .tokens .now) (c .before .before .before .before .before .before .args .places .now) (c .before .before .before .before .before .before .args .first) (c .before .before .before .before .before .before .pre .0) (c .before .before .before .before .before .before .args .j) (c .before .before .before .before .before .before .pre .1 .0) _ _ _ (c .before .take-reciprocal .ensures .0) (c .before .take-reciprocal .ensures .1))
+    (λ c. one-counted (c .before .before .before .before .before .before .before .args .tokens .now) (c .before .before .before .before .before .before .before .args .places .now) (c .before .before .before .before .before .before .before .args .first) (c .before .before .before .before .before .before .before .pre .0) (c .before .before .before .before .before .before .before .args .j) (c .before .before .before .before .before .before .before .pre .1 .0) _ _ _ (c .before .before .take-reciprocal .ensures .0) (c .before .before .take-reciprocal .ensures .1))
+    (λ c κs. search needs)
+    (λ c. one-passed (c .before .before .before .before .before .before .before .before .before .args .tokens .now) (c .before .before .before .before .before .before .before .before .before .args .places .now) (c .before .before .before .before .before .before .before .before .before .args .first) (c .before .before .before .before .before .before .before .before .before .pre .0) (c .before .before .before .before .before .before .before .before .before .args .j) (c .before .before .before .before .before .before .before .before .before .pre .1 .0) _ _ _ (c .before .before .before .before .take-reciprocal .ensures .0) (c .before .before .before .before .take-reciprocal .ensures .1) _ (c .before .no-switch .ensures) (c .if1 .taken) (c .before .before .before .before .before .before .before .before .before .args .n) (c .before .before .before .before .before .before .before .before .before .args .work .now))
+    (λ c. one-inside (c .before .before .before .before .before .before .before .before .before .args .tokens .now) (c .before .before .before .before .before .before .before .before .before .args .places .now) (c .before .before .before .before .before .before .before .before .before .args .first) (c .before .before .before .before .before .before .before .before .before .pre .0) (c .before .before .before .before .before .before .before .before .before .args .j) (c .before .before .before .before .before .before .before .before .before .pre .1 .0) _ _ _ (c .before .before .before .before .take-reciprocal .ensures .0) (c .before .before .before .before .take-reciprocal .ensures .1))
+    (λ c. one-counted (c .before .before .before .before .before .before .before .before .before .before .args .tokens .now) (c .before .before .before .before .before .before .before .before .before .before .args .places .now) (c .before .before .before .before .before .before .before .before .before .before .args .first) (c .before .before .before .before .before .before .before .before .before .before .pre .0) (c .before .before .before .before .before .before .before .before .before .before .args .j) (c .before .before .before .before .before .before .before .before .before .before .pre .1 .0) _ _ _ (c .before .before .before .before .before .take-reciprocal .ensures .0) (c .before .before .before .before .before .take-reciprocal .ensures .1))
+    (λ c κs. search needs)
+    (λ c. omega (arith, one-small (c .before .before .before .before .before .before .before .before .before .before .before .before .before .before .args .tokens .now) (c .before .before .before .before .before .before .before .before .before .before .before .before .before .before .args .places .now) (c .before .before .before .before .before .before .before .before .before .before .before .before .before .before .args .first) (c .before .before .before .before .before .before .before .before .before .before .before .before .before .before .pre .0) (c .before .before .before .before .before .before .before .before .before .before .before .before .before .before .args .j) (c .before .before .before .before .before .before .before .before .before .before .before .before .before .before .pre .1 .0) _ (c .before .before .before .before .before .before .before .before .before .before .before .before .before .before .args .n) (c .before .before .before .before .before .before .before .before .before .take-reciprocal .ensures .0) (c .before .before .before .before .before .before .before .before .before .before .before .before .before .before .pre .1 .1)))
+    (λ c. search needs)
+    (λ c. one-written (c .before .before .before .before .before .before .before .before .before .before .before .before .before .before .args .tokens .now) (c .before .before .before .before .before .before .before .before .before .before .before .before .before .before .args .places .now) (c .before .before .before .before .before .before .before .before .before .before .before .before .before .before .args .first) (c .before .before .before .before .before .before .before .before .before .before .before .before .before .before .pre .0) (c .before .before .before .before .before .before .before .before .before .before .before .before .before .before .args .j) (c .before .before .before .before .before .before .before .before .before .before .before .before .before .before .pre .1 .0) _ _ _ (c .before .before .before .before .before .before .before .before .before .take-reciprocal .ensures .0) (c .before .before .before .before .before .before .before .before .before .take-reciprocal .ensures .1) _ (c .before .before .before .before .before .before .no-switch .ensures) (c .before .before .before .before .before .if1 .left) (c .before .before .before .before .before .before .before .before .before .before .before .before .before .before .args .n) (c .before .before .before .before .before .before .before .before .before .before .before .before .before .before .args .work .now) _ (c .before .before .put .ensures)))
