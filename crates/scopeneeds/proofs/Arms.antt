@@ -99,14 +99,14 @@ module _ (ws : List ℕ) (q : ℕ) (complete : Complete ws) (here : q < length w
   told : T (switch-at ws q)
   told = subst T (sym switch) tt
 
-  key-inside : q + 1 < length ws
+  pub key-inside : q + 1 < length ws
   key-inside =
       let k = has-key ws q told .0 in
       let e = enough ws (complete .0) (complete .1) q here in
       let p = place-within ws (suc q) (omega (arith, k, e)) in
       omega arith
 
-  key-stands : run-at ws (q + 1) ≡ some (size (numbered-at ws (q + 1)))
+  pub key-stands : run-at ws (q + 1) ≡ some (size (numbered-at ws (q + 1)))
   unfolding numbered-at
   key-stands = run-size numbered ws (complete .0) (q + 1) (complete .1) key-inside
 
