@@ -1,7 +1,6 @@
 pub mod ArmLaws
 pub mod Sound
 pub mod Asking
-pub mod GroupLaws
 pub mod WalkLaws
 pub mod Walking
 pub mod Writing

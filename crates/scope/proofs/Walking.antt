@@ -17,7 +17,7 @@ use Rattle.scopesound.proofs.Bounds.{Walk-bound, walk-bound}
 use Rattle.scope.specs.Answers.{inner, arms-answer}
 use Rattle.scope.specs.Frame.{Lent, Holds, Is-group, Members}
 use Rattle.scope.specs.declared.Armed.{Armed}
-use Rattle.scope.proofs.GroupLaws.{ends-count, end-is, group-long, group-inside, group-part}
+use Rattle.scopeparts.proofs.Groups.{ends-count, end-is, group-long, group-inside, group-part}
 use Rattle.scope.proofs.Sound.{words-ok, all-few, holds-later}
 use Rattle.scope.proofs.WalkLaws.{Walk-so}
 

@@ -14,11 +14,11 @@ use Rattle.scopeplaces.specs.Whole.{Told, Arms-told, Walk, arms-told, group-tol
 use Rattle.tables.proofs.Laws.{overlay-append, overlay-past}
 use Rattle.scope.specs.Answers.{inner, arms-answer, Arms-wrote, words-of}
 use Rattle.scope.specs.Frame.{most-rows, Lent, Holds, Is-group, Arms-fit, group-again, Group-sized}
-use Rattle.scope.specs.Prepared.{Grouped, begin-of, head-run}
+use Rattle.scopeparts.specs.Prepared.{Grouped, begin-of, head-run}
 use Rattle.scope.specs.declared.Armed.{Armed}
 use Rattle.scope.specs.declared.Armed.the-variants as armed
 use Rattle.scope.proofs.ArmLaws.{arms-within, never-ok}
-use Rattle.scope.proofs.GroupLaws.{ends-count, end-is, begin-is, group-long, group-inside, group-part}
+use Rattle.scopeparts.proofs.Groups.{ends-count, end-is, begin-is, group-long, group-inside, group-part}
 use Rattle.scope.proofs.Sound.{fused, all-few, holds-later}
 
 -- a match's rows are those before its arms, and its arms'

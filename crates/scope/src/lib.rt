@@ -21,10 +21,14 @@ ghost use Rattle.scopeplaces.specs.Parts.{place-groups, group-start, match-run,
 ghost use Rattle.scopeplaces.specs.Whole.{arms-told, group-told, stmts-count, tree-run, stmt-run, stmts-runs, values-runs, stmts-order, fused-scope, scope-told};
 ghost use Rattle.scope.specs.Answers.{scope-answer, scope-table, told-rows, Lists, inner, arm-told, arms-answer, Arms-wrote, walk-answer, Walk-wrote, words-of, Holding-so, walk-refusal, refusal-number};
 ghost use Rattle.scope.specs.Frame.{most-rows, Lent, Holds, Is-group, Arm-fits, Arms-fit, Members, groups-told, Ready, grouped-scope, Sized, Numbered, group-again, Group-sized, scope-arms, Positions, Left, Grouping-so};
-ghost use Rattle.scope.specs.Prepared.{Prepared, Readied, Grouped, begin-of, order-told, head-run};
+ghost use Rattle.scopeparts.specs.Prepared.{Prepared, Readied, Grouped, begin-of, order-told, head-run};
 use order::Ordered;
 use rounds::Rounds;
 use rounds::extract_all;
+use scopeparts::order_stmts;
+use scopeparts::write_let;
+use scopeparts::write_match_head;
+use scopeparts::write_values;
 use tables::put;
 use tables::put_word;
 use tobind::ToBind;
@@ -104,71 +108,6 @@ fn column(held: &[u64], group: &[u64], a: usize, work: &mut [u64]) -> usize
     0
 }
 
-// STANDIN
-fn order_stmts(
-    tokens: &[u64],
-    results: usize,
-    first: u64,
-    places: &[u64],
-    held: &[u64],
-    starts: &[u64],
-    members: &[u64],
-    ends: &[u64],
-    numbers: &[u64],
-    taken: &mut [u64],
-) -> Ordered
-    requires { ⌜ Prepared (now tokens) results first (now places) (now held) (now starts) (now members) (now ends) (now numbers) ⌝ }
-    requires { ⌜ 1024 ≤ length (now taken) ⌝ }
-    ensures { λ r. ⌜ (r ≡ order-told (stmts-order (now (tokens .entry)) results first (now (places .entry)) (now (numbers .entry))) (stmts-count (now (tokens .entry)) results first (now (places .entry)) (now (numbers .entry))))
-        × (now (taken .exit) ≡ stmts-order (now (tokens .entry)) results first (now (places .entry)) (now (numbers .entry))
-        ++ drop (length (stmts-order (now (tokens .entry)) results first (now (places .entry)) (now (numbers .entry)))) (now (taken .entry))) ⌝ }
-{
-    Ordered::Broken
-}
-
-fn write_let(
-    tokens: &[u64],
-    results: usize,
-    first: u64,
-    places: &[u64],
-    held: &[u64],
-    starts: &[u64],
-    members: &[u64],
-    numbers: &[u64],
-    p: usize,
-    at: usize,
-    table: &mut [u64],
-) -> usize
-    requires { ⌜ Readied (now tokens) results first (now places) (now held) (now starts) (now members) (now numbers) ⌝ }
-    requires { ⌜ p < lets-count (now tokens) results first (now places) ⌝ }
-    requires { ⌜ at + length (let-run (first + p) (tree-run (now tokens) results first (now places) (now numbers) (results + p))) ≤ 9223372036854775808 ⌝ }
-    ensures { λ r. ⌜ (r ≡ at + length (let-run (first + p) (tree-run (now (tokens .entry)) results first (now (places .entry)) (now (numbers .entry)) (results + p))))
-        × (now (table .exit) ≡ overlay at (let-run (first + p) (tree-run (now (tokens .entry)) results first (now (places .entry)) (now (numbers .entry)) (results + p))) (now (table .entry))) ⌝ }
-{
-    at
-}
-
-fn write_values(
-    tokens: &[u64],
-    results: usize,
-    first: u64,
-    places: &[u64],
-    held: &[u64],
-    starts: &[u64],
-    members: &[u64],
-    numbers: &[u64],
-    row: u64,
-    at: usize,
-    table: &mut [u64],
-) -> usize
-    requires { ⌜ Readied (now tokens) results first (now places) (now held) (now starts) (now members) (now numbers) ⌝ }
-    requires { ⌜ at + length (values-runs (now tokens) results first (now places) (now numbers) row results) ≤ 9223372036854775808 ⌝ }
-    ensures { λ r. ⌜ (r ≡ at + length (values-runs (now (tokens .entry)) results first (now (places .entry)) (now (numbers .entry)) row results))
-        × (now (table .exit) ≡ overlay at (values-runs (now (tokens .entry)) results first (now (places .entry)) (now (numbers .entry)) row results) (now (table .entry))) ⌝ }
-{
-    at
-}
-
 // How many trees some words are.
 fn tree_count(tokens: &[u64]) -> usize
     requires { ⌜ T (some-trees (trees-in (now tokens))) ⌝ }
@@ -223,6 +162,7 @@ fn extract_and_list(
     Listed::Words(words, divisors)
 }
 
+// Where group g begins among the members.
 fn group_begin(ends: &[u64], g: usize) -> usize
     requires { ⌜ g < length (now ends) ⌝ }
     ensures { λ r. ⌜ r ≡ begin-of (now (ends .entry)) g ⌝ }
@@ -231,24 +171,6 @@ fn group_begin(ends: &[u64], g: usize) -> usize
         return 0;
     }
     ends[g - 1] as usize
-}
-
-fn write_match_head(
-    held: &[u64],
-    members: &[u64],
-    ends: &[u64],
-    numbers: &[u64],
-    g: usize,
-    at: usize,
-    table: &mut [u64],
-) -> usize
-    requires { ⌜ Grouped (now held) (now members) (now ends) (now numbers) ⌝ }
-    requires { ⌜ g < length (now ends) ⌝ }
-    requires { ⌜ at + length (head-run (now held) (place-groups (now held)) (now numbers) g) ≤ 9223372036854775808 ⌝ }
-    ensures { λ r. ⌜ (r ≡ at + length (head-run (now (held .entry)) (place-groups (now (held .entry))) (now (numbers .entry)) g))
-        × (now (table .exit) ≡ overlay at (head-run (now (held .entry)) (place-groups (now (held .entry))) (now (numbers .entry)) g) (now (table .entry))) ⌝ }
-{
-    at
 }
 
 // How many arms each switch of a group has.
