@@ -210,11 +210,11 @@ module _ (scope : ℕ → List ℕ → Outcome Told) (hs g : List ℕ) (next n :
 
 -- ---- the rows of an arm among those of all
 
-data Or (A B : Type 0) : Type 0 where
+pub data Or (A B : Type 0) : Type 0 where
   first : A → Or A B
   second : B → Or A B
 
-lt-or-eq : (m k : ℕ) → m ≤ k → Or (m < k) (m ≡ k)
+pub lt-or-eq : (m k : ℕ) → m ≤ k → Or (m < k) (m ≡ k)
 lt-or-eq m k h = decide (ltb m k) (ltb→lt m k) (nltb→le m k)
   where
     decide : (t : Bool) → (T t → m < k) → (T (not t) → k ≤ m) → Or (m < k) (m ≡ k)

@@ -4,3 +4,4 @@ pub mod Asking
 pub mod WalkLaws
 pub mod Walking
 pub mod Writing
+pub mod Statements

@@ -5,8 +5,8 @@ use native.Mathlib.Nat.{add-zero, add-assoc}
 use native.Mathlib.Omega.{arith}
 use mathlib.Core.Path.{_≡_, refl, sym, _∙_, ap, ap₂, subst}
 use mathlib.Core.List.{List, [], _∷_, _++_, map, append-assoc}
-use lib.ListN.{length, getD, take, drop, set, length-append}
-use lib.Seq.{take-at, length-take-le}
+use lib.ListN.{length, getD, take, drop, set, length-append, List·getD-append}
+use lib.Seq.{take-at, length-take-le, getD-append-add}
 use Rattle.tree.specs.Outcome.{Refusal, Outcome, ok, refused, _>>=_}
 use Rattle.fusion.specs.Words.{numbers-from}
 use Rattle.fusion.proofs.Members.{numbers-count}
@@ -19,7 +19,8 @@ use Rattle.scope.specs.declared.Armed.{Armed}
 use Rattle.scope.specs.declared.Armed.the-variants as armed
 use Rattle.scope.specs.declared.Walked.{Walked}
 use Rattle.scope.specs.declared.Walked.the-variants as walked-enum
-use Rattle.scope.proofs.ArmLaws.{got, never-ok}
+use Rattle.scope.proofs.ArmLaws.{got, never-ok, Or, first, second, lt-or-eq}
+use Rattle.scopesound.proofs.Bounds.{start-next}
 
 -- ---- words in front grow
 
@@ -159,3 +160,56 @@ module _ (scope : ℕ → List ℕ → Outcome Told) (hs : List ℕ) (gs : List 
         let s : walked scope hs gs next count ≡ ok (so .done) = subst (λ (k : ℕ). walked scope hs gs next k ≡ ok (so .done)) e (so .told) in
         subst (λ (o : Outcome Walk). (walked-enum.Done number extracted ≡ walk-answer o) × Walk-wrote o numbers sizes) (sym s)
         (ap₂ walked-enum.Done (so .number-is) (so .extracted-is), (so .numbers-are, ap (λ (k : ℕ). take k sizes) (sym (map-long (so .done .arms))) ∙ so .sizes-are))
+
+-- ---- one group of those walked
+
+module _ (scope : ℕ → List ℕ → Outcome Told) (hs : List ℕ) (gs : List (List ℕ)) (next : ℕ)
+    (many : (n : ℕ) (r : Walk) → n ≤ length gs → walked scope hs gs next n ≡ ok r → (length (r .numbers) ≡ group-start gs n) × (length (r .arms) ≡ n))
+    (some : (g : ℕ) → g < length gs → 1 ≤ length (group-at gs g)) where
+  pub starts-grow : (n g : ℕ) → g < n → n ≤ length gs → group-start gs g < group-start gs n
+  starts-grow zero g l h = absurd (omega arith)
+  starts-grow (suc n) g l h = go (lt-or-eq g n (omega arith)) (λ q. starts-grow n g q (omega arith))
+    where
+      go : Or (g < n) (g ≡ n) → (g < n → group-start gs g < group-start gs n) → group-start gs g < group-start gs (suc n)
+      go (first q) ih = omega (arith, ih q, start-next gs n (omega arith))
+      go (second q) ih = omega (arith, ap (group-start gs) q, start-next gs n (omega arith), some n (omega arith))
+
+  pub record Walked-at (l : Walk) (g : ℕ) : Type 0 where
+    pub arms : Arms-told
+    pub told : group-told scope hs (group-at gs g) (getD (l .numbers) (group-start gs g) 0) ≡ ok arms
+    pub rows : getD (l .arms) g [] ≡ arms .words
+
+  numbers-first : (n k : ℕ) → 1 ≤ k → getD (numbers-from n k) 0 0 ≡ n
+  unfolding numbers-from
+  numbers-first n zero h = absurd (omega arith)
+  numbers-first n (suc k) h = refl
+
+  last-at : (n : ℕ) (l : Walk) → n < length gs → Walked-back scope hs gs next n l → Walked-at l n
+  last-at n l h b =
+      let m = many n (b .before) (omega arith) (b .before-told) in
+      let nums = numbers-from (b .before .next) (length (group-at gs n)) in
+      let z : length (b .before .numbers) + 0 ≡ group-start gs n = omega (arith, m .0) in
+      let y : length (b .before .arms) + 0 ≡ n = omega (arith, m .1) in
+      let number : getD (b .before .numbers ++ nums) (group-start gs n) 0 ≡ b .before .next =
+          ap (λ (k : ℕ). getD (b .before .numbers ++ nums) k 0) (sym z) ∙ (getD-append-add (b .before .numbers) nums 0 0 ∙ numbers-first (b .before .next) (length (group-at gs n)) (some n h)) in
+      let arms : getD (b .before .arms ++ (b .last .words ∷ [])) n [] ≡ b .last .words =
+          ap (λ (k : ℕ). getD (b .before .arms ++ (b .last .words ∷ [])) k []) (sym y) ∙ getD-append-add (b .before .arms) (b .last .words ∷ []) 0 [] in
+      subst (λ (w : Walk). Walked-at w n) (b .is) (record { arms = b .last; told = ap (λ (k : ℕ). group-told scope hs (group-at gs n) k) number ∙ b .last-told; rows = arms })
+
+  earlier-at : (n g : ℕ) (l : Walk) → g < n → n < length gs → (b : Walked-back scope hs gs next n l) → Walked-at (b .before) g → Walked-at l g
+  earlier-at n g l q h b w =
+      let m = many n (b .before) (omega arith) (b .before-told) in
+      let nums = numbers-from (b .before .next) (length (group-at gs n)) in
+      let number : getD (b .before .numbers ++ nums) (group-start gs g) 0 ≡ getD (b .before .numbers) (group-start gs g) 0 =
+          List·getD-append (b .before .numbers) nums 0 (group-start gs g) (omega (arith, m .0, starts-grow n g q (omega arith))) in
+      let arms : getD (b .before .arms ++ (b .last .words ∷ [])) g [] ≡ getD (b .before .arms) g [] =
+          List·getD-append (b .before .arms) (b .last .words ∷ []) [] g (omega (arith, m .1)) in
+      subst (λ (z : Walk). Walked-at z g) (b .is) (record { arms = w .arms; told = ap (λ (k : ℕ). group-told scope hs (group-at gs g) k) number ∙ w .told; rows = arms ∙ w .rows })
+
+  pub walked-at : (n : ℕ) → n ≤ length gs → (l : Walk) → walked scope hs gs next n ≡ ok l → (g : ℕ) → g < n → Walked-at l g
+  walked-at zero h l e g q = absurd (omega arith)
+  walked-at (suc n) h l e g q = go (lt-or-eq g n (omega arith)) (walked-back scope hs gs next n l e) (λ b f p. walked-at n (omega arith) b f g p)
+    where
+      go : Or (g < n) (g ≡ n) → Walked-back scope hs gs next n l → ((b : Walk) → walked scope hs gs next n ≡ ok b → g < n → Walked-at b g) → Walked-at l g
+      go (first p) b ih = earlier-at n g l p (omega arith) b (ih (b .before) (b .before-told) p)
+      go (second p) b ih = subst (Walked-at l) (sym p) (last-at n l (omega arith) b)
