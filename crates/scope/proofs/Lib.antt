@@ -5,3 +5,5 @@ pub mod WalkLaws
 pub mod Walking
 pub mod Writing
 pub mod Statements
+pub mod Ending
+pub mod Beginning

@@ -28,11 +28,11 @@ use Rattle.scope.specs.Frame.{most-rows, Lent, Holds, groups-told, Sized
 use Rattle.scope.proofs.Sound.{words-ok, holds-later}
 use Rattle.scope.proofs.WalkLaws.{Walked-at, walked-at, starts-grow}
 
-by-test : {A : Type 0} (b : Bool) (x y : A) → b ≡ true → cond b x y ≡ x
+pub by-test : {A : Type 0} (b : Bool) (x y : A) → b ≡ true → cond b x y ≡ x
 by-test true x y e = refl
 by-test false x y e = absurd (let z : _≡_ {A = ℕ} 0 1 = cc in omega arith)
 
-by-no-test : {A : Type 0} (b : Bool) (x y : A) → b ≡ false → cond b x y ≡ y
+pub by-no-test : {A : Type 0} (b : Bool) (x y : A) → b ≡ false → cond b x y ≡ y
 by-no-test true x y e = absurd (let z : _≡_ {A = ℕ} 0 1 = cc in omega arith)
 by-no-test false x y e = refl
 
@@ -76,7 +76,7 @@ module _ (rows : List Row) (fuel : ℕ) (ws : List ℕ) (k first : ℕ) (places 
   unfolding groups-told
   all-told = sz .told
 
-  arms-are : arms ≡ sz .walk .arms
+  pub arms-are : arms ≡ sz .walk .arms
   unfolding scope-arms arms-of
   arms-are = ap (λ (z : List ℕ). arms-of (groups-told rows fuel from z)) (sym (p .held-is)) ∙ ap arms-of (sz .told)
 

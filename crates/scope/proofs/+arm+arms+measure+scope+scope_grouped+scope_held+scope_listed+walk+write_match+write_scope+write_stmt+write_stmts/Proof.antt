@@ -21,6 +21,7 @@ use mathlib.Core.List.{List}
 use Rattle.scopeplaces.specs.Overlay.{overlay}
 use Rattle.scopeplaces.specs.Whole.{stmts-runs}
 use Rattle.scope.specs.Frame.{scope-arms, most-rows}
+use Rattle.scope.proofs.Ending.{count-here as statements-here, ring-done, never-broken, taken-is, positions, stmts-fit, values-fit, all-done}
 use borrow.Author.Needs.{needs}
 use Prim.Native.Nat.{ℕ, _<_, _+_, _-_, _*_, _≤_}
 use borrow.Fn.Kinds.{In}
@@ -900,13 +901,13 @@ write-match-returns-3 : (t : ℕ) → write-match-lts.Need-returns-3 (write-matc
 write-match-returns-3 t c = ?
 
 write-scope-sub-made : (t : ℕ) → write-scope-lts.Need-sub-made (order-stmts-reads.Asked, order-stmts-reads.Learnt, write-stmts-below t, write-stmts.Post, write-values-reads.Asked, write-values-reads.Learnt) (write-scope-at t) write-scope.Post
-write-scope-sub-made t c = ?
+write-scope-sub-made t c = let s = c .before .before .before .before .before .before .before .before .before .before .before .before in s .pre .1 .1 .0 .0 .enough
 
 write-scope-add-count : (t : ℕ) → write-scope-lts.Need-add-count (order-stmts-reads.Asked, order-stmts-reads.Learnt, write-stmts-below t, write-stmts.Post, write-values-reads.Asked, write-values-reads.Learnt) (write-scope-at t) write-scope.Post
-write-scope-add-count t c = ?
+write-scope-add-count t c = let s = c .before .before .before .before .before .before .before .before .before .before .before .before in let a = s .args in omega (arith, lets-few (rows-in (a .rows .now)) (a .fuel) (a .tokens .now) (a .results) (a .first) (a .places .now) (a .held .now) (a .starts .now) (a .members .now) (a .ends .now) (a .numbers .now) (a .sizes .now) (s .pre .1 .0 .1) (s .pre .1 .1 .0 .0) (s .pre .1 .1 .0 .1 .sized))
 
 write-scope-add-count-2 : (t : ℕ) → write-scope-lts.Need-add-count-2 (order-stmts-reads.Asked, order-stmts-reads.Learnt, write-stmts-below t, write-stmts.Post, write-values-reads.Asked, write-values-reads.Learnt) (write-scope-at t) write-scope.Post
-write-scope-add-count-2 t c = ?
+write-scope-add-count-2 t c = let s = c .before .before .before .before .before .before .before .before .before .before .before .before in let a = s .args in omega (arith, statements-here (rows-in (a .rows .now)) (a .fuel) (a .tokens .now) (a .results) (a .first) (a .places .now) (a .held .now) (a .starts .now) (a .members .now) (a .ends .now) (a .numbers .now) (a .sizes .now) (a .after) (a .extracted) (a .row) (s .pre .1 .0 .1) (s .pre .1 .1 .0 .0) (s .pre .1 .1 .0 .1), s .pre .1 .1 .0 .0 .statements)
 
 write-scope-slice-aggregate-order-stmts :
     (t : ℕ) → write-scope-lts.Need-slice-aggregate-order-stmts (
@@ -917,16 +918,16 @@ write-scope-slice-aggregate-order-stmts :
       write-values-reads.Asked,
       write-values-reads.Learnt,
     ) (write-scope-at t) write-scope.Post
-write-scope-slice-aggregate-order-stmts t c = ?
+write-scope-slice-aggregate-order-stmts t c = search needs
 
 write-scope-order-stmts-requires : (t : ℕ) → write-scope-lts.Need-order-stmts-requires (order-stmts-reads.Asked, order-stmts-reads.Learnt, write-stmts-below t, write-stmts.Post, write-values-reads.Asked, write-values-reads.Learnt) (write-scope-at t) write-scope.Post
-write-scope-order-stmts-requires t c κs = ?
+write-scope-order-stmts-requires t c κs = let s = c .before .before .before .before .before .before .before .before .before .before .before .before .before in (s .pre .1 .1 .0 .0, omega arith)
 
 write-scope-enum-told : (t : ℕ) → write-scope-lts.Need-enum-told (order-stmts-reads.Asked, order-stmts-reads.Learnt, write-stmts-below t, write-stmts.Post, write-values-reads.Asked, write-values-reads.Learnt) (write-scope-at t) write-scope.Post
-write-scope-enum-told t c = ?
+write-scope-enum-told t c = search needs
 
 write-scope-array-share-prefix-taken : (t : ℕ) → write-scope-lts.Need-array-share-prefix-taken (order-stmts-reads.Asked, order-stmts-reads.Learnt, write-stmts-below t, write-stmts.Post, write-values-reads.Asked, write-values-reads.Learnt) (write-scope-at t) write-scope.Post
-write-scope-array-share-prefix-taken t c = ?
+write-scope-array-share-prefix-taken t c = let s = c .before .before .before .before .before .before .before .before .before .before .before .before .before .before .before .before .before .before in let a = s .args in omega (arith, statements-here (rows-in (a .rows .now)) (a .fuel) (a .tokens .now) (a .results) (a .first) (a .places .now) (a .held .now) (a .starts .now) (a .members .now) (a .ends .now) (a .numbers .now) (a .sizes .now) (a .after) (a .extracted) (a .row) (s .pre .1 .0 .1) (s .pre .1 .1 .0 .0) (s .pre .1 .1 .0 .1), s .pre .1 .1 .0 .0 .statements)
 
 write-scope-slice-aggregate-write-stmts :
     (t : ℕ) → write-scope-lts.Need-slice-aggregate-write-stmts (
@@ -937,76 +938,76 @@ write-scope-slice-aggregate-write-stmts :
       write-values-reads.Asked,
       write-values-reads.Learnt,
     ) (write-scope-at t) write-scope.Post
-write-scope-slice-aggregate-write-stmts t c = ?
+write-scope-slice-aggregate-write-stmts t c = search needs
 
 write-scope-write-stmts-requires : (t : ℕ) → write-scope-lts.Need-write-stmts-requires (order-stmts-reads.Asked, order-stmts-reads.Learnt, write-stmts-below t, write-stmts.Post, write-values-reads.Asked, write-values-reads.Learnt) (write-scope-at t) write-scope.Post
-write-scope-write-stmts-requires t c κs = ?
+write-scope-write-stmts-requires t c κs = let s = c .before .before .before .before .before .before .before .before .before .before .before .before .before .before .before .before .before .before .before .before .before in let a = s .args in (omega (arith, s .pre .0), (s .pre .1 .0, ((s .pre .1 .1 .0 .0, s .pre .1 .1 .0 .1 .sized), (positions (rows-in (a .rows .now)) (a .fuel) (a .tokens .now) (a .results) (a .first) (a .places .now) (a .held .now) (a .starts .now) (a .members .now) (a .ends .now) (a .numbers .now) (a .sizes .now) (a .after) (a .extracted) (a .row) (s .pre .1 .0 .1) (s .pre .1 .1 .0 .0) (s .pre .1 .1 .0 .1) (c .before .before .before .before .before .before .before .order-stmts .result) _ _ (c .before .before .before .before .before .before .before .order-stmts .ensures) (a .at) (a .table .now) (c .before .before .before .before .enum-told .given .1) _ (statements-here (rows-in (a .rows .now)) (a .fuel) (a .tokens .now) (a .results) (a .first) (a .places .now) (a .held .now) (a .starts .now) (a .members .now) (a .ends .now) (a .numbers .now) (a .sizes .now) (a .after) (a .extracted) (a .row) (s .pre .1 .0 .1) (s .pre .1 .1 .0 .0) (s .pre .1 .1 .0 .1)) (s .pre .1 .1 .1), stmts-fit (rows-in (a .rows .now)) (a .fuel) (a .tokens .now) (a .results) (a .first) (a .places .now) (a .held .now) (a .starts .now) (a .members .now) (a .ends .now) (a .numbers .now) (a .sizes .now) (a .after) (a .extracted) (a .row) (s .pre .1 .0 .1) (s .pre .1 .1 .0 .0) (s .pre .1 .1 .0 .1) (c .before .before .before .before .before .before .before .order-stmts .result) _ _ (c .before .before .before .before .before .before .before .order-stmts .ensures) (a .at) (a .table .now) (c .before .before .before .before .enum-told .given .1) _ (statements-here (rows-in (a .rows .now)) (a .fuel) (a .tokens .now) (a .results) (a .first) (a .places .now) (a .held .now) (a .starts .now) (a .members .now) (a .ends .now) (a .numbers .now) (a .sizes .now) (a .after) (a .extracted) (a .row) (s .pre .1 .0 .1) (s .pre .1 .1 .0 .0) (s .pre .1 .1 .0 .1)) (s .pre .1 .1 .1)))))
 
 write-scope-write-values-requires : (t : ℕ) → write-scope-lts.Need-write-values-requires (order-stmts-reads.Asked, order-stmts-reads.Learnt, write-stmts-below t, write-stmts.Post, write-values-reads.Asked, write-values-reads.Learnt) (write-scope-at t) write-scope.Post
-write-scope-write-values-requires t c κs = ?
+write-scope-write-values-requires t c κs = let s = c .before .before .before .before .before .before .before .before .before .before .before .before .before .before .before .before .before .before .before .before .before .before .before .before .before .before .before .before .before in let a = s .args in (readied (rows-in (a .rows .now)) (a .fuel) (a .tokens .now) (a .results) (a .first) (a .places .now) (a .held .now) (a .starts .now) (a .members .now) (a .ends .now) (a .numbers .now) (a .sizes .now) (s .pre .1 .0 .1) (s .pre .1 .1 .0 .0) (s .pre .1 .1 .0 .1 .sized), values-fit (rows-in (a .rows .now)) (a .fuel) (a .tokens .now) (a .results) (a .first) (a .places .now) (a .held .now) (a .starts .now) (a .members .now) (a .ends .now) (a .numbers .now) (a .sizes .now) (a .after) (a .extracted) (a .row) (s .pre .1 .0 .1) (s .pre .1 .1 .0 .0) (s .pre .1 .1 .0 .1) (c .before .before .before .before .before .before .before .before .before .before .before .before .before .before .before .order-stmts .result) _ _ (c .before .before .before .before .before .before .before .before .before .before .before .before .before .before .before .order-stmts .ensures) (a .at) (a .table .now) (c .before .before .before .before .before .before .before .before .before .before .before .before .enum-told .given .1) _ (statements-here (rows-in (a .rows .now)) (a .fuel) (a .tokens .now) (a .results) (a .first) (a .places .now) (a .held .now) (a .starts .now) (a .members .now) (a .ends .now) (a .numbers .now) (a .sizes .now) (a .after) (a .extracted) (a .row) (s .pre .1 .0 .1) (s .pre .1 .1 .0 .0) (s .pre .1 .1 .0 .1)) (s .pre .1 .1 .1) (c .before .before .before .before .before .before .before .write-stmts .result) (c .before .before .before .before .before .before .before .write-stmts .ensures .0))
 
 write-scope-add-t42 : (t : ℕ) → write-scope-lts.Need-add-t42 (order-stmts-reads.Asked, order-stmts-reads.Learnt, write-stmts-below t, write-stmts.Post, write-values-reads.Asked, write-values-reads.Learnt) (write-scope-at t) write-scope.Post
-write-scope-add-t42 t c = ?
+write-scope-add-t42 t c = let s = c .before .before .before .before .before .before .before .before .before .before .before .before .before .before .before .before .before .before .before .before .before .before .before .before .before .before .before .before .before .before .before .before in let a = s .args in ?
 
 write-scope-enum-told-2 : (t : ℕ) → write-scope-lts.Need-enum-told-2 (order-stmts-reads.Asked, order-stmts-reads.Learnt, write-stmts-below t, write-stmts.Post, write-values-reads.Asked, write-values-reads.Learnt) (write-scope-at t) write-scope.Post
-write-scope-enum-told-2 t c = ?
+write-scope-enum-told-2 t c = search needs
 
 write-scope-enum-told-3 : (t : ℕ) → write-scope-lts.Need-enum-told-3 (order-stmts-reads.Asked, order-stmts-reads.Learnt, write-stmts-below t, write-stmts.Post, write-values-reads.Asked, write-values-reads.Learnt) (write-scope-at t) write-scope.Post
-write-scope-enum-told-3 t c = ?
+write-scope-enum-told-3 t c = search needs
 
 write-scope-same-length : (t : ℕ) → write-scope-lts.Need-same-length (order-stmts-reads.Asked, order-stmts-reads.Learnt, write-stmts-below t, write-stmts.Post, write-values-reads.Asked, write-values-reads.Learnt) (write-scope-at t) write-scope.Post
-write-scope-same-length t c = ?
+write-scope-same-length t c = search needs
 
 write-scope-same-length-2 : (t : ℕ) → write-scope-lts.Need-same-length-2 (order-stmts-reads.Asked, order-stmts-reads.Learnt, write-stmts-below t, write-stmts.Post, write-values-reads.Asked, write-values-reads.Learnt) (write-scope-at t) write-scope.Post
-write-scope-same-length-2 t c = ?
+write-scope-same-length-2 t c = search needs
 
 write-scope-same-length-3 : (t : ℕ) → write-scope-lts.Need-same-length-3 (order-stmts-reads.Asked, order-stmts-reads.Learnt, write-stmts-below t, write-stmts.Post, write-values-reads.Asked, write-values-reads.Learnt) (write-scope-at t) write-scope.Post
-write-scope-same-length-3 t c = ?
+write-scope-same-length-3 t c = search needs
 
 write-scope-returns : (t : ℕ) → write-scope-lts.Need-returns (order-stmts-reads.Asked, order-stmts-reads.Learnt, write-stmts-below t, write-stmts.Post, write-values-reads.Asked, write-values-reads.Learnt) (write-scope-at t) write-scope.Post
-write-scope-returns t c = ?
+write-scope-returns t c = let s = c .before .before .before .before .before .before .before .before .before .before .before .before .before .before .before .before .before .before .before .before .before .before .before .before .before .before .before .before .before .before .before .before in let a = s .args in all-done (rows-in (a .rows .now)) (a .fuel) (a .tokens .now) (a .results) (a .first) (a .places .now) (a .held .now) (a .starts .now) (a .members .now) (a .ends .now) (a .numbers .now) (a .sizes .now) (a .after) (a .extracted) (a .row) (s .pre .1 .0 .1) (s .pre .1 .1 .0 .0) (s .pre .1 .1 .0 .1) (c .before .before .before .before .before .before .before .before .before .before .before .before .before .before .before .before .before .before .order-stmts .result) _ _ (c .before .before .before .before .before .before .before .before .before .before .before .before .before .before .before .before .before .before .order-stmts .ensures) (a .at) (a .table .now) (c .before .before .before .before .before .before .before .before .before .before .before .before .before .before .before .enum-told .given .1) _ (statements-here (rows-in (a .rows .now)) (a .fuel) (a .tokens .now) (a .results) (a .first) (a .places .now) (a .held .now) (a .starts .now) (a .members .now) (a .ends .now) (a .numbers .now) (a .sizes .now) (a .after) (a .extracted) (a .row) (s .pre .1 .0 .1) (s .pre .1 .1 .0 .0) (s .pre .1 .1 .0 .1)) (s .pre .1 .1 .1) (c .before .before .before .before .before .before .before .before .before .before .write-stmts .result) _ (c .before .before .before .before .before .before .before .before .before .before .write-stmts .ensures) (c .before .before .write-values .result) _ (c .before .before .write-values .ensures) _ refl
 
 write-scope-returns-2 : (t : ℕ) → write-scope-lts.Need-returns-2 (order-stmts-reads.Asked, order-stmts-reads.Learnt, write-stmts-below t, write-stmts.Post, write-values-reads.Asked, write-values-reads.Learnt) (write-scope-at t) write-scope.Post
-write-scope-returns-2 t c = ?
+write-scope-returns-2 t c = let s = c .before .before .before .before .before .before .before .before .before .before .before .before .before .before .before .before .before in let a = s .args in ring-done (rows-in (a .rows .now)) (a .fuel) (a .tokens .now) (a .results) (a .first) (a .places .now) (a .held .now) (a .starts .now) (a .members .now) (a .ends .now) (a .numbers .now) (a .sizes .now) (a .after) (a .extracted) (a .row) (s .pre .1 .0 .1) (s .pre .1 .1 .0 .0) (s .pre .1 .1 .0 .1) (c .before .before .before .order-stmts .result) _ _ (c .before .before .before .order-stmts .ensures) (a .at) (a .table .now) _ (c .enum-told2 .given .1)
 
 write-scope-returns-3 : (t : ℕ) → write-scope-lts.Need-returns-3 (order-stmts-reads.Asked, order-stmts-reads.Learnt, write-stmts-below t, write-stmts.Post, write-values-reads.Asked, write-values-reads.Learnt) (write-scope-at t) write-scope.Post
-write-scope-returns-3 t c = ?
+write-scope-returns-3 t c = let s = c .before .before .before .before .before .before .before .before .before .before .before .before .before .before .before .before .before in let a = s .args in absurd (never-broken (rows-in (a .rows .now)) (a .fuel) (a .tokens .now) (a .results) (a .first) (a .places .now) (a .held .now) (a .starts .now) (a .members .now) (a .ends .now) (a .numbers .now) (a .sizes .now) (a .after) (a .extracted) (a .row) (s .pre .1 .0 .1) (s .pre .1 .1 .0 .0) (s .pre .1 .1 .0 .1) (c .before .before .before .order-stmts .result) _ _ (c .before .before .before .order-stmts .ensures) (a .at) (a .table .now) (c .enum-told3 .given .1))
 
 write-stmt-sub-lets : (t : ℕ) → write-stmt-lts.Need-sub-lets (write-let-reads.Asked, write-let-reads.Learnt, write-match-below t, write-match.Post) (write-stmt-at t) write-stmt.Post
-write-stmt-sub-lets t c = let s = c .before .before .before .before .before .before .before .before .before .before .before .before in s .pre .1 .1 .0 .0 .enough
+write-stmt-sub-lets t c = ?
 
 write-stmt-add-lets : (t : ℕ) → write-stmt-lts.Need-add-lets (write-let-reads.Asked, write-let-reads.Learnt, write-match-below t, write-match.Post) (write-stmt-at t) write-stmt.Post
-write-stmt-add-lets t c = let s = c .before .before .before .before .before .before .before .before .before .before .before .before in let a = s .args in omega (arith, lets-few (rows-in (a .rows .now)) (a .fuel) (a .tokens .now) (a .results) (a .first) (a .places .now) (a .held .now) (a .starts .now) (a .members .now) (a .ends .now) (a .numbers .now) (a .sizes .now) (s .pre .1 .0 .1) (s .pre .1 .1 .0 .0) (s .pre .1 .1 .0 .1))
+write-stmt-add-lets t c = ?
 
 write-stmt-write-let-requires : (t : ℕ) → write-stmt-lts.Need-write-let-requires (write-let-reads.Asked, write-let-reads.Learnt, write-match-below t, write-match.Post) (write-stmt-at t) write-stmt.Post
-write-stmt-write-let-requires t c κs = let s = c .before .before .before .before .before .before .before .before .before .before .before .before .before .before in let a = s .args in (readied (rows-in (a .rows .now)) (a .fuel) (a .tokens .now) (a .results) (a .first) (a .places .now) (a .held .now) (a .starts .now) (a .members .now) (a .ends .now) (a .numbers .now) (a .sizes .now) (s .pre .1 .0 .1) (s .pre .1 .1 .0 .0) (s .pre .1 .1 .0 .1), (let-there (rows-in (a .rows .now)) (a .fuel) (a .tokens .now) (a .results) (a .first) (a .places .now) (a .held .now) (a .starts .now) (a .members .now) (a .ends .now) (a .numbers .now) (a .sizes .now) (s .pre .1 .0 .1) (s .pre .1 .1 .0 .0) (s .pre .1 .1 .0 .1) (a .p) (c .before .if1 .taken), subst (λ (z : List ℕ). a .at + length z ≤ 9223372036854775808) (let-is (rows-in (a .rows .now)) (a .fuel) (a .tokens .now) (a .results) (a .first) (a .places .now) (a .held .now) (a .starts .now) (a .members .now) (a .ends .now) (a .numbers .now) (a .sizes .now) (s .pre .1 .0 .1) (s .pre .1 .1 .0 .0) (s .pre .1 .1 .0 .1) (a .p) (c .before .if1 .taken)) (s .pre .1 .1 .1 .1)))
+write-stmt-write-let-requires t c κs = ?
 
 write-stmt-same-length : (t : ℕ) → write-stmt-lts.Need-same-length (write-let-reads.Asked, write-let-reads.Learnt, write-match-below t, write-match.Post) (write-stmt-at t) write-stmt.Post
-write-stmt-same-length t c = search needs
+write-stmt-same-length t c = ?
 
 write-stmt-returns : (t : ℕ) → write-stmt-lts.Need-returns (write-let-reads.Asked, write-let-reads.Learnt, write-match-below t, write-match.Post) (write-stmt-at t) write-stmt.Post
-write-stmt-returns t c = let s = c .before .before .before .before .before .before .before .before .before .before .before .before .before .before .before .before .before in let a = s .args in subst (λ (z : List ℕ). (c .before .before .write-let .result ≡ a .at + length z) × (_ ≡ overlay (a .at) z (a .table .now))) (sym (let-is (rows-in (a .rows .now)) (a .fuel) (a .tokens .now) (a .results) (a .first) (a .places .now) (a .held .now) (a .starts .now) (a .members .now) (a .ends .now) (a .numbers .now) (a .sizes .now) (s .pre .1 .0 .1) (s .pre .1 .1 .0 .0) (s .pre .1 .1 .0 .1) (a .p) (c .before .before .before .before .if1 .taken))) (c .before .before .write-let .ensures)
+write-stmt-returns t c = ?
 
 write-stmt-mul-size : (t : ℕ) → write-stmt-lts.Need-mul-size (write-let-reads.Asked, write-let-reads.Learnt, write-match-below t, write-match.Post) (write-stmt-at t) write-stmt.Post
-write-stmt-mul-size t c = let s = c .before .before .before .before .before .before .before .before .before .before .before .before .before in let a = s .args in omega (arith, size-in (rows-in (a .rows .now)) (a .fuel) (a .tokens .now) (a .results) (a .first) (a .places .now) (a .held .now) (a .starts .now) (a .members .now) (a .ends .now) (a .numbers .now) (a .sizes .now) (s .pre .1 .0 .1) (s .pre .1 .1 .0 .0) (s .pre .1 .1 .0 .1) (a .p) (s .pre .1 .1 .1 .0) (omega (arith, c .if1 .left)), s .good .1 .1 .1 .1 .1 .1 .1 .1 .1 .1 .1 .0)
+write-stmt-mul-size t c = ?
 
 write-stmt-shared-slice-read-size : (t : ℕ) → write-stmt-lts.Need-shared-slice-read-size (write-let-reads.Asked, write-let-reads.Learnt, write-match-below t, write-match.Post) (write-stmt-at t) write-stmt.Post
-write-stmt-shared-slice-read-size t c = let s = c .before .before .before .before .before .before .before .before .before .before .before .before .before .before in let a = s .args in size-in (rows-in (a .rows .now)) (a .fuel) (a .tokens .now) (a .results) (a .first) (a .places .now) (a .held .now) (a .starts .now) (a .members .now) (a .ends .now) (a .numbers .now) (a .sizes .now) (s .pre .1 .0 .1) (s .pre .1 .1 .0 .0) (s .pre .1 .1 .0 .1) (a .p) (s .pre .1 .1 .1 .0) (omega (arith, c .before .if1 .left))
+write-stmt-shared-slice-read-size t c = ?
 
 write-stmt-write-match-requires : (t : ℕ) → write-stmt-lts.Need-write-match-requires (write-let-reads.Asked, write-let-reads.Learnt, write-match-below t, write-match.Post) (write-stmt-at t) write-stmt.Post
-write-stmt-write-match-requires t c κs = let s = c .before .before .before .before .before .before .before .before .before .before .before .before .before .before .before .before .before in let a = s .args in (omega (arith, s .pre .0), ((s .pre .1 .0 .0, member-holds (rows-in (a .rows .now)) (a .fuel) (a .tokens .now) (a .results) (a .first) (a .places .now) (a .held .now) (a .starts .now) (a .members .now) (a .ends .now) (a .numbers .now) (a .sizes .now) (s .pre .1 .0 .1) (s .pre .1 .1 .0 .0) (s .pre .1 .1 .0 .1) (a .p) (s .pre .1 .1 .1 .0) (omega (arith, c .before .before .before .before .if1 .left))), ((grouped (rows-in (a .rows .now)) (a .fuel) (a .tokens .now) (a .results) (a .first) (a .places .now) (a .held .now) (a .starts .now) (a .members .now) (a .ends .now) (a .numbers .now) (a .sizes .now) (s .pre .1 .0 .1) (s .pre .1 .1 .0 .0) (s .pre .1 .1 .0 .1), group-sized (rows-in (a .rows .now)) (a .fuel) (a .tokens .now) (a .results) (a .first) (a .places .now) (a .held .now) (a .starts .now) (a .members .now) (a .ends .now) (a .numbers .now) (a .sizes .now) (s .pre .1 .0 .1) (s .pre .1 .1 .0 .0) (s .pre .1 .1 .0 .1) (a .p) (s .pre .1 .1 .1 .0) (omega (arith, c .before .before .before .before .if1 .left))), (group-there (rows-in (a .rows .now)) (a .fuel) (a .tokens .now) (a .results) (a .first) (a .places .now) (a .held .now) (a .starts .now) (a .members .now) (a .ends .now) (a .numbers .now) (a .sizes .now) (s .pre .1 .0 .1) (s .pre .1 .1 .0 .0) (s .pre .1 .1 .0 .1) (a .p) (s .pre .1 .1 .1 .0) (omega (arith, c .before .before .before .before .if1 .left)), subst (λ (z : List ℕ). a .at + length z ≤ most-rows) (stmt-match-is (rows-in (a .rows .now)) (a .fuel) (a .tokens .now) (a .results) (a .first) (a .places .now) (a .held .now) (a .starts .now) (a .members .now) (a .ends .now) (a .numbers .now) (a .sizes .now) (s .pre .1 .0 .1) (s .pre .1 .1 .0 .0) (s .pre .1 .1 .0 .1) (a .p) (s .pre .1 .1 .1 .0) (omega (arith, c .before .before .before .before .if1 .left))) (s .pre .1 .1 .1 .1)))))
+write-stmt-write-match-requires t c κs = ?
 
 write-stmt-same-length-2 : (t : ℕ) → write-stmt-lts.Need-same-length-2 (write-let-reads.Asked, write-let-reads.Learnt, write-match-below t, write-match.Post) (write-stmt-at t) write-stmt.Post
-write-stmt-same-length-2 t c = search needs
+write-stmt-same-length-2 t c = ?
 
 write-stmt-same-length-3 : (t : ℕ) → write-stmt-lts.Need-same-length-3 (write-let-reads.Asked, write-let-reads.Learnt, write-match-below t, write-match.Post) (write-stmt-at t) write-stmt.Post
-write-stmt-same-length-3 t c = search needs
+write-stmt-same-length-3 t c = ?
 
 write-stmt-same-length-4 : (t : ℕ) → write-stmt-lts.Need-same-length-4 (write-let-reads.Asked, write-let-reads.Learnt, write-match-below t, write-match.Post) (write-stmt-at t) write-stmt.Post
-write-stmt-same-length-4 t c = search needs
+write-stmt-same-length-4 t c = ?
 
 write-stmt-returns-2 : (t : ℕ) → write-stmt-lts.Need-returns-2 (write-let-reads.Asked, write-let-reads.Learnt, write-match-below t, write-match.Post) (write-stmt-at t) write-stmt.Post
-write-stmt-returns-2 t c = let s = c .before .before .before .before .before .before .before .before .before .before .before .before .before .before .before .before .before .before .before .before .before .before .before .before in let a = s .args in subst (λ (z : List ℕ). (c .before .before .before .before .before .before .write-match .result ≡ a .at + length z) × (_ ≡ overlay (a .at) z (a .table .now))) (sym (stmt-match-is (rows-in (a .rows .now)) (a .fuel) (a .tokens .now) (a .results) (a .first) (a .places .now) (a .held .now) (a .starts .now) (a .members .now) (a .ends .now) (a .numbers .now) (a .sizes .now) (s .pre .1 .0 .1) (s .pre .1 .1 .0 .0) (s .pre .1 .1 .0 .1) (a .p) (s .pre .1 .1 .1 .0) (omega (arith, c .before .before .before .before .before .before .before .before .before .before .before .if1 .left)))) (c .before .before .before .before .before .before .write-match .ensures)
+write-stmt-returns-2 t c = ?
 
 abbrev write-stmts-Inv-loop : write-stmts-lts.InvT-loop
 write-stmts-Inv-loop rows work₀ tokens results first places held starts members ends numbers sizes taken fuel text₀ at table₀ to₀ q₀ work text table to q = (q ≤ length taken) × (to ≡ at + length (stmts-runs tokens results first places numbers (scope-arms (rows-in rows) fuel tokens results first places) taken q)) × (table ≡ overlay at (stmts-runs tokens results first places numbers (scope-arms (rows-in rows) fuel tokens results first places) taken q) table₀) × (length work ≡ length work₀) × (length text ≡ length text₀) × (length table ≡ length table₀)
@@ -1015,7 +1016,7 @@ abbrev write-stmts-μ-loop : write-stmts-lts.MeasureT-loop
 write-stmts-μ-loop rows work₀ tokens results first places held starts members ends numbers sizes taken fuel text₀ at table₀ to₀ q₀ work text table to q = length taken - q
 
 write-stmts-loop-holds : (t : ℕ) → write-stmts-lts.Need-loop-holds (write-stmt-below t, write-stmt.Post) (write-stmts-at t) write-stmts.Post write-stmts-Inv-loop write-stmts-μ-loop
-write-stmts-loop-holds t c = let s = c .before .before .before .before .before .before .before .before .before .before .before .before .before in let a = s .args in let z = stmts-begin (rows-in (a .rows .now)) (a .fuel) (a .tokens .now) (a .results) (a .first) (a .places .now) (a .held .now) (a .starts .now) (a .members .now) (a .ends .now) (a .numbers .now) (a .sizes .now) (s .pre .1 .0 .1) (s .pre .1 .1 .0 .0) (s .pre .1 .1 .0 .1) (a .taken .now) (a .at) (a .table .now) (s .pre .1 .1 .1 .1) in (omega arith, z .to-is, z .table-is, refl, refl, refl)
+write-stmts-loop-holds t c = ?
 
 write-stmts-mul-p :
     (t : ℕ) →
@@ -1025,13 +1026,13 @@ write-stmts-mul-p :
     write-stmts.Post
     write-stmts-Inv-loop
     write-stmts-μ-loop
-write-stmts-mul-p t c = search needs
+write-stmts-mul-p t c = ?
 
 write-stmts-shared-slice-read-p : (t : ℕ) → write-stmts-lts.Need-shared-slice-read-p (write-stmt-below t, write-stmt.Post) (write-stmts-at t) write-stmts.Post write-stmts-Inv-loop write-stmts-μ-loop
-write-stmts-shared-slice-read-p t c = search needs
+write-stmts-shared-slice-read-p t c = ?
 
 write-stmts-write-stmt-requires : (t : ℕ) → write-stmts-lts.Need-write-stmt-requires (write-stmt-below t, write-stmt.Post) (write-stmts-at t) write-stmts.Post write-stmts-Inv-loop write-stmts-μ-loop
-write-stmts-write-stmt-requires t c κs = let s = c .before .before .before .before .before .before .before .before .before .before .before .before .before .before .before .before .before .before .before in let a = s .args in (omega (arith, s .pre .0), ((lent-on (a .fuel) (a .work .now) (a .text .now) _ _ (s .pre .1 .0 .0) (c .before .before .before .before .before .loop .inv .3) (c .before .before .before .before .before .loop .inv .4), s .pre .1 .0 .1), (s .pre .1 .1 .0, (s .pre .1 .1 .1 .0 (c .before .before .before .before .before .loop .q) (c .before .before .before .before .loop-test .taken), entry-fits (rows-in (a .rows .now)) (a .fuel) (a .tokens .now) (a .results) (a .first) (a .places .now) (a .held .now) (a .starts .now) (a .members .now) (a .ends .now) (a .numbers .now) (a .sizes .now) (s .pre .1 .0 .1) (s .pre .1 .1 .0 .0) (s .pre .1 .1 .0 .1) (a .taken .now) (a .at) (a .table .now) (s .pre .1 .1 .1 .1) (c .before .before .before .before .before .loop .q) (c .before .before .before .before .before .loop .to) _ (record { to-is = c .before .before .before .before .before .loop .inv .1; table-is = c .before .before .before .before .before .loop .inv .2 }) (c .before .before .before .before .loop-test .taken)))))
+write-stmts-write-stmt-requires t c κs = ?
 
 write-stmts-add-q :
     (t : ℕ) →
@@ -1041,22 +1042,22 @@ write-stmts-add-q :
     write-stmts.Post
     write-stmts-Inv-loop
     write-stmts-μ-loop
-write-stmts-add-q t c = search needs
+write-stmts-add-q t c = ?
 
 write-stmts-loop-less : (t : ℕ) → write-stmts-lts.Need-loop-less (write-stmt-below t, write-stmt.Post) (write-stmts-at t) write-stmts.Post write-stmts-Inv-loop write-stmts-μ-loop
-write-stmts-loop-less t c = search needs
+write-stmts-loop-less t c = ?
 
 write-stmts-loop-again : (t : ℕ) → write-stmts-lts.Need-loop-again (write-stmt-below t, write-stmt.Post) (write-stmts-at t) write-stmts.Post write-stmts-Inv-loop write-stmts-μ-loop
-write-stmts-loop-again t c = let s = c .before .before .before .before .before .before .before .before .before .before .before .before .before .before .before .before .before .before .before .before .before .before .before .before .before .before in let a = s .args in let z = stmts-on (rows-in (a .rows .now)) (a .fuel) (a .tokens .now) (a .results) (a .first) (a .places .now) (a .held .now) (a .starts .now) (a .members .now) (a .ends .now) (a .numbers .now) (a .sizes .now) (s .pre .1 .0 .1) (s .pre .1 .1 .0 .0) (s .pre .1 .1 .0 .1) (a .taken .now) (a .at) (a .table .now) (s .pre .1 .1 .1 .1) (c .before .before .before .before .before .before .before .before .before .before .before .before .loop .q) (c .before .before .before .before .before .before .before .before .before .before .before .before .loop .to) _ (record { to-is = c .before .before .before .before .before .before .before .before .before .before .before .before .loop .inv .1; table-is = c .before .before .before .before .before .before .before .before .before .before .before .before .loop .inv .2 }) (c .before .before .before .before .before .before .write-stmt .result) _ (c .before .before .before .before .before .before .write-stmt .ensures) in (omega (arith, c .before .before .before .before .before .before .before .before .before .before .before .loop-test .taken), z .to-is, z .table-is, c .before .before .before .before .before .before .write-stmt .kept .1 .0 ∙ c .before .before .before .before .before .before .before .before .before .before .before .before .loop .inv .3, c .before .before .before .before .before .before .write-stmt .kept .1 .1 .1 .1 .1 .1 .1 .1 .1 .1 .1 .1 .1 .1 .0 ∙ c .before .before .before .before .before .before .before .before .before .before .before .before .loop .inv .4, c .before .before .before .before .before .before .write-stmt .kept .1 .1 .1 .1 .1 .1 .1 .1 .1 .1 .1 .1 .1 .1 .1 .1 .0 ∙ c .before .before .before .before .before .before .before .before .before .before .before .before .loop .inv .5)
+write-stmts-loop-again t c = ?
 
 write-stmts-same-length : (t : ℕ) → write-stmts-lts.Need-same-length (write-stmt-below t, write-stmt.Post) (write-stmts-at t) write-stmts.Post write-stmts-Inv-loop write-stmts-μ-loop
-write-stmts-same-length t c = search needs
+write-stmts-same-length t c = ?
 
 write-stmts-same-length-2 : (t : ℕ) → write-stmts-lts.Need-same-length-2 (write-stmt-below t, write-stmt.Post) (write-stmts-at t) write-stmts.Post write-stmts-Inv-loop write-stmts-μ-loop
-write-stmts-same-length-2 t c = search needs
+write-stmts-same-length-2 t c = ?
 
 write-stmts-same-length-3 : (t : ℕ) → write-stmts-lts.Need-same-length-3 (write-stmt-below t, write-stmt.Post) (write-stmts-at t) write-stmts.Post write-stmts-Inv-loop write-stmts-μ-loop
-write-stmts-same-length-3 t c = search needs
+write-stmts-same-length-3 t c = ?
 
 write-stmts-returns :
     (t : ℕ) →
@@ -1066,7 +1067,7 @@ write-stmts-returns :
     write-stmts.Post
     write-stmts-Inv-loop
     write-stmts-μ-loop
-write-stmts-returns t c = let s = c .before .before .before .before .before .before .before .before .before .before .before .before .before .before .before in let a = s .args in stmts-end (rows-in (a .rows .now)) (a .fuel) (a .tokens .now) (a .results) (a .first) (a .places .now) (a .held .now) (a .starts .now) (a .members .now) (a .ends .now) (a .numbers .now) (a .sizes .now) (s .pre .1 .0 .1) (s .pre .1 .1 .0 .0) (s .pre .1 .1 .0 .1) (a .taken .now) (a .at) (a .table .now) (s .pre .1 .1 .1 .1) (c .before .loop .q) (c .before .loop .to) _ (record { to-is = c .before .loop .inv .1; table-is = c .before .loop .inv .2 }) (omega (arith, c .before .loop .inv .0, c .loop-test .left))
+write-stmts-returns t c = ?
 
 pub +arm+arms+measure+scope+scope-grouped+scope-held+scope-listed+walk+write-match+write-scope+write-stmt+write-stmts-spec :
     {M : Type 1} → statement M
