@@ -22,9 +22,12 @@ use Rattle.scopeplaces.specs.Overlay.{overlay}
 use Rattle.scopeplaces.specs.Parts.{place-groups, reciprocals-first, lets-count, held-words}
 use Rattle.scopeplaces.specs.Whole.{Told, Walk, walked, stmts-count, stmts-order, needs-table, stmts-runs, values-runs, ordered-scope}
 use Rattle.tables.proofs.Laws.{overlay-append}
+use Rattle.renaming.specs.Names.{is-number}
+use Rattle.scopesound.proofs.Bounds.{walk-bound}
+use Rattle.scope.proofs.Sound.{words-ok}
 use Rattle.scopeparts.specs.Prepared.{Prepared, order-told}
 use Rattle.scopeparts.proofs.Groups.{ends-count}
-use Rattle.scopeparts.proofs.Held.{lets-are, count-is}
+use Rattle.scopeparts.proofs.Held.{first-number, lets-are, count-is}
 use Rattle.scope.specs.Answers.{scope-answer, scope-table, told-rows}
 use Rattle.scope.specs.Frame.{most-rows, Holds, Positions, groups-told, grouped-scope, Sized, Numbered, scope-arms}
 use Rattle.scope.specs.declared.Scoped.{Scoped}
@@ -124,6 +127,14 @@ module _ (rows : List Row) (fuel : ℕ) (ws : List ℕ) (k first : ℕ) (places 
 
   pub count-here : ((length starts - k) + length places) + length ends ≡ count
   count-here = omega (arith, count-is p, ap length (p .ends-are) ∙ ends-count 0 (place-groups held))
+
+  pub extracted-low : extracted ≤ 4294967296
+  unfolding groups-told
+  extracted-low =
+      let from = reciprocals-first ws k first places + length places in
+      let b = walk-bound rows (is-number rows) fuel from held (h .good) (h .pass) (words-ok rows from held h) (length (place-groups held)) (omega arith) (nb .sized .walk) (nb .sized .told) in
+      let low : from ≤ 4294967296 = omega (arith, first-number p, lets-are p, count-is p, p .statements, p .low) in
+      omega (arith, nb .extracted-is, b .made, b .most 4294967296 low (omega arith))
 
   made-here : length (read numbered ws) - k ≡ length starts - k
   made-here = ap (λ (j : ℕ). j - k) (complete-length numbered ws (length starts) (p .complete))

@@ -21,7 +21,9 @@ use mathlib.Core.List.{List}
 use Rattle.scopeplaces.specs.Overlay.{overlay}
 use Rattle.scopeplaces.specs.Whole.{stmts-runs}
 use Rattle.scope.specs.Frame.{scope-arms, most-rows}
-use Rattle.scope.proofs.Ending.{count-here as statements-here, ring-done, never-broken, taken-is, positions, stmts-fit, values-fit, all-done}
+use Rattle.scope.proofs.Ending.{extracted-low, count-here as statements-here, ring-done, never-broken, taken-is, positions, stmts-fit, values-fit, all-done}
+use lib.Seq.{length-take-le}
+use Rattle.scope.proofs.Beginning.{lets-small, from-low, holds-from, members-short, ends-short, walk-refused, numbered-so, prepared-so, left-there, left-holds, held-whole as held-complete, trees-short, starts-long, ready-so}
 use borrow.Author.Needs.{needs}
 use Prim.Native.Nat.{ℕ, _<_, _+_, _-_, _*_, _≤_}
 use borrow.Fn.Kinds.{In}
@@ -421,40 +423,40 @@ scope-returns-5 : (t : ℕ) → scope-lts.Need-returns-5 (tree-count-reads.Asked
 scope-returns-5 t c = ?
 
 scope-grouped-sub-next : (t : ℕ) → scope-grouped-lts.Need-sub-next (walk-below t, walk.Post, walk-refusal-reads.Asked, walk-refusal-reads.Learnt, write-scope-below t, write-scope.Post) (scope-grouped-at t) scope-grouped.Post
-scope-grouped-sub-next t c = ?
+scope-grouped-sub-next t c = let s = c .before .before .before .before .before .before .before .before .before .before in s .pre .1 .1 .0 .enough
 
 scope-grouped-add-next : (t : ℕ) → scope-grouped-lts.Need-add-next (walk-below t, walk.Post, walk-refusal-reads.Asked, walk-refusal-reads.Learnt, write-scope-below t, write-scope.Post) (scope-grouped-at t) scope-grouped.Post
-scope-grouped-add-next t c = ?
+scope-grouped-add-next t c = let s = c .before .before .before .before .before .before .before .before .before .before in let a = s .args in omega (arith, lets-small (rows-in (a .rows .now)) (a .fuel) (a .row) (a .tokens .now) (a .results) (a .first) (a .places .now) (a .held .now) (a .starts .now) (a .members .now) (a .ends .now) (s .pre .1 .0 .1) (s .pre .1 .1 .0))
 
 scope-grouped-add-next-2 : (t : ℕ) → scope-grouped-lts.Need-add-next-2 (walk-below t, walk.Post, walk-refusal-reads.Asked, walk-refusal-reads.Learnt, write-scope-below t, write-scope.Post) (scope-grouped-at t) scope-grouped.Post
-scope-grouped-add-next-2 t c = ?
+scope-grouped-add-next-2 t c = let s = c .before .before .before .before .before .before .before .before .before .before in let a = s .args in omega (arith, from-low (rows-in (a .rows .now)) (a .fuel) (a .row) (a .tokens .now) (a .results) (a .first) (a .places .now) (a .held .now) (a .starts .now) (a .members .now) (a .ends .now) (s .pre .1 .0 .1) (s .pre .1 .1 .0))
 
 scope-grouped-slice-aggregate-walk : (t : ℕ) → scope-grouped-lts.Need-slice-aggregate-walk (walk-below t, walk.Post, walk-refusal-reads.Asked, walk-refusal-reads.Learnt, write-scope-below t, write-scope.Post) (scope-grouped-at t) scope-grouped.Post
-scope-grouped-slice-aggregate-walk t c = ?
+scope-grouped-slice-aggregate-walk t c = search needs
 
 scope-grouped-slice-aggregate-walk-2 : (t : ℕ) → scope-grouped-lts.Need-slice-aggregate-walk-2 (walk-below t, walk.Post, walk-refusal-reads.Asked, walk-refusal-reads.Learnt, write-scope-below t, write-scope.Post) (scope-grouped-at t) scope-grouped.Post
-scope-grouped-slice-aggregate-walk-2 t c = ?
+scope-grouped-slice-aggregate-walk-2 t c = search needs
 
 scope-grouped-walk-requires : (t : ℕ) → scope-grouped-lts.Need-walk-requires (walk-below t, walk.Post, walk-refusal-reads.Asked, walk-refusal-reads.Learnt, write-scope-below t, write-scope.Post) (scope-grouped-at t) scope-grouped.Post
-scope-grouped-walk-requires t c κs = ?
+scope-grouped-walk-requires t c κs = let s = c .before .before .before .before .before .before .before .before .before .before .before .before .before .before in let a = s .args in (omega (arith, s .pre .0), ((s .pre .1 .0 .0, holds-from (rows-in (a .rows .now)) (a .fuel) (a .row) (a .tokens .now) (a .results) (a .first) (a .places .now) (a .held .now) (a .starts .now) (a .members .now) (a .ends .now) (s .pre .1 .0 .1) (s .pre .1 .1 .0)), ((s .pre .1 .1 .0 .grouped, omega (arith, from-low (rows-in (a .rows .now)) (a .fuel) (a .row) (a .tokens .now) (a .results) (a .first) (a .places .now) (a .held .now) (a .starts .now) (a .members .now) (a .ends .now) (s .pre .1 .0 .1) (s .pre .1 .1 .0))), (omega (arith, members-short (rows-in (a .rows .now)) (a .fuel) (a .row) (a .tokens .now) (a .results) (a .first) (a .places .now) (a .held .now) (a .starts .now) (a .members .now) (a .ends .now) (s .pre .1 .0 .1) (s .pre .1 .1 .0)), omega (arith, ends-short (rows-in (a .rows .now)) (a .fuel) (a .row) (a .tokens .now) (a .results) (a .first) (a .places .now) (a .held .now) (a .starts .now) (a .members .now) (a .ends .now) (s .pre .1 .0 .1) (s .pre .1 .1 .0))))))
 
 scope-grouped-enum-known-walked : (t : ℕ) → scope-grouped-lts.Need-enum-known-walked (walk-below t, walk.Post, walk-refusal-reads.Asked, walk-refusal-reads.Learnt, write-scope-below t, write-scope.Post) (scope-grouped-at t) scope-grouped.Post
-scope-grouped-enum-known-walked t c = ?
+scope-grouped-enum-known-walked t c = search needs
 
 scope-grouped-enum-told : (t : ℕ) → scope-grouped-lts.Need-enum-told (walk-below t, walk.Post, walk-refusal-reads.Asked, walk-refusal-reads.Learnt, write-scope-below t, write-scope.Post) (scope-grouped-at t) scope-grouped.Post
-scope-grouped-enum-told t c = ?
+scope-grouped-enum-told t c = search needs
 
 scope-grouped-walk-refusal-requires : (t : ℕ) → scope-grouped-lts.Need-walk-refusal-requires (walk-below t, walk.Post, walk-refusal-reads.Asked, walk-refusal-reads.Learnt, write-scope-below t, write-scope.Post) (scope-grouped-at t) scope-grouped.Post
-scope-grouped-walk-refusal-requires t c κs = ?
+scope-grouped-walk-refusal-requires t c κs = search needs
 
 scope-grouped-same-length : (t : ℕ) → scope-grouped-lts.Need-same-length (walk-below t, walk.Post, walk-refusal-reads.Asked, walk-refusal-reads.Learnt, write-scope-below t, write-scope.Post) (scope-grouped-at t) scope-grouped.Post
-scope-grouped-same-length t c = ?
+scope-grouped-same-length t c = search needs
 
 scope-grouped-same-length-2 : (t : ℕ) → scope-grouped-lts.Need-same-length-2 (walk-below t, walk.Post, walk-refusal-reads.Asked, walk-refusal-reads.Learnt, write-scope-below t, write-scope.Post) (scope-grouped-at t) scope-grouped.Post
-scope-grouped-same-length-2 t c = ?
+scope-grouped-same-length-2 t c = search needs
 
 scope-grouped-returns : (t : ℕ) → scope-grouped-lts.Need-returns (walk-below t, walk.Post, walk-refusal-reads.Asked, walk-refusal-reads.Learnt, write-scope-below t, write-scope.Post) (scope-grouped-at t) scope-grouped.Post
-scope-grouped-returns t c = ?
+scope-grouped-returns t c = let s = c .before .before .before .before .before .before .before .before .before .before .before .before .before .before .before .before .before .before .before .before .before .before .before .before in let a = s .args in walk-refused (rows-in (a .rows .now)) (a .fuel) (a .row) (a .tokens .now) (a .results) (a .first) (a .places .now) (a .held .now) (a .starts .now) (a .members .now) (a .ends .now) (s .pre .1 .0 .1) (s .pre .1 .1 .0) (c .before .before .before .before .before .before .before .before .before .walk .result) _ _ (c .before .before .before .before .before .before .before .before .before .walk .ensures) _ (c .before .enum-told .given .1) _ (c .walk-refusal .ensures) (a .at) (a .table .now)
 
 scope-grouped-array-share-prefix-numbers :
     (t : ℕ) → scope-grouped-lts.Need-array-share-prefix-numbers (
@@ -465,7 +467,7 @@ scope-grouped-array-share-prefix-numbers :
       write-scope-below t,
       write-scope.Post,
     ) (scope-grouped-at t) scope-grouped.Post
-scope-grouped-array-share-prefix-numbers t c = ?
+scope-grouped-array-share-prefix-numbers t c = let s = c .before .before .before .before .before .before .before .before .before .before .before .before .before .before .before .before .before .before .before .before .before .before .before .before .before in let a = s .args in omega (arith, members-short (rows-in (a .rows .now)) (a .fuel) (a .row) (a .tokens .now) (a .results) (a .first) (a .places .now) (a .held .now) (a .starts .now) (a .members .now) (a .ends .now) (s .pre .1 .0 .1) (s .pre .1 .1 .0), c .before .before .before .before .before .before .before .before .before .before .walk .kept .1 .1 .1 .1 .1 .1 .1 .1 .0)
 
 scope-grouped-slice-aggregate-write-scope :
     (t : ℕ) → scope-grouped-lts.Need-slice-aggregate-write-scope (
@@ -476,10 +478,10 @@ scope-grouped-slice-aggregate-write-scope :
       write-scope-below t,
       write-scope.Post,
     ) (scope-grouped-at t) scope-grouped.Post
-scope-grouped-slice-aggregate-write-scope t c = ?
+scope-grouped-slice-aggregate-write-scope t c = let s = c .before .before .before .before .before .before .before .before .before .before .before .before .before .before .before .before .before .before .before .before .before .before .before .before .before .before in let a = s .args in sym (length-take-le _ _ (omega (arith, members-short (rows-in (a .rows .now)) (a .fuel) (a .row) (a .tokens .now) (a .results) (a .first) (a .places .now) (a .held .now) (a .starts .now) (a .members .now) (a .ends .now) (s .pre .1 .0 .1) (s .pre .1 .1 .0), c .before .before .before .before .before .before .before .before .before .before .before .walk .kept .1 .1 .1 .1 .1 .1 .1 .1 .0)))
 
 scope-grouped-array-share-prefix-sizes : (t : ℕ) → scope-grouped-lts.Need-array-share-prefix-sizes (walk-below t, walk.Post, walk-refusal-reads.Asked, walk-refusal-reads.Learnt, write-scope-below t, write-scope.Post) (scope-grouped-at t) scope-grouped.Post
-scope-grouped-array-share-prefix-sizes t c = ?
+scope-grouped-array-share-prefix-sizes t c = let s = c .before .before .before .before .before .before .before .before .before .before .before .before .before .before .before .before .before .before .before .before .before .before .before .before .before .before in let a = s .args in omega (arith, ends-short (rows-in (a .rows .now)) (a .fuel) (a .row) (a .tokens .now) (a .results) (a .first) (a .places .now) (a .held .now) (a .starts .now) (a .members .now) (a .ends .now) (s .pre .1 .0 .1) (s .pre .1 .1 .0), c .before .before .before .before .before .before .before .before .before .before .before .walk .kept .1 .1 .1 .1 .1 .1 .1 .1 .1 .0)
 
 scope-grouped-slice-aggregate-write-scope-2 :
     (t : ℕ) → scope-grouped-lts.Need-slice-aggregate-write-scope-2 (
@@ -490,40 +492,40 @@ scope-grouped-slice-aggregate-write-scope-2 :
       write-scope-below t,
       write-scope.Post,
     ) (scope-grouped-at t) scope-grouped.Post
-scope-grouped-slice-aggregate-write-scope-2 t c = ?
+scope-grouped-slice-aggregate-write-scope-2 t c = let s = c .before .before .before .before .before .before .before .before .before .before .before .before .before .before .before .before .before .before .before .before .before .before .before .before .before .before .before in let a = s .args in sym (length-take-le _ _ (omega (arith, ends-short (rows-in (a .rows .now)) (a .fuel) (a .row) (a .tokens .now) (a .results) (a .first) (a .places .now) (a .held .now) (a .starts .now) (a .members .now) (a .ends .now) (s .pre .1 .0 .1) (s .pre .1 .1 .0), c .before .before .before .before .before .before .before .before .before .before .before .before .walk .kept .1 .1 .1 .1 .1 .1 .1 .1 .1 .0)))
 
 scope-grouped-write-scope-requires : (t : ℕ) → scope-grouped-lts.Need-write-scope-requires (walk-below t, walk.Post, walk-refusal-reads.Asked, walk-refusal-reads.Learnt, write-scope-below t, write-scope.Post) (scope-grouped-at t) scope-grouped.Post
-scope-grouped-write-scope-requires t c κs = ?
+scope-grouped-write-scope-requires t c κs = let s = c .before .before .before .before .before .before .before .before .before .before .before .before .before .before .before .before .before .before .before .before .before .before .before .before .before .before .before .before .before in let a = s .args in (omega (arith, s .pre .0), ((lent-on (a .fuel) (a .work .now) (a .text .now) _ _ (s .pre .1 .0 .0) (c .before .before .before .before .before .before .before .before .before .before .before .before .before .before .walk .kept .1 .0) (c .before .before .before .before .before .before .before .before .before .before .before .before .before .before .walk .kept .1 .1 .1 .1 .1 .1 .1 .0), s .pre .1 .0 .1), ((prepared-so (rows-in (a .rows .now)) (a .fuel) (a .row) (a .tokens .now) (a .results) (a .first) (a .places .now) (a .held .now) (a .starts .now) (a .members .now) (a .ends .now) (s .pre .1 .0 .1) (s .pre .1 .1 .0) (c .before .before .before .before .before .before .before .before .before .before .before .before .before .before .walk .result) _ _ (c .before .before .before .before .before .before .before .before .before .before .before .before .before .before .walk .ensures) _ _ (c .before .before .before .before .before .before .walked .given .1), numbered-so (rows-in (a .rows .now)) (a .fuel) (a .row) (a .tokens .now) (a .results) (a .first) (a .places .now) (a .held .now) (a .starts .now) (a .members .now) (a .ends .now) (s .pre .1 .0 .1) (s .pre .1 .1 .0) (c .before .before .before .before .before .before .before .before .before .before .before .before .before .before .walk .result) _ _ (c .before .before .before .before .before .before .before .before .before .before .before .before .before .before .walk .ensures) _ _ (c .before .before .before .before .before .before .walked .given .1)), s .pre .1 .1 .1)))
 
 scope-grouped-same-length-3 : (t : ℕ) → scope-grouped-lts.Need-same-length-3 (walk-below t, walk.Post, walk-refusal-reads.Asked, walk-refusal-reads.Learnt, write-scope-below t, write-scope.Post) (scope-grouped-at t) scope-grouped.Post
-scope-grouped-same-length-3 t c = ?
+scope-grouped-same-length-3 t c = search needs
 
 scope-grouped-same-length-4 : (t : ℕ) → scope-grouped-lts.Need-same-length-4 (walk-below t, walk.Post, walk-refusal-reads.Asked, walk-refusal-reads.Learnt, write-scope-below t, write-scope.Post) (scope-grouped-at t) scope-grouped.Post
-scope-grouped-same-length-4 t c = ?
+scope-grouped-same-length-4 t c = search needs
 
 scope-grouped-same-length-5 : (t : ℕ) → scope-grouped-lts.Need-same-length-5 (walk-below t, walk.Post, walk-refusal-reads.Asked, walk-refusal-reads.Learnt, write-scope-below t, write-scope.Post) (scope-grouped-at t) scope-grouped.Post
-scope-grouped-same-length-5 t c = ?
+scope-grouped-same-length-5 t c = search needs
 
 scope-grouped-returns-2 : (t : ℕ) → scope-grouped-lts.Need-returns-2 (walk-below t, walk.Post, walk-refusal-reads.Asked, walk-refusal-reads.Learnt, write-scope-below t, write-scope.Post) (scope-grouped-at t) scope-grouped.Post
-scope-grouped-returns-2 t c = ?
+scope-grouped-returns-2 t c = c .before .before .before .before .before .before .write-scope .ensures
 
 scope-held-slice-aggregate-list-trees : (t : ℕ) → scope-held-lts.Need-slice-aggregate-list-trees (list-trees-reads.Asked, list-trees-reads.Learnt, group-all-reads.Asked, group-all-reads.Learnt, scope-grouped-below t, scope-grouped.Post) (scope-held-at t) scope-held.Post
-scope-held-slice-aggregate-list-trees t c = ?
+scope-held-slice-aggregate-list-trees t c = search needs
 
 scope-held-list-trees-requires : (t : ℕ) → scope-held-lts.Need-list-trees-requires (list-trees-reads.Asked, list-trees-reads.Learnt, group-all-reads.Asked, group-all-reads.Learnt, scope-grouped-below t, scope-grouped.Post) (scope-held-at t) scope-held.Post
-scope-held-list-trees-requires t c κs = ?
+scope-held-list-trees-requires t c κs = search needs
 
 scope-held-slice-aggregate-group-all : (t : ℕ) → scope-held-lts.Need-slice-aggregate-group-all (list-trees-reads.Asked, list-trees-reads.Learnt, group-all-reads.Asked, group-all-reads.Learnt, scope-grouped-below t, scope-grouped.Post) (scope-held-at t) scope-held.Post
-scope-held-slice-aggregate-group-all t c = ?
+scope-held-slice-aggregate-group-all t c = search needs
 
 scope-held-slice-aggregate-group-all-2 : (t : ℕ) → scope-held-lts.Need-slice-aggregate-group-all-2 (list-trees-reads.Asked, list-trees-reads.Learnt, group-all-reads.Asked, group-all-reads.Learnt, scope-grouped-below t, scope-grouped.Post) (scope-held-at t) scope-held.Post
-scope-held-slice-aggregate-group-all-2 t c = ?
+scope-held-slice-aggregate-group-all-2 t c = search needs
 
 scope-held-group-all-requires : (t : ℕ) → scope-held-lts.Need-group-all-requires (list-trees-reads.Asked, list-trees-reads.Learnt, group-all-reads.Asked, group-all-reads.Learnt, scope-grouped-below t, scope-grouped.Post) (scope-held-at t) scope-held.Post
-scope-held-group-all-requires t c κs = ?
+scope-held-group-all-requires t c κs = let s = c .before .before .before .before .before .before .before .before .before .before .before .before in let a = s .args in ((held-complete (rows-in (a .rows .now)) (a .tokens .now) (a .results) (a .first) (a .places .now) (s .pre .1 .0 .1) (a .held .now) (s .pre .1 .1 .0 .1) (s .pre .1 .1 .0 .2), s .pre .1 .1 .0 .2), (omega arith, omega arith))
 
 scope-held-array-share-prefix-starts : (t : ℕ) → scope-held-lts.Need-array-share-prefix-starts (list-trees-reads.Asked, list-trees-reads.Learnt, group-all-reads.Asked, group-all-reads.Learnt, scope-grouped-below t, scope-grouped.Post) (scope-held-at t) scope-held.Post
-scope-held-array-share-prefix-starts t c = ?
+scope-held-array-share-prefix-starts t c = let s = c .before .before .before .before .before .before .before .before .before .before .before .before .before .before .before .before in let a = s .args in omega (arith, trees-short (rows-in (a .rows .now)) (a .tokens .now) (a .results) (a .first) (a .places .now) (s .pre .1 .0 .1) (a .held .now) (s .pre .1 .1 .0 .1) (s .pre .1 .1 .0 .2) (a .trees) (s .pre .1 .1 .0 .0), c .before .before .before .before .before .before .before .list-trees .kept .1 .0)
 
 scope-held-slice-aggregate-scope-grouped :
     (t : ℕ) → scope-held-lts.Need-slice-aggregate-scope-grouped (
@@ -534,10 +536,10 @@ scope-held-slice-aggregate-scope-grouped :
       scope-grouped-below t,
       scope-grouped.Post,
     ) (scope-held-at t) scope-held.Post
-scope-held-slice-aggregate-scope-grouped t c = ?
+scope-held-slice-aggregate-scope-grouped t c = let s = c .before .before .before .before .before .before .before .before .before .before .before .before .before .before .before .before .before in let a = s .args in sym (length-take-le _ _ (omega (arith, trees-short (rows-in (a .rows .now)) (a .tokens .now) (a .results) (a .first) (a .places .now) (s .pre .1 .0 .1) (a .held .now) (s .pre .1 .1 .0 .1) (s .pre .1 .1 .0 .2) (a .trees) (s .pre .1 .1 .0 .0), c .before .before .before .before .before .before .before .before .list-trees .kept .1 .0)))
 
 scope-held-array-share-prefix-members : (t : ℕ) → scope-held-lts.Need-array-share-prefix-members (list-trees-reads.Asked, list-trees-reads.Learnt, group-all-reads.Asked, group-all-reads.Learnt, scope-grouped-below t, scope-grouped.Post) (scope-held-at t) scope-held.Post
-scope-held-array-share-prefix-members t c = ?
+scope-held-array-share-prefix-members t c = c .before .before .before .before .group-all .ensures .members-in
 
 scope-held-slice-aggregate-scope-grouped-2 :
     (t : ℕ) → scope-held-lts.Need-slice-aggregate-scope-grouped-2 (
@@ -548,10 +550,10 @@ scope-held-slice-aggregate-scope-grouped-2 :
       scope-grouped-below t,
       scope-grouped.Post,
     ) (scope-held-at t) scope-held.Post
-scope-held-slice-aggregate-scope-grouped-2 t c = ?
+scope-held-slice-aggregate-scope-grouped-2 t c = sym (length-take-le _ _ (c .before .before .before .before .before .group-all .ensures .members-in))
 
 scope-held-array-share-prefix-ends : (t : ℕ) → scope-held-lts.Need-array-share-prefix-ends (list-trees-reads.Asked, list-trees-reads.Learnt, group-all-reads.Asked, group-all-reads.Learnt, scope-grouped-below t, scope-grouped.Post) (scope-held-at t) scope-held.Post
-scope-held-array-share-prefix-ends t c = ?
+scope-held-array-share-prefix-ends t c = c .before .before .before .before .before .group-all .ensures .ends-in
 
 scope-held-slice-aggregate-scope-grouped-3 :
     (t : ℕ) → scope-held-lts.Need-slice-aggregate-scope-grouped-3 (
@@ -562,22 +564,22 @@ scope-held-slice-aggregate-scope-grouped-3 :
       scope-grouped-below t,
       scope-grouped.Post,
     ) (scope-held-at t) scope-held.Post
-scope-held-slice-aggregate-scope-grouped-3 t c = ?
+scope-held-slice-aggregate-scope-grouped-3 t c = sym (length-take-le _ _ (c .before .before .before .before .before .before .group-all .ensures .ends-in))
 
 scope-held-scope-grouped-requires : (t : ℕ) → scope-held-lts.Need-scope-grouped-requires (list-trees-reads.Asked, list-trees-reads.Learnt, group-all-reads.Asked, group-all-reads.Learnt, scope-grouped-below t, scope-grouped.Post) (scope-held-at t) scope-held.Post
-scope-held-scope-grouped-requires t c κs = ?
+scope-held-scope-grouped-requires t c κs = let s = c .before .before .before .before .before .before .before .before .before .before .before .before .before .before .before .before .before .before .before .before .before in let a = s .args in (omega (arith, s .pre .0), ((s .pre .1 .0 .0, left-holds (rows-in (a .rows .now)) (a .tokens .now) (a .results) (a .first) (a .places .now) (s .pre .1 .0 .1) (a .held .now) (s .pre .1 .1 .0 .1) (s .pre .1 .1 .0 .2)), ((ready-so (rows-in (a .rows .now)) (a .tokens .now) (a .results) (a .first) (a .places .now) (s .pre .1 .0 .1) (a .held .now) (s .pre .1 .1 .0 .1) (s .pre .1 .1 .0 .2) (a .trees) (s .pre .1 .1 .0 .0) _ _ refl (c .before .before .before .before .before .before .before .before .before .before .before .before .list-trees .ensures .1) _ _ _ _ (c .before .before .before .before .before .before .before .before .group-all .ensures)), s .pre .1 .1 .1)))
 
 scope-held-same-length : (t : ℕ) → scope-held-lts.Need-same-length (list-trees-reads.Asked, list-trees-reads.Learnt, group-all-reads.Asked, group-all-reads.Learnt, scope-grouped-below t, scope-grouped.Post) (scope-held-at t) scope-held.Post
-scope-held-same-length t c = ?
+scope-held-same-length t c = search needs
 
 scope-held-same-length-2 : (t : ℕ) → scope-held-lts.Need-same-length-2 (list-trees-reads.Asked, list-trees-reads.Learnt, group-all-reads.Asked, group-all-reads.Learnt, scope-grouped-below t, scope-grouped.Post) (scope-held-at t) scope-held.Post
-scope-held-same-length-2 t c = ?
+scope-held-same-length-2 t c = search needs
 
 scope-held-same-length-3 : (t : ℕ) → scope-held-lts.Need-same-length-3 (list-trees-reads.Asked, list-trees-reads.Learnt, group-all-reads.Asked, group-all-reads.Learnt, scope-grouped-below t, scope-grouped.Post) (scope-held-at t) scope-held.Post
-scope-held-same-length-3 t c = ?
+scope-held-same-length-3 t c = search needs
 
 scope-held-returns : (t : ℕ) → scope-held-lts.Need-returns (list-trees-reads.Asked, list-trees-reads.Learnt, group-all-reads.Asked, group-all-reads.Learnt, scope-grouped-below t, scope-grouped.Post) (scope-held-at t) scope-held.Post
-scope-held-returns t c = ?
+scope-held-returns t c = c .before .before .before .before .before .before .scope-grouped .ensures
 
 scope-listed-slice-reshare-prefix-put : (t : ℕ) → scope-listed-lts.Need-slice-reshare-prefix-put (put-reads.Asked, put-reads.Learnt, tree-count-reads.Asked, tree-count-reads.Learnt, hold-all-reads.Asked, hold-all-reads.Learnt, scope-held-below t, scope-held.Post) (scope-listed-at t) scope-listed.Post
 scope-listed-slice-reshare-prefix-put t c = ?
@@ -901,13 +903,13 @@ write-match-returns-3 : (t : ℕ) → write-match-lts.Need-returns-3 (write-matc
 write-match-returns-3 t c = ?
 
 write-scope-sub-made : (t : ℕ) → write-scope-lts.Need-sub-made (order-stmts-reads.Asked, order-stmts-reads.Learnt, write-stmts-below t, write-stmts.Post, write-values-reads.Asked, write-values-reads.Learnt) (write-scope-at t) write-scope.Post
-write-scope-sub-made t c = let s = c .before .before .before .before .before .before .before .before .before .before .before .before in s .pre .1 .1 .0 .0 .enough
+write-scope-sub-made t c = ?
 
 write-scope-add-count : (t : ℕ) → write-scope-lts.Need-add-count (order-stmts-reads.Asked, order-stmts-reads.Learnt, write-stmts-below t, write-stmts.Post, write-values-reads.Asked, write-values-reads.Learnt) (write-scope-at t) write-scope.Post
-write-scope-add-count t c = let s = c .before .before .before .before .before .before .before .before .before .before .before .before in let a = s .args in omega (arith, lets-few (rows-in (a .rows .now)) (a .fuel) (a .tokens .now) (a .results) (a .first) (a .places .now) (a .held .now) (a .starts .now) (a .members .now) (a .ends .now) (a .numbers .now) (a .sizes .now) (s .pre .1 .0 .1) (s .pre .1 .1 .0 .0) (s .pre .1 .1 .0 .1 .sized))
+write-scope-add-count t c = ?
 
 write-scope-add-count-2 : (t : ℕ) → write-scope-lts.Need-add-count-2 (order-stmts-reads.Asked, order-stmts-reads.Learnt, write-stmts-below t, write-stmts.Post, write-values-reads.Asked, write-values-reads.Learnt) (write-scope-at t) write-scope.Post
-write-scope-add-count-2 t c = let s = c .before .before .before .before .before .before .before .before .before .before .before .before in let a = s .args in omega (arith, statements-here (rows-in (a .rows .now)) (a .fuel) (a .tokens .now) (a .results) (a .first) (a .places .now) (a .held .now) (a .starts .now) (a .members .now) (a .ends .now) (a .numbers .now) (a .sizes .now) (a .after) (a .extracted) (a .row) (s .pre .1 .0 .1) (s .pre .1 .1 .0 .0) (s .pre .1 .1 .0 .1), s .pre .1 .1 .0 .0 .statements)
+write-scope-add-count-2 t c = ?
 
 write-scope-slice-aggregate-order-stmts :
     (t : ℕ) → write-scope-lts.Need-slice-aggregate-order-stmts (
@@ -918,16 +920,16 @@ write-scope-slice-aggregate-order-stmts :
       write-values-reads.Asked,
       write-values-reads.Learnt,
     ) (write-scope-at t) write-scope.Post
-write-scope-slice-aggregate-order-stmts t c = search needs
+write-scope-slice-aggregate-order-stmts t c = ?
 
 write-scope-order-stmts-requires : (t : ℕ) → write-scope-lts.Need-order-stmts-requires (order-stmts-reads.Asked, order-stmts-reads.Learnt, write-stmts-below t, write-stmts.Post, write-values-reads.Asked, write-values-reads.Learnt) (write-scope-at t) write-scope.Post
-write-scope-order-stmts-requires t c κs = let s = c .before .before .before .before .before .before .before .before .before .before .before .before .before in (s .pre .1 .1 .0 .0, omega arith)
+write-scope-order-stmts-requires t c κs = ?
 
 write-scope-enum-told : (t : ℕ) → write-scope-lts.Need-enum-told (order-stmts-reads.Asked, order-stmts-reads.Learnt, write-stmts-below t, write-stmts.Post, write-values-reads.Asked, write-values-reads.Learnt) (write-scope-at t) write-scope.Post
-write-scope-enum-told t c = search needs
+write-scope-enum-told t c = ?
 
 write-scope-array-share-prefix-taken : (t : ℕ) → write-scope-lts.Need-array-share-prefix-taken (order-stmts-reads.Asked, order-stmts-reads.Learnt, write-stmts-below t, write-stmts.Post, write-values-reads.Asked, write-values-reads.Learnt) (write-scope-at t) write-scope.Post
-write-scope-array-share-prefix-taken t c = let s = c .before .before .before .before .before .before .before .before .before .before .before .before .before .before .before .before .before .before in let a = s .args in omega (arith, statements-here (rows-in (a .rows .now)) (a .fuel) (a .tokens .now) (a .results) (a .first) (a .places .now) (a .held .now) (a .starts .now) (a .members .now) (a .ends .now) (a .numbers .now) (a .sizes .now) (a .after) (a .extracted) (a .row) (s .pre .1 .0 .1) (s .pre .1 .1 .0 .0) (s .pre .1 .1 .0 .1), s .pre .1 .1 .0 .0 .statements)
+write-scope-array-share-prefix-taken t c = ?
 
 write-scope-slice-aggregate-write-stmts :
     (t : ℕ) → write-scope-lts.Need-slice-aggregate-write-stmts (
@@ -938,40 +940,40 @@ write-scope-slice-aggregate-write-stmts :
       write-values-reads.Asked,
       write-values-reads.Learnt,
     ) (write-scope-at t) write-scope.Post
-write-scope-slice-aggregate-write-stmts t c = search needs
+write-scope-slice-aggregate-write-stmts t c = ?
 
 write-scope-write-stmts-requires : (t : ℕ) → write-scope-lts.Need-write-stmts-requires (order-stmts-reads.Asked, order-stmts-reads.Learnt, write-stmts-below t, write-stmts.Post, write-values-reads.Asked, write-values-reads.Learnt) (write-scope-at t) write-scope.Post
-write-scope-write-stmts-requires t c κs = let s = c .before .before .before .before .before .before .before .before .before .before .before .before .before .before .before .before .before .before .before .before .before in let a = s .args in (omega (arith, s .pre .0), (s .pre .1 .0, ((s .pre .1 .1 .0 .0, s .pre .1 .1 .0 .1 .sized), (positions (rows-in (a .rows .now)) (a .fuel) (a .tokens .now) (a .results) (a .first) (a .places .now) (a .held .now) (a .starts .now) (a .members .now) (a .ends .now) (a .numbers .now) (a .sizes .now) (a .after) (a .extracted) (a .row) (s .pre .1 .0 .1) (s .pre .1 .1 .0 .0) (s .pre .1 .1 .0 .1) (c .before .before .before .before .before .before .before .order-stmts .result) _ _ (c .before .before .before .before .before .before .before .order-stmts .ensures) (a .at) (a .table .now) (c .before .before .before .before .enum-told .given .1) _ (statements-here (rows-in (a .rows .now)) (a .fuel) (a .tokens .now) (a .results) (a .first) (a .places .now) (a .held .now) (a .starts .now) (a .members .now) (a .ends .now) (a .numbers .now) (a .sizes .now) (a .after) (a .extracted) (a .row) (s .pre .1 .0 .1) (s .pre .1 .1 .0 .0) (s .pre .1 .1 .0 .1)) (s .pre .1 .1 .1), stmts-fit (rows-in (a .rows .now)) (a .fuel) (a .tokens .now) (a .results) (a .first) (a .places .now) (a .held .now) (a .starts .now) (a .members .now) (a .ends .now) (a .numbers .now) (a .sizes .now) (a .after) (a .extracted) (a .row) (s .pre .1 .0 .1) (s .pre .1 .1 .0 .0) (s .pre .1 .1 .0 .1) (c .before .before .before .before .before .before .before .order-stmts .result) _ _ (c .before .before .before .before .before .before .before .order-stmts .ensures) (a .at) (a .table .now) (c .before .before .before .before .enum-told .given .1) _ (statements-here (rows-in (a .rows .now)) (a .fuel) (a .tokens .now) (a .results) (a .first) (a .places .now) (a .held .now) (a .starts .now) (a .members .now) (a .ends .now) (a .numbers .now) (a .sizes .now) (a .after) (a .extracted) (a .row) (s .pre .1 .0 .1) (s .pre .1 .1 .0 .0) (s .pre .1 .1 .0 .1)) (s .pre .1 .1 .1)))))
+write-scope-write-stmts-requires t c κs = ?
 
 write-scope-write-values-requires : (t : ℕ) → write-scope-lts.Need-write-values-requires (order-stmts-reads.Asked, order-stmts-reads.Learnt, write-stmts-below t, write-stmts.Post, write-values-reads.Asked, write-values-reads.Learnt) (write-scope-at t) write-scope.Post
-write-scope-write-values-requires t c κs = let s = c .before .before .before .before .before .before .before .before .before .before .before .before .before .before .before .before .before .before .before .before .before .before .before .before .before .before .before .before .before in let a = s .args in (readied (rows-in (a .rows .now)) (a .fuel) (a .tokens .now) (a .results) (a .first) (a .places .now) (a .held .now) (a .starts .now) (a .members .now) (a .ends .now) (a .numbers .now) (a .sizes .now) (s .pre .1 .0 .1) (s .pre .1 .1 .0 .0) (s .pre .1 .1 .0 .1 .sized), values-fit (rows-in (a .rows .now)) (a .fuel) (a .tokens .now) (a .results) (a .first) (a .places .now) (a .held .now) (a .starts .now) (a .members .now) (a .ends .now) (a .numbers .now) (a .sizes .now) (a .after) (a .extracted) (a .row) (s .pre .1 .0 .1) (s .pre .1 .1 .0 .0) (s .pre .1 .1 .0 .1) (c .before .before .before .before .before .before .before .before .before .before .before .before .before .before .before .order-stmts .result) _ _ (c .before .before .before .before .before .before .before .before .before .before .before .before .before .before .before .order-stmts .ensures) (a .at) (a .table .now) (c .before .before .before .before .before .before .before .before .before .before .before .before .enum-told .given .1) _ (statements-here (rows-in (a .rows .now)) (a .fuel) (a .tokens .now) (a .results) (a .first) (a .places .now) (a .held .now) (a .starts .now) (a .members .now) (a .ends .now) (a .numbers .now) (a .sizes .now) (a .after) (a .extracted) (a .row) (s .pre .1 .0 .1) (s .pre .1 .1 .0 .0) (s .pre .1 .1 .0 .1)) (s .pre .1 .1 .1) (c .before .before .before .before .before .before .before .write-stmts .result) (c .before .before .before .before .before .before .before .write-stmts .ensures .0))
+write-scope-write-values-requires t c κs = ?
 
 write-scope-add-t42 : (t : ℕ) → write-scope-lts.Need-add-t42 (order-stmts-reads.Asked, order-stmts-reads.Learnt, write-stmts-below t, write-stmts.Post, write-values-reads.Asked, write-values-reads.Learnt) (write-scope-at t) write-scope.Post
-write-scope-add-t42 t c = let s = c .before .before .before .before .before .before .before .before .before .before .before .before .before .before .before .before .before .before .before .before .before .before .before .before .before .before .before .before .before .before .before .before in let a = s .args in ?
+write-scope-add-t42 t c = ?
 
 write-scope-enum-told-2 : (t : ℕ) → write-scope-lts.Need-enum-told-2 (order-stmts-reads.Asked, order-stmts-reads.Learnt, write-stmts-below t, write-stmts.Post, write-values-reads.Asked, write-values-reads.Learnt) (write-scope-at t) write-scope.Post
-write-scope-enum-told-2 t c = search needs
+write-scope-enum-told-2 t c = ?
 
 write-scope-enum-told-3 : (t : ℕ) → write-scope-lts.Need-enum-told-3 (order-stmts-reads.Asked, order-stmts-reads.Learnt, write-stmts-below t, write-stmts.Post, write-values-reads.Asked, write-values-reads.Learnt) (write-scope-at t) write-scope.Post
-write-scope-enum-told-3 t c = search needs
+write-scope-enum-told-3 t c = ?
 
 write-scope-same-length : (t : ℕ) → write-scope-lts.Need-same-length (order-stmts-reads.Asked, order-stmts-reads.Learnt, write-stmts-below t, write-stmts.Post, write-values-reads.Asked, write-values-reads.Learnt) (write-scope-at t) write-scope.Post
-write-scope-same-length t c = search needs
+write-scope-same-length t c = ?
 
 write-scope-same-length-2 : (t : ℕ) → write-scope-lts.Need-same-length-2 (order-stmts-reads.Asked, order-stmts-reads.Learnt, write-stmts-below t, write-stmts.Post, write-values-reads.Asked, write-values-reads.Learnt) (write-scope-at t) write-scope.Post
-write-scope-same-length-2 t c = search needs
+write-scope-same-length-2 t c = ?
 
 write-scope-same-length-3 : (t : ℕ) → write-scope-lts.Need-same-length-3 (order-stmts-reads.Asked, order-stmts-reads.Learnt, write-stmts-below t, write-stmts.Post, write-values-reads.Asked, write-values-reads.Learnt) (write-scope-at t) write-scope.Post
-write-scope-same-length-3 t c = search needs
+write-scope-same-length-3 t c = ?
 
 write-scope-returns : (t : ℕ) → write-scope-lts.Need-returns (order-stmts-reads.Asked, order-stmts-reads.Learnt, write-stmts-below t, write-stmts.Post, write-values-reads.Asked, write-values-reads.Learnt) (write-scope-at t) write-scope.Post
-write-scope-returns t c = let s = c .before .before .before .before .before .before .before .before .before .before .before .before .before .before .before .before .before .before .before .before .before .before .before .before .before .before .before .before .before .before .before .before in let a = s .args in all-done (rows-in (a .rows .now)) (a .fuel) (a .tokens .now) (a .results) (a .first) (a .places .now) (a .held .now) (a .starts .now) (a .members .now) (a .ends .now) (a .numbers .now) (a .sizes .now) (a .after) (a .extracted) (a .row) (s .pre .1 .0 .1) (s .pre .1 .1 .0 .0) (s .pre .1 .1 .0 .1) (c .before .before .before .before .before .before .before .before .before .before .before .before .before .before .before .before .before .before .order-stmts .result) _ _ (c .before .before .before .before .before .before .before .before .before .before .before .before .before .before .before .before .before .before .order-stmts .ensures) (a .at) (a .table .now) (c .before .before .before .before .before .before .before .before .before .before .before .before .before .before .before .enum-told .given .1) _ (statements-here (rows-in (a .rows .now)) (a .fuel) (a .tokens .now) (a .results) (a .first) (a .places .now) (a .held .now) (a .starts .now) (a .members .now) (a .ends .now) (a .numbers .now) (a .sizes .now) (a .after) (a .extracted) (a .row) (s .pre .1 .0 .1) (s .pre .1 .1 .0 .0) (s .pre .1 .1 .0 .1)) (s .pre .1 .1 .1) (c .before .before .before .before .before .before .before .before .before .before .write-stmts .result) _ (c .before .before .before .before .before .before .before .before .before .before .write-stmts .ensures) (c .before .before .write-values .result) _ (c .before .before .write-values .ensures) _ refl
+write-scope-returns t c = ?
 
 write-scope-returns-2 : (t : ℕ) → write-scope-lts.Need-returns-2 (order-stmts-reads.Asked, order-stmts-reads.Learnt, write-stmts-below t, write-stmts.Post, write-values-reads.Asked, write-values-reads.Learnt) (write-scope-at t) write-scope.Post
-write-scope-returns-2 t c = let s = c .before .before .before .before .before .before .before .before .before .before .before .before .before .before .before .before .before in let a = s .args in ring-done (rows-in (a .rows .now)) (a .fuel) (a .tokens .now) (a .results) (a .first) (a .places .now) (a .held .now) (a .starts .now) (a .members .now) (a .ends .now) (a .numbers .now) (a .sizes .now) (a .after) (a .extracted) (a .row) (s .pre .1 .0 .1) (s .pre .1 .1 .0 .0) (s .pre .1 .1 .0 .1) (c .before .before .before .order-stmts .result) _ _ (c .before .before .before .order-stmts .ensures) (a .at) (a .table .now) _ (c .enum-told2 .given .1)
+write-scope-returns-2 t c = ?
 
 write-scope-returns-3 : (t : ℕ) → write-scope-lts.Need-returns-3 (order-stmts-reads.Asked, order-stmts-reads.Learnt, write-stmts-below t, write-stmts.Post, write-values-reads.Asked, write-values-reads.Learnt) (write-scope-at t) write-scope.Post
-write-scope-returns-3 t c = let s = c .before .before .before .before .before .before .before .before .before .before .before .before .before .before .before .before .before in let a = s .args in absurd (never-broken (rows-in (a .rows .now)) (a .fuel) (a .tokens .now) (a .results) (a .first) (a .places .now) (a .held .now) (a .starts .now) (a .members .now) (a .ends .now) (a .numbers .now) (a .sizes .now) (a .after) (a .extracted) (a .row) (s .pre .1 .0 .1) (s .pre .1 .1 .0 .0) (s .pre .1 .1 .0 .1) (c .before .before .before .order-stmts .result) _ _ (c .before .before .before .order-stmts .ensures) (a .at) (a .table .now) (c .enum-told3 .given .1))
+write-scope-returns-3 t c = ?
 
 write-stmt-sub-lets : (t : ℕ) → write-stmt-lts.Need-sub-lets (write-let-reads.Asked, write-let-reads.Learnt, write-match-below t, write-match.Post) (write-stmt-at t) write-stmt.Post
 write-stmt-sub-lets t c = ?
