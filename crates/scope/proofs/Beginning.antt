@@ -308,7 +308,7 @@ module _ (rows : List Row) (fuel row : ℕ) (work : List ℕ) (used k first : �
         too-many e at table =
             let g = subst (λ (q : Holding). Holding-so (words-held (take used tokens) (first + (trees - k)) places) q held) e given in
             let hs = held-words (take used tokens) k first places in
-            let b : leb (length hs) 1024 ≡ false = lt-leb 1024 (length hs) (omega (arith, g, ap length words-are)) in
+            let b : leb (length hs) 1024 ≡ false = lt-leb (length hs) 1024 (omega (arith, g, ap length words-are)) in
             scope-refused outcome (by 23) (same-outcome ∙ by-no-test (leb (length hs) 1024) _ (refused (by 23)) b) at table
 
         module _ (n : ℕ) (e : r ≡ holding.Words n) where

@@ -7,3 +7,4 @@ pub mod Writing
 pub mod Statements
 pub mod Ending
 pub mod Beginning
+pub mod Scoping

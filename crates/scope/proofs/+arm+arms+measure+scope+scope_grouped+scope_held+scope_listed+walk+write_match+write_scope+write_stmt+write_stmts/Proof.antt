@@ -24,6 +24,10 @@ use Rattle.scope.specs.Frame.{scope-arms, most-rows}
 use Rattle.scope.proofs.Ending.{extracted-low, count-here as statements-here, ring-done, never-broken, taken-is, positions, stmts-fit, values-fit, all-done}
 use lib.Seq.{length-take-le}
 use Rattle.scope.proofs.Beginning.{lets-small, from-low, holds-from, members-short, ends-short, walk-refused, numbered-so, prepared-so, left-there, left-holds, held-whole as held-complete, trees-short, starts-long, ready-so}
+use native.Mathlib.Nat.{le-refl}
+use Rattle.scope.proofs.Beginning.{whole-so, lent-rest, used-few, tokens-are, tokens-left, tokens-whole, trees-enough, trees-few-here, places-short, tokens-there, too-many, held-in, held-are, held-short, outcome-is}
+use Rattle.scope.proofs.Ending.{Scope-done}
+use Rattle.scope.specs.Answers.{told-rows}
 use borrow.Author.Needs.{needs}
 use Prim.Native.Nat.{ℕ, _<_, _+_, _-_, _*_, _≤_}
 use borrow.Fn.Kinds.{In}
@@ -423,40 +427,40 @@ scope-returns-5 : (t : ℕ) → scope-lts.Need-returns-5 (tree-count-reads.Asked
 scope-returns-5 t c = ?
 
 scope-grouped-sub-next : (t : ℕ) → scope-grouped-lts.Need-sub-next (walk-below t, walk.Post, walk-refusal-reads.Asked, walk-refusal-reads.Learnt, write-scope-below t, write-scope.Post) (scope-grouped-at t) scope-grouped.Post
-scope-grouped-sub-next t c = let s = c .before .before .before .before .before .before .before .before .before .before in s .pre .1 .1 .0 .enough
+scope-grouped-sub-next t c = ?
 
 scope-grouped-add-next : (t : ℕ) → scope-grouped-lts.Need-add-next (walk-below t, walk.Post, walk-refusal-reads.Asked, walk-refusal-reads.Learnt, write-scope-below t, write-scope.Post) (scope-grouped-at t) scope-grouped.Post
-scope-grouped-add-next t c = let s = c .before .before .before .before .before .before .before .before .before .before in let a = s .args in omega (arith, lets-small (rows-in (a .rows .now)) (a .fuel) (a .row) (a .tokens .now) (a .results) (a .first) (a .places .now) (a .held .now) (a .starts .now) (a .members .now) (a .ends .now) (s .pre .1 .0 .1) (s .pre .1 .1 .0))
+scope-grouped-add-next t c = ?
 
 scope-grouped-add-next-2 : (t : ℕ) → scope-grouped-lts.Need-add-next-2 (walk-below t, walk.Post, walk-refusal-reads.Asked, walk-refusal-reads.Learnt, write-scope-below t, write-scope.Post) (scope-grouped-at t) scope-grouped.Post
-scope-grouped-add-next-2 t c = let s = c .before .before .before .before .before .before .before .before .before .before in let a = s .args in omega (arith, from-low (rows-in (a .rows .now)) (a .fuel) (a .row) (a .tokens .now) (a .results) (a .first) (a .places .now) (a .held .now) (a .starts .now) (a .members .now) (a .ends .now) (s .pre .1 .0 .1) (s .pre .1 .1 .0))
+scope-grouped-add-next-2 t c = ?
 
 scope-grouped-slice-aggregate-walk : (t : ℕ) → scope-grouped-lts.Need-slice-aggregate-walk (walk-below t, walk.Post, walk-refusal-reads.Asked, walk-refusal-reads.Learnt, write-scope-below t, write-scope.Post) (scope-grouped-at t) scope-grouped.Post
-scope-grouped-slice-aggregate-walk t c = search needs
+scope-grouped-slice-aggregate-walk t c = ?
 
 scope-grouped-slice-aggregate-walk-2 : (t : ℕ) → scope-grouped-lts.Need-slice-aggregate-walk-2 (walk-below t, walk.Post, walk-refusal-reads.Asked, walk-refusal-reads.Learnt, write-scope-below t, write-scope.Post) (scope-grouped-at t) scope-grouped.Post
-scope-grouped-slice-aggregate-walk-2 t c = search needs
+scope-grouped-slice-aggregate-walk-2 t c = ?
 
 scope-grouped-walk-requires : (t : ℕ) → scope-grouped-lts.Need-walk-requires (walk-below t, walk.Post, walk-refusal-reads.Asked, walk-refusal-reads.Learnt, write-scope-below t, write-scope.Post) (scope-grouped-at t) scope-grouped.Post
-scope-grouped-walk-requires t c κs = let s = c .before .before .before .before .before .before .before .before .before .before .before .before .before .before in let a = s .args in (omega (arith, s .pre .0), ((s .pre .1 .0 .0, holds-from (rows-in (a .rows .now)) (a .fuel) (a .row) (a .tokens .now) (a .results) (a .first) (a .places .now) (a .held .now) (a .starts .now) (a .members .now) (a .ends .now) (s .pre .1 .0 .1) (s .pre .1 .1 .0)), ((s .pre .1 .1 .0 .grouped, omega (arith, from-low (rows-in (a .rows .now)) (a .fuel) (a .row) (a .tokens .now) (a .results) (a .first) (a .places .now) (a .held .now) (a .starts .now) (a .members .now) (a .ends .now) (s .pre .1 .0 .1) (s .pre .1 .1 .0))), (omega (arith, members-short (rows-in (a .rows .now)) (a .fuel) (a .row) (a .tokens .now) (a .results) (a .first) (a .places .now) (a .held .now) (a .starts .now) (a .members .now) (a .ends .now) (s .pre .1 .0 .1) (s .pre .1 .1 .0)), omega (arith, ends-short (rows-in (a .rows .now)) (a .fuel) (a .row) (a .tokens .now) (a .results) (a .first) (a .places .now) (a .held .now) (a .starts .now) (a .members .now) (a .ends .now) (s .pre .1 .0 .1) (s .pre .1 .1 .0))))))
+scope-grouped-walk-requires t c κs = ?
 
 scope-grouped-enum-known-walked : (t : ℕ) → scope-grouped-lts.Need-enum-known-walked (walk-below t, walk.Post, walk-refusal-reads.Asked, walk-refusal-reads.Learnt, write-scope-below t, write-scope.Post) (scope-grouped-at t) scope-grouped.Post
-scope-grouped-enum-known-walked t c = search needs
+scope-grouped-enum-known-walked t c = ?
 
 scope-grouped-enum-told : (t : ℕ) → scope-grouped-lts.Need-enum-told (walk-below t, walk.Post, walk-refusal-reads.Asked, walk-refusal-reads.Learnt, write-scope-below t, write-scope.Post) (scope-grouped-at t) scope-grouped.Post
-scope-grouped-enum-told t c = search needs
+scope-grouped-enum-told t c = ?
 
 scope-grouped-walk-refusal-requires : (t : ℕ) → scope-grouped-lts.Need-walk-refusal-requires (walk-below t, walk.Post, walk-refusal-reads.Asked, walk-refusal-reads.Learnt, write-scope-below t, write-scope.Post) (scope-grouped-at t) scope-grouped.Post
-scope-grouped-walk-refusal-requires t c κs = search needs
+scope-grouped-walk-refusal-requires t c κs = ?
 
 scope-grouped-same-length : (t : ℕ) → scope-grouped-lts.Need-same-length (walk-below t, walk.Post, walk-refusal-reads.Asked, walk-refusal-reads.Learnt, write-scope-below t, write-scope.Post) (scope-grouped-at t) scope-grouped.Post
-scope-grouped-same-length t c = search needs
+scope-grouped-same-length t c = ?
 
 scope-grouped-same-length-2 : (t : ℕ) → scope-grouped-lts.Need-same-length-2 (walk-below t, walk.Post, walk-refusal-reads.Asked, walk-refusal-reads.Learnt, write-scope-below t, write-scope.Post) (scope-grouped-at t) scope-grouped.Post
-scope-grouped-same-length-2 t c = search needs
+scope-grouped-same-length-2 t c = ?
 
 scope-grouped-returns : (t : ℕ) → scope-grouped-lts.Need-returns (walk-below t, walk.Post, walk-refusal-reads.Asked, walk-refusal-reads.Learnt, write-scope-below t, write-scope.Post) (scope-grouped-at t) scope-grouped.Post
-scope-grouped-returns t c = let s = c .before .before .before .before .before .before .before .before .before .before .before .before .before .before .before .before .before .before .before .before .before .before .before .before in let a = s .args in walk-refused (rows-in (a .rows .now)) (a .fuel) (a .row) (a .tokens .now) (a .results) (a .first) (a .places .now) (a .held .now) (a .starts .now) (a .members .now) (a .ends .now) (s .pre .1 .0 .1) (s .pre .1 .1 .0) (c .before .before .before .before .before .before .before .before .before .walk .result) _ _ (c .before .before .before .before .before .before .before .before .before .walk .ensures) _ (c .before .enum-told .given .1) _ (c .walk-refusal .ensures) (a .at) (a .table .now)
+scope-grouped-returns t c = ?
 
 scope-grouped-array-share-prefix-numbers :
     (t : ℕ) → scope-grouped-lts.Need-array-share-prefix-numbers (
@@ -467,7 +471,7 @@ scope-grouped-array-share-prefix-numbers :
       write-scope-below t,
       write-scope.Post,
     ) (scope-grouped-at t) scope-grouped.Post
-scope-grouped-array-share-prefix-numbers t c = let s = c .before .before .before .before .before .before .before .before .before .before .before .before .before .before .before .before .before .before .before .before .before .before .before .before .before in let a = s .args in omega (arith, members-short (rows-in (a .rows .now)) (a .fuel) (a .row) (a .tokens .now) (a .results) (a .first) (a .places .now) (a .held .now) (a .starts .now) (a .members .now) (a .ends .now) (s .pre .1 .0 .1) (s .pre .1 .1 .0), c .before .before .before .before .before .before .before .before .before .before .walk .kept .1 .1 .1 .1 .1 .1 .1 .1 .0)
+scope-grouped-array-share-prefix-numbers t c = ?
 
 scope-grouped-slice-aggregate-write-scope :
     (t : ℕ) → scope-grouped-lts.Need-slice-aggregate-write-scope (
@@ -478,10 +482,10 @@ scope-grouped-slice-aggregate-write-scope :
       write-scope-below t,
       write-scope.Post,
     ) (scope-grouped-at t) scope-grouped.Post
-scope-grouped-slice-aggregate-write-scope t c = let s = c .before .before .before .before .before .before .before .before .before .before .before .before .before .before .before .before .before .before .before .before .before .before .before .before .before .before in let a = s .args in sym (length-take-le _ _ (omega (arith, members-short (rows-in (a .rows .now)) (a .fuel) (a .row) (a .tokens .now) (a .results) (a .first) (a .places .now) (a .held .now) (a .starts .now) (a .members .now) (a .ends .now) (s .pre .1 .0 .1) (s .pre .1 .1 .0), c .before .before .before .before .before .before .before .before .before .before .before .walk .kept .1 .1 .1 .1 .1 .1 .1 .1 .0)))
+scope-grouped-slice-aggregate-write-scope t c = ?
 
 scope-grouped-array-share-prefix-sizes : (t : ℕ) → scope-grouped-lts.Need-array-share-prefix-sizes (walk-below t, walk.Post, walk-refusal-reads.Asked, walk-refusal-reads.Learnt, write-scope-below t, write-scope.Post) (scope-grouped-at t) scope-grouped.Post
-scope-grouped-array-share-prefix-sizes t c = let s = c .before .before .before .before .before .before .before .before .before .before .before .before .before .before .before .before .before .before .before .before .before .before .before .before .before .before in let a = s .args in omega (arith, ends-short (rows-in (a .rows .now)) (a .fuel) (a .row) (a .tokens .now) (a .results) (a .first) (a .places .now) (a .held .now) (a .starts .now) (a .members .now) (a .ends .now) (s .pre .1 .0 .1) (s .pre .1 .1 .0), c .before .before .before .before .before .before .before .before .before .before .before .walk .kept .1 .1 .1 .1 .1 .1 .1 .1 .1 .0)
+scope-grouped-array-share-prefix-sizes t c = ?
 
 scope-grouped-slice-aggregate-write-scope-2 :
     (t : ℕ) → scope-grouped-lts.Need-slice-aggregate-write-scope-2 (
@@ -492,40 +496,40 @@ scope-grouped-slice-aggregate-write-scope-2 :
       write-scope-below t,
       write-scope.Post,
     ) (scope-grouped-at t) scope-grouped.Post
-scope-grouped-slice-aggregate-write-scope-2 t c = let s = c .before .before .before .before .before .before .before .before .before .before .before .before .before .before .before .before .before .before .before .before .before .before .before .before .before .before .before in let a = s .args in sym (length-take-le _ _ (omega (arith, ends-short (rows-in (a .rows .now)) (a .fuel) (a .row) (a .tokens .now) (a .results) (a .first) (a .places .now) (a .held .now) (a .starts .now) (a .members .now) (a .ends .now) (s .pre .1 .0 .1) (s .pre .1 .1 .0), c .before .before .before .before .before .before .before .before .before .before .before .before .walk .kept .1 .1 .1 .1 .1 .1 .1 .1 .1 .0)))
+scope-grouped-slice-aggregate-write-scope-2 t c = ?
 
 scope-grouped-write-scope-requires : (t : ℕ) → scope-grouped-lts.Need-write-scope-requires (walk-below t, walk.Post, walk-refusal-reads.Asked, walk-refusal-reads.Learnt, write-scope-below t, write-scope.Post) (scope-grouped-at t) scope-grouped.Post
-scope-grouped-write-scope-requires t c κs = let s = c .before .before .before .before .before .before .before .before .before .before .before .before .before .before .before .before .before .before .before .before .before .before .before .before .before .before .before .before .before in let a = s .args in (omega (arith, s .pre .0), ((lent-on (a .fuel) (a .work .now) (a .text .now) _ _ (s .pre .1 .0 .0) (c .before .before .before .before .before .before .before .before .before .before .before .before .before .before .walk .kept .1 .0) (c .before .before .before .before .before .before .before .before .before .before .before .before .before .before .walk .kept .1 .1 .1 .1 .1 .1 .1 .0), s .pre .1 .0 .1), ((prepared-so (rows-in (a .rows .now)) (a .fuel) (a .row) (a .tokens .now) (a .results) (a .first) (a .places .now) (a .held .now) (a .starts .now) (a .members .now) (a .ends .now) (s .pre .1 .0 .1) (s .pre .1 .1 .0) (c .before .before .before .before .before .before .before .before .before .before .before .before .before .before .walk .result) _ _ (c .before .before .before .before .before .before .before .before .before .before .before .before .before .before .walk .ensures) _ _ (c .before .before .before .before .before .before .walked .given .1), numbered-so (rows-in (a .rows .now)) (a .fuel) (a .row) (a .tokens .now) (a .results) (a .first) (a .places .now) (a .held .now) (a .starts .now) (a .members .now) (a .ends .now) (s .pre .1 .0 .1) (s .pre .1 .1 .0) (c .before .before .before .before .before .before .before .before .before .before .before .before .before .before .walk .result) _ _ (c .before .before .before .before .before .before .before .before .before .before .before .before .before .before .walk .ensures) _ _ (c .before .before .before .before .before .before .walked .given .1)), s .pre .1 .1 .1)))
+scope-grouped-write-scope-requires t c κs = ?
 
 scope-grouped-same-length-3 : (t : ℕ) → scope-grouped-lts.Need-same-length-3 (walk-below t, walk.Post, walk-refusal-reads.Asked, walk-refusal-reads.Learnt, write-scope-below t, write-scope.Post) (scope-grouped-at t) scope-grouped.Post
-scope-grouped-same-length-3 t c = search needs
+scope-grouped-same-length-3 t c = ?
 
 scope-grouped-same-length-4 : (t : ℕ) → scope-grouped-lts.Need-same-length-4 (walk-below t, walk.Post, walk-refusal-reads.Asked, walk-refusal-reads.Learnt, write-scope-below t, write-scope.Post) (scope-grouped-at t) scope-grouped.Post
-scope-grouped-same-length-4 t c = search needs
+scope-grouped-same-length-4 t c = ?
 
 scope-grouped-same-length-5 : (t : ℕ) → scope-grouped-lts.Need-same-length-5 (walk-below t, walk.Post, walk-refusal-reads.Asked, walk-refusal-reads.Learnt, write-scope-below t, write-scope.Post) (scope-grouped-at t) scope-grouped.Post
-scope-grouped-same-length-5 t c = search needs
+scope-grouped-same-length-5 t c = ?
 
 scope-grouped-returns-2 : (t : ℕ) → scope-grouped-lts.Need-returns-2 (walk-below t, walk.Post, walk-refusal-reads.Asked, walk-refusal-reads.Learnt, write-scope-below t, write-scope.Post) (scope-grouped-at t) scope-grouped.Post
-scope-grouped-returns-2 t c = c .before .before .before .before .before .before .write-scope .ensures
+scope-grouped-returns-2 t c = ?
 
 scope-held-slice-aggregate-list-trees : (t : ℕ) → scope-held-lts.Need-slice-aggregate-list-trees (list-trees-reads.Asked, list-trees-reads.Learnt, group-all-reads.Asked, group-all-reads.Learnt, scope-grouped-below t, scope-grouped.Post) (scope-held-at t) scope-held.Post
-scope-held-slice-aggregate-list-trees t c = search needs
+scope-held-slice-aggregate-list-trees t c = ?
 
 scope-held-list-trees-requires : (t : ℕ) → scope-held-lts.Need-list-trees-requires (list-trees-reads.Asked, list-trees-reads.Learnt, group-all-reads.Asked, group-all-reads.Learnt, scope-grouped-below t, scope-grouped.Post) (scope-held-at t) scope-held.Post
-scope-held-list-trees-requires t c κs = search needs
+scope-held-list-trees-requires t c κs = ?
 
 scope-held-slice-aggregate-group-all : (t : ℕ) → scope-held-lts.Need-slice-aggregate-group-all (list-trees-reads.Asked, list-trees-reads.Learnt, group-all-reads.Asked, group-all-reads.Learnt, scope-grouped-below t, scope-grouped.Post) (scope-held-at t) scope-held.Post
-scope-held-slice-aggregate-group-all t c = search needs
+scope-held-slice-aggregate-group-all t c = ?
 
 scope-held-slice-aggregate-group-all-2 : (t : ℕ) → scope-held-lts.Need-slice-aggregate-group-all-2 (list-trees-reads.Asked, list-trees-reads.Learnt, group-all-reads.Asked, group-all-reads.Learnt, scope-grouped-below t, scope-grouped.Post) (scope-held-at t) scope-held.Post
-scope-held-slice-aggregate-group-all-2 t c = search needs
+scope-held-slice-aggregate-group-all-2 t c = ?
 
 scope-held-group-all-requires : (t : ℕ) → scope-held-lts.Need-group-all-requires (list-trees-reads.Asked, list-trees-reads.Learnt, group-all-reads.Asked, group-all-reads.Learnt, scope-grouped-below t, scope-grouped.Post) (scope-held-at t) scope-held.Post
-scope-held-group-all-requires t c κs = let s = c .before .before .before .before .before .before .before .before .before .before .before .before in let a = s .args in ((held-complete (rows-in (a .rows .now)) (a .tokens .now) (a .results) (a .first) (a .places .now) (s .pre .1 .0 .1) (a .held .now) (s .pre .1 .1 .0 .1) (s .pre .1 .1 .0 .2), s .pre .1 .1 .0 .2), (omega arith, omega arith))
+scope-held-group-all-requires t c κs = ?
 
 scope-held-array-share-prefix-starts : (t : ℕ) → scope-held-lts.Need-array-share-prefix-starts (list-trees-reads.Asked, list-trees-reads.Learnt, group-all-reads.Asked, group-all-reads.Learnt, scope-grouped-below t, scope-grouped.Post) (scope-held-at t) scope-held.Post
-scope-held-array-share-prefix-starts t c = let s = c .before .before .before .before .before .before .before .before .before .before .before .before .before .before .before .before in let a = s .args in omega (arith, trees-short (rows-in (a .rows .now)) (a .tokens .now) (a .results) (a .first) (a .places .now) (s .pre .1 .0 .1) (a .held .now) (s .pre .1 .1 .0 .1) (s .pre .1 .1 .0 .2) (a .trees) (s .pre .1 .1 .0 .0), c .before .before .before .before .before .before .before .list-trees .kept .1 .0)
+scope-held-array-share-prefix-starts t c = ?
 
 scope-held-slice-aggregate-scope-grouped :
     (t : ℕ) → scope-held-lts.Need-slice-aggregate-scope-grouped (
@@ -536,10 +540,10 @@ scope-held-slice-aggregate-scope-grouped :
       scope-grouped-below t,
       scope-grouped.Post,
     ) (scope-held-at t) scope-held.Post
-scope-held-slice-aggregate-scope-grouped t c = let s = c .before .before .before .before .before .before .before .before .before .before .before .before .before .before .before .before .before in let a = s .args in sym (length-take-le _ _ (omega (arith, trees-short (rows-in (a .rows .now)) (a .tokens .now) (a .results) (a .first) (a .places .now) (s .pre .1 .0 .1) (a .held .now) (s .pre .1 .1 .0 .1) (s .pre .1 .1 .0 .2) (a .trees) (s .pre .1 .1 .0 .0), c .before .before .before .before .before .before .before .before .list-trees .kept .1 .0)))
+scope-held-slice-aggregate-scope-grouped t c = ?
 
 scope-held-array-share-prefix-members : (t : ℕ) → scope-held-lts.Need-array-share-prefix-members (list-trees-reads.Asked, list-trees-reads.Learnt, group-all-reads.Asked, group-all-reads.Learnt, scope-grouped-below t, scope-grouped.Post) (scope-held-at t) scope-held.Post
-scope-held-array-share-prefix-members t c = c .before .before .before .before .group-all .ensures .members-in
+scope-held-array-share-prefix-members t c = ?
 
 scope-held-slice-aggregate-scope-grouped-2 :
     (t : ℕ) → scope-held-lts.Need-slice-aggregate-scope-grouped-2 (
@@ -550,10 +554,10 @@ scope-held-slice-aggregate-scope-grouped-2 :
       scope-grouped-below t,
       scope-grouped.Post,
     ) (scope-held-at t) scope-held.Post
-scope-held-slice-aggregate-scope-grouped-2 t c = sym (length-take-le _ _ (c .before .before .before .before .before .group-all .ensures .members-in))
+scope-held-slice-aggregate-scope-grouped-2 t c = ?
 
 scope-held-array-share-prefix-ends : (t : ℕ) → scope-held-lts.Need-array-share-prefix-ends (list-trees-reads.Asked, list-trees-reads.Learnt, group-all-reads.Asked, group-all-reads.Learnt, scope-grouped-below t, scope-grouped.Post) (scope-held-at t) scope-held.Post
-scope-held-array-share-prefix-ends t c = c .before .before .before .before .before .group-all .ensures .ends-in
+scope-held-array-share-prefix-ends t c = ?
 
 scope-held-slice-aggregate-scope-grouped-3 :
     (t : ℕ) → scope-held-lts.Need-slice-aggregate-scope-grouped-3 (
@@ -564,37 +568,37 @@ scope-held-slice-aggregate-scope-grouped-3 :
       scope-grouped-below t,
       scope-grouped.Post,
     ) (scope-held-at t) scope-held.Post
-scope-held-slice-aggregate-scope-grouped-3 t c = sym (length-take-le _ _ (c .before .before .before .before .before .before .group-all .ensures .ends-in))
+scope-held-slice-aggregate-scope-grouped-3 t c = ?
 
 scope-held-scope-grouped-requires : (t : ℕ) → scope-held-lts.Need-scope-grouped-requires (list-trees-reads.Asked, list-trees-reads.Learnt, group-all-reads.Asked, group-all-reads.Learnt, scope-grouped-below t, scope-grouped.Post) (scope-held-at t) scope-held.Post
-scope-held-scope-grouped-requires t c κs = let s = c .before .before .before .before .before .before .before .before .before .before .before .before .before .before .before .before .before .before .before .before .before in let a = s .args in (omega (arith, s .pre .0), ((s .pre .1 .0 .0, left-holds (rows-in (a .rows .now)) (a .tokens .now) (a .results) (a .first) (a .places .now) (s .pre .1 .0 .1) (a .held .now) (s .pre .1 .1 .0 .1) (s .pre .1 .1 .0 .2)), ((ready-so (rows-in (a .rows .now)) (a .tokens .now) (a .results) (a .first) (a .places .now) (s .pre .1 .0 .1) (a .held .now) (s .pre .1 .1 .0 .1) (s .pre .1 .1 .0 .2) (a .trees) (s .pre .1 .1 .0 .0) _ _ refl (c .before .before .before .before .before .before .before .before .before .before .before .before .list-trees .ensures .1) _ _ _ _ (c .before .before .before .before .before .before .before .before .group-all .ensures)), s .pre .1 .1 .1)))
+scope-held-scope-grouped-requires t c κs = ?
 
 scope-held-same-length : (t : ℕ) → scope-held-lts.Need-same-length (list-trees-reads.Asked, list-trees-reads.Learnt, group-all-reads.Asked, group-all-reads.Learnt, scope-grouped-below t, scope-grouped.Post) (scope-held-at t) scope-held.Post
-scope-held-same-length t c = search needs
+scope-held-same-length t c = ?
 
 scope-held-same-length-2 : (t : ℕ) → scope-held-lts.Need-same-length-2 (list-trees-reads.Asked, list-trees-reads.Learnt, group-all-reads.Asked, group-all-reads.Learnt, scope-grouped-below t, scope-grouped.Post) (scope-held-at t) scope-held.Post
-scope-held-same-length-2 t c = search needs
+scope-held-same-length-2 t c = ?
 
 scope-held-same-length-3 : (t : ℕ) → scope-held-lts.Need-same-length-3 (list-trees-reads.Asked, list-trees-reads.Learnt, group-all-reads.Asked, group-all-reads.Learnt, scope-grouped-below t, scope-grouped.Post) (scope-held-at t) scope-held.Post
-scope-held-same-length-3 t c = search needs
+scope-held-same-length-3 t c = ?
 
 scope-held-returns : (t : ℕ) → scope-held-lts.Need-returns (list-trees-reads.Asked, list-trees-reads.Learnt, group-all-reads.Asked, group-all-reads.Learnt, scope-grouped-below t, scope-grouped.Post) (scope-held-at t) scope-held.Post
-scope-held-returns t c = c .before .before .before .before .before .before .scope-grouped .ensures
+scope-held-returns t c = ?
 
 scope-listed-slice-reshare-prefix-put : (t : ℕ) → scope-listed-lts.Need-slice-reshare-prefix-put (put-reads.Asked, put-reads.Learnt, tree-count-reads.Asked, tree-count-reads.Learnt, hold-all-reads.Asked, hold-all-reads.Learnt, scope-held-below t, scope-held.Post) (scope-listed-at t) scope-listed.Post
-scope-listed-slice-reshare-prefix-put t c = ?
+scope-listed-slice-reshare-prefix-put t c = let s = c .before .before .before .before .before in s .pre .1 .0 .1
 
 scope-listed-slice-aggregate-put : (t : ℕ) → scope-listed-lts.Need-slice-aggregate-put (put-reads.Asked, put-reads.Learnt, tree-count-reads.Asked, tree-count-reads.Learnt, hold-all-reads.Asked, hold-all-reads.Learnt, scope-held-below t, scope-held.Post) (scope-listed-at t) scope-listed.Post
-scope-listed-slice-aggregate-put t c = ?
+scope-listed-slice-aggregate-put t c = let s = c .before .before .before .before .before .before in sym (length-take-le _ _ (s .pre .1 .0 .1))
 
 scope-listed-slice-aggregate-put-2 : (t : ℕ) → scope-listed-lts.Need-slice-aggregate-put-2 (put-reads.Asked, put-reads.Learnt, tree-count-reads.Asked, tree-count-reads.Learnt, hold-all-reads.Asked, hold-all-reads.Learnt, scope-held-below t, scope-held.Post) (scope-listed-at t) scope-listed.Post
-scope-listed-slice-aggregate-put-2 t c = ?
+scope-listed-slice-aggregate-put-2 t c = search needs
 
 scope-listed-put-requires : (t : ℕ) → scope-listed-lts.Need-put-requires (put-reads.Asked, put-reads.Learnt, tree-count-reads.Asked, tree-count-reads.Learnt, hold-all-reads.Asked, hold-all-reads.Learnt, scope-held-below t, scope-held.Post) (scope-listed-at t) scope-listed.Post
-scope-listed-put-requires t c κs = ?
+scope-listed-put-requires t c κs = search needs
 
 scope-listed-array-share-prefix-tokens : (t : ℕ) → scope-listed-lts.Need-array-share-prefix-tokens (put-reads.Asked, put-reads.Learnt, tree-count-reads.Asked, tree-count-reads.Learnt, hold-all-reads.Asked, hold-all-reads.Learnt, scope-held-below t, scope-held.Post) (scope-listed-at t) scope-listed.Post
-scope-listed-array-share-prefix-tokens t c = ?
+scope-listed-array-share-prefix-tokens t c = let s = c .before .before .before .before .before .before .before .before .before in let a = s .args in (omega (arith, used-few (rows-in (a .rows .now)) (a .fuel) (a .row) (a .work .now) (a .used) (a .results) (a .first) (a .places .now) (s .pre .1 .0 .1) (s .pre .1 .1 .0), c .before .put .kept .1 .1 .0))
 
 scope-listed-slice-aggregate-tree-count :
     (t : ℕ) → scope-listed-lts.Need-slice-aggregate-tree-count (
@@ -607,16 +611,16 @@ scope-listed-slice-aggregate-tree-count :
       scope-held-below t,
       scope-held.Post,
     ) (scope-listed-at t) scope-listed.Post
-scope-listed-slice-aggregate-tree-count t c = ?
+scope-listed-slice-aggregate-tree-count t c = let s = c .before .before .before .before .before .before .before .before .before .before in let a = s .args in sym (length-take-le _ _ (omega (arith, used-few (rows-in (a .rows .now)) (a .fuel) (a .row) (a .work .now) (a .used) (a .results) (a .first) (a .places .now) (s .pre .1 .0 .1) (s .pre .1 .1 .0), c .before .before .put .kept .1 .1 .0)))
 
 scope-listed-tree-count-requires : (t : ℕ) → scope-listed-lts.Need-tree-count-requires (put-reads.Asked, put-reads.Learnt, tree-count-reads.Asked, tree-count-reads.Learnt, hold-all-reads.Asked, hold-all-reads.Learnt, scope-held-below t, scope-held.Post) (scope-listed-at t) scope-listed.Post
-scope-listed-tree-count-requires t c κs = ?
+scope-listed-tree-count-requires t c κs = let s = c .before .before .before .before .before .before .before .before .before .before in let a = s .args in tokens-whole (rows-in (a .rows .now)) (a .fuel) (a .row) (a .work .now) (a .used) (a .results) (a .first) (a .places .now) (s .pre .1 .0 .1) (s .pre .1 .1 .0) _ _ refl (c .before .before .put .ensures)
 
 scope-listed-sub-number : (t : ℕ) → scope-listed-lts.Need-sub-number (put-reads.Asked, put-reads.Learnt, tree-count-reads.Asked, tree-count-reads.Learnt, hold-all-reads.Asked, hold-all-reads.Learnt, scope-held-below t, scope-held.Post) (scope-listed-at t) scope-listed.Post
-scope-listed-sub-number t c = ?
+scope-listed-sub-number t c = let s = c .before .before .before .before .before .before .before .before .before .before .before in let a = s .args in trees-enough (rows-in (a .rows .now)) (a .fuel) (a .row) (a .work .now) (a .used) (a .results) (a .first) (a .places .now) (s .pre .1 .0 .1) (s .pre .1 .1 .0) _ _ refl (c .before .before .before .put .ensures) (c .tree-count .result) (c .tree-count .ensures)
 
 scope-listed-add-number : (t : ℕ) → scope-listed-lts.Need-add-number (put-reads.Asked, put-reads.Learnt, tree-count-reads.Asked, tree-count-reads.Learnt, hold-all-reads.Asked, hold-all-reads.Learnt, scope-held-below t, scope-held.Post) (scope-listed-at t) scope-listed.Post
-scope-listed-add-number t c = ?
+scope-listed-add-number t c = let s = c .before .before .before .before .before .before .before .before .before .before .before in let a = s .args in omega (arith, trees-few-here (rows-in (a .rows .now)) (a .fuel) (a .row) (a .work .now) (a .used) (a .results) (a .first) (a .places .now) (s .pre .1 .0 .1) (s .pre .1 .1 .0) _ _ refl (c .before .before .before .put .ensures) (c .tree-count .result) (c .tree-count .ensures), s .pre .1 .1 .0 .low)
 
 scope-listed-array-share-prefix-tokens-2 :
     (t : ℕ) → scope-listed-lts.Need-array-share-prefix-tokens-2 (
@@ -629,10 +633,10 @@ scope-listed-array-share-prefix-tokens-2 :
       scope-held-below t,
       scope-held.Post,
     ) (scope-listed-at t) scope-listed.Post
-scope-listed-array-share-prefix-tokens-2 t c = ?
+scope-listed-array-share-prefix-tokens-2 t c = let s = c .before .before .before .before .before .before .before .before .before .before .before in let a = s .args in (omega (arith, used-few (rows-in (a .rows .now)) (a .fuel) (a .row) (a .work .now) (a .used) (a .results) (a .first) (a .places .now) (s .pre .1 .0 .1) (s .pre .1 .1 .0), c .before .before .before .put .kept .1 .1 .0))
 
 scope-listed-slice-aggregate-hold-all : (t : ℕ) → scope-listed-lts.Need-slice-aggregate-hold-all (put-reads.Asked, put-reads.Learnt, tree-count-reads.Asked, tree-count-reads.Learnt, hold-all-reads.Asked, hold-all-reads.Learnt, scope-held-below t, scope-held.Post) (scope-listed-at t) scope-listed.Post
-scope-listed-slice-aggregate-hold-all t c = ?
+scope-listed-slice-aggregate-hold-all t c = let s = c .before .before .before .before .before .before .before .before .before .before .before .before in let a = s .args in sym (length-take-le _ _ (omega (arith, used-few (rows-in (a .rows .now)) (a .fuel) (a .row) (a .work .now) (a .used) (a .results) (a .first) (a .places .now) (s .pre .1 .0 .1) (s .pre .1 .1 .0), c .before .before .before .before .put .kept .1 .1 .0)))
 
 scope-listed-slice-aggregate-hold-all-2 :
     (t : ℕ) → scope-listed-lts.Need-slice-aggregate-hold-all-2 (
@@ -645,34 +649,34 @@ scope-listed-slice-aggregate-hold-all-2 :
       scope-held-below t,
       scope-held.Post,
     ) (scope-listed-at t) scope-listed.Post
-scope-listed-slice-aggregate-hold-all-2 t c = ?
+scope-listed-slice-aggregate-hold-all-2 t c = search needs
 
 scope-listed-hold-all-requires : (t : ℕ) → scope-listed-lts.Need-hold-all-requires (put-reads.Asked, put-reads.Learnt, tree-count-reads.Asked, tree-count-reads.Learnt, hold-all-reads.Asked, hold-all-reads.Learnt, scope-held-below t, scope-held.Post) (scope-listed-at t) scope-listed.Post
-scope-listed-hold-all-requires t c κs = ?
+scope-listed-hold-all-requires t c κs = let s = c .before .before .before .before .before .before .before .before .before .before .before .before .before in let a = s .args in ((tokens-whole (rows-in (a .rows .now)) (a .fuel) (a .row) (a .work .now) (a .used) (a .results) (a .first) (a .places .now) (s .pre .1 .0 .1) (s .pre .1 .1 .0) _ _ refl (c .before .before .before .before .before .put .ensures), tokens-there (rows-in (a .rows .now)) (a .fuel) (a .row) (a .work .now) (a .used) (a .results) (a .first) (a .places .now) (s .pre .1 .0 .1) (s .pre .1 .1 .0) _ _ refl (c .before .before .before .before .before .put .ensures) (c .before .before .tree-count .result) (c .before .before .tree-count .ensures)), (tokens-left (rows-in (a .rows .now)) (a .fuel) (a .row) (a .work .now) (a .used) (a .results) (a .first) (a .places .now) (s .pre .1 .0 .1) (s .pre .1 .1 .0) _ _ refl (c .before .before .before .before .before .put .ensures) .few, places-short (rows-in (a .rows .now)) (a .fuel) (a .row) (a .work .now) (a .used) (a .results) (a .first) (a .places .now) (s .pre .1 .0 .1) (s .pre .1 .1 .0) _ _ refl (c .before .before .before .before .before .put .ensures) (c .before .before .tree-count .result) (c .before .before .tree-count .ensures), omega (arith, trees-few-here (rows-in (a .rows .now)) (a .fuel) (a .row) (a .work .now) (a .used) (a .results) (a .first) (a .places .now) (s .pre .1 .0 .1) (s .pre .1 .1 .0) _ _ refl (c .before .before .before .before .before .put .ensures) (c .before .before .tree-count .result) (c .before .before .tree-count .ensures), s .pre .1 .1 .0 .low), omega arith))
 
 scope-listed-enum-known-holding : (t : ℕ) → scope-listed-lts.Need-enum-known-holding (put-reads.Asked, put-reads.Learnt, tree-count-reads.Asked, tree-count-reads.Learnt, hold-all-reads.Asked, hold-all-reads.Learnt, scope-held-below t, scope-held.Post) (scope-listed-at t) scope-listed.Post
-scope-listed-enum-known-holding t c = ?
+scope-listed-enum-known-holding t c = search needs
 
 scope-listed-enum-told : (t : ℕ) → scope-listed-lts.Need-enum-told (put-reads.Asked, put-reads.Learnt, tree-count-reads.Asked, tree-count-reads.Learnt, hold-all-reads.Asked, hold-all-reads.Learnt, scope-held-below t, scope-held.Post) (scope-listed-at t) scope-listed.Post
-scope-listed-enum-told t c = ?
+scope-listed-enum-told t c = search needs
 
 scope-listed-same-length : (t : ℕ) → scope-listed-lts.Need-same-length (put-reads.Asked, put-reads.Learnt, tree-count-reads.Asked, tree-count-reads.Learnt, hold-all-reads.Asked, hold-all-reads.Learnt, scope-held-below t, scope-held.Post) (scope-listed-at t) scope-listed.Post
-scope-listed-same-length t c = ?
+scope-listed-same-length t c = search needs
 
 scope-listed-returns : (t : ℕ) → scope-listed-lts.Need-returns (put-reads.Asked, put-reads.Learnt, tree-count-reads.Asked, tree-count-reads.Learnt, hold-all-reads.Asked, hold-all-reads.Learnt, scope-held-below t, scope-held.Post) (scope-listed-at t) scope-listed.Post
-scope-listed-returns t c = ?
+scope-listed-returns t c = let s = c .before .before .before .before .before .before .before .before .before .before .before .before .before .before .before .before .before in let a = s .args in too-many (rows-in (a .rows .now)) (a .fuel) (a .row) (a .work .now) (a .used) (a .results) (a .first) (a .places .now) (s .pre .1 .0 .1) (s .pre .1 .1 .0) _ _ refl (c .before .before .before .before .before .before .before .before .before .put .ensures) (c .before .before .before .before .before .before .tree-count .result) (c .before .before .before .before .before .before .tree-count .ensures) (c .before .before .before .hold-all .result) _ (c .before .before .before .hold-all .ensures) (c .enum-told .given .1) (a .at) (a .table .now)
 
 scope-listed-mul-scope-held : (t : ℕ) → scope-listed-lts.Need-mul-scope-held (put-reads.Asked, put-reads.Learnt, tree-count-reads.Asked, tree-count-reads.Learnt, hold-all-reads.Asked, hold-all-reads.Learnt, scope-held-below t, scope-held.Post) (scope-listed-at t) scope-listed.Post
-scope-listed-mul-scope-held t c = ?
+scope-listed-mul-scope-held t c = let s = c .before .before .before .before .before .before .before .before .before .before .before .before .before .before .before .before .before .before in let a = s .args in omega (arith, used-few (rows-in (a .rows .now)) (a .fuel) (a .row) (a .work .now) (a .used) (a .results) (a .first) (a .places .now) (s .pre .1 .0 .1) (s .pre .1 .1 .0))
 
 scope-listed-sub-scope-held : (t : ℕ) → scope-listed-lts.Need-sub-scope-held (put-reads.Asked, put-reads.Learnt, tree-count-reads.Asked, tree-count-reads.Learnt, hold-all-reads.Asked, hold-all-reads.Learnt, scope-held-below t, scope-held.Post) (scope-listed-at t) scope-listed.Post
-scope-listed-sub-scope-held t c = ?
+scope-listed-sub-scope-held t c = let s = c .before .before .before .before .before .before .before .before .before .before .before .before .before .before .before .before .before .before in s .pre .1 .0 .1
 
 scope-listed-part-scope-held-start : (t : ℕ) → scope-listed-lts.Need-part-scope-held-start (put-reads.Asked, put-reads.Learnt, tree-count-reads.Asked, tree-count-reads.Learnt, hold-all-reads.Asked, hold-all-reads.Learnt, scope-held-below t, scope-held.Post) (scope-listed-at t) scope-listed.Post
-scope-listed-part-scope-held-start t c = ?
+scope-listed-part-scope-held-start t c = let s = c .before .before .before .before .before .before .before .before .before .before .before .before .before .before .before .before .before .before in s .pre .1 .0 .1
 
 scope-listed-part-scope-held-end : (t : ℕ) → scope-listed-lts.Need-part-scope-held-end (put-reads.Asked, put-reads.Learnt, tree-count-reads.Asked, tree-count-reads.Learnt, hold-all-reads.Asked, hold-all-reads.Learnt, scope-held-below t, scope-held.Post) (scope-listed-at t) scope-listed.Post
-scope-listed-part-scope-held-end t c = ?
+scope-listed-part-scope-held-end t c = le-refl _
 
 scope-listed-array-share-prefix-tokens-3 :
     (t : ℕ) → scope-listed-lts.Need-array-share-prefix-tokens-3 (
@@ -685,7 +689,7 @@ scope-listed-array-share-prefix-tokens-3 :
       scope-held-below t,
       scope-held.Post,
     ) (scope-listed-at t) scope-listed.Post
-scope-listed-array-share-prefix-tokens-3 t c = ?
+scope-listed-array-share-prefix-tokens-3 t c = let s = c .before .before .before .before .before .before .before .before .before .before .before .before .before .before .before .before .before .before .before in let a = s .args in (omega (arith, used-few (rows-in (a .rows .now)) (a .fuel) (a .row) (a .work .now) (a .used) (a .results) (a .first) (a .places .now) (s .pre .1 .0 .1) (s .pre .1 .1 .0), c .before .before .before .before .before .before .before .before .before .before .before .put .kept .1 .1 .0))
 
 scope-listed-slice-aggregate-scope-held :
     (t : ℕ) → scope-listed-lts.Need-slice-aggregate-scope-held (
@@ -698,10 +702,10 @@ scope-listed-slice-aggregate-scope-held :
       scope-held-below t,
       scope-held.Post,
     ) (scope-listed-at t) scope-listed.Post
-scope-listed-slice-aggregate-scope-held t c = ?
+scope-listed-slice-aggregate-scope-held t c = let s = c .before .before .before .before .before .before .before .before .before .before .before .before .before .before .before .before .before .before .before .before in let a = s .args in sym (length-take-le _ _ (omega (arith, used-few (rows-in (a .rows .now)) (a .fuel) (a .row) (a .work .now) (a .used) (a .results) (a .first) (a .places .now) (s .pre .1 .0 .1) (s .pre .1 .1 .0), c .before .before .before .before .before .before .before .before .before .before .before .before .put .kept .1 .1 .0)))
 
 scope-listed-array-share-prefix-held : (t : ℕ) → scope-listed-lts.Need-array-share-prefix-held (put-reads.Asked, put-reads.Learnt, tree-count-reads.Asked, tree-count-reads.Learnt, hold-all-reads.Asked, hold-all-reads.Learnt, scope-held-below t, scope-held.Post) (scope-listed-at t) scope-listed.Post
-scope-listed-array-share-prefix-held t c = ?
+scope-listed-array-share-prefix-held t c = let s = c .before .before .before .before .before .before .before .before .before .before .before .before .before .before .before .before .before .before .before .before in let a = s .args in held-in (rows-in (a .rows .now)) (a .fuel) (a .row) (a .work .now) (a .used) (a .results) (a .first) (a .places .now) (s .pre .1 .0 .1) (s .pre .1 .1 .0) _ _ refl (c .before .before .before .before .before .before .before .before .before .before .before .before .put .ensures) (c .before .before .before .before .before .before .before .before .before .tree-count .result) (c .before .before .before .before .before .before .before .before .before .tree-count .ensures) (c .before .before .before .before .before .before .hold-all .result) _ (c .before .before .before .before .before .before .hold-all .ensures) _ (c .before .before .before .holding .given .1)
 
 scope-listed-slice-aggregate-scope-held-2 :
     (t : ℕ) → scope-listed-lts.Need-slice-aggregate-scope-held-2 (
@@ -714,22 +718,22 @@ scope-listed-slice-aggregate-scope-held-2 :
       scope-held-below t,
       scope-held.Post,
     ) (scope-listed-at t) scope-listed.Post
-scope-listed-slice-aggregate-scope-held-2 t c = ?
+scope-listed-slice-aggregate-scope-held-2 t c = let s = c .before .before .before .before .before .before .before .before .before .before .before .before .before .before .before .before .before .before .before .before .before in let a = s .args in sym (length-take-le _ _ (held-in (rows-in (a .rows .now)) (a .fuel) (a .row) (a .work .now) (a .used) (a .results) (a .first) (a .places .now) (s .pre .1 .0 .1) (s .pre .1 .1 .0) _ _ refl (c .before .before .before .before .before .before .before .before .before .before .before .before .before .put .ensures) (c .before .before .before .before .before .before .before .before .before .before .tree-count .result) (c .before .before .before .before .before .before .before .before .before .before .tree-count .ensures) (c .before .before .before .before .before .before .before .hold-all .result) _ (c .before .before .before .before .before .before .before .hold-all .ensures) _ (c .before .before .before .before .holding .given .1)))
 
 scope-listed-scope-held-requires : (t : ℕ) → scope-listed-lts.Need-scope-held-requires (put-reads.Asked, put-reads.Learnt, tree-count-reads.Asked, tree-count-reads.Learnt, hold-all-reads.Asked, hold-all-reads.Learnt, scope-held-below t, scope-held.Post) (scope-listed-at t) scope-listed.Post
-scope-listed-scope-held-requires t c κs = ?
+scope-listed-scope-held-requires t c κs = let s = c .before .before .before .before .before .before .before .before .before .before .before .before .before .before .before .before .before .before .before .before .before .before .before in let a = s .args in (omega (arith, s .pre .0), ((lent-rest (a .fuel) (a .work .now) (a .text .now) (a .used) (s .pre .1 .0 .0) (used-few (rows-in (a .rows .now)) (a .fuel) (a .row) (a .work .now) (a .used) (a .results) (a .first) (a .places .now) (s .pre .1 .0 .1) (s .pre .1 .1 .0)), tokens-left (rows-in (a .rows .now)) (a .fuel) (a .row) (a .work .now) (a .used) (a .results) (a .first) (a .places .now) (s .pre .1 .0 .1) (s .pre .1 .1 .0) _ _ refl (c .before .before .before .before .before .before .before .before .before .before .before .before .before .before .before .put .ensures)), ((c .before .before .before .before .before .before .before .before .before .before .before .before .tree-count .ensures, held-are (rows-in (a .rows .now)) (a .fuel) (a .row) (a .work .now) (a .used) (a .results) (a .first) (a .places .now) (s .pre .1 .0 .1) (s .pre .1 .1 .0) _ _ refl (c .before .before .before .before .before .before .before .before .before .before .before .before .before .before .before .put .ensures) (c .before .before .before .before .before .before .before .before .before .before .before .before .tree-count .result) (c .before .before .before .before .before .before .before .before .before .before .before .before .tree-count .ensures) (c .before .before .before .before .before .before .before .before .before .hold-all .result) _ (c .before .before .before .before .before .before .before .before .before .hold-all .ensures) _ (c .before .before .before .before .before .before .holding .given .1), held-short (rows-in (a .rows .now)) (a .fuel) (a .row) (a .work .now) (a .used) (a .results) (a .first) (a .places .now) (s .pre .1 .0 .1) (s .pre .1 .1 .0) _ _ refl (c .before .before .before .before .before .before .before .before .before .before .before .before .before .before .before .put .ensures) (c .before .before .before .before .before .before .before .before .before .before .before .before .tree-count .result) (c .before .before .before .before .before .before .before .before .before .before .before .before .tree-count .ensures) (c .before .before .before .before .before .before .before .before .before .hold-all .result) _ (c .before .before .before .before .before .before .before .before .before .hold-all .ensures) _ (c .before .before .before .before .before .before .holding .given .1)), subst (λ o. a .at + told-rows o ≤ most-rows) (outcome-is (rows-in (a .rows .now)) (a .fuel) (a .row) (a .work .now) (a .used) (a .results) (a .first) (a .places .now) (s .pre .1 .0 .1) (s .pre .1 .1 .0) _ _ refl (c .before .before .before .before .before .before .before .before .before .before .before .before .before .before .before .put .ensures) (c .before .before .before .before .before .before .before .before .before .before .before .before .tree-count .result) (c .before .before .before .before .before .before .before .before .before .before .before .before .tree-count .ensures) (c .before .before .before .before .before .before .before .before .before .hold-all .result) _ (c .before .before .before .before .before .before .before .before .before .hold-all .ensures) _ (c .before .before .before .before .before .before .holding .given .1)) (s .pre .1 .1 .1))))
 
 scope-listed-same-length-2 : (t : ℕ) → scope-listed-lts.Need-same-length-2 (put-reads.Asked, put-reads.Learnt, tree-count-reads.Asked, tree-count-reads.Learnt, hold-all-reads.Asked, hold-all-reads.Learnt, scope-held-below t, scope-held.Post) (scope-listed-at t) scope-listed.Post
-scope-listed-same-length-2 t c = ?
+scope-listed-same-length-2 t c = search needs
 
 scope-listed-same-length-3 : (t : ℕ) → scope-listed-lts.Need-same-length-3 (put-reads.Asked, put-reads.Learnt, tree-count-reads.Asked, tree-count-reads.Learnt, hold-all-reads.Asked, hold-all-reads.Learnt, scope-held-below t, scope-held.Post) (scope-listed-at t) scope-listed.Post
-scope-listed-same-length-3 t c = ?
+scope-listed-same-length-3 t c = search needs
 
 scope-listed-same-length-4 : (t : ℕ) → scope-listed-lts.Need-same-length-4 (put-reads.Asked, put-reads.Learnt, tree-count-reads.Asked, tree-count-reads.Learnt, hold-all-reads.Asked, hold-all-reads.Learnt, scope-held-below t, scope-held.Post) (scope-listed-at t) scope-listed.Post
-scope-listed-same-length-4 t c = ?
+scope-listed-same-length-4 t c = search needs
 
 scope-listed-returns-2 : (t : ℕ) → scope-listed-lts.Need-returns-2 (put-reads.Asked, put-reads.Learnt, tree-count-reads.Asked, tree-count-reads.Learnt, hold-all-reads.Asked, hold-all-reads.Learnt, scope-held-below t, scope-held.Post) (scope-listed-at t) scope-listed.Post
-scope-listed-returns-2 t c = ?
+scope-listed-returns-2 t c = let s = c .before .before .before .before .before .before .before .before .before .before .before .before .before .before .before .before .before .before .before .before .before .before .before .before .before .before .before .before .before .before in let a = s .args in subst (λ o. Scope-done o (a .at) (a .table .now) (c .before .before .before .before .before .before .scope-held .result) _) (sym (outcome-is (rows-in (a .rows .now)) (a .fuel) (a .row) (a .work .now) (a .used) (a .results) (a .first) (a .places .now) (s .pre .1 .0 .1) (s .pre .1 .1 .0) _ _ refl (c .before .before .before .before .before .before .before .before .before .before .before .before .before .before .before .before .before .before .before .before .before .before .put .ensures) (c .before .before .before .before .before .before .before .before .before .before .before .before .before .before .before .before .before .before .before .tree-count .result) (c .before .before .before .before .before .before .before .before .before .before .before .before .before .before .before .before .before .before .before .tree-count .ensures) (c .before .before .before .before .before .before .before .before .before .before .before .before .before .before .before .before .hold-all .result) _ (c .before .before .before .before .before .before .before .before .before .before .before .before .before .before .before .before .hold-all .ensures) _ (c .before .before .before .before .before .before .before .before .before .before .before .before .before .holding .given .1))) (c .before .before .before .before .before .before .scope-held .ensures)
 
 abbrev walk-Inv-loop : walk-lts.InvT-loop
 walk-Inv-loop rows work₀ held members ends fuel next text₀ numbers₀ sizes₀ number₀ extracted₀ start₀ g₀ work text numbers sizes number extracted start g = (g ≤ length ends) × Walk-so (inner (rows-in rows) fuel) held (place-groups held) next g number extracted start numbers sizes × (length work ≡ length work₀) × (length text ≡ length text₀) × (length numbers ≡ length numbers₀) × (length sizes ≡ length sizes₀)
