@@ -49,28 +49,28 @@ module _ (rows : List Row) (row next : ℕ) (ws : List ℕ) (at : ℕ) (old : Li
     unfolding scope-told
     tested e = by-test test _ (refused (by 23)) e
 
-  module _ (fuel : ℕ) (some : fuel ≡ suc (fuel - 1)) where
+  module _ (fuel : ℕ) (more : fuel ≡ suc (fuel - 1)) where
     pub too-long : 1024 < length ws → Scope-done (scope-told rows fuel row next ws) at old (scoped.Refused 23) old
     too-long h =
         scope-refused (scope-told rows fuel row next ws) (by 23)
-        (ap (λ (f : ℕ). scope-told rows f row next ws) some ∙ not-tested (fuel - 1) (ap (λ (b : Bool). b && leb next most-number) (lt-leb (length ws) 1024 h))) at old
+        (ap (λ (f : ℕ). scope-told rows f row next ws) more ∙ not-tested (fuel - 1) (ap (λ (b : Bool). b && leb next most-number) (lt-leb (length ws) 1024 h))) at old
 
     pub too-large : most-number < next → Scope-done (scope-told rows fuel row next ws) at old (scoped.Refused 23) old
     too-large h =
         scope-refused (scope-told rows fuel row next ws) (by 23)
-        (ap (λ (f : ℕ). scope-told rows f row next ws) some ∙ not-tested (fuel - 1) (ap (λ (b : Bool). leb (length ws) 1024 && b) (lt-leb next most-number h) ∙ and-false (leb (length ws) 1024))) at old
+        (ap (λ (f : ℕ). scope-told rows f row next ws) more ∙ not-tested (fuel - 1) (ap (λ (b : Bool). leb (length ws) 1024 && b) (lt-leb next most-number h) ∙ and-false (leb (length ws) 1024))) at old
 
     module _ (few : length ws ≤ 1024) (low : next ≤ most-number) (sound : T (extractable rows next ws)) (pass : T (symbols-pass (is-number rows) ws)) where
       from-rounds : scope-told rows fuel row next ws ≡ (all-rounds rows true next ws >>= λ vs. fused-scope (inner rows (fuel - 1)) row vs (length (read numbered ws)) next (divisors-to-bind vs (name-in rows) true))
       from-rounds =
-          ap (λ (f : ℕ). scope-told rows f row next ws) some
+          ap (λ (f : ℕ). scope-told rows f row next ws) more
           ∙ tested (fuel - 1) (ap₂ (λ (a b : Bool). a && b) (le-leb (length ws) 1024 few) (le-leb next most-number low))
 
       module _ (r : Listed) (tokens places : List ℕ) (given : Lists rows next ws r tokens places) where
         pub ten : r ≡ listed.Refused → Scope-done (scope-told rows fuel row next ws) at old (scoped.Refused 10) old
         ten e =
             let g = subst (λ (q : Listed). Lists rows next ws q tokens places) e given in
-            let i : g .0 ≡ by 10 = rounds-ten rows true (is-number rows) next ws sound pass (g .0) (g .1) in
+            let i : g .0 ≡ by 10 = rounds-ten rows true next ws sound pass (g .0) (g .1) in
             scope-refused (scope-told rows fuel row next ws) (by 10)
             (from-rounds ∙ ap (λ (o : Outcome (List ℕ)). o >>= λ vs. fused-scope (inner rows (fuel - 1)) row vs (length (read numbered ws)) next (divisors-to-bind vs (name-in rows) true)) (g .1 ∙ ap refused i)) at old
 

@@ -28,6 +28,8 @@ use native.Mathlib.Nat.{le-refl}
 use Rattle.scope.proofs.Beginning.{whole-so, lent-rest, used-few, tokens-are, tokens-left, tokens-whole, trees-enough, trees-few-here, places-short, tokens-there, too-many, held-in, held-are, held-short, outcome-is}
 use Rattle.scope.proofs.Ending.{Scope-done}
 use Rattle.scope.specs.Answers.{told-rows}
+use Rattle.scope.proofs.Scoping.{too-deep, too-long, too-large, ten, words-in, places-in, left-so, scope-is}
+use Rattle.scope.specs.Frame.{Lent}
 use borrow.Author.Needs.{needs}
 use Prim.Native.Nat.{ℕ, _<_, _+_, _-_, _*_, _≤_}
 use borrow.Fn.Kinds.{In}
@@ -364,67 +366,67 @@ measure-returns :
 measure-returns t c = ?
 
 scope-returns : (t : ℕ) → scope-lts.Need-returns (tree-count-reads.Asked, tree-count-reads.Learnt, extract-and-list-reads.Asked, extract-and-list-reads.Learnt, scope-listed-below t, scope-listed.Post) (scope-at t) scope.Post
-scope-returns t c = ?
+scope-returns t c = let s = c .before .before .before .before .before in let a = s .args in too-deep (rows-in (a .rows .now)) (a .row) (a .next) (take (a .len) (a .work .now)) (a .at) (a .table .now) (a .fuel) (c .if1 .taken)
 
 scope-returns-2 : (t : ℕ) → scope-lts.Need-returns-2 (tree-count-reads.Asked, tree-count-reads.Learnt, extract-and-list-reads.Asked, extract-and-list-reads.Learnt, scope-listed-below t, scope-listed.Post) (scope-at t) scope.Post
-scope-returns-2 t c = ?
+scope-returns-2 t c = let s = c .before .before .before .before .before .before in let a = s .args in too-long (rows-in (a .rows .now)) (a .row) (a .next) (take (a .len) (a .work .now)) (a .at) (a .table .now) (a .fuel) (omega (arith, c .before .if1 .left)) (omega (arith, length-take-le (a .len) (a .work .now) (s .pre .1 .1 .0 .1), c .if2 .taken))
 
 scope-returns-3 : (t : ℕ) → scope-lts.Need-returns-3 (tree-count-reads.Asked, tree-count-reads.Learnt, extract-and-list-reads.Asked, extract-and-list-reads.Learnt, scope-listed-below t, scope-listed.Post) (scope-at t) scope.Post
-scope-returns-3 t c = ?
+scope-returns-3 t c = let s = c .before .before .before .before .before .before .before in let a = s .args in too-large (rows-in (a .rows .now)) (a .row) (a .next) (take (a .len) (a .work .now)) (a .at) (a .table .now) (a .fuel) (omega (arith, c .before .before .if1 .left)) (omega (arith, c .if3 .taken))
 
 scope-slice-reshare-prefix-tree-count : (t : ℕ) → scope-lts.Need-slice-reshare-prefix-tree-count (tree-count-reads.Asked, tree-count-reads.Learnt, extract-and-list-reads.Asked, extract-and-list-reads.Learnt, scope-listed-below t, scope-listed.Post) (scope-at t) scope.Post
-scope-slice-reshare-prefix-tree-count t c = ?
+scope-slice-reshare-prefix-tree-count t c = let s = c .before .before .before .before .before .before .before in s .pre .1 .1 .0 .1
 
 scope-slice-aggregate-tree-count : (t : ℕ) → scope-lts.Need-slice-aggregate-tree-count (tree-count-reads.Asked, tree-count-reads.Learnt, extract-and-list-reads.Asked, extract-and-list-reads.Learnt, scope-listed-below t, scope-listed.Post) (scope-at t) scope.Post
-scope-slice-aggregate-tree-count t c = ?
+scope-slice-aggregate-tree-count t c = let s = c .before .before .before .before .before .before .before .before in sym (length-take-le _ _ (s .pre .1 .1 .0 .1))
 
 scope-tree-count-requires : (t : ℕ) → scope-lts.Need-tree-count-requires (tree-count-reads.Asked, tree-count-reads.Learnt, extract-and-list-reads.Asked, extract-and-list-reads.Learnt, scope-listed-below t, scope-listed.Post) (scope-at t) scope.Post
-scope-tree-count-requires t c κs = ?
+scope-tree-count-requires t c κs = let s = c .before .before .before .before .before .before .before .before in let a = s .args in whole-so (rows-in (a .rows .now)) (a .next) (take (a .len) (a .work .now)) (s .pre .1 .0 .0)
 
 scope-slice-aggregate-extract-and-list : (t : ℕ) → scope-lts.Need-slice-aggregate-extract-and-list (tree-count-reads.Asked, tree-count-reads.Learnt, extract-and-list-reads.Asked, extract-and-list-reads.Learnt, scope-listed-below t, scope-listed.Post) (scope-at t) scope.Post
-scope-slice-aggregate-extract-and-list t c = ?
+scope-slice-aggregate-extract-and-list t c = search needs
 
 scope-extract-and-list-requires : (t : ℕ) → scope-lts.Need-extract-and-list-requires (tree-count-reads.Asked, tree-count-reads.Learnt, extract-and-list-reads.Asked, extract-and-list-reads.Learnt, scope-listed-below t, scope-listed.Post) (scope-at t) scope.Post
-scope-extract-and-list-requires t c κs = ?
+scope-extract-and-list-requires t c κs = let s = c .before .before .before .before .before .before .before .before .before .before .before .before in let a = s .args in (s .pre .1 .0, ((omega (arith, c .before .before .before .before .before .before .if2 .left), s .pre .1 .1 .0 .1, omega (arith, c .before .before .before .before .before .if3 .left)), (s .pre .1 .1 .0 .0 .bytes, omega arith)))
 
 scope-enum-known-listed : (t : ℕ) → scope-lts.Need-enum-known-listed (tree-count-reads.Asked, tree-count-reads.Learnt, extract-and-list-reads.Asked, extract-and-list-reads.Learnt, scope-listed-below t, scope-listed.Post) (scope-at t) scope.Post
-scope-enum-known-listed t c = ?
+scope-enum-known-listed t c = search needs
 
 scope-enum-told : (t : ℕ) → scope-lts.Need-enum-told (tree-count-reads.Asked, tree-count-reads.Learnt, extract-and-list-reads.Asked, extract-and-list-reads.Learnt, scope-listed-below t, scope-listed.Post) (scope-at t) scope.Post
-scope-enum-told t c = ?
+scope-enum-told t c = search needs
 
 scope-same-length : (t : ℕ) → scope-lts.Need-same-length (tree-count-reads.Asked, tree-count-reads.Learnt, extract-and-list-reads.Asked, extract-and-list-reads.Learnt, scope-listed-below t, scope-listed.Post) (scope-at t) scope.Post
-scope-same-length t c = ?
+scope-same-length t c = search needs
 
 scope-same-length-2 : (t : ℕ) → scope-lts.Need-same-length-2 (tree-count-reads.Asked, tree-count-reads.Learnt, extract-and-list-reads.Asked, extract-and-list-reads.Learnt, scope-listed-below t, scope-listed.Post) (scope-at t) scope.Post
-scope-same-length-2 t c = ?
+scope-same-length-2 t c = search needs
 
 scope-returns-4 : (t : ℕ) → scope-lts.Need-returns-4 (tree-count-reads.Asked, tree-count-reads.Learnt, extract-and-list-reads.Asked, extract-and-list-reads.Learnt, scope-listed-below t, scope-listed.Post) (scope-at t) scope.Post
-scope-returns-4 t c = ?
+scope-returns-4 t c = let s = c .before .before .before .before .before .before .before .before .before .before .before .before .before .before .before .before .before .before .before .before in let a = s .args in ten (rows-in (a .rows .now)) (a .row) (a .next) (take (a .len) (a .work .now)) (a .at) (a .table .now) (a .fuel) (omega (arith, c .before .before .before .before .before .before .before .before .before .before .before .before .before .before .before .if1 .left)) (omega (arith, length-take-le (a .len) (a .work .now) (s .pre .1 .1 .0 .1), c .before .before .before .before .before .before .before .before .before .before .before .before .before .before .if2 .left)) (omega (arith, c .before .before .before .before .before .before .before .before .before .before .before .before .before .if3 .left)) (s .pre .1 .0 .0) (s .pre .1 .0 .1) (c .before .before .before .before .before .before .before .extract-and-list .result) _ _ (c .before .before .before .before .before .before .before .extract-and-list .ensures) (c .enum-told .given .1)
 
 scope-array-share-prefix-places : (t : ℕ) → scope-lts.Need-array-share-prefix-places (tree-count-reads.Asked, tree-count-reads.Learnt, extract-and-list-reads.Asked, extract-and-list-reads.Learnt, scope-listed-below t, scope-listed.Post) (scope-at t) scope.Post
-scope-array-share-prefix-places t c = ?
+scope-array-share-prefix-places t c = let s = c .before .before .before .before .before .before .before .before .before .before .before .before .before .before .before .before .before .before .before .before .before .before in let a = s .args in places-in (rows-in (a .rows .now)) (a .row) (a .next) (take (a .len) (a .work .now)) (a .at) (a .table .now) (a .fuel) (omega (arith, c .before .before .before .before .before .before .before .before .before .before .before .before .before .before .before .before .before .if1 .left)) (omega (arith, length-take-le (a .len) (a .work .now) (s .pre .1 .1 .0 .1), c .before .before .before .before .before .before .before .before .before .before .before .before .before .before .before .before .if2 .left)) (omega (arith, c .before .before .before .before .before .before .before .before .before .before .before .before .before .before .before .if3 .left)) (s .pre .1 .0 .0) (s .pre .1 .0 .1) (c .before .before .before .before .before .before .before .before .before .extract-and-list .result) _ _ (c .before .before .before .before .before .before .before .before .before .extract-and-list .ensures) _ _ (c .before .before .listed .given .1)
 
 scope-slice-aggregate-scope-listed : (t : ℕ) → scope-lts.Need-slice-aggregate-scope-listed (tree-count-reads.Asked, tree-count-reads.Learnt, extract-and-list-reads.Asked, extract-and-list-reads.Learnt, scope-listed-below t, scope-listed.Post) (scope-at t) scope.Post
-scope-slice-aggregate-scope-listed t c = ?
+scope-slice-aggregate-scope-listed t c = let s = c .before .before .before .before .before .before .before .before .before .before .before .before .before .before .before .before .before .before .before .before .before .before .before in let a = s .args in sym (length-take-le _ _ (places-in (rows-in (a .rows .now)) (a .row) (a .next) (take (a .len) (a .work .now)) (a .at) (a .table .now) (a .fuel) (omega (arith, c .before .before .before .before .before .before .before .before .before .before .before .before .before .before .before .before .before .before .if1 .left)) (omega (arith, length-take-le (a .len) (a .work .now) (s .pre .1 .1 .0 .1), c .before .before .before .before .before .before .before .before .before .before .before .before .before .before .before .before .before .if2 .left)) (omega (arith, c .before .before .before .before .before .before .before .before .before .before .before .before .before .before .before .before .if3 .left)) (s .pre .1 .0 .0) (s .pre .1 .0 .1) (c .before .before .before .before .before .before .before .before .before .before .extract-and-list .result) _ _ (c .before .before .before .before .before .before .before .before .before .before .extract-and-list .ensures) _ _ (c .before .before .before .listed .given .1)))
 
 scope-sub-scope-listed : (t : ℕ) → scope-lts.Need-sub-scope-listed (tree-count-reads.Asked, tree-count-reads.Learnt, extract-and-list-reads.Asked, extract-and-list-reads.Learnt, scope-listed-below t, scope-listed.Post) (scope-at t) scope.Post
-scope-sub-scope-listed t c = ?
+scope-sub-scope-listed t c = let s = c .before .before .before .before .before .before .before .before .before .before .before .before .before .before .before .before .before .before .before .before .before .before .before in omega (arith, c .before .before .before .before .before .before .before .before .before .before .before .before .before .before .before .before .before .before .if1 .left)
 
 scope-scope-listed-requires : (t : ℕ) → scope-lts.Need-scope-listed-requires (tree-count-reads.Asked, tree-count-reads.Learnt, extract-and-list-reads.Asked, extract-and-list-reads.Learnt, scope-listed-below t, scope-listed.Post) (scope-at t) scope.Post
-scope-scope-listed-requires t c κs = ?
+scope-scope-listed-requires t c κs = let s = c .before .before .before .before .before .before .before .before .before .before .before .before .before .before .before .before .before .before .before .before .before .before .before .before .before in let a = s .args in (omega (arith, s .pre .0, c .before .before .before .before .before .before .before .before .before .before .before .before .before .before .before .before .before .before .before .before .if1 .left), ((lent-on _ (a .work .now) (a .text .now) _ _ (subst (λ f. Lent f (a .work .now) (a .text .now)) (omega (arith, c .before .before .before .before .before .before .before .before .before .before .before .before .before .before .before .before .before .before .before .before .if1 .left)) (s .pre .1 .1 .0 .0)) (c .before .before .before .before .before .before .before .before .before .before .before .before .extract-and-list .kept .1 .0) (c .before .before .before .before .before .before .before .before .before .before .before .before .extract-and-list .kept .1 .1 .1 .1 .0), words-in (rows-in (a .rows .now)) (a .row) (a .next) (take (a .len) (a .work .now)) (a .at) (a .table .now) (a .fuel) (omega (arith, c .before .before .before .before .before .before .before .before .before .before .before .before .before .before .before .before .before .before .before .before .if1 .left)) (omega (arith, length-take-le (a .len) (a .work .now) (s .pre .1 .1 .0 .1), c .before .before .before .before .before .before .before .before .before .before .before .before .before .before .before .before .before .before .before .if2 .left)) (omega (arith, c .before .before .before .before .before .before .before .before .before .before .before .before .before .before .before .before .before .before .if3 .left)) (s .pre .1 .0 .0) (s .pre .1 .0 .1) (c .before .before .before .before .before .before .before .before .before .before .before .before .extract-and-list .result) _ _ (c .before .before .before .before .before .before .before .before .before .before .before .before .extract-and-list .ensures) _ _ (c .before .before .before .before .before .listed .given .1)), (left-so (rows-in (a .rows .now)) (a .row) (a .next) (take (a .len) (a .work .now)) (a .at) (a .table .now) (a .fuel) (omega (arith, c .before .before .before .before .before .before .before .before .before .before .before .before .before .before .before .before .before .before .before .before .if1 .left)) (omega (arith, length-take-le (a .len) (a .work .now) (s .pre .1 .1 .0 .1), c .before .before .before .before .before .before .before .before .before .before .before .before .before .before .before .before .before .before .before .if2 .left)) (omega (arith, c .before .before .before .before .before .before .before .before .before .before .before .before .before .before .before .before .before .before .if3 .left)) (s .pre .1 .0 .0) (s .pre .1 .0 .1) (c .before .before .before .before .before .before .before .before .before .before .before .before .extract-and-list .result) _ _ (c .before .before .before .before .before .before .before .before .before .before .before .before .extract-and-list .ensures) _ _ (c .before .before .before .before .before .listed .given .1) (c .before .before .before .before .before .before .before .before .before .before .before .before .before .before .before .before .tree-count .result) (c .before .before .before .before .before .before .before .before .before .before .before .before .before .before .before .before .tree-count .ensures), subst (λ o. a .at + told-rows o ≤ most-rows) (scope-is (rows-in (a .rows .now)) (a .row) (a .next) (take (a .len) (a .work .now)) (a .at) (a .table .now) (a .fuel) (omega (arith, c .before .before .before .before .before .before .before .before .before .before .before .before .before .before .before .before .before .before .before .before .if1 .left)) (omega (arith, length-take-le (a .len) (a .work .now) (s .pre .1 .1 .0 .1), c .before .before .before .before .before .before .before .before .before .before .before .before .before .before .before .before .before .before .before .if2 .left)) (omega (arith, c .before .before .before .before .before .before .before .before .before .before .before .before .before .before .before .before .before .before .if3 .left)) (s .pre .1 .0 .0) (s .pre .1 .0 .1) (c .before .before .before .before .before .before .before .before .before .before .before .before .extract-and-list .result) _ _ (c .before .before .before .before .before .before .before .before .before .before .before .before .extract-and-list .ensures) _ _ (c .before .before .before .before .before .listed .given .1) (c .before .before .before .before .before .before .before .before .before .before .before .before .before .before .before .before .tree-count .result) (c .before .before .before .before .before .before .before .before .before .before .before .before .before .before .before .before .tree-count .ensures)) (s .pre .1 .1 .1))))
 
 scope-same-length-3 : (t : ℕ) → scope-lts.Need-same-length-3 (tree-count-reads.Asked, tree-count-reads.Learnt, extract-and-list-reads.Asked, extract-and-list-reads.Learnt, scope-listed-below t, scope-listed.Post) (scope-at t) scope.Post
-scope-same-length-3 t c = ?
+scope-same-length-3 t c = search needs
 
 scope-same-length-4 : (t : ℕ) → scope-lts.Need-same-length-4 (tree-count-reads.Asked, tree-count-reads.Learnt, extract-and-list-reads.Asked, extract-and-list-reads.Learnt, scope-listed-below t, scope-listed.Post) (scope-at t) scope.Post
-scope-same-length-4 t c = ?
+scope-same-length-4 t c = search needs
 
 scope-same-length-5 : (t : ℕ) → scope-lts.Need-same-length-5 (tree-count-reads.Asked, tree-count-reads.Learnt, extract-and-list-reads.Asked, extract-and-list-reads.Learnt, scope-listed-below t, scope-listed.Post) (scope-at t) scope.Post
-scope-same-length-5 t c = ?
+scope-same-length-5 t c = search needs
 
 scope-returns-5 : (t : ℕ) → scope-lts.Need-returns-5 (tree-count-reads.Asked, tree-count-reads.Learnt, extract-and-list-reads.Asked, extract-and-list-reads.Learnt, scope-listed-below t, scope-listed.Post) (scope-at t) scope.Post
-scope-returns-5 t c = ?
+scope-returns-5 t c = let s = c .before .before .before .before .before .before .before .before .before .before .before .before .before .before .before .before .before .before .before .before .before .before .before .before .before .before .before .before .before .before .before .before in let a = s .args in subst (λ o. Scope-done o (a .at) (a .table .now) (c .before .before .before .before .before .before .scope-listed .result) _) (sym (scope-is (rows-in (a .rows .now)) (a .row) (a .next) (take (a .len) (a .work .now)) (a .at) (a .table .now) (a .fuel) (omega (arith, c .before .before .before .before .before .before .before .before .before .before .before .before .before .before .before .before .before .before .before .before .before .before .before .before .before .before .before .if1 .left)) (omega (arith, length-take-le (a .len) (a .work .now) (s .pre .1 .1 .0 .1), c .before .before .before .before .before .before .before .before .before .before .before .before .before .before .before .before .before .before .before .before .before .before .before .before .before .before .if2 .left)) (omega (arith, c .before .before .before .before .before .before .before .before .before .before .before .before .before .before .before .before .before .before .before .before .before .before .before .before .before .if3 .left)) (s .pre .1 .0 .0) (s .pre .1 .0 .1) (c .before .before .before .before .before .before .before .before .before .before .before .before .before .before .before .before .before .before .before .extract-and-list .result) _ _ (c .before .before .before .before .before .before .before .before .before .before .before .before .before .before .before .before .before .before .before .extract-and-list .ensures) _ _ (c .before .before .before .before .before .before .before .before .before .before .before .before .listed .given .1) (c .before .before .before .before .before .before .before .before .before .before .before .before .before .before .before .before .before .before .before .before .before .before .before .tree-count .result) (c .before .before .before .before .before .before .before .before .before .before .before .before .before .before .before .before .before .before .before .before .before .before .before .tree-count .ensures))) (c .before .before .before .before .before .before .scope-listed .ensures)
 
 scope-grouped-sub-next : (t : ℕ) → scope-grouped-lts.Need-sub-next (walk-below t, walk.Post, walk-refusal-reads.Asked, walk-refusal-reads.Learnt, write-scope-below t, write-scope.Post) (scope-grouped-at t) scope-grouped.Post
 scope-grouped-sub-next t c = ?
@@ -586,19 +588,19 @@ scope-held-returns : (t : ℕ) → scope-held-lts.Need-returns (list-trees-reads
 scope-held-returns t c = ?
 
 scope-listed-slice-reshare-prefix-put : (t : ℕ) → scope-listed-lts.Need-slice-reshare-prefix-put (put-reads.Asked, put-reads.Learnt, tree-count-reads.Asked, tree-count-reads.Learnt, hold-all-reads.Asked, hold-all-reads.Learnt, scope-held-below t, scope-held.Post) (scope-listed-at t) scope-listed.Post
-scope-listed-slice-reshare-prefix-put t c = let s = c .before .before .before .before .before in s .pre .1 .0 .1
+scope-listed-slice-reshare-prefix-put t c = ?
 
 scope-listed-slice-aggregate-put : (t : ℕ) → scope-listed-lts.Need-slice-aggregate-put (put-reads.Asked, put-reads.Learnt, tree-count-reads.Asked, tree-count-reads.Learnt, hold-all-reads.Asked, hold-all-reads.Learnt, scope-held-below t, scope-held.Post) (scope-listed-at t) scope-listed.Post
-scope-listed-slice-aggregate-put t c = let s = c .before .before .before .before .before .before in sym (length-take-le _ _ (s .pre .1 .0 .1))
+scope-listed-slice-aggregate-put t c = ?
 
 scope-listed-slice-aggregate-put-2 : (t : ℕ) → scope-listed-lts.Need-slice-aggregate-put-2 (put-reads.Asked, put-reads.Learnt, tree-count-reads.Asked, tree-count-reads.Learnt, hold-all-reads.Asked, hold-all-reads.Learnt, scope-held-below t, scope-held.Post) (scope-listed-at t) scope-listed.Post
-scope-listed-slice-aggregate-put-2 t c = search needs
+scope-listed-slice-aggregate-put-2 t c = ?
 
 scope-listed-put-requires : (t : ℕ) → scope-listed-lts.Need-put-requires (put-reads.Asked, put-reads.Learnt, tree-count-reads.Asked, tree-count-reads.Learnt, hold-all-reads.Asked, hold-all-reads.Learnt, scope-held-below t, scope-held.Post) (scope-listed-at t) scope-listed.Post
-scope-listed-put-requires t c κs = search needs
+scope-listed-put-requires t c κs = ?
 
 scope-listed-array-share-prefix-tokens : (t : ℕ) → scope-listed-lts.Need-array-share-prefix-tokens (put-reads.Asked, put-reads.Learnt, tree-count-reads.Asked, tree-count-reads.Learnt, hold-all-reads.Asked, hold-all-reads.Learnt, scope-held-below t, scope-held.Post) (scope-listed-at t) scope-listed.Post
-scope-listed-array-share-prefix-tokens t c = let s = c .before .before .before .before .before .before .before .before .before in let a = s .args in (omega (arith, used-few (rows-in (a .rows .now)) (a .fuel) (a .row) (a .work .now) (a .used) (a .results) (a .first) (a .places .now) (s .pre .1 .0 .1) (s .pre .1 .1 .0), c .before .put .kept .1 .1 .0))
+scope-listed-array-share-prefix-tokens t c = ?
 
 scope-listed-slice-aggregate-tree-count :
     (t : ℕ) → scope-listed-lts.Need-slice-aggregate-tree-count (
@@ -611,16 +613,16 @@ scope-listed-slice-aggregate-tree-count :
       scope-held-below t,
       scope-held.Post,
     ) (scope-listed-at t) scope-listed.Post
-scope-listed-slice-aggregate-tree-count t c = let s = c .before .before .before .before .before .before .before .before .before .before in let a = s .args in sym (length-take-le _ _ (omega (arith, used-few (rows-in (a .rows .now)) (a .fuel) (a .row) (a .work .now) (a .used) (a .results) (a .first) (a .places .now) (s .pre .1 .0 .1) (s .pre .1 .1 .0), c .before .before .put .kept .1 .1 .0)))
+scope-listed-slice-aggregate-tree-count t c = ?
 
 scope-listed-tree-count-requires : (t : ℕ) → scope-listed-lts.Need-tree-count-requires (put-reads.Asked, put-reads.Learnt, tree-count-reads.Asked, tree-count-reads.Learnt, hold-all-reads.Asked, hold-all-reads.Learnt, scope-held-below t, scope-held.Post) (scope-listed-at t) scope-listed.Post
-scope-listed-tree-count-requires t c κs = let s = c .before .before .before .before .before .before .before .before .before .before in let a = s .args in tokens-whole (rows-in (a .rows .now)) (a .fuel) (a .row) (a .work .now) (a .used) (a .results) (a .first) (a .places .now) (s .pre .1 .0 .1) (s .pre .1 .1 .0) _ _ refl (c .before .before .put .ensures)
+scope-listed-tree-count-requires t c κs = ?
 
 scope-listed-sub-number : (t : ℕ) → scope-listed-lts.Need-sub-number (put-reads.Asked, put-reads.Learnt, tree-count-reads.Asked, tree-count-reads.Learnt, hold-all-reads.Asked, hold-all-reads.Learnt, scope-held-below t, scope-held.Post) (scope-listed-at t) scope-listed.Post
-scope-listed-sub-number t c = let s = c .before .before .before .before .before .before .before .before .before .before .before in let a = s .args in trees-enough (rows-in (a .rows .now)) (a .fuel) (a .row) (a .work .now) (a .used) (a .results) (a .first) (a .places .now) (s .pre .1 .0 .1) (s .pre .1 .1 .0) _ _ refl (c .before .before .before .put .ensures) (c .tree-count .result) (c .tree-count .ensures)
+scope-listed-sub-number t c = ?
 
 scope-listed-add-number : (t : ℕ) → scope-listed-lts.Need-add-number (put-reads.Asked, put-reads.Learnt, tree-count-reads.Asked, tree-count-reads.Learnt, hold-all-reads.Asked, hold-all-reads.Learnt, scope-held-below t, scope-held.Post) (scope-listed-at t) scope-listed.Post
-scope-listed-add-number t c = let s = c .before .before .before .before .before .before .before .before .before .before .before in let a = s .args in omega (arith, trees-few-here (rows-in (a .rows .now)) (a .fuel) (a .row) (a .work .now) (a .used) (a .results) (a .first) (a .places .now) (s .pre .1 .0 .1) (s .pre .1 .1 .0) _ _ refl (c .before .before .before .put .ensures) (c .tree-count .result) (c .tree-count .ensures), s .pre .1 .1 .0 .low)
+scope-listed-add-number t c = ?
 
 scope-listed-array-share-prefix-tokens-2 :
     (t : ℕ) → scope-listed-lts.Need-array-share-prefix-tokens-2 (
@@ -633,10 +635,10 @@ scope-listed-array-share-prefix-tokens-2 :
       scope-held-below t,
       scope-held.Post,
     ) (scope-listed-at t) scope-listed.Post
-scope-listed-array-share-prefix-tokens-2 t c = let s = c .before .before .before .before .before .before .before .before .before .before .before in let a = s .args in (omega (arith, used-few (rows-in (a .rows .now)) (a .fuel) (a .row) (a .work .now) (a .used) (a .results) (a .first) (a .places .now) (s .pre .1 .0 .1) (s .pre .1 .1 .0), c .before .before .before .put .kept .1 .1 .0))
+scope-listed-array-share-prefix-tokens-2 t c = ?
 
 scope-listed-slice-aggregate-hold-all : (t : ℕ) → scope-listed-lts.Need-slice-aggregate-hold-all (put-reads.Asked, put-reads.Learnt, tree-count-reads.Asked, tree-count-reads.Learnt, hold-all-reads.Asked, hold-all-reads.Learnt, scope-held-below t, scope-held.Post) (scope-listed-at t) scope-listed.Post
-scope-listed-slice-aggregate-hold-all t c = let s = c .before .before .before .before .before .before .before .before .before .before .before .before in let a = s .args in sym (length-take-le _ _ (omega (arith, used-few (rows-in (a .rows .now)) (a .fuel) (a .row) (a .work .now) (a .used) (a .results) (a .first) (a .places .now) (s .pre .1 .0 .1) (s .pre .1 .1 .0), c .before .before .before .before .put .kept .1 .1 .0)))
+scope-listed-slice-aggregate-hold-all t c = ?
 
 scope-listed-slice-aggregate-hold-all-2 :
     (t : ℕ) → scope-listed-lts.Need-slice-aggregate-hold-all-2 (
@@ -649,34 +651,34 @@ scope-listed-slice-aggregate-hold-all-2 :
       scope-held-below t,
       scope-held.Post,
     ) (scope-listed-at t) scope-listed.Post
-scope-listed-slice-aggregate-hold-all-2 t c = search needs
+scope-listed-slice-aggregate-hold-all-2 t c = ?
 
 scope-listed-hold-all-requires : (t : ℕ) → scope-listed-lts.Need-hold-all-requires (put-reads.Asked, put-reads.Learnt, tree-count-reads.Asked, tree-count-reads.Learnt, hold-all-reads.Asked, hold-all-reads.Learnt, scope-held-below t, scope-held.Post) (scope-listed-at t) scope-listed.Post
-scope-listed-hold-all-requires t c κs = let s = c .before .before .before .before .before .before .before .before .before .before .before .before .before in let a = s .args in ((tokens-whole (rows-in (a .rows .now)) (a .fuel) (a .row) (a .work .now) (a .used) (a .results) (a .first) (a .places .now) (s .pre .1 .0 .1) (s .pre .1 .1 .0) _ _ refl (c .before .before .before .before .before .put .ensures), tokens-there (rows-in (a .rows .now)) (a .fuel) (a .row) (a .work .now) (a .used) (a .results) (a .first) (a .places .now) (s .pre .1 .0 .1) (s .pre .1 .1 .0) _ _ refl (c .before .before .before .before .before .put .ensures) (c .before .before .tree-count .result) (c .before .before .tree-count .ensures)), (tokens-left (rows-in (a .rows .now)) (a .fuel) (a .row) (a .work .now) (a .used) (a .results) (a .first) (a .places .now) (s .pre .1 .0 .1) (s .pre .1 .1 .0) _ _ refl (c .before .before .before .before .before .put .ensures) .few, places-short (rows-in (a .rows .now)) (a .fuel) (a .row) (a .work .now) (a .used) (a .results) (a .first) (a .places .now) (s .pre .1 .0 .1) (s .pre .1 .1 .0) _ _ refl (c .before .before .before .before .before .put .ensures) (c .before .before .tree-count .result) (c .before .before .tree-count .ensures), omega (arith, trees-few-here (rows-in (a .rows .now)) (a .fuel) (a .row) (a .work .now) (a .used) (a .results) (a .first) (a .places .now) (s .pre .1 .0 .1) (s .pre .1 .1 .0) _ _ refl (c .before .before .before .before .before .put .ensures) (c .before .before .tree-count .result) (c .before .before .tree-count .ensures), s .pre .1 .1 .0 .low), omega arith))
+scope-listed-hold-all-requires t c κs = ?
 
 scope-listed-enum-known-holding : (t : ℕ) → scope-listed-lts.Need-enum-known-holding (put-reads.Asked, put-reads.Learnt, tree-count-reads.Asked, tree-count-reads.Learnt, hold-all-reads.Asked, hold-all-reads.Learnt, scope-held-below t, scope-held.Post) (scope-listed-at t) scope-listed.Post
-scope-listed-enum-known-holding t c = search needs
+scope-listed-enum-known-holding t c = ?
 
 scope-listed-enum-told : (t : ℕ) → scope-listed-lts.Need-enum-told (put-reads.Asked, put-reads.Learnt, tree-count-reads.Asked, tree-count-reads.Learnt, hold-all-reads.Asked, hold-all-reads.Learnt, scope-held-below t, scope-held.Post) (scope-listed-at t) scope-listed.Post
-scope-listed-enum-told t c = search needs
+scope-listed-enum-told t c = ?
 
 scope-listed-same-length : (t : ℕ) → scope-listed-lts.Need-same-length (put-reads.Asked, put-reads.Learnt, tree-count-reads.Asked, tree-count-reads.Learnt, hold-all-reads.Asked, hold-all-reads.Learnt, scope-held-below t, scope-held.Post) (scope-listed-at t) scope-listed.Post
-scope-listed-same-length t c = search needs
+scope-listed-same-length t c = ?
 
 scope-listed-returns : (t : ℕ) → scope-listed-lts.Need-returns (put-reads.Asked, put-reads.Learnt, tree-count-reads.Asked, tree-count-reads.Learnt, hold-all-reads.Asked, hold-all-reads.Learnt, scope-held-below t, scope-held.Post) (scope-listed-at t) scope-listed.Post
-scope-listed-returns t c = let s = c .before .before .before .before .before .before .before .before .before .before .before .before .before .before .before .before .before in let a = s .args in too-many (rows-in (a .rows .now)) (a .fuel) (a .row) (a .work .now) (a .used) (a .results) (a .first) (a .places .now) (s .pre .1 .0 .1) (s .pre .1 .1 .0) _ _ refl (c .before .before .before .before .before .before .before .before .before .put .ensures) (c .before .before .before .before .before .before .tree-count .result) (c .before .before .before .before .before .before .tree-count .ensures) (c .before .before .before .hold-all .result) _ (c .before .before .before .hold-all .ensures) (c .enum-told .given .1) (a .at) (a .table .now)
+scope-listed-returns t c = ?
 
 scope-listed-mul-scope-held : (t : ℕ) → scope-listed-lts.Need-mul-scope-held (put-reads.Asked, put-reads.Learnt, tree-count-reads.Asked, tree-count-reads.Learnt, hold-all-reads.Asked, hold-all-reads.Learnt, scope-held-below t, scope-held.Post) (scope-listed-at t) scope-listed.Post
-scope-listed-mul-scope-held t c = let s = c .before .before .before .before .before .before .before .before .before .before .before .before .before .before .before .before .before .before in let a = s .args in omega (arith, used-few (rows-in (a .rows .now)) (a .fuel) (a .row) (a .work .now) (a .used) (a .results) (a .first) (a .places .now) (s .pre .1 .0 .1) (s .pre .1 .1 .0))
+scope-listed-mul-scope-held t c = ?
 
 scope-listed-sub-scope-held : (t : ℕ) → scope-listed-lts.Need-sub-scope-held (put-reads.Asked, put-reads.Learnt, tree-count-reads.Asked, tree-count-reads.Learnt, hold-all-reads.Asked, hold-all-reads.Learnt, scope-held-below t, scope-held.Post) (scope-listed-at t) scope-listed.Post
-scope-listed-sub-scope-held t c = let s = c .before .before .before .before .before .before .before .before .before .before .before .before .before .before .before .before .before .before in s .pre .1 .0 .1
+scope-listed-sub-scope-held t c = ?
 
 scope-listed-part-scope-held-start : (t : ℕ) → scope-listed-lts.Need-part-scope-held-start (put-reads.Asked, put-reads.Learnt, tree-count-reads.Asked, tree-count-reads.Learnt, hold-all-reads.Asked, hold-all-reads.Learnt, scope-held-below t, scope-held.Post) (scope-listed-at t) scope-listed.Post
-scope-listed-part-scope-held-start t c = let s = c .before .before .before .before .before .before .before .before .before .before .before .before .before .before .before .before .before .before in s .pre .1 .0 .1
+scope-listed-part-scope-held-start t c = ?
 
 scope-listed-part-scope-held-end : (t : ℕ) → scope-listed-lts.Need-part-scope-held-end (put-reads.Asked, put-reads.Learnt, tree-count-reads.Asked, tree-count-reads.Learnt, hold-all-reads.Asked, hold-all-reads.Learnt, scope-held-below t, scope-held.Post) (scope-listed-at t) scope-listed.Post
-scope-listed-part-scope-held-end t c = le-refl _
+scope-listed-part-scope-held-end t c = ?
 
 scope-listed-array-share-prefix-tokens-3 :
     (t : ℕ) → scope-listed-lts.Need-array-share-prefix-tokens-3 (
@@ -689,7 +691,7 @@ scope-listed-array-share-prefix-tokens-3 :
       scope-held-below t,
       scope-held.Post,
     ) (scope-listed-at t) scope-listed.Post
-scope-listed-array-share-prefix-tokens-3 t c = let s = c .before .before .before .before .before .before .before .before .before .before .before .before .before .before .before .before .before .before .before in let a = s .args in (omega (arith, used-few (rows-in (a .rows .now)) (a .fuel) (a .row) (a .work .now) (a .used) (a .results) (a .first) (a .places .now) (s .pre .1 .0 .1) (s .pre .1 .1 .0), c .before .before .before .before .before .before .before .before .before .before .before .put .kept .1 .1 .0))
+scope-listed-array-share-prefix-tokens-3 t c = ?
 
 scope-listed-slice-aggregate-scope-held :
     (t : ℕ) → scope-listed-lts.Need-slice-aggregate-scope-held (
@@ -702,10 +704,10 @@ scope-listed-slice-aggregate-scope-held :
       scope-held-below t,
       scope-held.Post,
     ) (scope-listed-at t) scope-listed.Post
-scope-listed-slice-aggregate-scope-held t c = let s = c .before .before .before .before .before .before .before .before .before .before .before .before .before .before .before .before .before .before .before .before in let a = s .args in sym (length-take-le _ _ (omega (arith, used-few (rows-in (a .rows .now)) (a .fuel) (a .row) (a .work .now) (a .used) (a .results) (a .first) (a .places .now) (s .pre .1 .0 .1) (s .pre .1 .1 .0), c .before .before .before .before .before .before .before .before .before .before .before .before .put .kept .1 .1 .0)))
+scope-listed-slice-aggregate-scope-held t c = ?
 
 scope-listed-array-share-prefix-held : (t : ℕ) → scope-listed-lts.Need-array-share-prefix-held (put-reads.Asked, put-reads.Learnt, tree-count-reads.Asked, tree-count-reads.Learnt, hold-all-reads.Asked, hold-all-reads.Learnt, scope-held-below t, scope-held.Post) (scope-listed-at t) scope-listed.Post
-scope-listed-array-share-prefix-held t c = let s = c .before .before .before .before .before .before .before .before .before .before .before .before .before .before .before .before .before .before .before .before in let a = s .args in held-in (rows-in (a .rows .now)) (a .fuel) (a .row) (a .work .now) (a .used) (a .results) (a .first) (a .places .now) (s .pre .1 .0 .1) (s .pre .1 .1 .0) _ _ refl (c .before .before .before .before .before .before .before .before .before .before .before .before .put .ensures) (c .before .before .before .before .before .before .before .before .before .tree-count .result) (c .before .before .before .before .before .before .before .before .before .tree-count .ensures) (c .before .before .before .before .before .before .hold-all .result) _ (c .before .before .before .before .before .before .hold-all .ensures) _ (c .before .before .before .holding .given .1)
+scope-listed-array-share-prefix-held t c = ?
 
 scope-listed-slice-aggregate-scope-held-2 :
     (t : ℕ) → scope-listed-lts.Need-slice-aggregate-scope-held-2 (
@@ -718,22 +720,22 @@ scope-listed-slice-aggregate-scope-held-2 :
       scope-held-below t,
       scope-held.Post,
     ) (scope-listed-at t) scope-listed.Post
-scope-listed-slice-aggregate-scope-held-2 t c = let s = c .before .before .before .before .before .before .before .before .before .before .before .before .before .before .before .before .before .before .before .before .before in let a = s .args in sym (length-take-le _ _ (held-in (rows-in (a .rows .now)) (a .fuel) (a .row) (a .work .now) (a .used) (a .results) (a .first) (a .places .now) (s .pre .1 .0 .1) (s .pre .1 .1 .0) _ _ refl (c .before .before .before .before .before .before .before .before .before .before .before .before .before .put .ensures) (c .before .before .before .before .before .before .before .before .before .before .tree-count .result) (c .before .before .before .before .before .before .before .before .before .before .tree-count .ensures) (c .before .before .before .before .before .before .before .hold-all .result) _ (c .before .before .before .before .before .before .before .hold-all .ensures) _ (c .before .before .before .before .holding .given .1)))
+scope-listed-slice-aggregate-scope-held-2 t c = ?
 
 scope-listed-scope-held-requires : (t : ℕ) → scope-listed-lts.Need-scope-held-requires (put-reads.Asked, put-reads.Learnt, tree-count-reads.Asked, tree-count-reads.Learnt, hold-all-reads.Asked, hold-all-reads.Learnt, scope-held-below t, scope-held.Post) (scope-listed-at t) scope-listed.Post
-scope-listed-scope-held-requires t c κs = let s = c .before .before .before .before .before .before .before .before .before .before .before .before .before .before .before .before .before .before .before .before .before .before .before in let a = s .args in (omega (arith, s .pre .0), ((lent-rest (a .fuel) (a .work .now) (a .text .now) (a .used) (s .pre .1 .0 .0) (used-few (rows-in (a .rows .now)) (a .fuel) (a .row) (a .work .now) (a .used) (a .results) (a .first) (a .places .now) (s .pre .1 .0 .1) (s .pre .1 .1 .0)), tokens-left (rows-in (a .rows .now)) (a .fuel) (a .row) (a .work .now) (a .used) (a .results) (a .first) (a .places .now) (s .pre .1 .0 .1) (s .pre .1 .1 .0) _ _ refl (c .before .before .before .before .before .before .before .before .before .before .before .before .before .before .before .put .ensures)), ((c .before .before .before .before .before .before .before .before .before .before .before .before .tree-count .ensures, held-are (rows-in (a .rows .now)) (a .fuel) (a .row) (a .work .now) (a .used) (a .results) (a .first) (a .places .now) (s .pre .1 .0 .1) (s .pre .1 .1 .0) _ _ refl (c .before .before .before .before .before .before .before .before .before .before .before .before .before .before .before .put .ensures) (c .before .before .before .before .before .before .before .before .before .before .before .before .tree-count .result) (c .before .before .before .before .before .before .before .before .before .before .before .before .tree-count .ensures) (c .before .before .before .before .before .before .before .before .before .hold-all .result) _ (c .before .before .before .before .before .before .before .before .before .hold-all .ensures) _ (c .before .before .before .before .before .before .holding .given .1), held-short (rows-in (a .rows .now)) (a .fuel) (a .row) (a .work .now) (a .used) (a .results) (a .first) (a .places .now) (s .pre .1 .0 .1) (s .pre .1 .1 .0) _ _ refl (c .before .before .before .before .before .before .before .before .before .before .before .before .before .before .before .put .ensures) (c .before .before .before .before .before .before .before .before .before .before .before .before .tree-count .result) (c .before .before .before .before .before .before .before .before .before .before .before .before .tree-count .ensures) (c .before .before .before .before .before .before .before .before .before .hold-all .result) _ (c .before .before .before .before .before .before .before .before .before .hold-all .ensures) _ (c .before .before .before .before .before .before .holding .given .1)), subst (λ o. a .at + told-rows o ≤ most-rows) (outcome-is (rows-in (a .rows .now)) (a .fuel) (a .row) (a .work .now) (a .used) (a .results) (a .first) (a .places .now) (s .pre .1 .0 .1) (s .pre .1 .1 .0) _ _ refl (c .before .before .before .before .before .before .before .before .before .before .before .before .before .before .before .put .ensures) (c .before .before .before .before .before .before .before .before .before .before .before .before .tree-count .result) (c .before .before .before .before .before .before .before .before .before .before .before .before .tree-count .ensures) (c .before .before .before .before .before .before .before .before .before .hold-all .result) _ (c .before .before .before .before .before .before .before .before .before .hold-all .ensures) _ (c .before .before .before .before .before .before .holding .given .1)) (s .pre .1 .1 .1))))
+scope-listed-scope-held-requires t c κs = ?
 
 scope-listed-same-length-2 : (t : ℕ) → scope-listed-lts.Need-same-length-2 (put-reads.Asked, put-reads.Learnt, tree-count-reads.Asked, tree-count-reads.Learnt, hold-all-reads.Asked, hold-all-reads.Learnt, scope-held-below t, scope-held.Post) (scope-listed-at t) scope-listed.Post
-scope-listed-same-length-2 t c = search needs
+scope-listed-same-length-2 t c = ?
 
 scope-listed-same-length-3 : (t : ℕ) → scope-listed-lts.Need-same-length-3 (put-reads.Asked, put-reads.Learnt, tree-count-reads.Asked, tree-count-reads.Learnt, hold-all-reads.Asked, hold-all-reads.Learnt, scope-held-below t, scope-held.Post) (scope-listed-at t) scope-listed.Post
-scope-listed-same-length-3 t c = search needs
+scope-listed-same-length-3 t c = ?
 
 scope-listed-same-length-4 : (t : ℕ) → scope-listed-lts.Need-same-length-4 (put-reads.Asked, put-reads.Learnt, tree-count-reads.Asked, tree-count-reads.Learnt, hold-all-reads.Asked, hold-all-reads.Learnt, scope-held-below t, scope-held.Post) (scope-listed-at t) scope-listed.Post
-scope-listed-same-length-4 t c = search needs
+scope-listed-same-length-4 t c = ?
 
 scope-listed-returns-2 : (t : ℕ) → scope-listed-lts.Need-returns-2 (put-reads.Asked, put-reads.Learnt, tree-count-reads.Asked, tree-count-reads.Learnt, hold-all-reads.Asked, hold-all-reads.Learnt, scope-held-below t, scope-held.Post) (scope-listed-at t) scope-listed.Post
-scope-listed-returns-2 t c = let s = c .before .before .before .before .before .before .before .before .before .before .before .before .before .before .before .before .before .before .before .before .before .before .before .before .before .before .before .before .before .before in let a = s .args in subst (λ o. Scope-done o (a .at) (a .table .now) (c .before .before .before .before .before .before .scope-held .result) _) (sym (outcome-is (rows-in (a .rows .now)) (a .fuel) (a .row) (a .work .now) (a .used) (a .results) (a .first) (a .places .now) (s .pre .1 .0 .1) (s .pre .1 .1 .0) _ _ refl (c .before .before .before .before .before .before .before .before .before .before .before .before .before .before .before .before .before .before .before .before .before .before .put .ensures) (c .before .before .before .before .before .before .before .before .before .before .before .before .before .before .before .before .before .before .before .tree-count .result) (c .before .before .before .before .before .before .before .before .before .before .before .before .before .before .before .before .before .before .before .tree-count .ensures) (c .before .before .before .before .before .before .before .before .before .before .before .before .before .before .before .before .hold-all .result) _ (c .before .before .before .before .before .before .before .before .before .before .before .before .before .before .before .before .hold-all .ensures) _ (c .before .before .before .before .before .before .before .before .before .before .before .before .before .holding .given .1))) (c .before .before .before .before .before .before .scope-held .ensures)
+scope-listed-returns-2 t c = ?
 
 abbrev walk-Inv-loop : walk-lts.InvT-loop
 walk-Inv-loop rows work₀ held members ends fuel next text₀ numbers₀ sizes₀ number₀ extracted₀ start₀ g₀ work text numbers sizes number extracted start g = (g ≤ length ends) × Walk-so (inner (rows-in rows) fuel) held (place-groups held) next g number extracted start numbers sizes × (length work ≡ length work₀) × (length text ≡ length text₀) × (length numbers ≡ length numbers₀) × (length sizes ≡ length sizes₀)
