@@ -5,13 +5,11 @@ use mathlib.Core.Path.{_≡_, refl, sym, _∙_, ap, subst}
 use mathlib.Core.Bool.{Bool, true, false, _&&_, cond}
 use mathlib.Core.Option.{Option, none, some}
 use mathlib.Core.List.{List, [], _∷_, _++_}
-use borrow.Author.Tests.{eq-eqb, ne-eqb, lt-ltb, le-ltb, le-leb, lt-leb, ltb-true}
-use lib.Dec.{T, eqb, leb, ltb}
-use lib.ListN.{length, getD, take, drop, length-drop, drop-of-length-le}
-use Rattle.tree.specs.Kinds.{is-switch}
+use borrow.Author.Tests.{lt-ltb, le-ltb, le-leb, lt-leb, ltb-true}
+use lib.Dec.{T, leb, ltb}
+use lib.ListN.{length, getD, take, drop, drop-of-length-le}
 use Rattle.tree.specs.Facts.{size}
-use Rattle.tree.specs.Tokens.{kind-of, below-of, takes, read, numbered, run-at, trees-in}
-use Rattle.tree.proofs.Logic.{and-left, and-right}
+use Rattle.tree.specs.Tokens.{kind-of, below-of, numbered, run-at, trees-in}
 use Rattle.tree.proofs.TokenLaws.{operation-takes, run-size}
 use Rattle.tokens.specs.Answers.{end-answer}
 use Rattle.tokens.specs.declared.Run.the-variants as run
@@ -19,7 +17,7 @@ use Rattle.words.specs.Words.{some-trees, Complete}
 use Rattle.renaming.specs.Places.{numbered-at, second-at}
 use Rattle.renaming.proofs.DivisorPlaces.{enough}
 use Rattle.switchplaces.specs.Switches.{switch-at, arm-count, arm-place}
-use Rattle.switchplaces.proofs.Parts.{after, has-key}
+use Rattle.switchplaces.proofs.Parts.{has-key}
 use Rattle.switchplaces.proofs.Words.{place-within, past-sizes, ends-within, arms-after, arms-end}
 use Rattle.scopeplaces.specs.Reads.{with-reads, arms-run, all-arms-run}
 use Rattle.scopeneeds.specs.Marked.{switch-inside, all-switches, arms-there, arms-marked}

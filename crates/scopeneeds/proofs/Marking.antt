@@ -1,13 +1,13 @@
 -- The statement that a word's name is bound by, marked, and those of all words one after another. Assumes nothing.
-use Prim.Native.Nat.{ℕ, suc, _+_, _-_, _/_, _%_, _≤_, _<_}
+use Prim.Native.Nat.{ℕ, _+_, _-_, _/_, _%_, _≤_, _<_}
 use native.Mathlib.Omega.{arith}
-use mathlib.Core.Path.{_≡_, refl, sym, _∙_, ap, ap₂}
+use mathlib.Core.Path.{_≡_, refl, sym, _∙_, ap}
 use mathlib.Core.Bool.{Bool, true, false, _&&_, cond}
 use mathlib.Core.List.{List, [], _∷_, _++_}
 use borrow.Author.Tests.{eq-eqb, ne-eqb, lt-ltb, le-ltb, le-leb, lt-leb}
 use lib.Dec.{eqb, leb, ltb}
 use lib.ListN.{length, getD, drop, drop-of-length-le}
-use Rattle.bits.specs.Bits.{inside, with-yes}
+use Rattle.bits.specs.Bits.{with-yes}
 use Rattle.bits.proofs.BitLaws.{with-length, with-outside, outside-column}
 use Rattle.scopeplaces.specs.Reads.{place-of, group-of, with-read, with-reads}
 use Rattle.scopeneeds.specs.Marked.{with-let, with-match}

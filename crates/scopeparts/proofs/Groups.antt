@@ -2,14 +2,13 @@
 -- switch. Assumes nothing.
 use Prim.Native.Nat.{ℕ, zero, suc, _+_, _-_, _≤_, _<_}
 use native.Mathlib.Omega.{arith}
-use mathlib.Core.Path.{_≡_, refl, sym, _∙_, ap, subst}
+use mathlib.Core.Path.{_≡_, refl, sym, _∙_, ap}
 use mathlib.Core.Bool.{Bool, true, false}
-use mathlib.Core.Option.{some}
 use mathlib.Core.List.{List, [], _∷_, _++_, map}
-use lib.Dec.{T, eqb}
+use lib.Dec.{eqb}
 use lib.ListN.{length, getD, take, drop, length-append, length-map}
 use lib.Seq.{drop-at, drop-append-add, take-at, getD-drop}
-use Rattle.tree.specs.Tokens.{run-at, numbered, trees-in}
+use Rattle.tree.specs.Tokens.{numbered}
 use Rattle.tree.proofs.TokenLaws.{run-size}
 use Rattle.words.specs.Words.{Complete}
 use Rattle.reciprocals.proofs.Parts.{All-there}
@@ -22,7 +21,7 @@ use Rattle.switchplaces.proofs.GroupColumns.{every-at, members-armed}
 use Rattle.switchplaces.proofs.Stepping.{places-end, places-few}
 use Rattle.switchplaces.proofs.Turned.{Armed}
 use Rattle.scopeplaces.specs.Parts.{place-groups, joined-groups, ends-from, group-at, group-start, group-end, opener}
-use Rattle.scopeparts.specs.Prepared.{Grouped, begin-of}
+use Rattle.scopeparts.specs.Prepared.{begin-of}
 
 -- ---- lists of lists
 

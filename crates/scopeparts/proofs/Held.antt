@@ -6,24 +6,20 @@ use mathlib.Core.Path.{_≡_, refl, sym, _∙_, ap, subst}
 use mathlib.Core.Bool.{Bool, true, false}
 use mathlib.Core.Option.{some}
 use mathlib.Core.List.{List, [], _∷_, _++_, append-nil, map}
-use borrow.Author.Tests.{ltb-true, ltb-false}
-use lib.Dec.{T, ltb}
-use lib.ListN.{length, getD, take, drop, length-append, length-drop, length-map, List·getD-append}
-use lib.Seq.{getD-append-add, getD-take}
+use lib.Dec.{T}
+use lib.ListN.{length, getD, length-append, length-drop, length-map, List·getD-append}
+use lib.Seq.{getD-append-add}
 use Rattle.tree.specs.Tree.{Tree, Op, nil}
-use Rattle.tree.specs.Facts.{size}
-use Rattle.tree.specs.Tokens.{tokens, all-tokens, read, numbered, run-at, trees-in}
+use Rattle.tree.specs.Tokens.{tokens, all-tokens, read, numbered, trees-in}
 use Rattle.tree.proofs.TokenLaws.{complete-length, complete-within}
-use Rattle.tree.proofs.TokenCode.{coded, all-coded, unnumbered, tokens-length, tokens-complete}
+use Rattle.tree.proofs.TokenCode.{coded, all-coded, unnumbered, tokens-complete}
 use Rattle.words.specs.Words.{number, rewritten-words, Complete}
 use Rattle.renaming.specs.Places.{numbered-at}
 use Rattle.renaming.specs.Rounds.{next-number, bind-each-on}
 use Rattle.renaming.proofs.Coded.{is-alone, none-fit, one-fits, first-fits, rest-fits, read-fits, read-again, bind-on-fits}
 use Rattle.reciprocals.proofs.Parts.{settle-tree, settled-reciprocals, bound-are-settled, All-there}
 use Rattle.reciprocal.proofs.There.{tested-there}
-use Rattle.reciprocal.proofs.Made.{settled-long, made-words, made-is, made-within}
-use Rattle.treelist.specs.Starts.{starts-of}
-use Rattle.treelist.proofs.Begins.{ends-within, run-there, words-there, as-many}
+use Rattle.reciprocal.proofs.Made.{settled-long}
 use Rattle.finishlaws.proofs.Trees.{divisors-fit}
 use Rattle.fusion.specs.Settled.{fused-tree}
 use Rattle.fusion.specs.Whole.{settled-roots}

@@ -4,20 +4,19 @@ use native.Mathlib.Omega.{arith}
 use mathlib.Core.Path.{_≡_, refl, sym, _∙_, ap, subst}
 use mathlib.Core.Bool.{Bool, true, false}
 use mathlib.Core.Option.{some}
-use mathlib.Core.List.{List, [], _∷_, _++_}
+use mathlib.Core.List.{List}
 use lib.Dec.{T}
 use lib.ListN.{length, getD, take, drop, length-drop}
 use lib.Seq.{getD-drop, length-take-le, take-all}
 use Rattle.tree.specs.Facts.{size}
-use Rattle.tree.specs.Tokens.{tokens, read, numbered, run-at, trees-in, kind-of, below-of, takes, word}
+use Rattle.tree.specs.Tokens.{tokens, numbered, run-at, trees-in}
 use Rattle.tree.proofs.TokenLaws.{complete-end, complete-length, complete-within, operation-takes}
 use Rattle.tokens.specs.Answers.{end-answer}
 use Rattle.tokens.specs.declared.Run.the-variants as run
-use Rattle.words.specs.Words.{number, rewritten-words, Complete}
+use Rattle.words.specs.Words.{number, Complete}
 use Rattle.renaming.specs.Places.{numbered-at}
 use Rattle.renaming.proofs.DivisorPlaces.{enough}
 use Rattle.reciprocals.proofs.Parts.{All-there}
-use Rattle.cse.specs.AnswerRows.{match-row}
 use Rattle.switchplaces.specs.Switches.{switch-at, key-place, arm-count}
 use Rattle.switchplaces.specs.Columns.{words-at}
 use Rattle.switchplaces.proofs.Collected.{Switching}
@@ -28,7 +27,7 @@ use Rattle.fusion.specs.Settled.{fused-tree}
 use Rattle.fusion.specs.Words.{steps-at}
 use Rattle.scopeneeds.proofs.Arms.{key-inside, key-stands}
 use Rattle.scopeplaces.specs.Overlay.{overlay}
-use Rattle.scopeplaces.specs.Parts.{place-groups, joined-groups, ends-from, group-at, group-start, group-end, opener, steps-from, key-run, match-head}
+use Rattle.scopeplaces.specs.Parts.{place-groups, joined-groups, group-at, group-start, group-end, opener, steps-from, key-run, match-head}
 use Rattle.scopeparts.specs.Prepared.{most, Prepared, Grouped, Fusable, fused-by, begin-of}
 use Rattle.scopeparts.proofs.Held.{held-complete, rewritten-one}
 use Rattle.scopeparts.proofs.Groups.{ends-count, end-is, begin-is, group-long, group-inside, group-part, opener-is, group-switches, opener-switch, members-there}

@@ -1,17 +1,16 @@
 -- What each statement reads, marked one statement after another, and the order that follows (01, "Order"). Assumes nothing.
 use Prim.Native.Nat.{ℕ, zero, suc, _+_, _-_, _*_, _≤_, _<_}
 use native.Mathlib.Omega.{arith}
-use mathlib.Core.Path.{_≡_, refl, sym, _∙_, ap, ap₂, subst}
-use mathlib.Core.Bool.{Bool, true, false, _&&_, cond}
-use mathlib.Core.Option.{some}
-use mathlib.Core.List.{List, [], _∷_, _++_, reverse}
+use mathlib.Core.Path.{_≡_, refl, sym, _∙_, ap, ap₂}
+use mathlib.Core.Bool.{Bool, true, false, cond}
+use mathlib.Core.List.{List, [], _∷_, _++_, reverse, reverseAux}
 use borrow.Author.Tests.{lt-ltb, le-ltb, le-leb}
-use lib.Dec.{T, eqb, ltb}
+use lib.Dec.{T, eqb}
 use lib.ListN.{length, getD, take, drop, replicate, length-replicate, length-reverse}
-use Rattle.tree.specs.Tokens.{trees-in}
-use Rattle.words.specs.Words.{some-trees, Complete}
+use Rattle.words.specs.Words.{some-trees}
 use Rattle.cse.specs.Order.{positions-taken}
-use Rattle.order.specs.Needs.{table-of, room, all-or-ring, order-answer, order-written, Orders}
+use Rattle.cse.proofs.OrderLaws.{All, taken-ok}
+use Rattle.order.specs.Needs.{table-of, rows-from, room, all-or-ring, order-answer, order-written, Orders}
 use Rattle.order.specs.declared.Ordered.{Ordered}
 use Rattle.renaming.proofs.Extraction.{Every}
 use Rattle.switchplaces.specs.Switches.{switch-at}
@@ -207,3 +206,35 @@ module _ {ws : List ℕ} {k first : ℕ} {places held starts members ends number
           o .answer-is ∙ (ap (λ (b : Bool). order-answer b count (positions-taken (table-of bits count))) enough ∙ told-as (positions-taken (table-of bits count)) (stmts-order ws k first places numbers) turned),
           o .taken-is ∙ (ap (λ (b : Bool). order-written b (positions-taken (table-of bits count)) taken) enough ∙ written-as (positions-taken (table-of bits count)) (stmts-order ws k first places numbers) turned),
         )
+
+-- ---- positions in the order
+
+all-getD : (P : ℕ → Type 0) (l : List ℕ) → All P l → (q : ℕ) → q < length l → P (getD l q 0)
+all-getD P [] h q i = absurd (omega arith)
+all-getD P (j ∷ l) h zero i = h .0
+all-getD P (j ∷ l) h (suc q) i = all-getD P l (h .1) q (omega arith)
+
+all-turned : (P : ℕ → Type 0) (a b : List ℕ) → All P a → All P b → All P (reverseAux a b)
+all-turned P [] b g h = h
+all-turned P (j ∷ a) b g h = all-turned P a (j ∷ b) (g .1) (g .0, h)
+
+rows-count : (needs : List ℕ) (count j n : ℕ) → length (rows-from needs count j n) ≡ n
+unfolding rows-from
+rows-count needs count j zero = refl
+rows-count needs count j (suc n) = ap suc (rows-count needs count (suc j) n)
+
+table-count : (needs : List ℕ) (count : ℕ) → length (table-of needs count) ≡ count
+unfolding table-of
+table-count needs count = rows-count needs count 0 count
+
+taken-below : (needs : List ℕ) (count q : ℕ) → q < length (reverse (positions-taken (table-of needs count))) → getD (reverse (positions-taken (table-of needs count))) q 0 < count
+taken-below needs count q h =
+    let table = table-of needs count in
+    omega (arith, table-count needs count, all-getD (λ j. j < length table) (reverse (positions-taken table)) (all-turned (λ j. j < length table) (positions-taken table) [] (taken-ok table .inside) tt) q h)
+
+-- each is a statement's
+pub order-positions :
+    (ws : List ℕ) (k first : ℕ) (places numbers : List ℕ) (q : ℕ) → q < length (stmts-order ws k first places numbers)
+    → getD (stmts-order ws k first places numbers) q 0 < stmts-count ws k first places numbers
+unfolding stmts-order
+order-positions ws k first places numbers q h = taken-below (needs-table ws k first places numbers (stmts-count ws k first places numbers) (replicate 16384 0)) (stmts-count ws k first places numbers) q h

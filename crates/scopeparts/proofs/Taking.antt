@@ -1,23 +1,22 @@
 -- A tree is taken from words that hold it, or made as a reciprocal, and then has its members replaced: each time its run stands in front. Assumes nothing.
-use Prim.Native.Nat.{ℕ, zero, suc, _+_, _-_, _≤_, _<_}
+use Prim.Native.Nat.{ℕ, suc, _+_, _-_, _≤_, _<_}
 use native.Mathlib.Omega.{arith}
 use mathlib.Core.Path.{_≡_, refl, sym, _∙_, ap, subst}
 use mathlib.Core.Bool.{Bool, true}
 use mathlib.Core.Option.{Option, some}
-use mathlib.Core.List.{List, [], _∷_, _++_, append-nil, map}
+use mathlib.Core.List.{List, [], _∷_, _++_, append-nil}
 use borrow.Author.Tests.{le-leb}
-use lib.Dec.{T, leb}
+use lib.Dec.{T}
 use lib.ListN.{length, getD, take, drop, length-take}
 use lib.Seq.{getD-take}
-use Rattle.tree.specs.Tree.{Tree, Op, nil}
+use Rattle.tree.specs.Tree.{Op, nil}
 use Rattle.tree.specs.Facts.{size}
 use Rattle.tree.specs.Tokens.{tokens, all-tokens, read, numbered, run-at, trees-in}
 use Rattle.tree.proofs.TokenCode.{unnumbered, tokens-length}
 use Rattle.tokens.specs.Answers.{end-answer}
 use Rattle.tokens.specs.declared.Run.the-variants as run
-use Rattle.words.specs.Words.{number, rewritten-words, some-trees, Complete}
-use Rattle.renaming.specs.Places.{numbered-at}
-use Rattle.reciprocals.proofs.Parts.{settled-reciprocals, All-there}
+use Rattle.words.specs.Words.{some-trees, Complete}
+use Rattle.reciprocals.proofs.Parts.{All-there}
 use Rattle.reciprocal.specs.Bindings as bindings
 use Rattle.reciprocal.specs.Bindings.{Binding, reciprocal-answer}
 use Rattle.reciprocal.specs.declared.Bound.{Bound}
@@ -28,8 +27,7 @@ use Rattle.treelist.specs.Starts.{starts-of}
 use Rattle.treelist.proofs.Begins.{tree-number, start-number, ends-within, run-there, words-there, as-many}
 use Rattle.finishlaws.specs.Ready.{Stands}
 use Rattle.finishlaws.proofs.Taking.{in-front}
-use Rattle.fusion.specs.Settled.{fused-tree}
-use Rattle.fusion.specs.Words.{steps-at, fused-words}
+use Rattle.fusion.specs.Words.{fused-words}
 use Rattle.fusion.proofs.Words.{fused-words-are}
 use Rattle.fuse.specs.Answers.{Fusing, fusing-by, all-there, all-small, room-for, fusing}
 use Rattle.fuse.specs.declared.Fused.{Fused}
@@ -37,7 +35,7 @@ use Rattle.fuse.specs.declared.Fused.the-variants as fused
 use Rattle.scopeplaces.specs.Overlay.{overlay}
 use Rattle.tables.proofs.Laws.{overlay-front}
 use Rattle.scopeplaces.specs.Whole.{tree-run}
-use Rattle.scopeparts.specs.Prepared.{most, Prepared, run-number, reciprocal-run, settled-run, Fusable, fused-by}
+use Rattle.scopeparts.specs.Prepared.{Prepared, run-number, reciprocal-run, settled-run, Fusable, fused-by}
 use Rattle.scopeparts.proofs.Held.{held-run-is, reciprocal-run-is, settled-whole, fused-final, held-complete}
 use Rattle.scopeparts.proofs.Groups.{members-there}
 

@@ -5,8 +5,7 @@ use mathlib.Core.Path.{_≡_, refl, sym, _∙_, ap, ap₂, subst}
 use mathlib.Core.Bool.{Bool, true}
 use mathlib.Core.List.{List, [], _∷_, _++_}
 use borrow.Author.Tests.{le-leb}
-use lib.Dec.{leb}
-use lib.ListN.{length, getD, take, drop, length-append, length-take, length-drop}
+use lib.ListN.{length, getD, take, drop, length-append, length-drop}
 use lib.Seq.{length-take-le, getD-take, getD-drop}
 use Rattle.tree.specs.Tokens.{word}
 use Rattle.cse.specs.AnswerRows.{let-row}
@@ -16,10 +15,10 @@ use Rattle.tables.specs.Names.{rows-of-names, names-fit, names-put}
 use Rattle.tables.proofs.Laws.{overlay-none, overlay-length, overlay-append}
 use Rattle.tables.proofs.Putting.{rows-long, rows-named}
 use Rattle.scopeplaces.specs.Overlay.{overlay}
-use Rattle.scopeplaces.specs.Parts.{place-groups, group-at, group-start, key-run, names-run, name-rows, match-head, let-run, value-run}
+use Rattle.scopeplaces.specs.Parts.{place-groups, group-at, group-start, key-run, names-run, match-head, let-run, value-run}
 use Rattle.scopeplaces.specs.Whole.{tree-run, values-runs}
 use Rattle.scopeparts.specs.Prepared.{most, Grouped, begin-of, head-run}
-use Rattle.scopeparts.proofs.Keys.{begin-before, end-inside, numbers-part}
+use Rattle.scopeparts.proofs.Keys.{end-inside, numbers-part}
 
 -- ---- a row and the run below it
 

@@ -4,9 +4,9 @@ use Prim.Native.Nat.{ℕ, zero, suc, _≤_, _<_}
 use mathlib.Core.Path.{_≡_}
 use mathlib.Core.Option.{some}
 use mathlib.Core.List.{List, [], _∷_, _++_, map}
-use lib.ListN.{length, getD, take, drop}
+use lib.ListN.{length, getD, take}
 use lib.Dec.{T, eqb}
-use Rattle.tree.specs.Tree.{Tree, Op, nil}
+use Rattle.tree.specs.Tree.{Op, nil}
 use Rattle.tree.specs.Tokens.{tokens, read, numbered, trees-in}
 use Rattle.words.specs.Words.{number, rewritten-words, Complete}
 use Rattle.renaming.specs.Places.{numbered-at}

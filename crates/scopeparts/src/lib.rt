@@ -1,12 +1,10 @@
 // The parts of one scope once its arms are done (01, "Scoped fusion", "Order"): its statements put in the order of their needs, and the rows of a let, of the values
 // and of a match before its arms. A tree is taken from what the scope holds or, as a reciprocal, made when it is needed; then its members are replaced by their names.
 ghost use mathlib.Core.Path.{_≡_};
-ghost use mathlib.Core.Option.{some};
 ghost use mathlib.Core.List.{_++_};
 ghost use Prim.Native.Nat.{_+_, _-_, _≤_, _<_};
 ghost use lib.Dec.{T};
 ghost use lib.ListN.{length, take, drop};
-ghost use Rattle.tree.specs.Tokens.{trees-in};
 ghost use Rattle.words.specs.Words.{Complete};
 ghost use Rattle.reciprocal.specs.Bindings.{all-there};
 ghost use Rattle.treelist.specs.Starts.{starts-of};

@@ -1,5 +1,4 @@
 -- `scopeneeds::is_switch` meets its contract. Assumes nothing.
-use native.Mathlib.Omega.{arith}
 use Rattle.scopeneeds.proofs.Arms.{place-outside, not-switch, by-key}
 use borrow.Author.Needs.{needs}
 use Rattle.scopeneeds.proofs.is_switch.Statement.{statement}

@@ -1,7 +1,7 @@
 -- `scopeneeds::mark_arms` meets its contract: what the arms so far read, with those to come, is the whole. Assumes nothing.
-use Prim.Native.Nat.{ℕ, _-_}
+use Prim.Native.Nat.{_-_}
 use native.Mathlib.Omega.{arith}
-use mathlib.Core.Path.{_∙_, sym, refl}
+use mathlib.Core.Path.{_∙_, sym}
 use lib.ListN.{length, getD}
 use borrow.Author.Tests.{not-true, not-false}
 use Rattle.tree.specs.Tokens.{trees-in}

@@ -1,7 +1,7 @@
 -- `scopeneeds::mark_match` meets its contract. Assumes nothing.
 use Prim.Native.Nat.{ℕ, _≤_, _<_}
 use native.Mathlib.Omega.{arith}
-use mathlib.Core.Path.{_∙_, sym, ap, subst}
+use mathlib.Core.Path.{_∙_, ap, subst}
 use lib.ListN.{length}
 use Rattle.scopeplaces.specs.Reads.{group-of}
 use Rattle.scopeneeds.proofs.Finding.{group-small}

@@ -1,9 +1,8 @@
 -- `scopeneeds::mark_switch` meets its contract. Assumes nothing.
-use Prim.Native.Nat.{ℕ, _-_}
+use Prim.Native.Nat.{ℕ}
 use native.Mathlib.Omega.{arith}
 use mathlib.Core.Path.{_∙_, sym, ap}
 use mathlib.Core.List.{List}
-use lib.ListN.{length, take, drop}
 use Rattle.scopeplaces.specs.Reads.{with-reads}
 use Rattle.scopeneeds.proofs.Arms.{key-not-broken, whole-not-broken, arms-begin, arms-stop, arms-inside, arms-words}
 use borrow.Author.Needs.{needs}

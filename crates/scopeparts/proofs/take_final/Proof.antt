@@ -1,6 +1,5 @@
 -- `scopeparts::take_final` meets its contract. Assumes nothing.
 use native.Mathlib.Omega.{arith}
-use lib.ListN.{length}
 use Rattle.scopeparts.proofs.Taking.{fusable, run-complete, final-stands}
 use borrow.Author.Needs.{needs}
 use Rattle.scopeparts.proofs.take_final.Statement.{statement}

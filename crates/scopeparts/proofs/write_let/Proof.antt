@@ -1,10 +1,10 @@
 -- `scopeparts::write_let` meets its contract. Assumes nothing.
 use Prim.Native.Nat.{_+_}
 use native.Mathlib.Omega.{arith}
-use mathlib.Core.Path.{sym, _∙_}
+use mathlib.Core.Path.{sym}
 use lib.Seq.{length-take-le}
 use Rattle.scopeparts.proofs.Held.{lets-are, trees-few, places-few}
-use Rattle.scopeparts.proofs.Writing.{let-long, let-written}
+use Rattle.scopeparts.proofs.Writing.{let-written}
 use borrow.Author.Needs.{needs}
 use Rattle.scopeparts.proofs.write_let.Statement.{statement}
 use Rattle.scopeparts.proofs.write_let.Tie as tie

@@ -1,6 +1,6 @@
 -- `scopeparts::write_match_head` meets its contract. Assumes nothing.
 use native.Mathlib.Omega.{arith}
-use mathlib.Core.Path.{sym, _∙_}
+use mathlib.Core.Path.{sym}
 use lib.Seq.{length-take-le}
 use Rattle.scopeparts.proofs.Keys.{begin-before, begin-inside, end-inside}
 use Rattle.scopeparts.proofs.Writing.{head-long, head-written}

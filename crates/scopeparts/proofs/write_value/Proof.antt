@@ -1,8 +1,8 @@
 -- `scopeparts::write_value` meets its contract. Assumes nothing.
 use native.Mathlib.Omega.{arith}
-use mathlib.Core.Path.{sym, _∙_}
+use mathlib.Core.Path.{sym}
 use lib.Seq.{length-take-le}
-use Rattle.scopeparts.proofs.Writing.{value-long, value-written}
+use Rattle.scopeparts.proofs.Writing.{value-written}
 use borrow.Author.Needs.{needs}
 use Rattle.scopeparts.proofs.write_value.Statement.{statement}
 use Rattle.scopeparts.proofs.write_value.Tie as tie
