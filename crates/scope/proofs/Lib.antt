@@ -8,3 +8,4 @@ pub mod Statements
 pub mod Ending
 pub mod Beginning
 pub mod Scoping
+pub mod Leaves

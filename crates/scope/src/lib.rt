@@ -13,7 +13,7 @@ ghost use Rattle.checked.specs.Check.{rows-in};
 ghost use Rattle.renaming.specs.Names.{is-number, symbols-pass};
 ghost use Rattle.kept.specs.Sound.{extractable};
 ghost use Rattle.reciprocal.specs.Bindings.{all-there};
-ghost use Rattle.switchplaces.specs.Switches.{arm-count};
+ghost use Rattle.switchplaces.specs.Switches.{arm-count, switch-places};
 ghost use Rattle.switchplaces.specs.Columns.{column-words};
 ghost use Rattle.fusion.specs.Words.{numbers-from};
 ghost use Rattle.scopeplaces.specs.Overlay.{overlay};
@@ -22,6 +22,12 @@ ghost use Rattle.scopeplaces.specs.Whole.{arms-told, group-told, stmts-count, t
 ghost use Rattle.scope.specs.Answers.{scope-answer, scope-table, told-rows, Lists, inner, arm-told, arms-answer, Arms-wrote, walk-answer, Walk-wrote, words-of, Holding-so, walk-refusal, refusal-number};
 ghost use Rattle.scope.specs.Frame.{most-rows, Lent, Holds, Is-group, Arm-fits, Arms-fit, Members, groups-told, Ready, grouped-scope, Sized, Numbered, group-again, Group-sized, scope-arms, Positions, Left, Grouping-so};
 ghost use Rattle.scopeparts.specs.Prepared.{Prepared, Readied, Grouped, begin-of, order-told, head-run};
+use columns::Column;
+use columns::copy_column;
+use grouping::Grouping;
+use grouping::group_switches;
+use holding::Held;
+use holding::hold;
 use order::Ordered;
 use rounds::Rounds;
 use rounds::extract_all;
@@ -29,6 +35,8 @@ use scopeparts::order_stmts;
 use scopeparts::write_let;
 use scopeparts::write_match_head;
 use scopeparts::write_values;
+use switches::SwitchList;
+use switches::list_switches;
 use tables::put;
 use tables::put_word;
 use tobind::ToBind;
@@ -102,10 +110,15 @@ enum Listed {
 
 // The words of one arm of each member, in front of the work area.
 fn column(held: &[u64], group: &[u64], a: usize, work: &mut [u64]) -> usize
-    requires { ⌜ Is-group (now held) (now group) × (a < arm-count (now held) (getD (now group) 0 0)) × (length (now held) ≤ length (now work)) ⌝ }
+    requires { ⌜ Is-group (now held) (now group) × (a < arm-count (now held) (getD (now group) 0 0)) × (length (now held) ≤ length (now work)) × T (some-trees (trees-in (now held))) ⌝ }
     ensures { λ r. ⌜ (take r (now (work .exit)) ≡ column-words (now (held .entry)) (now (group .entry)) a) × (r ≤ length (now (work .exit))) ⌝ }
 {
-    0
+    let copied = copy_column(held, group, a, work);
+    match copied {
+        Column::Words(n) => n,
+        Column::Broken => 0,
+        Column::NoRoom => 0,
+    }
 }
 
 // How many trees some words are.
@@ -125,7 +138,40 @@ fn hold_all(tokens: &[u64], places: &[u64], number: u64, held: &mut [u64]) -> Ho
     requires { ⌜ (length (now tokens) ≤ 1024) × (length (now places) ≤ 1024) × (number ≤ 4294967296) × (1024 ≤ length (now held)) ⌝ }
     ensures { λ r. ⌜ Holding-so (words-held (now (tokens .entry)) number (now (places .entry))) r (now (held .exit)) ⌝ }
 {
-    Holding::TooMany
+    let done = hold(tokens, places, number, held);
+    match done {
+        Held::Words(n) => Holding::Words(n),
+        Held::TooMany => Holding::TooMany,
+        Held::Broken => Holding::TooMany,
+        Held::NoRoom => Holding::TooMany,
+    }
+}
+
+// The switches of words, at the front of `places`. That they can't be listed never comes up.
+fn list_all(held: &[u64], places: &mut [u64]) -> usize
+    requires { ⌜ T (some-trees (trees-in (now held))) × (length (now held) ≤ 1024) × (1024 ≤ length (now places)) ⌝ }
+    ensures { λ r. ⌜ (take r (now (places .exit)) ≡ switch-places (now (held .entry))) × (r ≤ length (now (places .exit))) ⌝ }
+{
+    let listed = list_switches(held, places);
+    match listed {
+        SwitchList::Count(n) => n,
+        SwitchList::Broken => 0,
+        SwitchList::NoRoom => 0,
+    }
+}
+
+// The groups of these switches. That they can't be made never comes up.
+fn group_listed(held: &[u64], places: &[u64], members: &mut [u64], ends: &mut [u64]) -> usize
+    requires { ⌜ T (some-trees (trees-in (now held))) × (now places ≡ switch-places (now held)) ⌝ }
+    requires { ⌜ (length (now places) ≤ length (now members)) × (length (now places) ≤ length (now ends)) ⌝ }
+    ensures { λ r. ⌜ Grouping-so (now (held .entry)) (length (now (places .entry))) r (now (members .exit)) (now (ends .exit)) ⌝ }
+{
+    let grouped = group_switches(held, places, members, ends);
+    match grouped {
+        Grouping::Count(n) => n,
+        Grouping::Broken => 0,
+        Grouping::NoRoom => 0,
+    }
 }
 
 // The groups of the switches of words: all members at the front of `members`, and where each group ends among them at the front of `ends`.
@@ -134,7 +180,13 @@ fn group_all(held: &[u64], members: &mut [u64], ends: &mut [u64]) -> Found
     requires { ⌜ (1024 ≤ length (now members)) × (1024 ≤ length (now ends)) ⌝ }
     ensures { λ r. ⌜ Grouping-so (now (held .entry)) (r .members) (r .groups) (now (members .exit)) (now (ends .exit)) ⌝ }
 {
-    Found { members: 0, groups: 0 }
+    let mut switches = [0u64; MOST];
+    let count = list_all(held, &mut switches);
+    let groups = group_listed(held, &switches[..count], members, ends);
+    Found {
+        members: count,
+        groups,
+    }
 }
 
 // The rounds on the first `len` words, and then the places of the divisors to bind. That these can't be listed never comes up: rounds keep words that print takes.
