@@ -227,7 +227,7 @@ fn group_begin(ends: &[u64], g: usize) -> usize
 
 // How many arms each switch of a group has.
 fn count_arms(held: &[u64], group: &[u64]) -> usize
-    requires { ⌜ Is-group (now held) (now group) × (length (now held) ≤ 1024) ⌝ }
+    requires { ⌜ Is-group (now held) (now group) × (length (now held) ≤ 1024) × T (some-trees (trees-in (now held))) ⌝ }
     ensures { λ r. ⌜ r ≡ arm-count (now (held .entry)) (getD (now (group .entry)) 0 0) ⌝ }
 {
     let opener = group[0] as usize;

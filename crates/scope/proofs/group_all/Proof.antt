@@ -1,3 +1,10 @@
+-- `scope::group_all` meets its contract. Assumes nothing.
+use native.Mathlib.Omega.{arith}
+use mathlib.Core.Path.{sym, _∙_, ap, subst}
+use lib.ListN.{length}
+use lib.Seq.{length-take-le}
+use Rattle.switches.proofs.Told.{switches-few}
+use Rattle.scope.specs.Frame.{Grouping-so}
 use borrow.Author.Needs.{needs}
 use Rattle.scope.proofs.group_all.Statement.{statement}
 use Rattle.scope.proofs.group_all.Tie as tie
@@ -6,37 +13,29 @@ use Rattle.scope.proofs.group_all.Lts as lts
 use Rattle.scope.proofs.group_listed.Reads as group-listed-reads
 use Rattle.scope.proofs.list_all.Reads as list-all-reads
 
--- src/lib.rt:184:32
 slice-aggregate-list-all : tie.Need-slice-aggregate-list-all
 slice-aggregate-list-all c = search needs
 
--- src/lib.rt:184:9
 list-all-requires : tie.Need-list-all-requires
-list-all-requires c κs = search needs
+list-all-requires c κs = let s = c .before .before .before .before in (s .pre .0 .0, s .pre .0 .1, omega arith)
 
--- src/lib.rt:185:37
 array-share-prefix-switches : tie.Need-array-share-prefix-switches
-array-share-prefix-switches c = search needs
+array-share-prefix-switches c = c .before .list-all .ensures .1
 
--- src/lib.rt:185:37
 slice-aggregate-group-listed : tie.Need-slice-aggregate-group-listed
-slice-aggregate-group-listed c = ?
+slice-aggregate-group-listed c = sym (length-take-le _ _ (c .before .before .list-all .ensures .1))
 
--- src/lib.rt:185:9
 group-listed-requires : tie.Need-group-listed-requires
-group-listed-requires c κs = ?
+group-listed-requires c κs = let s = c .before .before .before .before .before .before .before .before .before in let a = s .args in ((s .pre .0 .0, c .before .before .before .before .list-all .ensures .0), (omega (arith, ap length (c .before .before .before .before .list-all .ensures .0), switches-few (a .held .now), s .pre .0 .1, s .pre .1 .0), omega (arith, ap length (c .before .before .before .before .list-all .ensures .0), switches-few (a .held .now), s .pre .0 .1, s .pre .1 .1)))
 
--- src/lib.rt:178:1
 same-length : tie.Need-same-length
 same-length c = search needs
 
--- src/lib.rt:178:1
 same-length-2 : tie.Need-same-length-2
 same-length-2 c = search needs
 
--- src/lib.rt:178:1
 returns : tie.Need-returns
-returns c = ?
+returns c = let s = c .before .before .before .before .before .before .before .before .before .before .before .before .before .before in let a = s .args in subst (λ n. Grouping-so (a .held .now) n (c .before .before .before .before .group-listed .result) _ _) (length-take-le _ _ (c .before .before .before .before .before .before .before .before .before .list-all .ensures .1)) (c .before .before .before .before .group-listed .ensures)
 
 pub group-all-spec : {M : Type 1} → statement M
 group-all-spec =
