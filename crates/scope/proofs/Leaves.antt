@@ -243,3 +243,6 @@ numbers-more first at old now i e =
     ∙ (sym (overlay-word (at + i) (first + i) (overlay at (numbers-from first i) old))
     ∙ (ap (λ (k : ℕ). overlay k ((first + i) ∷ []) (overlay at (numbers-from first i) old)) (omega (arith, numbers-count first i))
     ∙ (sym (overlay-append at (numbers-from first i) ((first + i) ∷ []) old) ∙ ap (λ (l : List ℕ). overlay at l old) (sym (numbers-last first i) ∙ ap (numbers-from first) (omega arith)))))
+
+pub found-so : (held : List ℕ) (m n g : ℕ) (members ends : List ℕ) → Grouping-so held m g members ends → m ≡ n → Grouping-so held n g members ends
+found-so held m n g members ends s e = subst (λ (k : ℕ). Grouping-so held k g members ends) e s

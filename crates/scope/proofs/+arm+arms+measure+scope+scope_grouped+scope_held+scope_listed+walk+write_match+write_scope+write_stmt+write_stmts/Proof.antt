@@ -1,4 +1,38 @@
-use Prim.Native.Nat.{ℕ, _<_}
+-- `scope::scope`, `scope::arms` and `scope::arm` meet their contracts. A scope calls with one scope less that may be opened, and the others pass it on. Assumes nothing.
+use native.Mathlib.Omega.{arith}
+use mathlib.Core.Path.{_≡_, refl, sym, _∙_, ap, subst}
+use lib.ListN.{length, take, getD, length-set}
+use Rattle.checked.specs.Check.{rows-in}
+use Rattle.switchplaces.specs.Switches.{arm-count}
+use Rattle.scope.specs.Answers.{inner}
+use Rattle.scope.specs.Frame.{groups-told, Arms-fit}
+use Rattle.scope.proofs.ArmLaws.{Arms-so, arm-ends, arm-stops, arms-begin, arms-go-on, arms-end-refused, arms-all}
+use Rattle.scope.proofs.Asking.{lent-on, column-room, column-scoped, column-fits, column-answers, steps-few, arm-too-deep, arms-small, so-small, so-holds, so-fits, so-made}
+use Rattle.scope.proofs.Sound.{group-few, arms-few}
+use Rattle.scopeplaces.specs.Parts.{place-groups, group-at, group-start, reciprocals-first}
+use Rattle.scope.proofs.Asking.{measure-fits, group-is}
+use Rattle.scope.proofs.Sound.{holds-later, group-few, all-few}
+use Rattle.scope.proofs.WalkLaws.{Walk-so, walk-begin, walk-goes-on, walk-ends-refused, walk-all}
+use Rattle.scope.proofs.Walking.{ends-many, ends-few, so-bound, number-low, number-holds, made-low, start-at, end-at, end-long, end-within, members-here, group-here, answer-here, count-here}
+use Rattle.scope.proofs.Writing.{match-is, head-fits, all-fits, begins, ends-at, ends-within, some-member, begin-within, first-small, members-few, part-is, start-under, start-within, number-small, part-group, part-holds, part-fits, match-done, match-never, match-past}
+use Rattle.scope.proofs.Statements.{readied, grouped, lets-few, let-is, let-there, group-there, size-in, group-sized, number-holds as member-holds, match-is as stmt-match-is, Stmts-so, stmts-begin, entry-fits, stmts-on, stmts-end}
+use Rattle.scopeparts.proofs.Held.{lets-are, count-is, trees-few, places-few}
+use mathlib.Core.List.{List}
+use Rattle.scopeplaces.specs.Overlay.{overlay}
+use Rattle.scopeplaces.specs.Whole.{stmts-runs}
+use Rattle.scope.specs.Frame.{scope-arms, most-rows}
+use Rattle.scope.proofs.Ending.{extracted-low, count-here as statements-here, ring-done, never-broken, taken-is, positions, stmts-fit, values-fit, all-done}
+use lib.Seq.{length-take-le}
+use Rattle.scope.proofs.Beginning.{lets-small, from-low, holds-from, members-short, ends-short, walk-refused, numbered-so, prepared-so, left-there, left-holds, held-whole as held-complete, trees-short, starts-long, ready-so}
+use native.Mathlib.Nat.{le-refl}
+use Rattle.scope.proofs.Beginning.{whole-so, lent-rest, used-few, tokens-are, tokens-left, tokens-whole, trees-enough, trees-few-here, places-short, tokens-there, too-many, held-in, held-are, held-short, outcome-is}
+use Rattle.scope.proofs.Ending.{Scope-done}
+use Rattle.scope.specs.Answers.{told-rows}
+use Rattle.scope.proofs.Scoping.{too-deep, too-long, too-large, ten, words-in, places-in, left-so, scope-is}
+use Rattle.scope.specs.Frame.{Lent}
+use Rattle.scope.proofs.Sound.{held-whole}
+use borrow.Author.Needs.{needs}
+use Prim.Native.Nat.{ℕ, _<_, _+_, _-_, _*_, _≤_}
 use borrow.Fn.Kinds.{In}
 use borrow.Fn.PlainCycle.{Measures, is, falls, and}
 use Rattle.scope.proofs.arm.Reads as arm
@@ -62,40 +96,40 @@ use Rattle.scope.proofs.+arm+arms+measure+scope+scope_grouped+scope_hel
 }
 
 abbrev μ-arm : Measures 6 arm-kinds.ps ℕ
-μ-arm κs a = ?
+μ-arm κs a = 16 * (a .1 .1 .1 .1 .1 .0) + 1
 
 abbrev μ-arms : Measures 6 arms-kinds.ps ℕ
-μ-arms κs a = ?
+μ-arms κs a = 16 * (a .1 .1 .1 .1 .0) + 2
 
 abbrev μ-measure : Measures 5 measure-kinds.ps ℕ
-μ-measure κs a = ?
+μ-measure κs a = 16 * (a .1 .1 .1 .1 .0) + 3
 
 abbrev μ-scope : Measures 4 scope-kinds.ps ℕ
-μ-scope κs a = ?
+μ-scope κs a = 16 * (a .1 .1 .1 .0)
 
 abbrev μ-scope-grouped : Measures 10 scope-grouped-kinds.ps ℕ
-μ-scope-grouped κs a = ?
+μ-scope-grouped κs a = 16 * (a .1 .1 .1 .1 .1 .1 .1 .1 .1 .1 .0) + 9
 
 abbrev μ-scope-held : Measures 7 scope-held-kinds.ps ℕ
-μ-scope-held κs a = ?
+μ-scope-held κs a = 16 * (a .1 .1 .1 .1 .1 .1 .1 .1 .0) + 10
 
 abbrev μ-scope-listed : Measures 5 scope-listed-kinds.ps ℕ
-μ-scope-listed κs a = ?
+μ-scope-listed κs a = 16 * (a .1 .1 .1 .1 .1 .1 .0) + 11
 
 abbrev μ-walk : Measures 8 walk-kinds.ps ℕ
-μ-walk κs a = ?
+μ-walk κs a = 16 * (a .1 .1 .1 .1 .1 .0) + 4
 
 abbrev μ-write-match : Measures 8 write-match-kinds.ps ℕ
-μ-write-match κs a = ?
+μ-write-match κs a = 16 * (a .1 .1 .1 .1 .1 .1 .1 .1 .0) + 5
 
 abbrev μ-write-scope : Measures 12 write-scope-kinds.ps ℕ
-μ-write-scope κs a = ?
+μ-write-scope κs a = 16 * (a .1 .1 .1 .1 .1 .1 .1 .1 .1 .1 .1 .1 .0) + 8
 
 abbrev μ-write-stmt : Measures 12 write-stmt-kinds.ps ℕ
-μ-write-stmt κs a = ?
+μ-write-stmt κs a = 16 * (a .1 .1 .1 .1 .1 .1 .1 .1 .1 .1 .1 .1 .1 .0) + 6
 
 abbrev μ-write-stmts : Measures 13 write-stmts-kinds.ps ℕ
-μ-write-stmts κs a = ?
+μ-write-stmts κs a = 16 * (a .1 .1 .1 .1 .1 .1 .1 .1 .1 .1 .1 .1 .1 .0) + 7
 
 abbrev arm-at : ℕ → In 6 arm-kinds.ps
 arm-at t = and 6 arm-kinds.ps (is 6 arm-kinds.ps μ-arm t) arm.Pre
@@ -195,806 +229,244 @@ abbrev write-stmts-below : ℕ → In 13 write-stmts-kinds.ps
 write-stmts-below t =
     and 13 write-stmts-kinds.ps (falls 13 write-stmts-kinds.ps _<_ μ-write-stmts t) write-stmts.Pre
 
--- src/lib.rt:205:9
-arm-returns : (t : ℕ) → arm-lts.Need-returns (
-  column-reads.Asked,
-  column-reads.Learnt,
-  scope-below t,
-  scope.Post,
-  put-word-reads.Asked,
-  put-word-reads.Learnt,
-) (arm-at t) arm.Post
-arm-returns t c = ?
+arm-returns : (t : ℕ) → arm-lts.Need-returns (column-reads.Asked, column-reads.Learnt, scope-below t, scope.Post, put-word-reads.Asked, put-word-reads.Learnt) (arm-at t) arm.Post
+arm-returns t c = let s = c .before .before .before .before .before .before .before in let a = s .args in arm-too-deep (rows-in (a .rows .now)) (a .fuel) (a .next) (a .held .now) (a .group .now) (s .pre .1 .0 .1) (s .pre .1 .1 .0 .0) (a .a) (s .pre .1 .1 .0 .1) (c .if1 .taken) (a .at) (a .table .now)
 
--- src/lib.rt:207:9
-arm-column-requires : (t : ℕ) → arm-lts.Need-column-requires (
-  column-reads.Asked,
-  column-reads.Learnt,
-  scope-below t,
-  scope.Post,
-  put-word-reads.Asked,
-  put-word-reads.Learnt,
-) (arm-at t) arm.Post
-arm-column-requires t c κs = ?
+arm-column-requires : (t : ℕ) → arm-lts.Need-column-requires (column-reads.Asked, column-reads.Learnt, scope-below t, scope.Post, put-word-reads.Asked, put-word-reads.Learnt) (arm-at t) arm.Post
+arm-column-requires t c κs = let s = c .before .before .before .before .before .before .before .before in let a = s .args in (s .pre .1 .1 .0 .0, s .pre .1 .1 .0 .1, column-room (rows-in (a .rows .now)) (a .fuel) (a .next) (a .held .now) (a .group .now) (s .pre .1 .0 .1) (s .pre .1 .1 .0 .0) (a .a) (s .pre .1 .1 .0 .1) (a .work .now) (a .text .now) (s .pre .1 .0 .0) (omega (arith, c .before .if1 .left)), held-whole (rows-in (a .rows .now)) (a .next) (a .held .now) (s .pre .1 .0 .1))
 
--- src/lib.rt:208:62
-arm-add-scope : (t : ℕ) → arm-lts.Need-add-scope (
-  column-reads.Asked,
-  column-reads.Learnt,
-  scope-below t,
-  scope.Post,
-  put-word-reads.Asked,
-  put-word-reads.Learnt,
-) (arm-at t) arm.Post
-arm-add-scope t c = ?
+arm-add-scope : (t : ℕ) → arm-lts.Need-add-scope (column-reads.Asked, column-reads.Learnt, scope-below t, scope.Post, put-word-reads.Asked, put-word-reads.Learnt) (arm-at t) arm.Post
+arm-add-scope t c = let s = c .before .before .before .before .before .before .before .before .before .before .before .before .before in omega (arith, s .pre .1 .1 .1)
 
--- src/lib.rt:208:9
-arm-scope-requires : (t : ℕ) → arm-lts.Need-scope-requires (
-  column-reads.Asked,
-  column-reads.Learnt,
-  scope-below t,
-  scope.Post,
-  put-word-reads.Asked,
-  put-word-reads.Learnt,
-) (arm-at t) arm.Post
-arm-scope-requires t c κs = ?
+arm-scope-requires : (t : ℕ) → arm-lts.Need-scope-requires (column-reads.Asked, column-reads.Learnt, scope-below t, scope.Post, put-word-reads.Asked, put-word-reads.Learnt) (arm-at t) arm.Post
+arm-scope-requires t c κs = let s = c .before .before .before .before .before .before .before .before .before .before .before .before .before .before in let a = s .args in let x = c .before .before .before .before .before .column in
+    (omega (arith, s .pre .0), (column-scoped (rows-in (a .rows .now)) (a .fuel) (a .next) (a .held .now) (a .group .now) (s .pre .1 .0 .1) (s .pre .1 .1 .0 .0) (a .a) (s .pre .1 .1 .0 .1) (a .at) (s .pre .1 .1 .1) (x .result) _ (x .ensures .0), ((lent-on (a .fuel) (a .work .now) (a .text .now) _ _ (s .pre .1 .0 .0) (x .kept .1 .1 .1 .0) refl, x .ensures .1), column-fits (rows-in (a .rows .now)) (a .fuel) (a .next) (a .held .now) (a .group .now) (s .pre .1 .0 .1) (s .pre .1 .1 .0 .0) (a .a) (s .pre .1 .1 .0 .1) (a .at) (s .pre .1 .1 .1) (x .result) _ (x .ensures .0))))
 
--- src/lib.rt:210:22
-arm-enum-known-told : (t : ℕ) → arm-lts.Need-enum-known-told (
-  column-reads.Asked,
-  column-reads.Learnt,
-  scope-below t,
-  scope.Post,
-  put-word-reads.Asked,
-  put-word-reads.Learnt,
-) (arm-at t) arm.Post
-arm-enum-known-told t c = ?
+arm-enum-known-told : (t : ℕ) → arm-lts.Need-enum-known-told (column-reads.Asked, column-reads.Learnt, scope-below t, scope.Post, put-word-reads.Asked, put-word-reads.Learnt) (arm-at t) arm.Post
+arm-enum-known-told t c = search needs
 
--- src/lib.rt:211:37
-arm-add-put-word : (t : ℕ) → arm-lts.Need-add-put-word (
-  column-reads.Asked,
-  column-reads.Learnt,
-  scope-below t,
-  scope.Post,
-  put-word-reads.Asked,
-  put-word-reads.Learnt,
-) (arm-at t) arm.Post
-arm-add-put-word t c = ?
+arm-add-put-word : (t : ℕ) → arm-lts.Need-add-put-word (column-reads.Asked, column-reads.Learnt, scope-below t, scope.Post, put-word-reads.Asked, put-word-reads.Learnt) (arm-at t) arm.Post
+arm-add-put-word t c = let s = c .before .before .before .before .before .before .before .before .before .before .before .before .before .before .before .before .before .before .before .before .before .before .before .before in let a = s .args in let x = c .before .before .before .before .before .before .before .before .before .before .before .before .before .before .before .column in let y = c .before .before .before .before .before .before .before .before .before .scope in let f = steps-few (rows-in (a .rows .now)) (a .fuel) (a .next) (a .held .now) (a .group .now) (s .pre .1 .0 .1) (s .pre .1 .1 .0 .0) (a .a) (s .pre .1 .1 .0 .1) (a .at) (s .pre .1 .1 .1) (x .result) _ (x .ensures .0) (y .result) (y .ensures .0) _ _ _ _ (c .before .told .given .1) in omega (arith, f, group-few (rows-in (a .rows .now)) (a .next) (a .held .now) (a .group .now) (s .pre .1 .0 .1) (s .pre .1 .1 .0 .0))
 
--- src/lib.rt:211:28
-arm-mul-put-word : (t : ℕ) → arm-lts.Need-mul-put-word (
-  column-reads.Asked,
-  column-reads.Learnt,
-  scope-below t,
-  scope.Post,
-  put-word-reads.Asked,
-  put-word-reads.Learnt,
-) (arm-at t) arm.Post
-arm-mul-put-word t c = ?
+arm-mul-put-word : (t : ℕ) → arm-lts.Need-mul-put-word (column-reads.Asked, column-reads.Learnt, scope-below t, scope.Post, put-word-reads.Asked, put-word-reads.Learnt) (arm-at t) arm.Post
+arm-mul-put-word t c = let s = c .before .before .before .before .before .before .before .before .before .before .before .before .before .before .before .before .before .before .before .before .before .before .before .before in let a = s .args in let x = c .before .before .before .before .before .before .before .before .before .before .before .before .before .before .before .column in let y = c .before .before .before .before .before .before .before .before .before .scope in let f = steps-few (rows-in (a .rows .now)) (a .fuel) (a .next) (a .held .now) (a .group .now) (s .pre .1 .0 .1) (s .pre .1 .1 .0 .0) (a .a) (s .pre .1 .1 .0 .1) (a .at) (s .pre .1 .1 .1) (x .result) _ (x .ensures .0) (y .result) (y .ensures .0) _ _ _ _ (c .before .told .given .1) in omega (arith, f, group-few (rows-in (a .rows .now)) (a .next) (a .held .now) (a .group .now) (s .pre .1 .0 .1) (s .pre .1 .1 .0 .0))
 
--- src/lib.rt:211:22
-arm-add-put-word-2 : (t : ℕ) → arm-lts.Need-add-put-word-2 (
-  column-reads.Asked,
-  column-reads.Learnt,
-  scope-below t,
-  scope.Post,
-  put-word-reads.Asked,
-  put-word-reads.Learnt,
-) (arm-at t) arm.Post
-arm-add-put-word-2 t c = ?
+arm-add-put-word-2 : (t : ℕ) → arm-lts.Need-add-put-word-2 (column-reads.Asked, column-reads.Learnt, scope-below t, scope.Post, put-word-reads.Asked, put-word-reads.Learnt) (arm-at t) arm.Post
+arm-add-put-word-2 t c = let s = c .before .before .before .before .before .before .before .before .before .before .before .before .before .before .before .before .before .before .before .before .before .before .before .before in let a = s .args in let x = c .before .before .before .before .before .before .before .before .before .before .before .before .before .before .before .column in let y = c .before .before .before .before .before .before .before .before .before .scope in let f = steps-few (rows-in (a .rows .now)) (a .fuel) (a .next) (a .held .now) (a .group .now) (s .pre .1 .0 .1) (s .pre .1 .1 .0 .0) (a .a) (s .pre .1 .1 .0 .1) (a .at) (s .pre .1 .1 .1) (x .result) _ (x .ensures .0) (y .result) (y .ensures .0) _ _ _ _ (c .before .told .given .1) in omega (arith, f, group-few (rows-in (a .rows .now)) (a .next) (a .held .now) (a .group .now) (s .pre .1 .0 .1) (s .pre .1 .1 .0 .0))
 
--- src/lib.rt:211:13
-arm-put-word-requires : (t : ℕ) → arm-lts.Need-put-word-requires (
-  column-reads.Asked,
-  column-reads.Learnt,
-  scope-below t,
-  scope.Post,
-  put-word-reads.Asked,
-  put-word-reads.Learnt,
-) (arm-at t) arm.Post
-arm-put-word-requires t c κs = ?
+arm-put-word-requires : (t : ℕ) → arm-lts.Need-put-word-requires (column-reads.Asked, column-reads.Learnt, scope-below t, scope.Post, put-word-reads.Asked, put-word-reads.Learnt) (arm-at t) arm.Post
+arm-put-word-requires t c κs = search needs
 
--- src/lib.rt:214:25
-arm-enum-known-told-2 : (t : ℕ) → arm-lts.Need-enum-known-told-2 (
-  column-reads.Asked,
-  column-reads.Learnt,
-  scope-below t,
-  scope.Post,
-  put-word-reads.Asked,
-  put-word-reads.Learnt,
-) (arm-at t) arm.Post
-arm-enum-known-told-2 t c = ?
+arm-enum-known-told-2 : (t : ℕ) → arm-lts.Need-enum-known-told-2 (column-reads.Asked, column-reads.Learnt, scope-below t, scope.Post, put-word-reads.Asked, put-word-reads.Learnt) (arm-at t) arm.Post
+arm-enum-known-told-2 t c = search needs
 
--- src/lib.rt:186:1
-arm-same-length : (t : ℕ) → arm-lts.Need-same-length (
-  column-reads.Asked,
-  column-reads.Learnt,
-  scope-below t,
-  scope.Post,
-  put-word-reads.Asked,
-  put-word-reads.Learnt,
-) (arm-at t) arm.Post
-arm-same-length t c = ?
+arm-same-length : (t : ℕ) → arm-lts.Need-same-length (column-reads.Asked, column-reads.Learnt, scope-below t, scope.Post, put-word-reads.Asked, put-word-reads.Learnt) (arm-at t) arm.Post
+arm-same-length t c = search needs
 
--- src/lib.rt:186:1
-arm-same-length-2 : (t : ℕ) → arm-lts.Need-same-length-2 (
-  column-reads.Asked,
-  column-reads.Learnt,
-  scope-below t,
-  scope.Post,
-  put-word-reads.Asked,
-  put-word-reads.Learnt,
-) (arm-at t) arm.Post
-arm-same-length-2 t c = ?
+arm-same-length-2 : (t : ℕ) → arm-lts.Need-same-length-2 (column-reads.Asked, column-reads.Learnt, scope-below t, scope.Post, put-word-reads.Asked, put-word-reads.Learnt) (arm-at t) arm.Post
+arm-same-length-2 t c = search needs
 
--- src/lib.rt:186:1
-arm-same-length-3 : (t : ℕ) → arm-lts.Need-same-length-3 (
-  column-reads.Asked,
-  column-reads.Learnt,
-  scope-below t,
-  scope.Post,
-  put-word-reads.Asked,
-  put-word-reads.Learnt,
-) (arm-at t) arm.Post
-arm-same-length-3 t c = ?
+arm-same-length-3 : (t : ℕ) → arm-lts.Need-same-length-3 (column-reads.Asked, column-reads.Learnt, scope-below t, scope.Post, put-word-reads.Asked, put-word-reads.Learnt) (arm-at t) arm.Post
+arm-same-length-3 t c = search needs
 
--- src/lib.rt:186:1
-arm-returns-2 : (t : ℕ) → arm-lts.Need-returns-2 (
-  column-reads.Asked,
-  column-reads.Learnt,
-  scope-below t,
-  scope.Post,
-  put-word-reads.Asked,
-  put-word-reads.Learnt,
-) (arm-at t) arm.Post
-arm-returns-2 t c = ?
+arm-returns-2 : (t : ℕ) → arm-lts.Need-returns-2 (column-reads.Asked, column-reads.Learnt, scope-below t, scope.Post, put-word-reads.Asked, put-word-reads.Learnt) (arm-at t) arm.Post
+arm-returns-2 t c = let s = c .before .before .before .before .before .before .before .before .before .before .before .before .before .before .before .before .before .before .before .before .before .before .before .before .before .before .before .before in let a = s .args in let x = c .before .before .before .before .before .before .before .before .before .before .before .before .before .before .before .before .before .before .before .column in let y = c .before .before .before .before .before .before .before .before .before .before .before .before .before .scope in arm-ends (inner (rows-in (a .rows .now)) (a .fuel)) (a .held .now) (a .group .now) (a .next) (a .a) (a .at) (a .table .now) (y .result) _ (column-answers (rows-in (a .rows .now)) (a .fuel) (a .next) (a .held .now) (a .group .now) (a .a) (a .at) (a .table .now) (x .result) _ (x .ensures .0) (y .result) _ (y .ensures)) _ _ _ _ (c .before .before .before .before .before .told .given .1) _ (c .before .before .put-word .ensures)
 
--- src/lib.rt:186:1
-arm-same-length-4 : (t : ℕ) → arm-lts.Need-same-length-4 (
-  column-reads.Asked,
-  column-reads.Learnt,
-  scope-below t,
-  scope.Post,
-  put-word-reads.Asked,
-  put-word-reads.Learnt,
-) (arm-at t) arm.Post
-arm-same-length-4 t c = ?
+arm-same-length-4 : (t : ℕ) → arm-lts.Need-same-length-4 (column-reads.Asked, column-reads.Learnt, scope-below t, scope.Post, put-word-reads.Asked, put-word-reads.Learnt) (arm-at t) arm.Post
+arm-same-length-4 t c = search needs
 
--- src/lib.rt:186:1
-arm-same-length-5 : (t : ℕ) → arm-lts.Need-same-length-5 (
-  column-reads.Asked,
-  column-reads.Learnt,
-  scope-below t,
-  scope.Post,
-  put-word-reads.Asked,
-  put-word-reads.Learnt,
-) (arm-at t) arm.Post
-arm-same-length-5 t c = ?
+arm-same-length-5 : (t : ℕ) → arm-lts.Need-same-length-5 (column-reads.Asked, column-reads.Learnt, scope-below t, scope.Post, put-word-reads.Asked, put-word-reads.Learnt) (arm-at t) arm.Post
+arm-same-length-5 t c = search needs
 
--- src/lib.rt:186:1
-arm-same-length-6 : (t : ℕ) → arm-lts.Need-same-length-6 (
-  column-reads.Asked,
-  column-reads.Learnt,
-  scope-below t,
-  scope.Post,
-  put-word-reads.Asked,
-  put-word-reads.Learnt,
-) (arm-at t) arm.Post
-arm-same-length-6 t c = ?
+arm-same-length-6 : (t : ℕ) → arm-lts.Need-same-length-6 (column-reads.Asked, column-reads.Learnt, scope-below t, scope.Post, put-word-reads.Asked, put-word-reads.Learnt) (arm-at t) arm.Post
+arm-same-length-6 t c = search needs
 
--- src/lib.rt:186:1
-arm-returns-3 : (t : ℕ) → arm-lts.Need-returns-3 (
-  column-reads.Asked,
-  column-reads.Learnt,
-  scope-below t,
-  scope.Post,
-  put-word-reads.Asked,
-  put-word-reads.Learnt,
-) (arm-at t) arm.Post
-arm-returns-3 t c = ?
+arm-returns-3 : (t : ℕ) → arm-lts.Need-returns-3 (column-reads.Asked, column-reads.Learnt, scope-below t, scope.Post, put-word-reads.Asked, put-word-reads.Learnt) (arm-at t) arm.Post
+arm-returns-3 t c = let s = c .before .before .before .before .before .before .before .before .before .before .before .before .before .before .before .before .before .before .before .before .before .before .before .before in let a = s .args in let x = c .before .before .before .before .before .before .before .before .before .before .before .before .before .before .before .column in let y = c .before .before .before .before .before .before .before .before .before .scope in arm-stops (inner (rows-in (a .rows .now)) (a .fuel)) (a .held .now) (a .group .now) (a .next) (a .a) (a .at) (a .table .now) (y .result) _ (column-answers (rows-in (a .rows .now)) (a .fuel) (a .next) (a .held .now) (a .group .now) (a .a) (a .at) (a .table .now) (x .result) _ (x .ensures .0) (y .result) _ (y .ensures)) _ (c .before .told2 .given .1)
 
 abbrev arms-Inv-loop : arms-lts.InvT-loop
-arms-Inv-loop rows work₀ held group fuel next text₀ at table₀ count end₀ number₀ extracted₀ a₀ work text table end number extracted a =
-    ?
+arms-Inv-loop rows work₀ held group fuel next text₀ at table₀ count end₀ number₀ extracted₀ a₀ work text table end number extracted a = (a ≤ count) × Arms-so (inner (rows-in rows) fuel) held group next at table₀ a end number extracted table × (length work ≡ length work₀) × (length text ≡ length text₀) × (length table ≡ length table₀)
 
 abbrev arms-μ-loop : arms-lts.MeasureT-loop
-arms-μ-loop rows work₀ held group fuel next text₀ at table₀ count end₀ number₀ extracted₀ a₀ work text table end number extracted a =
-    ?
+arms-μ-loop rows work₀ held group fuel next text₀ at table₀ count end₀ number₀ extracted₀ a₀ work text table end number extracted a = count - a
 
--- src/lib.rt:254:9
-arms-count-arms-requires : (t : ℕ) → arms-lts.Need-count-arms-requires (
-  count-arms-reads.Asked,
-  count-arms-reads.Learnt,
-  arm-below t,
-  arm.Post,
-  refusal-of-reads.Asked,
-  refusal-of-reads.Learnt,
-) (arms-at t) arms.Post arms-Inv-loop arms-μ-loop
-arms-count-arms-requires t c κs = ?
+arms-count-arms-requires : (t : ℕ) → arms-lts.Need-count-arms-requires (count-arms-reads.Asked, count-arms-reads.Learnt, arm-below t, arm.Post, refusal-of-reads.Asked, refusal-of-reads.Learnt) (arms-at t) arms.Post arms-Inv-loop arms-μ-loop
+arms-count-arms-requires t c κs = let s = c .before .before .before .before .before .before in let a = s .args in (s .pre .1 .1 .0, s .pre .1 .0 .1 .few, held-whole (rows-in (a .rows .now)) (a .next) (a .held .now) (s .pre .1 .0 .1))
 
--- src/lib.rt:259:5
-arms-loop-holds : (t : ℕ) → arms-lts.Need-loop-holds (
-  count-arms-reads.Asked,
-  count-arms-reads.Learnt,
-  arm-below t,
-  arm.Post,
-  refusal-of-reads.Asked,
-  refusal-of-reads.Learnt,
-) (arms-at t) arms.Post arms-Inv-loop arms-μ-loop
-arms-loop-holds t c = ?
+arms-loop-holds : (t : ℕ) → arms-lts.Need-loop-holds (count-arms-reads.Asked, count-arms-reads.Learnt, arm-below t, arm.Post, refusal-of-reads.Asked, refusal-of-reads.Learnt) (arms-at t) arms.Post arms-Inv-loop arms-μ-loop
+arms-loop-holds t c = let s = c .before .before .before .before .before .before .before in let a = s .args in (omega arith, arms-begin (inner (rows-in (a .rows .now)) (a .fuel)) (a .held .now) (a .group .now) (a .next) (a .at) (a .table .now), refl, refl, refl)
 
--- src/lib.rt:260:13
-arms-arm-requires : (t : ℕ) → arms-lts.Need-arm-requires (
-  count-arms-reads.Asked,
-  count-arms-reads.Learnt,
-  arm-below t,
-  arm.Post,
-  refusal-of-reads.Asked,
-  refusal-of-reads.Learnt,
-) (arms-at t) arms.Post arms-Inv-loop arms-μ-loop
-arms-arm-requires t c κs = ?
+arms-arm-requires : (t : ℕ) → arms-lts.Need-arm-requires (count-arms-reads.Asked, count-arms-reads.Learnt, arm-below t, arm.Post, refusal-of-reads.Asked, refusal-of-reads.Learnt) (arms-at t) arms.Post arms-Inv-loop arms-μ-loop
+arms-arm-requires t c κs = let s = c .before .before .before .before .before .before .before .before .before .before .before .before in let a = s .args in let l = c .before .before .before .before .loop in let e = c .before .before .before .before .before .count-arms .ensures in
+    (omega (arith, s .pre .0), ((lent-on (a .fuel) (a .work .now) (a .text .now) _ _ (s .pre .1 .0 .0) (l .inv .2) (l .inv .3), so-holds (rows-in (a .rows .now)) (a .fuel) (a .next) (a .held .now) (a .group .now) (s .pre .1 .0 .1) (s .pre .1 .1 .0) (a .at) (a .table .now) _ _ _ _ _ (l .inv .1) (omega (arith, e, c .before .before .before .loop-test .taken))), ((s .pre .1 .1 .0, omega (arith, e, c .before .before .before .loop-test .taken)), so-fits (rows-in (a .rows .now)) (a .fuel) (a .next) (a .held .now) (a .group .now) (s .pre .1 .0 .1) (s .pre .1 .1 .0) (a .at) (a .table .now) _ _ _ _ _ (l .inv .1) (omega (arith, e, c .before .before .before .loop-test .taken)) (s .pre .1 .1 .1 .0))))
 
--- src/lib.rt:263:25
-arms-enum-known-armed : (t : ℕ) → arms-lts.Need-enum-known-armed (
-  count-arms-reads.Asked,
-  count-arms-reads.Learnt,
-  arm-below t,
-  arm.Post,
-  refusal-of-reads.Asked,
-  refusal-of-reads.Learnt,
-) (arms-at t) arms.Post arms-Inv-loop arms-μ-loop
-arms-enum-known-armed t c = ?
+arms-enum-known-armed : (t : ℕ) → arms-lts.Need-enum-known-armed (count-arms-reads.Asked, count-arms-reads.Learnt, arm-below t, arm.Post, refusal-of-reads.Asked, refusal-of-reads.Learnt) (arms-at t) arms.Post arms-Inv-loop arms-μ-loop
+arms-enum-known-armed t c = search needs
 
--- src/lib.rt:264:35
-arms-enum-told : (t : ℕ) → arms-lts.Need-enum-told (
-  count-arms-reads.Asked,
-  count-arms-reads.Learnt,
-  arm-below t,
-  arm.Post,
-  refusal-of-reads.Asked,
-  refusal-of-reads.Learnt,
-) (arms-at t) arms.Post arms-Inv-loop arms-μ-loop
-arms-enum-told t c = ?
+arms-enum-told : (t : ℕ) → arms-lts.Need-enum-told (count-arms-reads.Asked, count-arms-reads.Learnt, arm-below t, arm.Post, refusal-of-reads.Asked, refusal-of-reads.Learnt) (arms-at t) arms.Post arms-Inv-loop arms-μ-loop
+arms-enum-told t c = search needs
 
--- src/lib.rt:264:35
-arms-refusal-of-requires : (t : ℕ) → arms-lts.Need-refusal-of-requires (
-  count-arms-reads.Asked,
-  count-arms-reads.Learnt,
-  arm-below t,
-  arm.Post,
-  refusal-of-reads.Asked,
-  refusal-of-reads.Learnt,
-) (arms-at t) arms.Post arms-Inv-loop arms-μ-loop
-arms-refusal-of-requires t c κs = ?
+arms-refusal-of-requires : (t : ℕ) → arms-lts.Need-refusal-of-requires (count-arms-reads.Asked, count-arms-reads.Learnt, arm-below t, arm.Post, refusal-of-reads.Asked, refusal-of-reads.Learnt) (arms-at t) arms.Post arms-Inv-loop arms-μ-loop
+arms-refusal-of-requires t c κs = search needs
 
--- src/lib.rt:264:13
-arms-same-length : (t : ℕ) → arms-lts.Need-same-length (
-  count-arms-reads.Asked,
-  count-arms-reads.Learnt,
-  arm-below t,
-  arm.Post,
-  refusal-of-reads.Asked,
-  refusal-of-reads.Learnt,
-) (arms-at t) arms.Post arms-Inv-loop arms-μ-loop
-arms-same-length t c = ?
+arms-same-length : (t : ℕ) → arms-lts.Need-same-length (count-arms-reads.Asked, count-arms-reads.Learnt, arm-below t, arm.Post, refusal-of-reads.Asked, refusal-of-reads.Learnt) (arms-at t) arms.Post arms-Inv-loop arms-μ-loop
+arms-same-length t c = search needs
 
--- src/lib.rt:264:13
-arms-same-length-2 : (t : ℕ) → arms-lts.Need-same-length-2 (
-  count-arms-reads.Asked,
-  count-arms-reads.Learnt,
-  arm-below t,
-  arm.Post,
-  refusal-of-reads.Asked,
-  refusal-of-reads.Learnt,
-) (arms-at t) arms.Post arms-Inv-loop arms-μ-loop
-arms-same-length-2 t c = ?
+arms-same-length-2 : (t : ℕ) → arms-lts.Need-same-length-2 (count-arms-reads.Asked, count-arms-reads.Learnt, arm-below t, arm.Post, refusal-of-reads.Asked, refusal-of-reads.Learnt) (arms-at t) arms.Post arms-Inv-loop arms-μ-loop
+arms-same-length-2 t c = search needs
 
--- src/lib.rt:264:13
-arms-same-length-3 : (t : ℕ) → arms-lts.Need-same-length-3 (
-  count-arms-reads.Asked,
-  count-arms-reads.Learnt,
-  arm-below t,
-  arm.Post,
-  refusal-of-reads.Asked,
-  refusal-of-reads.Learnt,
-) (arms-at t) arms.Post arms-Inv-loop arms-μ-loop
-arms-same-length-3 t c = ?
+arms-same-length-3 : (t : ℕ) → arms-lts.Need-same-length-3 (count-arms-reads.Asked, count-arms-reads.Learnt, arm-below t, arm.Post, refusal-of-reads.Asked, refusal-of-reads.Learnt) (arms-at t) arms.Post arms-Inv-loop arms-μ-loop
+arms-same-length-3 t c = search needs
 
--- src/lib.rt:264:13
-arms-returns : (t : ℕ) → arms-lts.Need-returns (
-  count-arms-reads.Asked,
-  count-arms-reads.Learnt,
-  arm-below t,
-  arm.Post,
-  refusal-of-reads.Asked,
-  refusal-of-reads.Learnt,
-) (arms-at t) arms.Post arms-Inv-loop arms-μ-loop
-arms-returns t c = ?
+arms-returns : (t : ℕ) → arms-lts.Need-returns (count-arms-reads.Asked, count-arms-reads.Learnt, arm-below t, arm.Post, refusal-of-reads.Asked, refusal-of-reads.Learnt) (arms-at t) arms.Post arms-Inv-loop arms-μ-loop
+arms-returns t c = let s = c .before .before .before .before .before .before .before .before .before .before .before .before .before .before .before .before .before .before .before .before .before .before in let a = s .args in let l = c .before .before .before .before .before .before .before .before .before .before .before .before .before .before .loop in let e = c .before .before .before .before .before .before .before .before .before .before .before .before .before .before .before .count-arms .ensures in arms-end-refused (inner (rows-in (a .rows .now)) (a .fuel)) (a .held .now) (a .group .now) (a .next) (a .at) (a .table .now) _ _ _ _ _ (l .inv .1) (c .before .before .before .before .before .before .before .before .before .arm .result) _ (c .before .before .before .before .before .before .before .before .before .arm .ensures) (arm-count (a .held .now) (getD (a .group .now) 0 0)) (omega (arith, e, c .before .before .before .before .before .before .before .before .before .before .before .before .before .loop-test .taken)) _ (c .before .enum-told .given .1) _ (c .refusal-of .ensures)
 
--- src/lib.rt:268:9
-arms-add-extracted : (t : ℕ) → arms-lts.Need-add-extracted (
-  count-arms-reads.Asked,
-  count-arms-reads.Learnt,
-  arm-below t,
-  arm.Post,
-  refusal-of-reads.Asked,
-  refusal-of-reads.Learnt,
-) (arms-at t) arms.Post arms-Inv-loop arms-μ-loop
-arms-add-extracted t c = ?
+arms-add-extracted : (t : ℕ) → arms-lts.Need-add-extracted (count-arms-reads.Asked, count-arms-reads.Learnt, arm-below t, arm.Post, refusal-of-reads.Asked, refusal-of-reads.Learnt) (arms-at t) arms.Post arms-Inv-loop arms-μ-loop
+arms-add-extracted t c = let s = c .before .before .before .before .before .before .before .before .before .before .before .before .before .before .before .before .before .before .before .before .before .before in let a = s .args in let l = c .before .before .before .before .before .before .before .before .before .before .before .before .before .before .loop in let e = c .before .before .before .before .before .before .before .before .before .before .before .before .before .before .before .count-arms .ensures in let g = arms-go-on (inner (rows-in (a .rows .now)) (a .fuel)) (a .held .now) (a .group .now) (a .next) (a .at) (a .table .now) _ _ _ _ _ (l .inv .1) (c .before .before .before .before .before .before .before .before .before .arm .result) _ (c .before .before .before .before .before .before .before .before .before .arm .ensures) _ _ _ (c .before .armed .given .1) in omega (arith, so-made (rows-in (a .rows .now)) (a .fuel) (a .next) (a .held .now) (a .group .now) (s .pre .1 .0 .1) (s .pre .1 .1 .0) (a .at) (a .table .now) _ _ _ _ _ g (omega (arith, e, c .before .before .before .before .before .before .before .before .before .before .before .before .before .loop-test .taken)))
 
--- src/lib.rt:269:9
-arms-add-a : (t : ℕ) → arms-lts.Need-add-a (
-  count-arms-reads.Asked,
-  count-arms-reads.Learnt,
-  arm-below t,
-  arm.Post,
-  refusal-of-reads.Asked,
-  refusal-of-reads.Learnt,
-) (arms-at t) arms.Post arms-Inv-loop arms-μ-loop
-arms-add-a t c = ?
+arms-add-a : (t : ℕ) → arms-lts.Need-add-a (count-arms-reads.Asked, count-arms-reads.Learnt, arm-below t, arm.Post, refusal-of-reads.Asked, refusal-of-reads.Learnt) (arms-at t) arms.Post arms-Inv-loop arms-μ-loop
+arms-add-a t c = let s = c .before .before .before .before .before .before .before .before .before .before .before .before .before .before .before .before .before .before .before .before .before .before in let a = s .args in omega (arith, c .before .before .before .before .before .before .before .before .before .before .before .before .before .before .before .count-arms .ensures, c .before .before .before .before .before .before .before .before .before .before .before .before .before .loop-test .taken, arms-few (rows-in (a .rows .now)) (a .next) (a .held .now) (a .group .now) (s .pre .1 .0 .1) (s .pre .1 .1 .0))
 
--- src/lib.rt:259:5
-arms-loop-less : (t : ℕ) → arms-lts.Need-loop-less (
-  count-arms-reads.Asked,
-  count-arms-reads.Learnt,
-  arm-below t,
-  arm.Post,
-  refusal-of-reads.Asked,
-  refusal-of-reads.Learnt,
-) (arms-at t) arms.Post arms-Inv-loop arms-μ-loop
-arms-loop-less t c = ?
+arms-loop-less : (t : ℕ) → arms-lts.Need-loop-less (count-arms-reads.Asked, count-arms-reads.Learnt, arm-below t, arm.Post, refusal-of-reads.Asked, refusal-of-reads.Learnt) (arms-at t) arms.Post arms-Inv-loop arms-μ-loop
+arms-loop-less t c = search needs
 
--- src/lib.rt:259:5
-arms-loop-again : (t : ℕ) → arms-lts.Need-loop-again (
-  count-arms-reads.Asked,
-  count-arms-reads.Learnt,
-  arm-below t,
-  arm.Post,
-  refusal-of-reads.Asked,
-  refusal-of-reads.Learnt,
-) (arms-at t) arms.Post arms-Inv-loop arms-μ-loop
-arms-loop-again t c = ?
+arms-loop-again : (t : ℕ) → arms-lts.Need-loop-again (count-arms-reads.Asked, count-arms-reads.Learnt, arm-below t, arm.Post, refusal-of-reads.Asked, refusal-of-reads.Learnt) (arms-at t) arms.Post arms-Inv-loop arms-μ-loop
+arms-loop-again t c = let s = c .before .before .before .before .before .before .before .before .before .before .before .before .before .before .before .before .before .before .before .before .before .before in let a = s .args in let l = c .before .before .before .before .before .before .before .before .before .before .before .before .before .before .loop in let e = c .before .before .before .before .before .before .before .before .before .before .before .before .before .before .before .count-arms .ensures in let x = c .before .before .before .before .before .before .before .before .before .arm in (omega (arith, c .before .before .before .before .before .before .before .before .before .before .before .before .before .loop-test .taken), arms-go-on (inner (rows-in (a .rows .now)) (a .fuel)) (a .held .now) (a .group .now) (a .next) (a .at) (a .table .now) _ _ _ _ _ (l .inv .1) (c .before .before .before .before .before .before .before .before .before .arm .result) _ (c .before .before .before .before .before .before .before .before .before .arm .ensures) _ _ _ (c .before .armed .given .1), x .kept .1 .0 ∙ l .inv .2, x .kept .1 .1 .1 .1 .1 .1 .1 .0 ∙ l .inv .3, x .kept .1 .1 .1 .1 .1 .1 .1 .1 .1 .0 ∙ l .inv .4)
 
--- src/lib.rt:237:1
-arms-same-length-4 : (t : ℕ) → arms-lts.Need-same-length-4 (
-  count-arms-reads.Asked,
-  count-arms-reads.Learnt,
-  arm-below t,
-  arm.Post,
-  refusal-of-reads.Asked,
-  refusal-of-reads.Learnt,
-) (arms-at t) arms.Post arms-Inv-loop arms-μ-loop
-arms-same-length-4 t c = ?
+arms-same-length-4 : (t : ℕ) → arms-lts.Need-same-length-4 (count-arms-reads.Asked, count-arms-reads.Learnt, arm-below t, arm.Post, refusal-of-reads.Asked, refusal-of-reads.Learnt) (arms-at t) arms.Post arms-Inv-loop arms-μ-loop
+arms-same-length-4 t c = search needs
 
--- src/lib.rt:237:1
-arms-same-length-5 : (t : ℕ) → arms-lts.Need-same-length-5 (
-  count-arms-reads.Asked,
-  count-arms-reads.Learnt,
-  arm-below t,
-  arm.Post,
-  refusal-of-reads.Asked,
-  refusal-of-reads.Learnt,
-) (arms-at t) arms.Post arms-Inv-loop arms-μ-loop
-arms-same-length-5 t c = ?
+arms-same-length-5 : (t : ℕ) → arms-lts.Need-same-length-5 (count-arms-reads.Asked, count-arms-reads.Learnt, arm-below t, arm.Post, refusal-of-reads.Asked, refusal-of-reads.Learnt) (arms-at t) arms.Post arms-Inv-loop arms-μ-loop
+arms-same-length-5 t c = search needs
 
--- src/lib.rt:237:1
-arms-same-length-6 : (t : ℕ) → arms-lts.Need-same-length-6 (
-  count-arms-reads.Asked,
-  count-arms-reads.Learnt,
-  arm-below t,
-  arm.Post,
-  refusal-of-reads.Asked,
-  refusal-of-reads.Learnt,
-) (arms-at t) arms.Post arms-Inv-loop arms-μ-loop
-arms-same-length-6 t c = ?
+arms-same-length-6 : (t : ℕ) → arms-lts.Need-same-length-6 (count-arms-reads.Asked, count-arms-reads.Learnt, arm-below t, arm.Post, refusal-of-reads.Asked, refusal-of-reads.Learnt) (arms-at t) arms.Post arms-Inv-loop arms-μ-loop
+arms-same-length-6 t c = search needs
 
--- src/lib.rt:237:1
-arms-returns-2 : (t : ℕ) → arms-lts.Need-returns-2 (
-  count-arms-reads.Asked,
-  count-arms-reads.Learnt,
-  arm-below t,
-  arm.Post,
-  refusal-of-reads.Asked,
-  refusal-of-reads.Learnt,
-) (arms-at t) arms.Post arms-Inv-loop arms-μ-loop
-arms-returns-2 t c = ?
+arms-returns-2 : (t : ℕ) → arms-lts.Need-returns-2 (count-arms-reads.Asked, count-arms-reads.Learnt, arm-below t, arm.Post, refusal-of-reads.Asked, refusal-of-reads.Learnt) (arms-at t) arms.Post arms-Inv-loop arms-μ-loop
+arms-returns-2 t c = let s = c .before .before .before .before .before .before .before .before .before in let a = s .args in let l = c .before .loop in let e = c .before .before .count-arms .ensures in arms-all (inner (rows-in (a .rows .now)) (a .fuel)) (a .held .now) (a .group .now) (a .next) (a .at) (a .table .now) _ _ _ _ _ (l .inv .1) (arm-count (a .held .now) (getD (a .group .now) 0 0)) (omega (arith, e, l .inv .0, c .loop-test .left))
 
--- src/lib.rt:289:17
 measure-add-first :
     (t : ℕ) → measure-lts.Need-add-first (arms-below t, arms.Post) (measure-at t) measure.Post
-measure-add-first t c = ?
+measure-add-first t c = let s = c .before .before .before .before .before in let a = s .args in omega (arith, s .pre .1 .1 .1, group-few (rows-in (a .rows .now)) (a .next) (a .held .now) (a .group .now) (s .pre .1 .0 .1) (s .pre .1 .1 .0))
 
--- src/lib.rt:290:57
-measure-slice-aggregate-arms : (t : ℕ) → measure-lts.Need-slice-aggregate-arms (
-  arms-below t,
-  arms.Post,
-) (measure-at t) measure.Post
-measure-slice-aggregate-arms t c = ?
+measure-slice-aggregate-arms : (t : ℕ) → measure-lts.Need-slice-aggregate-arms (arms-below t, arms.Post) (measure-at t) measure.Post
+measure-slice-aggregate-arms t c = search needs
 
--- src/lib.rt:290:5
 measure-arms-requires :
     (t : ℕ) → measure-lts.Need-arms-requires (arms-below t, arms.Post) (measure-at t) measure.Post
-measure-arms-requires t c κs = ?
+measure-arms-requires t c κs = let s = c .before .before .before .before .before .before .before .before in let a = s .args in (omega (arith, s .pre .0), ((s .pre .1 .0 .0, (holds-later (rows-in (a .rows .now)) (a .next) (a .next + length (a .group .now)) (a .held .now) (omega arith) (s .pre .1 .0 .1))), (s .pre .1 .1 .0, (measure-fits (rows-in (a .rows .now)) (a .fuel) (a .next + length (a .group .now)) (a .held .now) (a .group .now) (holds-later (rows-in (a .rows .now)) (a .next) (a .next + length (a .group .now)) (a .held .now) (omega arith) (s .pre .1 .0 .1)) (s .pre .1 .1 .0), omega arith))))
 
--- src/lib.rt:275:1
 measure-same-length :
     (t : ℕ) → measure-lts.Need-same-length (arms-below t, arms.Post) (measure-at t) measure.Post
-measure-same-length t c = ?
+measure-same-length t c = search needs
 
--- src/lib.rt:275:1
 measure-same-length-2 :
     (t : ℕ) → measure-lts.Need-same-length-2 (arms-below t, arms.Post) (measure-at t) measure.Post
-measure-same-length-2 t c = ?
+measure-same-length-2 t c = search needs
 
--- src/lib.rt:275:1
 measure-returns :
     (t : ℕ) → measure-lts.Need-returns (arms-below t, arms.Post) (measure-at t) measure.Post
-measure-returns t c = ?
+measure-returns t c = let s = c .before .before .before .before .before .before .before .before .before .before .before .before .before .before in let a = s .args in group-is (rows-in (a .rows .now)) (a .fuel) (a .next) (a .held .now) (a .group .now) _ (c .before .before .before .before .before .arms .ensures .0)
 
--- src/lib.rt:714:9
-scope-returns : (t : ℕ) → scope-lts.Need-returns (
-  tree-count-reads.Asked,
-  tree-count-reads.Learnt,
-  extract-and-list-reads.Asked,
-  extract-and-list-reads.Learnt,
-  scope-listed-below t,
-  scope-listed.Post,
-) (scope-at t) scope.Post
-scope-returns t c = ?
+scope-returns : (t : ℕ) → scope-lts.Need-returns (tree-count-reads.Asked, tree-count-reads.Learnt, extract-and-list-reads.Asked, extract-and-list-reads.Learnt, scope-listed-below t, scope-listed.Post) (scope-at t) scope.Post
+scope-returns t c = let s = c .before .before .before .before .before in let a = s .args in too-deep (rows-in (a .rows .now)) (a .row) (a .next) (take (a .len) (a .work .now)) (a .at) (a .table .now) (a .fuel) (c .if1 .taken)
 
--- src/lib.rt:717:9
-scope-returns-2 : (t : ℕ) → scope-lts.Need-returns-2 (
-  tree-count-reads.Asked,
-  tree-count-reads.Learnt,
-  extract-and-list-reads.Asked,
-  extract-and-list-reads.Learnt,
-  scope-listed-below t,
-  scope-listed.Post,
-) (scope-at t) scope.Post
-scope-returns-2 t c = ?
+scope-returns-2 : (t : ℕ) → scope-lts.Need-returns-2 (tree-count-reads.Asked, tree-count-reads.Learnt, extract-and-list-reads.Asked, extract-and-list-reads.Learnt, scope-listed-below t, scope-listed.Post) (scope-at t) scope.Post
+scope-returns-2 t c = let s = c .before .before .before .before .before .before in let a = s .args in too-long (rows-in (a .rows .now)) (a .row) (a .next) (take (a .len) (a .work .now)) (a .at) (a .table .now) (a .fuel) (omega (arith, c .before .if1 .left)) (omega (arith, length-take-le (a .len) (a .work .now) (s .pre .1 .1 .0 .1), c .if2 .taken))
 
--- src/lib.rt:720:9
-scope-returns-3 : (t : ℕ) → scope-lts.Need-returns-3 (
-  tree-count-reads.Asked,
-  tree-count-reads.Learnt,
-  extract-and-list-reads.Asked,
-  extract-and-list-reads.Learnt,
-  scope-listed-below t,
-  scope-listed.Post,
-) (scope-at t) scope.Post
-scope-returns-3 t c = ?
+scope-returns-3 : (t : ℕ) → scope-lts.Need-returns-3 (tree-count-reads.Asked, tree-count-reads.Learnt, extract-and-list-reads.Asked, extract-and-list-reads.Learnt, scope-listed-below t, scope-listed.Post) (scope-at t) scope.Post
+scope-returns-3 t c = let s = c .before .before .before .before .before .before .before in let a = s .args in too-large (rows-in (a .rows .now)) (a .row) (a .next) (take (a .len) (a .work .now)) (a .at) (a .table .now) (a .fuel) (omega (arith, c .before .before .if1 .left)) (omega (arith, c .if3 .taken))
 
--- src/lib.rt:723:30
-scope-slice-reshare-prefix-tree-count : (t : ℕ) → scope-lts.Need-slice-reshare-prefix-tree-count (
-  tree-count-reads.Asked,
-  tree-count-reads.Learnt,
-  extract-and-list-reads.Asked,
-  extract-and-list-reads.Learnt,
-  scope-listed-below t,
-  scope-listed.Post,
-) (scope-at t) scope.Post
-scope-slice-reshare-prefix-tree-count t c = ?
+scope-slice-reshare-prefix-tree-count : (t : ℕ) → scope-lts.Need-slice-reshare-prefix-tree-count (tree-count-reads.Asked, tree-count-reads.Learnt, extract-and-list-reads.Asked, extract-and-list-reads.Learnt, scope-listed-below t, scope-listed.Post) (scope-at t) scope.Post
+scope-slice-reshare-prefix-tree-count t c = let s = c .before .before .before .before .before .before .before in s .pre .1 .1 .0 .1
 
--- src/lib.rt:723:30
-scope-slice-aggregate-tree-count : (t : ℕ) → scope-lts.Need-slice-aggregate-tree-count (
-  tree-count-reads.Asked,
-  tree-count-reads.Learnt,
-  extract-and-list-reads.Asked,
-  extract-and-list-reads.Learnt,
-  scope-listed-below t,
-  scope-listed.Post,
-) (scope-at t) scope.Post
-scope-slice-aggregate-tree-count t c = ?
+scope-slice-aggregate-tree-count : (t : ℕ) → scope-lts.Need-slice-aggregate-tree-count (tree-count-reads.Asked, tree-count-reads.Learnt, extract-and-list-reads.Asked, extract-and-list-reads.Learnt, scope-listed-below t, scope-listed.Post) (scope-at t) scope.Post
+scope-slice-aggregate-tree-count t c = let s = c .before .before .before .before .before .before .before .before in sym (length-take-le _ _ (s .pre .1 .1 .0 .1))
 
--- src/lib.rt:723:9
-scope-tree-count-requires : (t : ℕ) → scope-lts.Need-tree-count-requires (
-  tree-count-reads.Asked,
-  tree-count-reads.Learnt,
-  extract-and-list-reads.Asked,
-  extract-and-list-reads.Learnt,
-  scope-listed-below t,
-  scope-listed.Post,
-) (scope-at t) scope.Post
-scope-tree-count-requires t c κs = ?
+scope-tree-count-requires : (t : ℕ) → scope-lts.Need-tree-count-requires (tree-count-reads.Asked, tree-count-reads.Learnt, extract-and-list-reads.Asked, extract-and-list-reads.Learnt, scope-listed-below t, scope-listed.Post) (scope-at t) scope.Post
+scope-tree-count-requires t c κs = let s = c .before .before .before .before .before .before .before .before in let a = s .args in whole-so (rows-in (a .rows .now)) (a .next) (take (a .len) (a .work .now)) (s .pre .1 .0 .0)
 
--- src/lib.rt:724:64
-scope-slice-aggregate-extract-and-list : (t : ℕ) → scope-lts.Need-slice-aggregate-extract-and-list (
-  tree-count-reads.Asked,
-  tree-count-reads.Learnt,
-  extract-and-list-reads.Asked,
-  extract-and-list-reads.Learnt,
-  scope-listed-below t,
-  scope-listed.Post,
-) (scope-at t) scope.Post
-scope-slice-aggregate-extract-and-list t c = ?
+scope-slice-aggregate-extract-and-list : (t : ℕ) → scope-lts.Need-slice-aggregate-extract-and-list (tree-count-reads.Asked, tree-count-reads.Learnt, extract-and-list-reads.Asked, extract-and-list-reads.Learnt, scope-listed-below t, scope-listed.Post) (scope-at t) scope.Post
+scope-slice-aggregate-extract-and-list t c = search needs
 
--- src/lib.rt:724:9
-scope-extract-and-list-requires : (t : ℕ) → scope-lts.Need-extract-and-list-requires (
-  tree-count-reads.Asked,
-  tree-count-reads.Learnt,
-  extract-and-list-reads.Asked,
-  extract-and-list-reads.Learnt,
-  scope-listed-below t,
-  scope-listed.Post,
-) (scope-at t) scope.Post
-scope-extract-and-list-requires t c κs = ?
+scope-extract-and-list-requires : (t : ℕ) → scope-lts.Need-extract-and-list-requires (tree-count-reads.Asked, tree-count-reads.Learnt, extract-and-list-reads.Asked, extract-and-list-reads.Learnt, scope-listed-below t, scope-listed.Post) (scope-at t) scope.Post
+scope-extract-and-list-requires t c κs = let s = c .before .before .before .before .before .before .before .before .before .before .before .before in let a = s .args in (s .pre .1 .0, ((omega (arith, c .before .before .before .before .before .before .if2 .left), s .pre .1 .1 .0 .1, omega (arith, c .before .before .before .before .before .if3 .left)), (s .pre .1 .1 .0 .0 .bytes, omega arith)))
 
--- src/lib.rt:725:23
-scope-enum-known-listed : (t : ℕ) → scope-lts.Need-enum-known-listed (
-  tree-count-reads.Asked,
-  tree-count-reads.Learnt,
-  extract-and-list-reads.Asked,
-  extract-and-list-reads.Learnt,
-  scope-listed-below t,
-  scope-listed.Post,
-) (scope-at t) scope.Post
-scope-enum-known-listed t c = ?
+scope-enum-known-listed : (t : ℕ) → scope-lts.Need-enum-known-listed (tree-count-reads.Asked, tree-count-reads.Learnt, extract-and-list-reads.Asked, extract-and-list-reads.Learnt, scope-listed-below t, scope-listed.Post) (scope-at t) scope.Post
+scope-enum-known-listed t c = search needs
 
--- src/lib.rt:726:9
-scope-enum-told : (t : ℕ) → scope-lts.Need-enum-told (
-  tree-count-reads.Asked,
-  tree-count-reads.Learnt,
-  extract-and-list-reads.Asked,
-  extract-and-list-reads.Learnt,
-  scope-listed-below t,
-  scope-listed.Post,
-) (scope-at t) scope.Post
-scope-enum-told t c = ?
+scope-enum-told : (t : ℕ) → scope-lts.Need-enum-told (tree-count-reads.Asked, tree-count-reads.Learnt, extract-and-list-reads.Asked, extract-and-list-reads.Learnt, scope-listed-below t, scope-listed.Post) (scope-at t) scope.Post
+scope-enum-told t c = search needs
 
--- src/lib.rt:726:9
-scope-same-length : (t : ℕ) → scope-lts.Need-same-length (
-  tree-count-reads.Asked,
-  tree-count-reads.Learnt,
-  extract-and-list-reads.Asked,
-  extract-and-list-reads.Learnt,
-  scope-listed-below t,
-  scope-listed.Post,
-) (scope-at t) scope.Post
-scope-same-length t c = ?
+scope-same-length : (t : ℕ) → scope-lts.Need-same-length (tree-count-reads.Asked, tree-count-reads.Learnt, extract-and-list-reads.Asked, extract-and-list-reads.Learnt, scope-listed-below t, scope-listed.Post) (scope-at t) scope.Post
+scope-same-length t c = search needs
 
--- src/lib.rt:726:9
-scope-same-length-2 : (t : ℕ) → scope-lts.Need-same-length-2 (
-  tree-count-reads.Asked,
-  tree-count-reads.Learnt,
-  extract-and-list-reads.Asked,
-  extract-and-list-reads.Learnt,
-  scope-listed-below t,
-  scope-listed.Post,
-) (scope-at t) scope.Post
-scope-same-length-2 t c = ?
+scope-same-length-2 : (t : ℕ) → scope-lts.Need-same-length-2 (tree-count-reads.Asked, tree-count-reads.Learnt, extract-and-list-reads.Asked, extract-and-list-reads.Learnt, scope-listed-below t, scope-listed.Post) (scope-at t) scope.Post
+scope-same-length-2 t c = search needs
 
--- src/lib.rt:726:9
-scope-returns-4 : (t : ℕ) → scope-lts.Need-returns-4 (
-  tree-count-reads.Asked,
-  tree-count-reads.Learnt,
-  extract-and-list-reads.Asked,
-  extract-and-list-reads.Learnt,
-  scope-listed-below t,
-  scope-listed.Post,
-) (scope-at t) scope.Post
-scope-returns-4 t c = ?
+scope-returns-4 : (t : ℕ) → scope-lts.Need-returns-4 (tree-count-reads.Asked, tree-count-reads.Learnt, extract-and-list-reads.Asked, extract-and-list-reads.Learnt, scope-listed-below t, scope-listed.Post) (scope-at t) scope.Post
+scope-returns-4 t c = let s = c .before .before .before .before .before .before .before .before .before .before .before .before .before .before .before .before .before .before .before .before in let a = s .args in ten (rows-in (a .rows .now)) (a .row) (a .next) (take (a .len) (a .work .now)) (a .at) (a .table .now) (a .fuel) (omega (arith, c .before .before .before .before .before .before .before .before .before .before .before .before .before .before .before .if1 .left)) (omega (arith, length-take-le (a .len) (a .work .now) (s .pre .1 .1 .0 .1), c .before .before .before .before .before .before .before .before .before .before .before .before .before .before .if2 .left)) (omega (arith, c .before .before .before .before .before .before .before .before .before .before .before .before .before .if3 .left)) (s .pre .1 .0 .0) (s .pre .1 .0 .1) (c .before .before .before .before .before .before .before .extract-and-list .result) _ _ (c .before .before .before .before .before .before .before .extract-and-list .ensures) (c .enum-told .given .1)
 
--- src/lib.rt:734:9
-scope-array-share-prefix-places : (t : ℕ) → scope-lts.Need-array-share-prefix-places (
-  tree-count-reads.Asked,
-  tree-count-reads.Learnt,
-  extract-and-list-reads.Asked,
-  extract-and-list-reads.Learnt,
-  scope-listed-below t,
-  scope-listed.Post,
-) (scope-at t) scope.Post
-scope-array-share-prefix-places t c = ?
+scope-array-share-prefix-places : (t : ℕ) → scope-lts.Need-array-share-prefix-places (tree-count-reads.Asked, tree-count-reads.Learnt, extract-and-list-reads.Asked, extract-and-list-reads.Learnt, scope-listed-below t, scope-listed.Post) (scope-at t) scope.Post
+scope-array-share-prefix-places t c = let s = c .before .before .before .before .before .before .before .before .before .before .before .before .before .before .before .before .before .before .before .before .before .before in let a = s .args in places-in (rows-in (a .rows .now)) (a .row) (a .next) (take (a .len) (a .work .now)) (a .at) (a .table .now) (a .fuel) (omega (arith, c .before .before .before .before .before .before .before .before .before .before .before .before .before .before .before .before .before .if1 .left)) (omega (arith, length-take-le (a .len) (a .work .now) (s .pre .1 .1 .0 .1), c .before .before .before .before .before .before .before .before .before .before .before .before .before .before .before .before .if2 .left)) (omega (arith, c .before .before .before .before .before .before .before .before .before .before .before .before .before .before .before .if3 .left)) (s .pre .1 .0 .0) (s .pre .1 .0 .1) (c .before .before .before .before .before .before .before .before .before .extract-and-list .result) _ _ (c .before .before .before .before .before .before .before .before .before .extract-and-list .ensures) _ _ (c .before .before .listed .given .1)
 
--- src/lib.rt:734:9
-scope-slice-aggregate-scope-listed : (t : ℕ) → scope-lts.Need-slice-aggregate-scope-listed (
-  tree-count-reads.Asked,
-  tree-count-reads.Learnt,
-  extract-and-list-reads.Asked,
-  extract-and-list-reads.Learnt,
-  scope-listed-below t,
-  scope-listed.Post,
-) (scope-at t) scope.Post
-scope-slice-aggregate-scope-listed t c = ?
+scope-slice-aggregate-scope-listed : (t : ℕ) → scope-lts.Need-slice-aggregate-scope-listed (tree-count-reads.Asked, tree-count-reads.Learnt, extract-and-list-reads.Asked, extract-and-list-reads.Learnt, scope-listed-below t, scope-listed.Post) (scope-at t) scope.Post
+scope-slice-aggregate-scope-listed t c = let s = c .before .before .before .before .before .before .before .before .before .before .before .before .before .before .before .before .before .before .before .before .before .before .before in let a = s .args in sym (length-take-le _ _ (places-in (rows-in (a .rows .now)) (a .row) (a .next) (take (a .len) (a .work .now)) (a .at) (a .table .now) (a .fuel) (omega (arith, c .before .before .before .before .before .before .before .before .before .before .before .before .before .before .before .before .before .before .if1 .left)) (omega (arith, length-take-le (a .len) (a .work .now) (s .pre .1 .1 .0 .1), c .before .before .before .before .before .before .before .before .before .before .before .before .before .before .before .before .before .if2 .left)) (omega (arith, c .before .before .before .before .before .before .before .before .before .before .before .before .before .before .before .before .if3 .left)) (s .pre .1 .0 .0) (s .pre .1 .0 .1) (c .before .before .before .before .before .before .before .before .before .before .extract-and-list .result) _ _ (c .before .before .before .before .before .before .before .before .before .before .extract-and-list .ensures) _ _ (c .before .before .before .listed .given .1)))
 
--- src/lib.rt:735:9
-scope-sub-scope-listed : (t : ℕ) → scope-lts.Need-sub-scope-listed (
-  tree-count-reads.Asked,
-  tree-count-reads.Learnt,
-  extract-and-list-reads.Asked,
-  extract-and-list-reads.Learnt,
-  scope-listed-below t,
-  scope-listed.Post,
-) (scope-at t) scope.Post
-scope-sub-scope-listed t c = ?
+scope-sub-scope-listed : (t : ℕ) → scope-lts.Need-sub-scope-listed (tree-count-reads.Asked, tree-count-reads.Learnt, extract-and-list-reads.Asked, extract-and-list-reads.Learnt, scope-listed-below t, scope-listed.Post) (scope-at t) scope.Post
+scope-sub-scope-listed t c = let s = c .before .before .before .before .before .before .before .before .before .before .before .before .before .before .before .before .before .before .before .before .before .before .before in omega (arith, c .before .before .before .before .before .before .before .before .before .before .before .before .before .before .before .before .before .before .if1 .left)
 
--- src/lib.rt:728:5
-scope-scope-listed-requires : (t : ℕ) → scope-lts.Need-scope-listed-requires (
-  tree-count-reads.Asked,
-  tree-count-reads.Learnt,
-  extract-and-list-reads.Asked,
-  extract-and-list-reads.Learnt,
-  scope-listed-below t,
-  scope-listed.Post,
-) (scope-at t) scope.Post
-scope-scope-listed-requires t c κs = ?
+scope-scope-listed-requires : (t : ℕ) → scope-lts.Need-scope-listed-requires (tree-count-reads.Asked, tree-count-reads.Learnt, extract-and-list-reads.Asked, extract-and-list-reads.Learnt, scope-listed-below t, scope-listed.Post) (scope-at t) scope.Post
+scope-scope-listed-requires t c κs = let s = c .before .before .before .before .before .before .before .before .before .before .before .before .before .before .before .before .before .before .before .before .before .before .before .before .before in let a = s .args in (omega (arith, s .pre .0, c .before .before .before .before .before .before .before .before .before .before .before .before .before .before .before .before .before .before .before .before .if1 .left), ((lent-on _ (a .work .now) (a .text .now) _ _ (subst (λ f. Lent f (a .work .now) (a .text .now)) (omega (arith, c .before .before .before .before .before .before .before .before .before .before .before .before .before .before .before .before .before .before .before .before .if1 .left)) (s .pre .1 .1 .0 .0)) (c .before .before .before .before .before .before .before .before .before .before .before .before .extract-and-list .kept .1 .0) (c .before .before .before .before .before .before .before .before .before .before .before .before .extract-and-list .kept .1 .1 .1 .1 .0), words-in (rows-in (a .rows .now)) (a .row) (a .next) (take (a .len) (a .work .now)) (a .at) (a .table .now) (a .fuel) (omega (arith, c .before .before .before .before .before .before .before .before .before .before .before .before .before .before .before .before .before .before .before .before .if1 .left)) (omega (arith, length-take-le (a .len) (a .work .now) (s .pre .1 .1 .0 .1), c .before .before .before .before .before .before .before .before .before .before .before .before .before .before .before .before .before .before .before .if2 .left)) (omega (arith, c .before .before .before .before .before .before .before .before .before .before .before .before .before .before .before .before .before .before .if3 .left)) (s .pre .1 .0 .0) (s .pre .1 .0 .1) (c .before .before .before .before .before .before .before .before .before .before .before .before .extract-and-list .result) _ _ (c .before .before .before .before .before .before .before .before .before .before .before .before .extract-and-list .ensures) _ _ (c .before .before .before .before .before .listed .given .1)), (left-so (rows-in (a .rows .now)) (a .row) (a .next) (take (a .len) (a .work .now)) (a .at) (a .table .now) (a .fuel) (omega (arith, c .before .before .before .before .before .before .before .before .before .before .before .before .before .before .before .before .before .before .before .before .if1 .left)) (omega (arith, length-take-le (a .len) (a .work .now) (s .pre .1 .1 .0 .1), c .before .before .before .before .before .before .before .before .before .before .before .before .before .before .before .before .before .before .before .if2 .left)) (omega (arith, c .before .before .before .before .before .before .before .before .before .before .before .before .before .before .before .before .before .before .if3 .left)) (s .pre .1 .0 .0) (s .pre .1 .0 .1) (c .before .before .before .before .before .before .before .before .before .before .before .before .extract-and-list .result) _ _ (c .before .before .before .before .before .before .before .before .before .before .before .before .extract-and-list .ensures) _ _ (c .before .before .before .before .before .listed .given .1) (c .before .before .before .before .before .before .before .before .before .before .before .before .before .before .before .before .tree-count .result) (c .before .before .before .before .before .before .before .before .before .before .before .before .before .before .before .before .tree-count .ensures), subst (λ o. a .at + told-rows o ≤ most-rows) (scope-is (rows-in (a .rows .now)) (a .row) (a .next) (take (a .len) (a .work .now)) (a .at) (a .table .now) (a .fuel) (omega (arith, c .before .before .before .before .before .before .before .before .before .before .before .before .before .before .before .before .before .before .before .before .if1 .left)) (omega (arith, length-take-le (a .len) (a .work .now) (s .pre .1 .1 .0 .1), c .before .before .before .before .before .before .before .before .before .before .before .before .before .before .before .before .before .before .before .if2 .left)) (omega (arith, c .before .before .before .before .before .before .before .before .before .before .before .before .before .before .before .before .before .before .if3 .left)) (s .pre .1 .0 .0) (s .pre .1 .0 .1) (c .before .before .before .before .before .before .before .before .before .before .before .before .extract-and-list .result) _ _ (c .before .before .before .before .before .before .before .before .before .before .before .before .extract-and-list .ensures) _ _ (c .before .before .before .before .before .listed .given .1) (c .before .before .before .before .before .before .before .before .before .before .before .before .before .before .before .before .tree-count .result) (c .before .before .before .before .before .before .before .before .before .before .before .before .before .before .before .before .tree-count .ensures)) (s .pre .1 .1 .1))))
 
--- src/lib.rt:696:1
-scope-same-length-3 : (t : ℕ) → scope-lts.Need-same-length-3 (
-  tree-count-reads.Asked,
-  tree-count-reads.Learnt,
-  extract-and-list-reads.Asked,
-  extract-and-list-reads.Learnt,
-  scope-listed-below t,
-  scope-listed.Post,
-) (scope-at t) scope.Post
-scope-same-length-3 t c = ?
+scope-same-length-3 : (t : ℕ) → scope-lts.Need-same-length-3 (tree-count-reads.Asked, tree-count-reads.Learnt, extract-and-list-reads.Asked, extract-and-list-reads.Learnt, scope-listed-below t, scope-listed.Post) (scope-at t) scope.Post
+scope-same-length-3 t c = search needs
 
--- src/lib.rt:696:1
-scope-same-length-4 : (t : ℕ) → scope-lts.Need-same-length-4 (
-  tree-count-reads.Asked,
-  tree-count-reads.Learnt,
-  extract-and-list-reads.Asked,
-  extract-and-list-reads.Learnt,
-  scope-listed-below t,
-  scope-listed.Post,
-) (scope-at t) scope.Post
-scope-same-length-4 t c = ?
+scope-same-length-4 : (t : ℕ) → scope-lts.Need-same-length-4 (tree-count-reads.Asked, tree-count-reads.Learnt, extract-and-list-reads.Asked, extract-and-list-reads.Learnt, scope-listed-below t, scope-listed.Post) (scope-at t) scope.Post
+scope-same-length-4 t c = search needs
 
--- src/lib.rt:696:1
-scope-same-length-5 : (t : ℕ) → scope-lts.Need-same-length-5 (
-  tree-count-reads.Asked,
-  tree-count-reads.Learnt,
-  extract-and-list-reads.Asked,
-  extract-and-list-reads.Learnt,
-  scope-listed-below t,
-  scope-listed.Post,
-) (scope-at t) scope.Post
-scope-same-length-5 t c = ?
+scope-same-length-5 : (t : ℕ) → scope-lts.Need-same-length-5 (tree-count-reads.Asked, tree-count-reads.Learnt, extract-and-list-reads.Asked, extract-and-list-reads.Learnt, scope-listed-below t, scope-listed.Post) (scope-at t) scope.Post
+scope-same-length-5 t c = search needs
 
--- src/lib.rt:696:1
-scope-returns-5 : (t : ℕ) → scope-lts.Need-returns-5 (
-  tree-count-reads.Asked,
-  tree-count-reads.Learnt,
-  extract-and-list-reads.Asked,
-  extract-and-list-reads.Learnt,
-  scope-listed-below t,
-  scope-listed.Post,
-) (scope-at t) scope.Post
-scope-returns-5 t c = ?
+scope-returns-5 : (t : ℕ) → scope-lts.Need-returns-5 (tree-count-reads.Asked, tree-count-reads.Learnt, extract-and-list-reads.Asked, extract-and-list-reads.Learnt, scope-listed-below t, scope-listed.Post) (scope-at t) scope.Post
+scope-returns-5 t c = let s = c .before .before .before .before .before .before .before .before .before .before .before .before .before .before .before .before .before .before .before .before .before .before .before .before .before .before .before .before .before .before .before .before in let a = s .args in subst (λ o. Scope-done o (a .at) (a .table .now) (c .before .before .before .before .before .before .scope-listed .result) _) (sym (scope-is (rows-in (a .rows .now)) (a .row) (a .next) (take (a .len) (a .work .now)) (a .at) (a .table .now) (a .fuel) (omega (arith, c .before .before .before .before .before .before .before .before .before .before .before .before .before .before .before .before .before .before .before .before .before .before .before .before .before .before .before .if1 .left)) (omega (arith, length-take-le (a .len) (a .work .now) (s .pre .1 .1 .0 .1), c .before .before .before .before .before .before .before .before .before .before .before .before .before .before .before .before .before .before .before .before .before .before .before .before .before .before .if2 .left)) (omega (arith, c .before .before .before .before .before .before .before .before .before .before .before .before .before .before .before .before .before .before .before .before .before .before .before .before .before .if3 .left)) (s .pre .1 .0 .0) (s .pre .1 .0 .1) (c .before .before .before .before .before .before .before .before .before .before .before .before .before .before .before .before .before .before .before .extract-and-list .result) _ _ (c .before .before .before .before .before .before .before .before .before .before .before .before .before .before .before .before .before .before .before .extract-and-list .ensures) _ _ (c .before .before .before .before .before .before .before .before .before .before .before .before .listed .given .1) (c .before .before .before .before .before .before .before .before .before .before .before .before .before .before .before .before .before .before .before .before .before .before .before .tree-count .result) (c .before .before .before .before .before .before .before .before .before .before .before .before .before .before .before .before .before .before .before .before .before .before .before .tree-count .ensures))) (c .before .before .before .before .before .before .scope-listed .ensures)
 
--- src/lib.rt:559:25
-scope-grouped-sub-next : (t : ℕ) → scope-grouped-lts.Need-sub-next (
-  walk-below t,
-  walk.Post,
-  walk-refusal-reads.Asked,
-  walk-refusal-reads.Learnt,
-  write-scope-below t,
-  write-scope.Post,
-) (scope-grouped-at t) scope-grouped.Post
-scope-grouped-sub-next t c = ?
+scope-grouped-sub-next : (t : ℕ) → scope-grouped-lts.Need-sub-next (walk-below t, walk.Post, walk-refusal-reads.Asked, walk-refusal-reads.Learnt, write-scope-below t, write-scope.Post) (scope-grouped-at t) scope-grouped.Post
+scope-grouped-sub-next t c = let s = c .before .before .before .before .before .before .before .before .before .before in s .pre .1 .1 .0 .enough
 
--- src/lib.rt:559:25
-scope-grouped-add-next : (t : ℕ) → scope-grouped-lts.Need-add-next (
-  walk-below t,
-  walk.Post,
-  walk-refusal-reads.Asked,
-  walk-refusal-reads.Learnt,
-  write-scope-below t,
-  write-scope.Post,
-) (scope-grouped-at t) scope-grouped.Post
-scope-grouped-add-next t c = ?
+scope-grouped-add-next : (t : ℕ) → scope-grouped-lts.Need-add-next (walk-below t, walk.Post, walk-refusal-reads.Asked, walk-refusal-reads.Learnt, write-scope-below t, write-scope.Post) (scope-grouped-at t) scope-grouped.Post
+scope-grouped-add-next t c = let s = c .before .before .before .before .before .before .before .before .before .before in let a = s .args in omega (arith, lets-small (rows-in (a .rows .now)) (a .fuel) (a .row) (a .tokens .now) (a .results) (a .first) (a .places .now) (a .held .now) (a .starts .now) (a .members .now) (a .ends .now) (s .pre .1 .0 .1) (s .pre .1 .1 .0))
 
--- src/lib.rt:559:16
-scope-grouped-add-next-2 : (t : ℕ) → scope-grouped-lts.Need-add-next-2 (
-  walk-below t,
-  walk.Post,
-  walk-refusal-reads.Asked,
-  walk-refusal-reads.Learnt,
-  write-scope-below t,
-  write-scope.Post,
-) (scope-grouped-at t) scope-grouped.Post
-scope-grouped-add-next-2 t c = ?
+scope-grouped-add-next-2 : (t : ℕ) → scope-grouped-lts.Need-add-next-2 (walk-below t, walk.Post, walk-refusal-reads.Asked, walk-refusal-reads.Learnt, write-scope-below t, write-scope.Post) (scope-grouped-at t) scope-grouped.Post
+scope-grouped-add-next-2 t c = let s = c .before .before .before .before .before .before .before .before .before .before in let a = s .args in omega (arith, from-low (rows-in (a .rows .now)) (a .fuel) (a .row) (a .tokens .now) (a .results) (a .first) (a .places .now) (a .held .now) (a .starts .now) (a .members .now) (a .ends .now) (s .pre .1 .0 .1) (s .pre .1 .1 .0))
 
--- src/lib.rt:569:9
-scope-grouped-slice-aggregate-walk : (t : ℕ) → scope-grouped-lts.Need-slice-aggregate-walk (
-  walk-below t,
-  walk.Post,
-  walk-refusal-reads.Asked,
-  walk-refusal-reads.Learnt,
-  write-scope-below t,
-  write-scope.Post,
-) (scope-grouped-at t) scope-grouped.Post
-scope-grouped-slice-aggregate-walk t c = ?
+scope-grouped-slice-aggregate-walk : (t : ℕ) → scope-grouped-lts.Need-slice-aggregate-walk (walk-below t, walk.Post, walk-refusal-reads.Asked, walk-refusal-reads.Learnt, write-scope-below t, write-scope.Post) (scope-grouped-at t) scope-grouped.Post
+scope-grouped-slice-aggregate-walk t c = search needs
 
--- src/lib.rt:570:9
-scope-grouped-slice-aggregate-walk-2 : (t : ℕ) → scope-grouped-lts.Need-slice-aggregate-walk-2 (
-  walk-below t,
-  walk.Post,
-  walk-refusal-reads.Asked,
-  walk-refusal-reads.Learnt,
-  write-scope-below t,
-  write-scope.Post,
-) (scope-grouped-at t) scope-grouped.Post
-scope-grouped-slice-aggregate-walk-2 t c = ?
+scope-grouped-slice-aggregate-walk-2 : (t : ℕ) → scope-grouped-lts.Need-slice-aggregate-walk-2 (walk-below t, walk.Post, walk-refusal-reads.Asked, walk-refusal-reads.Learnt, write-scope-below t, write-scope.Post) (scope-grouped-at t) scope-grouped.Post
+scope-grouped-slice-aggregate-walk-2 t c = search needs
 
--- src/lib.rt:560:9
-scope-grouped-walk-requires : (t : ℕ) → scope-grouped-lts.Need-walk-requires (
-  walk-below t,
-  walk.Post,
-  walk-refusal-reads.Asked,
-  walk-refusal-reads.Learnt,
-  write-scope-below t,
-  write-scope.Post,
-) (scope-grouped-at t) scope-grouped.Post
-scope-grouped-walk-requires t c κs = ?
+scope-grouped-walk-requires : (t : ℕ) → scope-grouped-lts.Need-walk-requires (walk-below t, walk.Post, walk-refusal-reads.Asked, walk-refusal-reads.Learnt, write-scope-below t, write-scope.Post) (scope-grouped-at t) scope-grouped.Post
+scope-grouped-walk-requires t c κs = let s = c .before .before .before .before .before .before .before .before .before .before .before .before .before .before in let a = s .args in (omega (arith, s .pre .0), ((s .pre .1 .0 .0, holds-from (rows-in (a .rows .now)) (a .fuel) (a .row) (a .tokens .now) (a .results) (a .first) (a .places .now) (a .held .now) (a .starts .now) (a .members .now) (a .ends .now) (s .pre .1 .0 .1) (s .pre .1 .1 .0)), ((s .pre .1 .1 .0 .grouped, omega (arith, from-low (rows-in (a .rows .now)) (a .fuel) (a .row) (a .tokens .now) (a .results) (a .first) (a .places .now) (a .held .now) (a .starts .now) (a .members .now) (a .ends .now) (s .pre .1 .0 .1) (s .pre .1 .1 .0))), (omega (arith, members-short (rows-in (a .rows .now)) (a .fuel) (a .row) (a .tokens .now) (a .results) (a .first) (a .places .now) (a .held .now) (a .starts .now) (a .members .now) (a .ends .now) (s .pre .1 .0 .1) (s .pre .1 .1 .0)), omega (arith, ends-short (rows-in (a .rows .now)) (a .fuel) (a .row) (a .tokens .now) (a .results) (a .first) (a .places .now) (a .held .now) (a .starts .now) (a .members .now) (a .ends .now) (s .pre .1 .0 .1) (s .pre .1 .1 .0))))))
 
--- src/lib.rt:572:22
-scope-grouped-enum-known-walked : (t : ℕ) → scope-grouped-lts.Need-enum-known-walked (
-  walk-below t,
-  walk.Post,
-  walk-refusal-reads.Asked,
-  walk-refusal-reads.Learnt,
-  write-scope-below t,
-  write-scope.Post,
-) (scope-grouped-at t) scope-grouped.Post
-scope-grouped-enum-known-walked t c = ?
+scope-grouped-enum-known-walked : (t : ℕ) → scope-grouped-lts.Need-enum-known-walked (walk-below t, walk.Post, walk-refusal-reads.Asked, walk-refusal-reads.Learnt, write-scope-below t, write-scope.Post) (scope-grouped-at t) scope-grouped.Post
+scope-grouped-enum-known-walked t c = search needs
 
--- src/lib.rt:573:32
-scope-grouped-enum-told : (t : ℕ) → scope-grouped-lts.Need-enum-told (
-  walk-below t,
-  walk.Post,
-  walk-refusal-reads.Asked,
-  walk-refusal-reads.Learnt,
-  write-scope-below t,
-  write-scope.Post,
-) (scope-grouped-at t) scope-grouped.Post
-scope-grouped-enum-told t c = ?
+scope-grouped-enum-told : (t : ℕ) → scope-grouped-lts.Need-enum-told (walk-below t, walk.Post, walk-refusal-reads.Asked, walk-refusal-reads.Learnt, write-scope-below t, write-scope.Post) (scope-grouped-at t) scope-grouped.Post
+scope-grouped-enum-told t c = search needs
 
--- src/lib.rt:573:32
-scope-grouped-walk-refusal-requires : (t : ℕ) → scope-grouped-lts.Need-walk-refusal-requires (
-  walk-below t,
-  walk.Post,
-  walk-refusal-reads.Asked,
-  walk-refusal-reads.Learnt,
-  write-scope-below t,
-  write-scope.Post,
-) (scope-grouped-at t) scope-grouped.Post
-scope-grouped-walk-refusal-requires t c κs = ?
+scope-grouped-walk-refusal-requires : (t : ℕ) → scope-grouped-lts.Need-walk-refusal-requires (walk-below t, walk.Post, walk-refusal-reads.Asked, walk-refusal-reads.Learnt, write-scope-below t, write-scope.Post) (scope-grouped-at t) scope-grouped.Post
+scope-grouped-walk-refusal-requires t c κs = search needs
 
--- src/lib.rt:573:9
-scope-grouped-same-length : (t : ℕ) → scope-grouped-lts.Need-same-length (
-  walk-below t,
-  walk.Post,
-  walk-refusal-reads.Asked,
-  walk-refusal-reads.Learnt,
-  write-scope-below t,
-  write-scope.Post,
-) (scope-grouped-at t) scope-grouped.Post
-scope-grouped-same-length t c = ?
+scope-grouped-same-length : (t : ℕ) → scope-grouped-lts.Need-same-length (walk-below t, walk.Post, walk-refusal-reads.Asked, walk-refusal-reads.Learnt, write-scope-below t, write-scope.Post) (scope-grouped-at t) scope-grouped.Post
+scope-grouped-same-length t c = search needs
 
--- src/lib.rt:573:9
-scope-grouped-same-length-2 : (t : ℕ) → scope-grouped-lts.Need-same-length-2 (
-  walk-below t,
-  walk.Post,
-  walk-refusal-reads.Asked,
-  walk-refusal-reads.Learnt,
-  write-scope-below t,
-  write-scope.Post,
-) (scope-grouped-at t) scope-grouped.Post
-scope-grouped-same-length-2 t c = ?
+scope-grouped-same-length-2 : (t : ℕ) → scope-grouped-lts.Need-same-length-2 (walk-below t, walk.Post, walk-refusal-reads.Asked, walk-refusal-reads.Learnt, write-scope-below t, write-scope.Post) (scope-grouped-at t) scope-grouped.Post
+scope-grouped-same-length-2 t c = search needs
 
--- src/lib.rt:573:9
-scope-grouped-returns : (t : ℕ) → scope-grouped-lts.Need-returns (
-  walk-below t,
-  walk.Post,
-  walk-refusal-reads.Asked,
-  walk-refusal-reads.Learnt,
-  write-scope-below t,
-  write-scope.Post,
-) (scope-grouped-at t) scope-grouped.Post
-scope-grouped-returns t c = ?
+scope-grouped-returns : (t : ℕ) → scope-grouped-lts.Need-returns (walk-below t, walk.Post, walk-refusal-reads.Asked, walk-refusal-reads.Learnt, write-scope-below t, write-scope.Post) (scope-grouped-at t) scope-grouped.Post
+scope-grouped-returns t c = let s = c .before .before .before .before .before .before .before .before .before .before .before .before .before .before .before .before .before .before .before .before .before .before .before .before in let a = s .args in walk-refused (rows-in (a .rows .now)) (a .fuel) (a .row) (a .tokens .now) (a .results) (a .first) (a .places .now) (a .held .now) (a .starts .now) (a .members .now) (a .ends .now) (s .pre .1 .0 .1) (s .pre .1 .1 .0) (c .before .before .before .before .before .before .before .before .before .walk .result) _ _ (c .before .before .before .before .before .before .before .before .before .walk .ensures) _ (c .before .enum-told .given .1) _ (c .walk-refusal .ensures) (a .at) (a .table .now)
 
--- src/lib.rt:588:9
 scope-grouped-array-share-prefix-numbers :
     (t : ℕ) → scope-grouped-lts.Need-array-share-prefix-numbers (
       walk-below t,
@@ -1004,9 +476,8 @@ scope-grouped-array-share-prefix-numbers :
       write-scope-below t,
       write-scope.Post,
     ) (scope-grouped-at t) scope-grouped.Post
-scope-grouped-array-share-prefix-numbers t c = ?
+scope-grouped-array-share-prefix-numbers t c = let s = c .before .before .before .before .before .before .before .before .before .before .before .before .before .before .before .before .before .before .before .before .before .before .before .before .before in let a = s .args in omega (arith, members-short (rows-in (a .rows .now)) (a .fuel) (a .row) (a .tokens .now) (a .results) (a .first) (a .places .now) (a .held .now) (a .starts .now) (a .members .now) (a .ends .now) (s .pre .1 .0 .1) (s .pre .1 .1 .0), c .before .before .before .before .before .before .before .before .before .before .walk .kept .1 .1 .1 .1 .1 .1 .1 .1 .0)
 
--- src/lib.rt:588:9
 scope-grouped-slice-aggregate-write-scope :
     (t : ℕ) → scope-grouped-lts.Need-slice-aggregate-write-scope (
       walk-below t,
@@ -1016,20 +487,11 @@ scope-grouped-slice-aggregate-write-scope :
       write-scope-below t,
       write-scope.Post,
     ) (scope-grouped-at t) scope-grouped.Post
-scope-grouped-slice-aggregate-write-scope t c = ?
+scope-grouped-slice-aggregate-write-scope t c = let s = c .before .before .before .before .before .before .before .before .before .before .before .before .before .before .before .before .before .before .before .before .before .before .before .before .before .before in let a = s .args in sym (length-take-le _ _ (omega (arith, members-short (rows-in (a .rows .now)) (a .fuel) (a .row) (a .tokens .now) (a .results) (a .first) (a .places .now) (a .held .now) (a .starts .now) (a .members .now) (a .ends .now) (s .pre .1 .0 .1) (s .pre .1 .1 .0), c .before .before .before .before .before .before .before .before .before .before .before .walk .kept .1 .1 .1 .1 .1 .1 .1 .1 .0)))
 
--- src/lib.rt:589:9
-scope-grouped-array-share-prefix-sizes : (t : ℕ) → scope-grouped-lts.Need-array-share-prefix-sizes (
-  walk-below t,
-  walk.Post,
-  walk-refusal-reads.Asked,
-  walk-refusal-reads.Learnt,
-  write-scope-below t,
-  write-scope.Post,
-) (scope-grouped-at t) scope-grouped.Post
-scope-grouped-array-share-prefix-sizes t c = ?
+scope-grouped-array-share-prefix-sizes : (t : ℕ) → scope-grouped-lts.Need-array-share-prefix-sizes (walk-below t, walk.Post, walk-refusal-reads.Asked, walk-refusal-reads.Learnt, write-scope-below t, write-scope.Post) (scope-grouped-at t) scope-grouped.Post
+scope-grouped-array-share-prefix-sizes t c = let s = c .before .before .before .before .before .before .before .before .before .before .before .before .before .before .before .before .before .before .before .before .before .before .before .before .before .before in let a = s .args in omega (arith, ends-short (rows-in (a .rows .now)) (a .fuel) (a .row) (a .tokens .now) (a .results) (a .first) (a .places .now) (a .held .now) (a .starts .now) (a .members .now) (a .ends .now) (s .pre .1 .0 .1) (s .pre .1 .1 .0), c .before .before .before .before .before .before .before .before .before .before .before .walk .kept .1 .1 .1 .1 .1 .1 .1 .1 .1 .0)
 
--- src/lib.rt:589:9
 scope-grouped-slice-aggregate-write-scope-2 :
     (t : ℕ) → scope-grouped-lts.Need-slice-aggregate-write-scope-2 (
       walk-below t,
@@ -1039,130 +501,41 @@ scope-grouped-slice-aggregate-write-scope-2 :
       write-scope-below t,
       write-scope.Post,
     ) (scope-grouped-at t) scope-grouped.Post
-scope-grouped-slice-aggregate-write-scope-2 t c = ?
+scope-grouped-slice-aggregate-write-scope-2 t c = let s = c .before .before .before .before .before .before .before .before .before .before .before .before .before .before .before .before .before .before .before .before .before .before .before .before .before .before .before in let a = s .args in sym (length-take-le _ _ (omega (arith, ends-short (rows-in (a .rows .now)) (a .fuel) (a .row) (a .tokens .now) (a .results) (a .first) (a .places .now) (a .held .now) (a .starts .now) (a .members .now) (a .ends .now) (s .pre .1 .0 .1) (s .pre .1 .1 .0), c .before .before .before .before .before .before .before .before .before .before .before .before .walk .kept .1 .1 .1 .1 .1 .1 .1 .1 .1 .0)))
 
--- src/lib.rt:577:5
-scope-grouped-write-scope-requires : (t : ℕ) → scope-grouped-lts.Need-write-scope-requires (
-  walk-below t,
-  walk.Post,
-  walk-refusal-reads.Asked,
-  walk-refusal-reads.Learnt,
-  write-scope-below t,
-  write-scope.Post,
-) (scope-grouped-at t) scope-grouped.Post
-scope-grouped-write-scope-requires t c κs = ?
+scope-grouped-write-scope-requires : (t : ℕ) → scope-grouped-lts.Need-write-scope-requires (walk-below t, walk.Post, walk-refusal-reads.Asked, walk-refusal-reads.Learnt, write-scope-below t, write-scope.Post) (scope-grouped-at t) scope-grouped.Post
+scope-grouped-write-scope-requires t c κs = let s = c .before .before .before .before .before .before .before .before .before .before .before .before .before .before .before .before .before .before .before .before .before .before .before .before .before .before .before .before .before in let a = s .args in (omega (arith, s .pre .0), ((lent-on (a .fuel) (a .work .now) (a .text .now) _ _ (s .pre .1 .0 .0) (c .before .before .before .before .before .before .before .before .before .before .before .before .before .before .walk .kept .1 .0) (c .before .before .before .before .before .before .before .before .before .before .before .before .before .before .walk .kept .1 .1 .1 .1 .1 .1 .1 .0), s .pre .1 .0 .1), ((prepared-so (rows-in (a .rows .now)) (a .fuel) (a .row) (a .tokens .now) (a .results) (a .first) (a .places .now) (a .held .now) (a .starts .now) (a .members .now) (a .ends .now) (s .pre .1 .0 .1) (s .pre .1 .1 .0) (c .before .before .before .before .before .before .before .before .before .before .before .before .before .before .walk .result) _ _ (c .before .before .before .before .before .before .before .before .before .before .before .before .before .before .walk .ensures) _ _ (c .before .before .before .before .before .before .walked .given .1), numbered-so (rows-in (a .rows .now)) (a .fuel) (a .row) (a .tokens .now) (a .results) (a .first) (a .places .now) (a .held .now) (a .starts .now) (a .members .now) (a .ends .now) (s .pre .1 .0 .1) (s .pre .1 .1 .0) (c .before .before .before .before .before .before .before .before .before .before .before .before .before .before .walk .result) _ _ (c .before .before .before .before .before .before .before .before .before .before .before .before .before .before .walk .ensures) _ _ (c .before .before .before .before .before .before .walked .given .1)), s .pre .1 .1 .1)))
 
--- src/lib.rt:534:1
-scope-grouped-same-length-3 : (t : ℕ) → scope-grouped-lts.Need-same-length-3 (
-  walk-below t,
-  walk.Post,
-  walk-refusal-reads.Asked,
-  walk-refusal-reads.Learnt,
-  write-scope-below t,
-  write-scope.Post,
-) (scope-grouped-at t) scope-grouped.Post
-scope-grouped-same-length-3 t c = ?
+scope-grouped-same-length-3 : (t : ℕ) → scope-grouped-lts.Need-same-length-3 (walk-below t, walk.Post, walk-refusal-reads.Asked, walk-refusal-reads.Learnt, write-scope-below t, write-scope.Post) (scope-grouped-at t) scope-grouped.Post
+scope-grouped-same-length-3 t c = search needs
 
--- src/lib.rt:534:1
-scope-grouped-same-length-4 : (t : ℕ) → scope-grouped-lts.Need-same-length-4 (
-  walk-below t,
-  walk.Post,
-  walk-refusal-reads.Asked,
-  walk-refusal-reads.Learnt,
-  write-scope-below t,
-  write-scope.Post,
-) (scope-grouped-at t) scope-grouped.Post
-scope-grouped-same-length-4 t c = ?
+scope-grouped-same-length-4 : (t : ℕ) → scope-grouped-lts.Need-same-length-4 (walk-below t, walk.Post, walk-refusal-reads.Asked, walk-refusal-reads.Learnt, write-scope-below t, write-scope.Post) (scope-grouped-at t) scope-grouped.Post
+scope-grouped-same-length-4 t c = search needs
 
--- src/lib.rt:534:1
-scope-grouped-same-length-5 : (t : ℕ) → scope-grouped-lts.Need-same-length-5 (
-  walk-below t,
-  walk.Post,
-  walk-refusal-reads.Asked,
-  walk-refusal-reads.Learnt,
-  write-scope-below t,
-  write-scope.Post,
-) (scope-grouped-at t) scope-grouped.Post
-scope-grouped-same-length-5 t c = ?
+scope-grouped-same-length-5 : (t : ℕ) → scope-grouped-lts.Need-same-length-5 (walk-below t, walk.Post, walk-refusal-reads.Asked, walk-refusal-reads.Learnt, write-scope-below t, write-scope.Post) (scope-grouped-at t) scope-grouped.Post
+scope-grouped-same-length-5 t c = search needs
 
--- src/lib.rt:534:1
-scope-grouped-returns-2 : (t : ℕ) → scope-grouped-lts.Need-returns-2 (
-  walk-below t,
-  walk.Post,
-  walk-refusal-reads.Asked,
-  walk-refusal-reads.Learnt,
-  write-scope-below t,
-  write-scope.Post,
-) (scope-grouped-at t) scope-grouped.Post
-scope-grouped-returns-2 t c = ?
+scope-grouped-returns-2 : (t : ℕ) → scope-grouped-lts.Need-returns-2 (walk-below t, walk.Post, walk-refusal-reads.Asked, walk-refusal-reads.Learnt, write-scope-below t, write-scope.Post) (scope-grouped-at t) scope-grouped.Post
+scope-grouped-returns-2 t c = c .before .before .before .before .before .before .write-scope .ensures
 
--- src/lib.rt:625:22
-scope-held-slice-aggregate-list-trees : (t : ℕ) → scope-held-lts.Need-slice-aggregate-list-trees (
-  list-trees-reads.Asked,
-  list-trees-reads.Learnt,
-  group-all-reads.Asked,
-  group-all-reads.Learnt,
-  scope-grouped-below t,
-  scope-grouped.Post,
-) (scope-held-at t) scope-held.Post
-scope-held-slice-aggregate-list-trees t c = ?
+scope-held-slice-aggregate-list-trees : (t : ℕ) → scope-held-lts.Need-slice-aggregate-list-trees (list-trees-reads.Asked, list-trees-reads.Learnt, group-all-reads.Asked, group-all-reads.Learnt, scope-grouped-below t, scope-grouped.Post) (scope-held-at t) scope-held.Post
+scope-held-slice-aggregate-list-trees t c = search needs
 
--- src/lib.rt:625:5
-scope-held-list-trees-requires : (t : ℕ) → scope-held-lts.Need-list-trees-requires (
-  list-trees-reads.Asked,
-  list-trees-reads.Learnt,
-  group-all-reads.Asked,
-  group-all-reads.Learnt,
-  scope-grouped-below t,
-  scope-grouped.Post,
-) (scope-held-at t) scope-held.Post
-scope-held-list-trees-requires t c κs = ?
+scope-held-list-trees-requires : (t : ℕ) → scope-held-lts.Need-list-trees-requires (list-trees-reads.Asked, list-trees-reads.Learnt, group-all-reads.Asked, group-all-reads.Learnt, scope-grouped-below t, scope-grouped.Post) (scope-held-at t) scope-held.Post
+scope-held-list-trees-requires t c κs = search needs
 
--- src/lib.rt:626:33
-scope-held-slice-aggregate-group-all : (t : ℕ) → scope-held-lts.Need-slice-aggregate-group-all (
-  list-trees-reads.Asked,
-  list-trees-reads.Learnt,
-  group-all-reads.Asked,
-  group-all-reads.Learnt,
-  scope-grouped-below t,
-  scope-grouped.Post,
-) (scope-held-at t) scope-held.Post
-scope-held-slice-aggregate-group-all t c = ?
+scope-held-slice-aggregate-group-all : (t : ℕ) → scope-held-lts.Need-slice-aggregate-group-all (list-trees-reads.Asked, list-trees-reads.Learnt, group-all-reads.Asked, group-all-reads.Learnt, scope-grouped-below t, scope-grouped.Post) (scope-held-at t) scope-held.Post
+scope-held-slice-aggregate-group-all t c = search needs
 
--- src/lib.rt:626:47
-scope-held-slice-aggregate-group-all-2 : (t : ℕ) → scope-held-lts.Need-slice-aggregate-group-all-2 (
-  list-trees-reads.Asked,
-  list-trees-reads.Learnt,
-  group-all-reads.Asked,
-  group-all-reads.Learnt,
-  scope-grouped-below t,
-  scope-grouped.Post,
-) (scope-held-at t) scope-held.Post
-scope-held-slice-aggregate-group-all-2 t c = ?
+scope-held-slice-aggregate-group-all-2 : (t : ℕ) → scope-held-lts.Need-slice-aggregate-group-all-2 (list-trees-reads.Asked, list-trees-reads.Learnt, group-all-reads.Asked, group-all-reads.Learnt, scope-grouped-below t, scope-grouped.Post) (scope-held-at t) scope-held.Post
+scope-held-slice-aggregate-group-all-2 t c = search needs
 
--- src/lib.rt:626:9
-scope-held-group-all-requires : (t : ℕ) → scope-held-lts.Need-group-all-requires (
-  list-trees-reads.Asked,
-  list-trees-reads.Learnt,
-  group-all-reads.Asked,
-  group-all-reads.Learnt,
-  scope-grouped-below t,
-  scope-grouped.Post,
-) (scope-held-at t) scope-held.Post
-scope-held-group-all-requires t c κs = ?
+scope-held-group-all-requires : (t : ℕ) → scope-held-lts.Need-group-all-requires (list-trees-reads.Asked, list-trees-reads.Learnt, group-all-reads.Asked, group-all-reads.Learnt, scope-grouped-below t, scope-grouped.Post) (scope-held-at t) scope-held.Post
+scope-held-group-all-requires t c κs = let s = c .before .before .before .before .before .before .before .before .before .before .before .before in let a = s .args in ((held-complete (rows-in (a .rows .now)) (a .tokens .now) (a .results) (a .first) (a .places .now) (s .pre .1 .0 .1) (a .held .now) (s .pre .1 .1 .0 .1) (s .pre .1 .1 .0 .2), s .pre .1 .1 .0 .2), (omega arith, omega arith))
 
--- src/lib.rt:637:9
-scope-held-array-share-prefix-starts : (t : ℕ) → scope-held-lts.Need-array-share-prefix-starts (
-  list-trees-reads.Asked,
-  list-trees-reads.Learnt,
-  group-all-reads.Asked,
-  group-all-reads.Learnt,
-  scope-grouped-below t,
-  scope-grouped.Post,
-) (scope-held-at t) scope-held.Post
-scope-held-array-share-prefix-starts t c = ?
+scope-held-array-share-prefix-starts : (t : ℕ) → scope-held-lts.Need-array-share-prefix-starts (list-trees-reads.Asked, list-trees-reads.Learnt, group-all-reads.Asked, group-all-reads.Learnt, scope-grouped-below t, scope-grouped.Post) (scope-held-at t) scope-held.Post
+scope-held-array-share-prefix-starts t c = let s = c .before .before .before .before .before .before .before .before .before .before .before .before .before .before .before .before in let a = s .args in omega (arith, trees-short (rows-in (a .rows .now)) (a .tokens .now) (a .results) (a .first) (a .places .now) (s .pre .1 .0 .1) (a .held .now) (s .pre .1 .1 .0 .1) (s .pre .1 .1 .0 .2) (a .trees) (s .pre .1 .1 .0 .0), c .before .before .before .before .before .before .before .list-trees .kept .1 .0)
 
--- src/lib.rt:637:9
 scope-held-slice-aggregate-scope-grouped :
     (t : ℕ) → scope-held-lts.Need-slice-aggregate-scope-grouped (
       list-trees-reads.Asked,
@@ -1172,20 +545,11 @@ scope-held-slice-aggregate-scope-grouped :
       scope-grouped-below t,
       scope-grouped.Post,
     ) (scope-held-at t) scope-held.Post
-scope-held-slice-aggregate-scope-grouped t c = ?
+scope-held-slice-aggregate-scope-grouped t c = let s = c .before .before .before .before .before .before .before .before .before .before .before .before .before .before .before .before .before in let a = s .args in sym (length-take-le _ _ (omega (arith, trees-short (rows-in (a .rows .now)) (a .tokens .now) (a .results) (a .first) (a .places .now) (s .pre .1 .0 .1) (a .held .now) (s .pre .1 .1 .0 .1) (s .pre .1 .1 .0 .2) (a .trees) (s .pre .1 .1 .0 .0), c .before .before .before .before .before .before .before .before .list-trees .kept .1 .0)))
 
--- src/lib.rt:638:9
-scope-held-array-share-prefix-members : (t : ℕ) → scope-held-lts.Need-array-share-prefix-members (
-  list-trees-reads.Asked,
-  list-trees-reads.Learnt,
-  group-all-reads.Asked,
-  group-all-reads.Learnt,
-  scope-grouped-below t,
-  scope-grouped.Post,
-) (scope-held-at t) scope-held.Post
-scope-held-array-share-prefix-members t c = ?
+scope-held-array-share-prefix-members : (t : ℕ) → scope-held-lts.Need-array-share-prefix-members (list-trees-reads.Asked, list-trees-reads.Learnt, group-all-reads.Asked, group-all-reads.Learnt, scope-grouped-below t, scope-grouped.Post) (scope-held-at t) scope-held.Post
+scope-held-array-share-prefix-members t c = c .before .before .before .before .group-all .ensures .members-in
 
--- src/lib.rt:638:9
 scope-held-slice-aggregate-scope-grouped-2 :
     (t : ℕ) → scope-held-lts.Need-slice-aggregate-scope-grouped-2 (
       list-trees-reads.Asked,
@@ -1195,20 +559,11 @@ scope-held-slice-aggregate-scope-grouped-2 :
       scope-grouped-below t,
       scope-grouped.Post,
     ) (scope-held-at t) scope-held.Post
-scope-held-slice-aggregate-scope-grouped-2 t c = ?
+scope-held-slice-aggregate-scope-grouped-2 t c = sym (length-take-le _ _ (c .before .before .before .before .before .group-all .ensures .members-in))
 
--- src/lib.rt:639:9
-scope-held-array-share-prefix-ends : (t : ℕ) → scope-held-lts.Need-array-share-prefix-ends (
-  list-trees-reads.Asked,
-  list-trees-reads.Learnt,
-  group-all-reads.Asked,
-  group-all-reads.Learnt,
-  scope-grouped-below t,
-  scope-grouped.Post,
-) (scope-held-at t) scope-held.Post
-scope-held-array-share-prefix-ends t c = ?
+scope-held-array-share-prefix-ends : (t : ℕ) → scope-held-lts.Need-array-share-prefix-ends (list-trees-reads.Asked, list-trees-reads.Learnt, group-all-reads.Asked, group-all-reads.Learnt, scope-grouped-below t, scope-grouped.Post) (scope-held-at t) scope-held.Post
+scope-held-array-share-prefix-ends t c = c .before .before .before .before .before .group-all .ensures .ends-in
 
--- src/lib.rt:639:9
 scope-held-slice-aggregate-scope-grouped-3 :
     (t : ℕ) → scope-held-lts.Need-slice-aggregate-scope-grouped-3 (
       list-trees-reads.Asked,
@@ -1218,129 +573,38 @@ scope-held-slice-aggregate-scope-grouped-3 :
       scope-grouped-below t,
       scope-grouped.Post,
     ) (scope-held-at t) scope-held.Post
-scope-held-slice-aggregate-scope-grouped-3 t c = ?
+scope-held-slice-aggregate-scope-grouped-3 t c = sym (length-take-le _ _ (c .before .before .before .before .before .before .group-all .ensures .ends-in))
 
--- src/lib.rt:629:5
-scope-held-scope-grouped-requires : (t : ℕ) → scope-held-lts.Need-scope-grouped-requires (
-  list-trees-reads.Asked,
-  list-trees-reads.Learnt,
-  group-all-reads.Asked,
-  group-all-reads.Learnt,
-  scope-grouped-below t,
-  scope-grouped.Post,
-) (scope-held-at t) scope-held.Post
-scope-held-scope-grouped-requires t c κs = ?
+scope-held-scope-grouped-requires : (t : ℕ) → scope-held-lts.Need-scope-grouped-requires (list-trees-reads.Asked, list-trees-reads.Learnt, group-all-reads.Asked, group-all-reads.Learnt, scope-grouped-below t, scope-grouped.Post) (scope-held-at t) scope-held.Post
+scope-held-scope-grouped-requires t c κs = let s = c .before .before .before .before .before .before .before .before .before .before .before .before .before .before .before .before .before .before .before .before .before in let a = s .args in (omega (arith, s .pre .0), ((s .pre .1 .0 .0, left-holds (rows-in (a .rows .now)) (a .tokens .now) (a .results) (a .first) (a .places .now) (s .pre .1 .0 .1) (a .held .now) (s .pre .1 .1 .0 .1) (s .pre .1 .1 .0 .2)), ((ready-so (rows-in (a .rows .now)) (a .tokens .now) (a .results) (a .first) (a .places .now) (s .pre .1 .0 .1) (a .held .now) (s .pre .1 .1 .0 .1) (s .pre .1 .1 .0 .2) (a .trees) (s .pre .1 .1 .0 .0) _ _ refl (c .before .before .before .before .before .before .before .before .before .before .before .before .list-trees .ensures .1) _ _ _ _ (c .before .before .before .before .before .before .before .before .group-all .ensures)), s .pre .1 .1 .1)))
 
--- src/lib.rt:601:1
-scope-held-same-length : (t : ℕ) → scope-held-lts.Need-same-length (
-  list-trees-reads.Asked,
-  list-trees-reads.Learnt,
-  group-all-reads.Asked,
-  group-all-reads.Learnt,
-  scope-grouped-below t,
-  scope-grouped.Post,
-) (scope-held-at t) scope-held.Post
-scope-held-same-length t c = ?
+scope-held-same-length : (t : ℕ) → scope-held-lts.Need-same-length (list-trees-reads.Asked, list-trees-reads.Learnt, group-all-reads.Asked, group-all-reads.Learnt, scope-grouped-below t, scope-grouped.Post) (scope-held-at t) scope-held.Post
+scope-held-same-length t c = search needs
 
--- src/lib.rt:601:1
-scope-held-same-length-2 : (t : ℕ) → scope-held-lts.Need-same-length-2 (
-  list-trees-reads.Asked,
-  list-trees-reads.Learnt,
-  group-all-reads.Asked,
-  group-all-reads.Learnt,
-  scope-grouped-below t,
-  scope-grouped.Post,
-) (scope-held-at t) scope-held.Post
-scope-held-same-length-2 t c = ?
+scope-held-same-length-2 : (t : ℕ) → scope-held-lts.Need-same-length-2 (list-trees-reads.Asked, list-trees-reads.Learnt, group-all-reads.Asked, group-all-reads.Learnt, scope-grouped-below t, scope-grouped.Post) (scope-held-at t) scope-held.Post
+scope-held-same-length-2 t c = search needs
 
--- src/lib.rt:601:1
-scope-held-same-length-3 : (t : ℕ) → scope-held-lts.Need-same-length-3 (
-  list-trees-reads.Asked,
-  list-trees-reads.Learnt,
-  group-all-reads.Asked,
-  group-all-reads.Learnt,
-  scope-grouped-below t,
-  scope-grouped.Post,
-) (scope-held-at t) scope-held.Post
-scope-held-same-length-3 t c = ?
+scope-held-same-length-3 : (t : ℕ) → scope-held-lts.Need-same-length-3 (list-trees-reads.Asked, list-trees-reads.Learnt, group-all-reads.Asked, group-all-reads.Learnt, scope-grouped-below t, scope-grouped.Post) (scope-held-at t) scope-held.Post
+scope-held-same-length-3 t c = search needs
 
--- src/lib.rt:601:1
-scope-held-returns : (t : ℕ) → scope-held-lts.Need-returns (
-  list-trees-reads.Asked,
-  list-trees-reads.Learnt,
-  group-all-reads.Asked,
-  group-all-reads.Learnt,
-  scope-grouped-below t,
-  scope-grouped.Post,
-) (scope-held-at t) scope-held.Post
-scope-held-returns t c = ?
+scope-held-returns : (t : ℕ) → scope-held-lts.Need-returns (list-trees-reads.Asked, list-trees-reads.Learnt, group-all-reads.Asked, group-all-reads.Learnt, scope-grouped-below t, scope-grouped.Post) (scope-held-at t) scope-held.Post
+scope-held-returns t c = c .before .before .before .before .before .before .scope-grouped .ensures
 
--- src/lib.rt:670:9
-scope-listed-slice-reshare-prefix-put : (t : ℕ) → scope-listed-lts.Need-slice-reshare-prefix-put (
-  put-reads.Asked,
-  put-reads.Learnt,
-  tree-count-reads.Asked,
-  tree-count-reads.Learnt,
-  hold-all-reads.Asked,
-  hold-all-reads.Learnt,
-  scope-held-below t,
-  scope-held.Post,
-) (scope-listed-at t) scope-listed.Post
-scope-listed-slice-reshare-prefix-put t c = ?
+scope-listed-slice-reshare-prefix-put : (t : ℕ) → scope-listed-lts.Need-slice-reshare-prefix-put (put-reads.Asked, put-reads.Learnt, tree-count-reads.Asked, tree-count-reads.Learnt, hold-all-reads.Asked, hold-all-reads.Learnt, scope-held-below t, scope-held.Post) (scope-listed-at t) scope-listed.Post
+scope-listed-slice-reshare-prefix-put t c = let s = c .before .before .before .before .before in s .pre .1 .0 .1
 
--- src/lib.rt:670:9
-scope-listed-slice-aggregate-put : (t : ℕ) → scope-listed-lts.Need-slice-aggregate-put (
-  put-reads.Asked,
-  put-reads.Learnt,
-  tree-count-reads.Asked,
-  tree-count-reads.Learnt,
-  hold-all-reads.Asked,
-  hold-all-reads.Learnt,
-  scope-held-below t,
-  scope-held.Post,
-) (scope-listed-at t) scope-listed.Post
-scope-listed-slice-aggregate-put t c = ?
+scope-listed-slice-aggregate-put : (t : ℕ) → scope-listed-lts.Need-slice-aggregate-put (put-reads.Asked, put-reads.Learnt, tree-count-reads.Asked, tree-count-reads.Learnt, hold-all-reads.Asked, hold-all-reads.Learnt, scope-held-below t, scope-held.Post) (scope-listed-at t) scope-listed.Post
+scope-listed-slice-aggregate-put t c = let s = c .before .before .before .before .before .before in sym (length-take-le _ _ (s .pre .1 .0 .1))
 
--- src/lib.rt:670:27
-scope-listed-slice-aggregate-put-2 : (t : ℕ) → scope-listed-lts.Need-slice-aggregate-put-2 (
-  put-reads.Asked,
-  put-reads.Learnt,
-  tree-count-reads.Asked,
-  tree-count-reads.Learnt,
-  hold-all-reads.Asked,
-  hold-all-reads.Learnt,
-  scope-held-below t,
-  scope-held.Post,
-) (scope-listed-at t) scope-listed.Post
-scope-listed-slice-aggregate-put-2 t c = ?
+scope-listed-slice-aggregate-put-2 : (t : ℕ) → scope-listed-lts.Need-slice-aggregate-put-2 (put-reads.Asked, put-reads.Learnt, tree-count-reads.Asked, tree-count-reads.Learnt, hold-all-reads.Asked, hold-all-reads.Learnt, scope-held-below t, scope-held.Post) (scope-listed-at t) scope-listed.Post
+scope-listed-slice-aggregate-put-2 t c = search needs
 
--- src/lib.rt:670:5
-scope-listed-put-requires : (t : ℕ) → scope-listed-lts.Need-put-requires (
-  put-reads.Asked,
-  put-reads.Learnt,
-  tree-count-reads.Asked,
-  tree-count-reads.Learnt,
-  hold-all-reads.Asked,
-  hold-all-reads.Learnt,
-  scope-held-below t,
-  scope-held.Post,
-) (scope-listed-at t) scope-listed.Post
-scope-listed-put-requires t c κs = ?
+scope-listed-put-requires : (t : ℕ) → scope-listed-lts.Need-put-requires (put-reads.Asked, put-reads.Learnt, tree-count-reads.Asked, tree-count-reads.Learnt, hold-all-reads.Asked, hold-all-reads.Learnt, scope-held-below t, scope-held.Post) (scope-listed-at t) scope-listed.Post
+scope-listed-put-requires t c κs = search needs
 
--- src/lib.rt:671:28
-scope-listed-array-share-prefix-tokens : (t : ℕ) → scope-listed-lts.Need-array-share-prefix-tokens (
-  put-reads.Asked,
-  put-reads.Learnt,
-  tree-count-reads.Asked,
-  tree-count-reads.Learnt,
-  hold-all-reads.Asked,
-  hold-all-reads.Learnt,
-  scope-held-below t,
-  scope-held.Post,
-) (scope-listed-at t) scope-listed.Post
-scope-listed-array-share-prefix-tokens t c = ?
+scope-listed-array-share-prefix-tokens : (t : ℕ) → scope-listed-lts.Need-array-share-prefix-tokens (put-reads.Asked, put-reads.Learnt, tree-count-reads.Asked, tree-count-reads.Learnt, hold-all-reads.Asked, hold-all-reads.Learnt, scope-held-below t, scope-held.Post) (scope-listed-at t) scope-listed.Post
+scope-listed-array-share-prefix-tokens t c = let s = c .before .before .before .before .before .before .before .before .before in let a = s .args in (omega (arith, used-few (rows-in (a .rows .now)) (a .fuel) (a .row) (a .work .now) (a .used) (a .results) (a .first) (a .places .now) (s .pre .1 .0 .1) (s .pre .1 .1 .0), c .before .put .kept .1 .1 .0))
 
--- src/lib.rt:671:28
 scope-listed-slice-aggregate-tree-count :
     (t : ℕ) → scope-listed-lts.Need-slice-aggregate-tree-count (
       put-reads.Asked,
@@ -1352,48 +616,17 @@ scope-listed-slice-aggregate-tree-count :
       scope-held-below t,
       scope-held.Post,
     ) (scope-listed-at t) scope-listed.Post
-scope-listed-slice-aggregate-tree-count t c = ?
+scope-listed-slice-aggregate-tree-count t c = let s = c .before .before .before .before .before .before .before .before .before .before in let a = s .args in sym (length-take-le _ _ (omega (arith, used-few (rows-in (a .rows .now)) (a .fuel) (a .row) (a .work .now) (a .used) (a .results) (a .first) (a .places .now) (s .pre .1 .0 .1) (s .pre .1 .1 .0), c .before .before .put .kept .1 .1 .0)))
 
--- src/lib.rt:671:9
-scope-listed-tree-count-requires : (t : ℕ) → scope-listed-lts.Need-tree-count-requires (
-  put-reads.Asked,
-  put-reads.Learnt,
-  tree-count-reads.Asked,
-  tree-count-reads.Learnt,
-  hold-all-reads.Asked,
-  hold-all-reads.Learnt,
-  scope-held-below t,
-  scope-held.Post,
-) (scope-listed-at t) scope-listed.Post
-scope-listed-tree-count-requires t c κs = ?
+scope-listed-tree-count-requires : (t : ℕ) → scope-listed-lts.Need-tree-count-requires (put-reads.Asked, put-reads.Learnt, tree-count-reads.Asked, tree-count-reads.Learnt, hold-all-reads.Asked, hold-all-reads.Learnt, scope-held-below t, scope-held.Post) (scope-listed-at t) scope-listed.Post
+scope-listed-tree-count-requires t c κs = let s = c .before .before .before .before .before .before .before .before .before .before in let a = s .args in tokens-whole (rows-in (a .rows .now)) (a .fuel) (a .row) (a .work .now) (a .used) (a .results) (a .first) (a .places .now) (s .pre .1 .0 .1) (s .pre .1 .1 .0) _ _ refl (c .before .before .put .ensures)
 
--- src/lib.rt:672:27
-scope-listed-sub-number : (t : ℕ) → scope-listed-lts.Need-sub-number (
-  put-reads.Asked,
-  put-reads.Learnt,
-  tree-count-reads.Asked,
-  tree-count-reads.Learnt,
-  hold-all-reads.Asked,
-  hold-all-reads.Learnt,
-  scope-held-below t,
-  scope-held.Post,
-) (scope-listed-at t) scope-listed.Post
-scope-listed-sub-number t c = ?
+scope-listed-sub-number : (t : ℕ) → scope-listed-lts.Need-sub-number (put-reads.Asked, put-reads.Learnt, tree-count-reads.Asked, tree-count-reads.Learnt, hold-all-reads.Asked, hold-all-reads.Learnt, scope-held-below t, scope-held.Post) (scope-listed-at t) scope-listed.Post
+scope-listed-sub-number t c = let s = c .before .before .before .before .before .before .before .before .before .before .before in let a = s .args in trees-enough (rows-in (a .rows .now)) (a .fuel) (a .row) (a .work .now) (a .used) (a .results) (a .first) (a .places .now) (s .pre .1 .0 .1) (s .pre .1 .1 .0) _ _ refl (c .before .before .before .put .ensures) (c .tree-count .result) (c .tree-count .ensures)
 
--- src/lib.rt:672:18
-scope-listed-add-number : (t : ℕ) → scope-listed-lts.Need-add-number (
-  put-reads.Asked,
-  put-reads.Learnt,
-  tree-count-reads.Asked,
-  tree-count-reads.Learnt,
-  hold-all-reads.Asked,
-  hold-all-reads.Learnt,
-  scope-held-below t,
-  scope-held.Post,
-) (scope-listed-at t) scope-listed.Post
-scope-listed-add-number t c = ?
+scope-listed-add-number : (t : ℕ) → scope-listed-lts.Need-add-number (put-reads.Asked, put-reads.Learnt, tree-count-reads.Asked, tree-count-reads.Learnt, hold-all-reads.Asked, hold-all-reads.Learnt, scope-held-below t, scope-held.Post) (scope-listed-at t) scope-listed.Post
+scope-listed-add-number t c = let s = c .before .before .before .before .before .before .before .before .before .before .before in let a = s .args in omega (arith, trees-few-here (rows-in (a .rows .now)) (a .fuel) (a .row) (a .work .now) (a .used) (a .results) (a .first) (a .places .now) (s .pre .1 .0 .1) (s .pre .1 .1 .0) _ _ refl (c .before .before .before .put .ensures) (c .tree-count .result) (c .tree-count .ensures), s .pre .1 .1 .0 .low)
 
--- src/lib.rt:673:28
 scope-listed-array-share-prefix-tokens-2 :
     (t : ℕ) → scope-listed-lts.Need-array-share-prefix-tokens-2 (
       put-reads.Asked,
@@ -1405,22 +638,11 @@ scope-listed-array-share-prefix-tokens-2 :
       scope-held-below t,
       scope-held.Post,
     ) (scope-listed-at t) scope-listed.Post
-scope-listed-array-share-prefix-tokens-2 t c = ?
+scope-listed-array-share-prefix-tokens-2 t c = let s = c .before .before .before .before .before .before .before .before .before .before .before in let a = s .args in (omega (arith, used-few (rows-in (a .rows .now)) (a .fuel) (a .row) (a .work .now) (a .used) (a .results) (a .first) (a .places .now) (s .pre .1 .0 .1) (s .pre .1 .1 .0), c .before .before .before .put .kept .1 .1 .0))
 
--- src/lib.rt:673:28
-scope-listed-slice-aggregate-hold-all : (t : ℕ) → scope-listed-lts.Need-slice-aggregate-hold-all (
-  put-reads.Asked,
-  put-reads.Learnt,
-  tree-count-reads.Asked,
-  tree-count-reads.Learnt,
-  hold-all-reads.Asked,
-  hold-all-reads.Learnt,
-  scope-held-below t,
-  scope-held.Post,
-) (scope-listed-at t) scope-listed.Post
-scope-listed-slice-aggregate-hold-all t c = ?
+scope-listed-slice-aggregate-hold-all : (t : ℕ) → scope-listed-lts.Need-slice-aggregate-hold-all (put-reads.Asked, put-reads.Learnt, tree-count-reads.Asked, tree-count-reads.Learnt, hold-all-reads.Asked, hold-all-reads.Learnt, scope-held-below t, scope-held.Post) (scope-listed-at t) scope-listed.Post
+scope-listed-slice-aggregate-hold-all t c = let s = c .before .before .before .before .before .before .before .before .before .before .before .before in let a = s .args in sym (length-take-le _ _ (omega (arith, used-few (rows-in (a .rows .now)) (a .fuel) (a .row) (a .work .now) (a .used) (a .results) (a .first) (a .places .now) (s .pre .1 .0 .1) (s .pre .1 .1 .0), c .before .before .before .before .put .kept .1 .1 .0)))
 
--- src/lib.rt:673:61
 scope-listed-slice-aggregate-hold-all-2 :
     (t : ℕ) → scope-listed-lts.Need-slice-aggregate-hold-all-2 (
       put-reads.Asked,
@@ -1432,126 +654,35 @@ scope-listed-slice-aggregate-hold-all-2 :
       scope-held-below t,
       scope-held.Post,
     ) (scope-listed-at t) scope-listed.Post
-scope-listed-slice-aggregate-hold-all-2 t c = ?
+scope-listed-slice-aggregate-hold-all-2 t c = search needs
 
--- src/lib.rt:673:9
-scope-listed-hold-all-requires : (t : ℕ) → scope-listed-lts.Need-hold-all-requires (
-  put-reads.Asked,
-  put-reads.Learnt,
-  tree-count-reads.Asked,
-  tree-count-reads.Learnt,
-  hold-all-reads.Asked,
-  hold-all-reads.Learnt,
-  scope-held-below t,
-  scope-held.Post,
-) (scope-listed-at t) scope-listed.Post
-scope-listed-hold-all-requires t c κs = ?
+scope-listed-hold-all-requires : (t : ℕ) → scope-listed-lts.Need-hold-all-requires (put-reads.Asked, put-reads.Learnt, tree-count-reads.Asked, tree-count-reads.Learnt, hold-all-reads.Asked, hold-all-reads.Learnt, scope-held-below t, scope-held.Post) (scope-listed-at t) scope-listed.Post
+scope-listed-hold-all-requires t c κs = let s = c .before .before .before .before .before .before .before .before .before .before .before .before .before in let a = s .args in ((tokens-whole (rows-in (a .rows .now)) (a .fuel) (a .row) (a .work .now) (a .used) (a .results) (a .first) (a .places .now) (s .pre .1 .0 .1) (s .pre .1 .1 .0) _ _ refl (c .before .before .before .before .before .put .ensures), tokens-there (rows-in (a .rows .now)) (a .fuel) (a .row) (a .work .now) (a .used) (a .results) (a .first) (a .places .now) (s .pre .1 .0 .1) (s .pre .1 .1 .0) _ _ refl (c .before .before .before .before .before .put .ensures) (c .before .before .tree-count .result) (c .before .before .tree-count .ensures)), (tokens-left (rows-in (a .rows .now)) (a .fuel) (a .row) (a .work .now) (a .used) (a .results) (a .first) (a .places .now) (s .pre .1 .0 .1) (s .pre .1 .1 .0) _ _ refl (c .before .before .before .before .before .put .ensures) .few, places-short (rows-in (a .rows .now)) (a .fuel) (a .row) (a .work .now) (a .used) (a .results) (a .first) (a .places .now) (s .pre .1 .0 .1) (s .pre .1 .1 .0) _ _ refl (c .before .before .before .before .before .put .ensures) (c .before .before .tree-count .result) (c .before .before .tree-count .ensures), omega (arith, trees-few-here (rows-in (a .rows .now)) (a .fuel) (a .row) (a .work .now) (a .used) (a .results) (a .first) (a .places .now) (s .pre .1 .0 .1) (s .pre .1 .1 .0) _ _ refl (c .before .before .before .before .before .put .ensures) (c .before .before .tree-count .result) (c .before .before .tree-count .ensures), s .pre .1 .1 .0 .low), omega arith))
 
--- src/lib.rt:674:24
-scope-listed-enum-known-holding : (t : ℕ) → scope-listed-lts.Need-enum-known-holding (
-  put-reads.Asked,
-  put-reads.Learnt,
-  tree-count-reads.Asked,
-  tree-count-reads.Learnt,
-  hold-all-reads.Asked,
-  hold-all-reads.Learnt,
-  scope-held-below t,
-  scope-held.Post,
-) (scope-listed-at t) scope-listed.Post
-scope-listed-enum-known-holding t c = ?
+scope-listed-enum-known-holding : (t : ℕ) → scope-listed-lts.Need-enum-known-holding (put-reads.Asked, put-reads.Learnt, tree-count-reads.Asked, tree-count-reads.Learnt, hold-all-reads.Asked, hold-all-reads.Learnt, scope-held-below t, scope-held.Post) (scope-listed-at t) scope-listed.Post
+scope-listed-enum-known-holding t c = search needs
 
--- src/lib.rt:675:9
-scope-listed-enum-told : (t : ℕ) → scope-listed-lts.Need-enum-told (
-  put-reads.Asked,
-  put-reads.Learnt,
-  tree-count-reads.Asked,
-  tree-count-reads.Learnt,
-  hold-all-reads.Asked,
-  hold-all-reads.Learnt,
-  scope-held-below t,
-  scope-held.Post,
-) (scope-listed-at t) scope-listed.Post
-scope-listed-enum-told t c = ?
+scope-listed-enum-told : (t : ℕ) → scope-listed-lts.Need-enum-told (put-reads.Asked, put-reads.Learnt, tree-count-reads.Asked, tree-count-reads.Learnt, hold-all-reads.Asked, hold-all-reads.Learnt, scope-held-below t, scope-held.Post) (scope-listed-at t) scope-listed.Post
+scope-listed-enum-told t c = search needs
 
--- src/lib.rt:675:9
-scope-listed-same-length : (t : ℕ) → scope-listed-lts.Need-same-length (
-  put-reads.Asked,
-  put-reads.Learnt,
-  tree-count-reads.Asked,
-  tree-count-reads.Learnt,
-  hold-all-reads.Asked,
-  hold-all-reads.Learnt,
-  scope-held-below t,
-  scope-held.Post,
-) (scope-listed-at t) scope-listed.Post
-scope-listed-same-length t c = ?
+scope-listed-same-length : (t : ℕ) → scope-listed-lts.Need-same-length (put-reads.Asked, put-reads.Learnt, tree-count-reads.Asked, tree-count-reads.Learnt, hold-all-reads.Asked, hold-all-reads.Learnt, scope-held-below t, scope-held.Post) (scope-listed-at t) scope-listed.Post
+scope-listed-same-length t c = search needs
 
--- src/lib.rt:675:9
-scope-listed-returns : (t : ℕ) → scope-listed-lts.Need-returns (
-  put-reads.Asked,
-  put-reads.Learnt,
-  tree-count-reads.Asked,
-  tree-count-reads.Learnt,
-  hold-all-reads.Asked,
-  hold-all-reads.Learnt,
-  scope-held-below t,
-  scope-held.Post,
-) (scope-listed-at t) scope-listed.Post
-scope-listed-returns t c = ?
+scope-listed-returns : (t : ℕ) → scope-listed-lts.Need-returns (put-reads.Asked, put-reads.Learnt, tree-count-reads.Asked, tree-count-reads.Learnt, hold-all-reads.Asked, hold-all-reads.Learnt, scope-held-below t, scope-held.Post) (scope-listed-at t) scope-listed.Post
+scope-listed-returns t c = let s = c .before .before .before .before .before .before .before .before .before .before .before .before .before .before .before .before .before in let a = s .args in too-many (rows-in (a .rows .now)) (a .fuel) (a .row) (a .work .now) (a .used) (a .results) (a .first) (a .places .now) (s .pre .1 .0 .1) (s .pre .1 .1 .0) _ _ refl (c .before .before .before .before .before .before .before .before .before .put .ensures) (c .before .before .before .before .before .before .tree-count .result) (c .before .before .before .before .before .before .tree-count .ensures) (c .before .before .before .hold-all .result) _ (c .before .before .before .hold-all .ensures) (c .enum-told .given .1) (a .at) (a .table .now)
 
--- src/lib.rt:679:9
-scope-listed-mul-scope-held : (t : ℕ) → scope-listed-lts.Need-mul-scope-held (
-  put-reads.Asked,
-  put-reads.Learnt,
-  tree-count-reads.Asked,
-  tree-count-reads.Learnt,
-  hold-all-reads.Asked,
-  hold-all-reads.Learnt,
-  scope-held-below t,
-  scope-held.Post,
-) (scope-listed-at t) scope-listed.Post
-scope-listed-mul-scope-held t c = ?
+scope-listed-mul-scope-held : (t : ℕ) → scope-listed-lts.Need-mul-scope-held (put-reads.Asked, put-reads.Learnt, tree-count-reads.Asked, tree-count-reads.Learnt, hold-all-reads.Asked, hold-all-reads.Learnt, scope-held-below t, scope-held.Post) (scope-listed-at t) scope-listed.Post
+scope-listed-mul-scope-held t c = let s = c .before .before .before .before .before .before .before .before .before .before .before .before .before .before .before .before .before .before in let a = s .args in omega (arith, used-few (rows-in (a .rows .now)) (a .fuel) (a .row) (a .work .now) (a .used) (a .results) (a .first) (a .places .now) (s .pre .1 .0 .1) (s .pre .1 .1 .0))
 
--- src/lib.rt:679:9
-scope-listed-sub-scope-held : (t : ℕ) → scope-listed-lts.Need-sub-scope-held (
-  put-reads.Asked,
-  put-reads.Learnt,
-  tree-count-reads.Asked,
-  tree-count-reads.Learnt,
-  hold-all-reads.Asked,
-  hold-all-reads.Learnt,
-  scope-held-below t,
-  scope-held.Post,
-) (scope-listed-at t) scope-listed.Post
-scope-listed-sub-scope-held t c = ?
+scope-listed-sub-scope-held : (t : ℕ) → scope-listed-lts.Need-sub-scope-held (put-reads.Asked, put-reads.Learnt, tree-count-reads.Asked, tree-count-reads.Learnt, hold-all-reads.Asked, hold-all-reads.Learnt, scope-held-below t, scope-held.Post) (scope-listed-at t) scope-listed.Post
+scope-listed-sub-scope-held t c = let s = c .before .before .before .before .before .before .before .before .before .before .before .before .before .before .before .before .before .before in s .pre .1 .0 .1
 
--- src/lib.rt:679:9
-scope-listed-part-scope-held-start : (t : ℕ) → scope-listed-lts.Need-part-scope-held-start (
-  put-reads.Asked,
-  put-reads.Learnt,
-  tree-count-reads.Asked,
-  tree-count-reads.Learnt,
-  hold-all-reads.Asked,
-  hold-all-reads.Learnt,
-  scope-held-below t,
-  scope-held.Post,
-) (scope-listed-at t) scope-listed.Post
-scope-listed-part-scope-held-start t c = ?
+scope-listed-part-scope-held-start : (t : ℕ) → scope-listed-lts.Need-part-scope-held-start (put-reads.Asked, put-reads.Learnt, tree-count-reads.Asked, tree-count-reads.Learnt, hold-all-reads.Asked, hold-all-reads.Learnt, scope-held-below t, scope-held.Post) (scope-listed-at t) scope-listed.Post
+scope-listed-part-scope-held-start t c = let s = c .before .before .before .before .before .before .before .before .before .before .before .before .before .before .before .before .before .before in s .pre .1 .0 .1
 
--- src/lib.rt:679:9
-scope-listed-part-scope-held-end : (t : ℕ) → scope-listed-lts.Need-part-scope-held-end (
-  put-reads.Asked,
-  put-reads.Learnt,
-  tree-count-reads.Asked,
-  tree-count-reads.Learnt,
-  hold-all-reads.Asked,
-  hold-all-reads.Learnt,
-  scope-held-below t,
-  scope-held.Post,
-) (scope-listed-at t) scope-listed.Post
-scope-listed-part-scope-held-end t c = ?
+scope-listed-part-scope-held-end : (t : ℕ) → scope-listed-lts.Need-part-scope-held-end (put-reads.Asked, put-reads.Learnt, tree-count-reads.Asked, tree-count-reads.Learnt, hold-all-reads.Asked, hold-all-reads.Learnt, scope-held-below t, scope-held.Post) (scope-listed-at t) scope-listed.Post
+scope-listed-part-scope-held-end t c = le-refl _
 
--- src/lib.rt:680:9
 scope-listed-array-share-prefix-tokens-3 :
     (t : ℕ) → scope-listed-lts.Need-array-share-prefix-tokens-3 (
       put-reads.Asked,
@@ -1563,9 +694,8 @@ scope-listed-array-share-prefix-tokens-3 :
       scope-held-below t,
       scope-held.Post,
     ) (scope-listed-at t) scope-listed.Post
-scope-listed-array-share-prefix-tokens-3 t c = ?
+scope-listed-array-share-prefix-tokens-3 t c = let s = c .before .before .before .before .before .before .before .before .before .before .before .before .before .before .before .before .before .before .before in let a = s .args in (omega (arith, used-few (rows-in (a .rows .now)) (a .fuel) (a .row) (a .work .now) (a .used) (a .results) (a .first) (a .places .now) (s .pre .1 .0 .1) (s .pre .1 .1 .0), c .before .before .before .before .before .before .before .before .before .before .before .put .kept .1 .1 .0))
 
--- src/lib.rt:680:9
 scope-listed-slice-aggregate-scope-held :
     (t : ℕ) → scope-listed-lts.Need-slice-aggregate-scope-held (
       put-reads.Asked,
@@ -1577,22 +707,11 @@ scope-listed-slice-aggregate-scope-held :
       scope-held-below t,
       scope-held.Post,
     ) (scope-listed-at t) scope-listed.Post
-scope-listed-slice-aggregate-scope-held t c = ?
+scope-listed-slice-aggregate-scope-held t c = let s = c .before .before .before .before .before .before .before .before .before .before .before .before .before .before .before .before .before .before .before .before in let a = s .args in sym (length-take-le _ _ (omega (arith, used-few (rows-in (a .rows .now)) (a .fuel) (a .row) (a .work .now) (a .used) (a .results) (a .first) (a .places .now) (s .pre .1 .0 .1) (s .pre .1 .1 .0), c .before .before .before .before .before .before .before .before .before .before .before .before .put .kept .1 .1 .0)))
 
--- src/lib.rt:685:9
-scope-listed-array-share-prefix-held : (t : ℕ) → scope-listed-lts.Need-array-share-prefix-held (
-  put-reads.Asked,
-  put-reads.Learnt,
-  tree-count-reads.Asked,
-  tree-count-reads.Learnt,
-  hold-all-reads.Asked,
-  hold-all-reads.Learnt,
-  scope-held-below t,
-  scope-held.Post,
-) (scope-listed-at t) scope-listed.Post
-scope-listed-array-share-prefix-held t c = ?
+scope-listed-array-share-prefix-held : (t : ℕ) → scope-listed-lts.Need-array-share-prefix-held (put-reads.Asked, put-reads.Learnt, tree-count-reads.Asked, tree-count-reads.Learnt, hold-all-reads.Asked, hold-all-reads.Learnt, scope-held-below t, scope-held.Post) (scope-listed-at t) scope-listed.Post
+scope-listed-array-share-prefix-held t c = let s = c .before .before .before .before .before .before .before .before .before .before .before .before .before .before .before .before .before .before .before .before in let a = s .args in held-in (rows-in (a .rows .now)) (a .fuel) (a .row) (a .work .now) (a .used) (a .results) (a .first) (a .places .now) (s .pre .1 .0 .1) (s .pre .1 .1 .0) _ _ refl (c .before .before .before .before .before .before .before .before .before .before .before .before .put .ensures) (c .before .before .before .before .before .before .before .before .before .tree-count .result) (c .before .before .before .before .before .before .before .before .before .tree-count .ensures) (c .before .before .before .before .before .before .hold-all .result) _ (c .before .before .before .before .before .before .hold-all .ensures) _ (c .before .before .before .holding .given .1)
 
--- src/lib.rt:685:9
 scope-listed-slice-aggregate-scope-held-2 :
     (t : ℕ) → scope-listed-lts.Need-slice-aggregate-scope-held-2 (
       put-reads.Asked,
@@ -1604,720 +723,205 @@ scope-listed-slice-aggregate-scope-held-2 :
       scope-held-below t,
       scope-held.Post,
     ) (scope-listed-at t) scope-listed.Post
-scope-listed-slice-aggregate-scope-held-2 t c = ?
+scope-listed-slice-aggregate-scope-held-2 t c = let s = c .before .before .before .before .before .before .before .before .before .before .before .before .before .before .before .before .before .before .before .before .before in let a = s .args in sym (length-take-le _ _ (held-in (rows-in (a .rows .now)) (a .fuel) (a .row) (a .work .now) (a .used) (a .results) (a .first) (a .places .now) (s .pre .1 .0 .1) (s .pre .1 .1 .0) _ _ refl (c .before .before .before .before .before .before .before .before .before .before .before .before .before .put .ensures) (c .before .before .before .before .before .before .before .before .before .before .tree-count .result) (c .before .before .before .before .before .before .before .before .before .before .tree-count .ensures) (c .before .before .before .before .before .before .before .hold-all .result) _ (c .before .before .before .before .before .before .before .hold-all .ensures) _ (c .before .before .before .before .holding .given .1)))
 
--- src/lib.rt:677:5
-scope-listed-scope-held-requires : (t : ℕ) → scope-listed-lts.Need-scope-held-requires (
-  put-reads.Asked,
-  put-reads.Learnt,
-  tree-count-reads.Asked,
-  tree-count-reads.Learnt,
-  hold-all-reads.Asked,
-  hold-all-reads.Learnt,
-  scope-held-below t,
-  scope-held.Post,
-) (scope-listed-at t) scope-listed.Post
-scope-listed-scope-held-requires t c κs = ?
+scope-listed-scope-held-requires : (t : ℕ) → scope-listed-lts.Need-scope-held-requires (put-reads.Asked, put-reads.Learnt, tree-count-reads.Asked, tree-count-reads.Learnt, hold-all-reads.Asked, hold-all-reads.Learnt, scope-held-below t, scope-held.Post) (scope-listed-at t) scope-listed.Post
+scope-listed-scope-held-requires t c κs = let s = c .before .before .before .before .before .before .before .before .before .before .before .before .before .before .before .before .before .before .before .before .before .before .before in let a = s .args in (omega (arith, s .pre .0), ((lent-rest (a .fuel) (a .work .now) (a .text .now) (a .used) (s .pre .1 .0 .0) (used-few (rows-in (a .rows .now)) (a .fuel) (a .row) (a .work .now) (a .used) (a .results) (a .first) (a .places .now) (s .pre .1 .0 .1) (s .pre .1 .1 .0)), tokens-left (rows-in (a .rows .now)) (a .fuel) (a .row) (a .work .now) (a .used) (a .results) (a .first) (a .places .now) (s .pre .1 .0 .1) (s .pre .1 .1 .0) _ _ refl (c .before .before .before .before .before .before .before .before .before .before .before .before .before .before .before .put .ensures)), ((c .before .before .before .before .before .before .before .before .before .before .before .before .tree-count .ensures, held-are (rows-in (a .rows .now)) (a .fuel) (a .row) (a .work .now) (a .used) (a .results) (a .first) (a .places .now) (s .pre .1 .0 .1) (s .pre .1 .1 .0) _ _ refl (c .before .before .before .before .before .before .before .before .before .before .before .before .before .before .before .put .ensures) (c .before .before .before .before .before .before .before .before .before .before .before .before .tree-count .result) (c .before .before .before .before .before .before .before .before .before .before .before .before .tree-count .ensures) (c .before .before .before .before .before .before .before .before .before .hold-all .result) _ (c .before .before .before .before .before .before .before .before .before .hold-all .ensures) _ (c .before .before .before .before .before .before .holding .given .1), held-short (rows-in (a .rows .now)) (a .fuel) (a .row) (a .work .now) (a .used) (a .results) (a .first) (a .places .now) (s .pre .1 .0 .1) (s .pre .1 .1 .0) _ _ refl (c .before .before .before .before .before .before .before .before .before .before .before .before .before .before .before .put .ensures) (c .before .before .before .before .before .before .before .before .before .before .before .before .tree-count .result) (c .before .before .before .before .before .before .before .before .before .before .before .before .tree-count .ensures) (c .before .before .before .before .before .before .before .before .before .hold-all .result) _ (c .before .before .before .before .before .before .before .before .before .hold-all .ensures) _ (c .before .before .before .before .before .before .holding .given .1)), subst (λ o. a .at + told-rows o ≤ most-rows) (outcome-is (rows-in (a .rows .now)) (a .fuel) (a .row) (a .work .now) (a .used) (a .results) (a .first) (a .places .now) (s .pre .1 .0 .1) (s .pre .1 .1 .0) _ _ refl (c .before .before .before .before .before .before .before .before .before .before .before .before .before .before .before .put .ensures) (c .before .before .before .before .before .before .before .before .before .before .before .before .tree-count .result) (c .before .before .before .before .before .before .before .before .before .before .before .before .tree-count .ensures) (c .before .before .before .before .before .before .before .before .before .hold-all .result) _ (c .before .before .before .before .before .before .before .before .before .hold-all .ensures) _ (c .before .before .before .before .before .before .holding .given .1)) (s .pre .1 .1 .1))))
 
--- src/lib.rt:649:1
-scope-listed-same-length-2 : (t : ℕ) → scope-listed-lts.Need-same-length-2 (
-  put-reads.Asked,
-  put-reads.Learnt,
-  tree-count-reads.Asked,
-  tree-count-reads.Learnt,
-  hold-all-reads.Asked,
-  hold-all-reads.Learnt,
-  scope-held-below t,
-  scope-held.Post,
-) (scope-listed-at t) scope-listed.Post
-scope-listed-same-length-2 t c = ?
+scope-listed-same-length-2 : (t : ℕ) → scope-listed-lts.Need-same-length-2 (put-reads.Asked, put-reads.Learnt, tree-count-reads.Asked, tree-count-reads.Learnt, hold-all-reads.Asked, hold-all-reads.Learnt, scope-held-below t, scope-held.Post) (scope-listed-at t) scope-listed.Post
+scope-listed-same-length-2 t c = search needs
 
--- src/lib.rt:649:1
-scope-listed-same-length-3 : (t : ℕ) → scope-listed-lts.Need-same-length-3 (
-  put-reads.Asked,
-  put-reads.Learnt,
-  tree-count-reads.Asked,
-  tree-count-reads.Learnt,
-  hold-all-reads.Asked,
-  hold-all-reads.Learnt,
-  scope-held-below t,
-  scope-held.Post,
-) (scope-listed-at t) scope-listed.Post
-scope-listed-same-length-3 t c = ?
+scope-listed-same-length-3 : (t : ℕ) → scope-listed-lts.Need-same-length-3 (put-reads.Asked, put-reads.Learnt, tree-count-reads.Asked, tree-count-reads.Learnt, hold-all-reads.Asked, hold-all-reads.Learnt, scope-held-below t, scope-held.Post) (scope-listed-at t) scope-listed.Post
+scope-listed-same-length-3 t c = search needs
 
--- src/lib.rt:649:1
-scope-listed-same-length-4 : (t : ℕ) → scope-listed-lts.Need-same-length-4 (
-  put-reads.Asked,
-  put-reads.Learnt,
-  tree-count-reads.Asked,
-  tree-count-reads.Learnt,
-  hold-all-reads.Asked,
-  hold-all-reads.Learnt,
-  scope-held-below t,
-  scope-held.Post,
-) (scope-listed-at t) scope-listed.Post
-scope-listed-same-length-4 t c = ?
+scope-listed-same-length-4 : (t : ℕ) → scope-listed-lts.Need-same-length-4 (put-reads.Asked, put-reads.Learnt, tree-count-reads.Asked, tree-count-reads.Learnt, hold-all-reads.Asked, hold-all-reads.Learnt, scope-held-below t, scope-held.Post) (scope-listed-at t) scope-listed.Post
+scope-listed-same-length-4 t c = search needs
 
--- src/lib.rt:649:1
-scope-listed-returns-2 : (t : ℕ) → scope-listed-lts.Need-returns-2 (
-  put-reads.Asked,
-  put-reads.Learnt,
-  tree-count-reads.Asked,
-  tree-count-reads.Learnt,
-  hold-all-reads.Asked,
-  hold-all-reads.Learnt,
-  scope-held-below t,
-  scope-held.Post,
-) (scope-listed-at t) scope-listed.Post
-scope-listed-returns-2 t c = ?
+scope-listed-returns-2 : (t : ℕ) → scope-listed-lts.Need-returns-2 (put-reads.Asked, put-reads.Learnt, tree-count-reads.Asked, tree-count-reads.Learnt, hold-all-reads.Asked, hold-all-reads.Learnt, scope-held-below t, scope-held.Post) (scope-listed-at t) scope-listed.Post
+scope-listed-returns-2 t c = let s = c .before .before .before .before .before .before .before .before .before .before .before .before .before .before .before .before .before .before .before .before .before .before .before .before .before .before .before .before .before .before in let a = s .args in subst (λ o. Scope-done o (a .at) (a .table .now) (c .before .before .before .before .before .before .scope-held .result) _) (sym (outcome-is (rows-in (a .rows .now)) (a .fuel) (a .row) (a .work .now) (a .used) (a .results) (a .first) (a .places .now) (s .pre .1 .0 .1) (s .pre .1 .1 .0) _ _ refl (c .before .before .before .before .before .before .before .before .before .before .before .before .before .before .before .before .before .before .before .before .before .before .put .ensures) (c .before .before .before .before .before .before .before .before .before .before .before .before .before .before .before .before .before .before .before .tree-count .result) (c .before .before .before .before .before .before .before .before .before .before .before .before .before .before .before .before .before .before .before .tree-count .ensures) (c .before .before .before .before .before .before .before .before .before .before .before .before .before .before .before .before .hold-all .result) _ (c .before .before .before .before .before .before .before .before .before .before .before .before .before .before .before .before .hold-all .ensures) _ (c .before .before .before .before .before .before .before .before .before .before .before .before .before .holding .given .1))) (c .before .before .before .before .before .before .scope-held .ensures)
 
 abbrev walk-Inv-loop : walk-lts.InvT-loop
-walk-Inv-loop rows work₀ held members ends fuel next text₀ numbers₀ sizes₀ number₀ extracted₀ start₀ g₀ work text numbers sizes number extracted start g =
-    ?
+walk-Inv-loop rows work₀ held members ends fuel next text₀ numbers₀ sizes₀ number₀ extracted₀ start₀ g₀ work text numbers sizes number extracted start g = (g ≤ length ends) × Walk-so (inner (rows-in rows) fuel) held (place-groups held) next g number extracted start numbers sizes × (length work ≡ length work₀) × (length text ≡ length text₀) × (length numbers ≡ length numbers₀) × (length sizes ≡ length sizes₀)
 
 abbrev walk-μ-loop : walk-lts.MeasureT-loop
-walk-μ-loop rows work₀ held members ends fuel next text₀ numbers₀ sizes₀ number₀ extracted₀ start₀ g₀ work text numbers sizes number extracted start g =
-    ?
+walk-μ-loop rows work₀ held members ends fuel next text₀ numbers₀ sizes₀ number₀ extracted₀ start₀ g₀ work text numbers sizes number extracted start g = length ends - g
 
--- src/lib.rt:328:5
-walk-loop-holds : (t : ℕ) → walk-lts.Need-loop-holds (
-  number-members-reads.Asked,
-  number-members-reads.Learnt,
-  measure-below t,
-  measure.Post,
-  refusal-of-reads.Asked,
-  refusal-of-reads.Learnt,
-) (walk-at t) walk.Post walk-Inv-loop walk-μ-loop
-walk-loop-holds t c = ?
+walk-loop-holds : (t : ℕ) → walk-lts.Need-loop-holds (number-members-reads.Asked, number-members-reads.Learnt, measure-below t, measure.Post, refusal-of-reads.Asked, refusal-of-reads.Learnt) (walk-at t) walk.Post walk-Inv-loop walk-μ-loop
+walk-loop-holds t c = let s = c .before .before .before .before .before .before .before .before in let a = s .args in (omega arith, walk-begin (inner (rows-in (a .rows .now)) (a .fuel)) (a .held .now) (place-groups (a .held .now)) (a .next) _ _, refl, refl, refl, refl)
 
--- src/lib.rt:329:19
-walk-mul-end : (t : ℕ) → walk-lts.Need-mul-end (
-  number-members-reads.Asked,
-  number-members-reads.Learnt,
-  measure-below t,
-  measure.Post,
-  refusal-of-reads.Asked,
-  refusal-of-reads.Learnt,
-) (walk-at t) walk.Post walk-Inv-loop walk-μ-loop
-walk-mul-end t c = ?
+walk-mul-end : (t : ℕ) → walk-lts.Need-mul-end (number-members-reads.Asked, number-members-reads.Learnt, measure-below t, measure.Post, refusal-of-reads.Asked, refusal-of-reads.Learnt) (walk-at t) walk.Post walk-Inv-loop walk-μ-loop
+walk-mul-end t c = search needs
 
--- src/lib.rt:329:19
-walk-shared-slice-read-end : (t : ℕ) → walk-lts.Need-shared-slice-read-end (
-  number-members-reads.Asked,
-  number-members-reads.Learnt,
-  measure-below t,
-  measure.Post,
-  refusal-of-reads.Asked,
-  refusal-of-reads.Learnt,
-) (walk-at t) walk.Post walk-Inv-loop walk-μ-loop
-walk-shared-slice-read-end t c = ?
+walk-shared-slice-read-end : (t : ℕ) → walk-lts.Need-shared-slice-read-end (number-members-reads.Asked, number-members-reads.Learnt, measure-below t, measure.Post, refusal-of-reads.Asked, refusal-of-reads.Learnt) (walk-at t) walk.Post walk-Inv-loop walk-μ-loop
+walk-shared-slice-read-end t c = search needs
 
--- src/lib.rt:330:32
-walk-sub-number-members : (t : ℕ) → walk-lts.Need-sub-number-members (
-  number-members-reads.Asked,
-  number-members-reads.Learnt,
-  measure-below t,
-  measure.Post,
-  refusal-of-reads.Asked,
-  refusal-of-reads.Learnt,
-) (walk-at t) walk.Post walk-Inv-loop walk-μ-loop
-walk-sub-number-members t c = ?
+walk-sub-number-members : (t : ℕ) → walk-lts.Need-sub-number-members (number-members-reads.Asked, number-members-reads.Learnt, measure-below t, measure.Post, refusal-of-reads.Asked, refusal-of-reads.Learnt) (walk-at t) walk.Post walk-Inv-loop walk-μ-loop
+walk-sub-number-members t c = let s = c .before .before .before .before .before .before .before .before .before .before .before in let a = s .args in omega (arith, end-long (rows-in (a .rows .now)) (a .fuel) (a .next) (a .held .now) (a .members .now) (a .ends .now) (s .pre .1 .0 .1) (s .pre .1 .1 .0 .0) (s .pre .1 .1 .0 .1) _ _ _ _ _ _ (c .before .before .loop .inv .1) (c .before .loop-test .taken))
 
--- src/lib.rt:330:9
-walk-number-members-requires : (t : ℕ) → walk-lts.Need-number-members-requires (
-  number-members-reads.Asked,
-  number-members-reads.Learnt,
-  measure-below t,
-  measure.Post,
-  refusal-of-reads.Asked,
-  refusal-of-reads.Learnt,
-) (walk-at t) walk.Post walk-Inv-loop walk-μ-loop
-walk-number-members-requires t c κs = ?
+walk-number-members-requires : (t : ℕ) → walk-lts.Need-number-members-requires (number-members-reads.Asked, number-members-reads.Learnt, measure-below t, measure.Post, refusal-of-reads.Asked, refusal-of-reads.Learnt) (walk-at t) walk.Post walk-Inv-loop walk-μ-loop
+walk-number-members-requires t c κs = let s = c .before .before .before .before .before .before .before .before .before .before .before .before in let a = s .args in (omega (arith, end-long (rows-in (a .rows .now)) (a .fuel) (a .next) (a .held .now) (a .members .now) (a .ends .now) (s .pre .1 .0 .1) (s .pre .1 .1 .0 .0) (s .pre .1 .1 .0 .1) _ _ _ _ _ _ (c .before .before .before .loop .inv .1) (c .before .before .loop-test .taken), end-within (rows-in (a .rows .now)) (a .fuel) (a .next) (a .held .now) (a .members .now) (a .ends .now) (s .pre .1 .0 .1) (s .pre .1 .1 .0 .0) (s .pre .1 .1 .0 .1) _ _ _ _ _ _ (c .before .before .before .loop .inv .1) (c .before .before .loop-test .taken), s .pre .1 .1 .1 .0, c .before .before .before .loop .inv .4), omega (arith, number-low (rows-in (a .rows .now)) (a .fuel) (a .next) (a .held .now) (a .members .now) (a .ends .now) (s .pre .1 .0 .1) (s .pre .1 .1 .0 .0) (s .pre .1 .1 .0 .1) _ _ _ _ _ _ (c .before .before .before .loop .inv .1) (c .before .before .before .loop .inv .0), end-long (rows-in (a .rows .now)) (a .fuel) (a .next) (a .held .now) (a .members .now) (a .ends .now) (s .pre .1 .0 .1) (s .pre .1 .1 .0 .0) (s .pre .1 .1 .0 .1) _ _ _ _ _ _ (c .before .before .before .loop .inv .1) (c .before .before .loop-test .taken), end-within (rows-in (a .rows .now)) (a .fuel) (a .next) (a .held .now) (a .members .now) (a .ends .now) (s .pre .1 .0 .1) (s .pre .1 .1 .0 .0) (s .pre .1 .1 .0 .1) _ _ _ _ _ _ (c .before .before .before .loop .inv .1) (c .before .before .loop-test .taken), all-few (rows-in (a .rows .now)) (a .next) (a .held .now) (s .pre .1 .0 .1), ap length (s .pre .1 .1 .0 .0 .members-are)))
 
--- src/lib.rt:331:47
-walk-mul-measure : (t : ℕ) → walk-lts.Need-mul-measure (
-  number-members-reads.Asked,
-  number-members-reads.Learnt,
-  measure-below t,
-  measure.Post,
-  refusal-of-reads.Asked,
-  refusal-of-reads.Learnt,
-) (walk-at t) walk.Post walk-Inv-loop walk-μ-loop
-walk-mul-measure t c = ?
+walk-mul-measure : (t : ℕ) → walk-lts.Need-mul-measure (number-members-reads.Asked, number-members-reads.Learnt, measure-below t, measure.Post, refusal-of-reads.Asked, refusal-of-reads.Learnt) (walk-at t) walk.Post walk-Inv-loop walk-μ-loop
+walk-mul-measure t c = let s = c .before .before .before .before .before .before .before .before .before .before .before .before .before .before .before .before in let a = s .args in omega (arith, end-long (rows-in (a .rows .now)) (a .fuel) (a .next) (a .held .now) (a .members .now) (a .ends .now) (s .pre .1 .0 .1) (s .pre .1 .1 .0 .0) (s .pre .1 .1 .0 .1) _ _ _ _ _ _ (c .before .before .before .before .before .before .before .loop .inv .1) (c .before .before .before .before .before .before .loop-test .taken), end-within (rows-in (a .rows .now)) (a .fuel) (a .next) (a .held .now) (a .members .now) (a .ends .now) (s .pre .1 .0 .1) (s .pre .1 .1 .0 .0) (s .pre .1 .1 .0 .1) _ _ _ _ _ _ (c .before .before .before .before .before .before .before .loop .inv .1) (c .before .before .before .before .before .before .loop-test .taken), s .good .1 .1 .1 .0)
 
--- src/lib.rt:331:47
-walk-sub-measure : (t : ℕ) → walk-lts.Need-sub-measure (
-  number-members-reads.Asked,
-  number-members-reads.Learnt,
-  measure-below t,
-  measure.Post,
-  refusal-of-reads.Asked,
-  refusal-of-reads.Learnt,
-) (walk-at t) walk.Post walk-Inv-loop walk-μ-loop
-walk-sub-measure t c = ?
+walk-sub-measure : (t : ℕ) → walk-lts.Need-sub-measure (number-members-reads.Asked, number-members-reads.Learnt, measure-below t, measure.Post, refusal-of-reads.Asked, refusal-of-reads.Learnt) (walk-at t) walk.Post walk-Inv-loop walk-μ-loop
+walk-sub-measure t c = let s = c .before .before .before .before .before .before .before .before .before .before .before .before .before .before .before .before in let a = s .args in omega (arith, end-long (rows-in (a .rows .now)) (a .fuel) (a .next) (a .held .now) (a .members .now) (a .ends .now) (s .pre .1 .0 .1) (s .pre .1 .1 .0 .0) (s .pre .1 .1 .0 .1) _ _ _ _ _ _ (c .before .before .before .before .before .before .before .loop .inv .1) (c .before .before .before .before .before .before .loop-test .taken))
 
--- src/lib.rt:331:47
-walk-part-measure-start : (t : ℕ) → walk-lts.Need-part-measure-start (
-  number-members-reads.Asked,
-  number-members-reads.Learnt,
-  measure-below t,
-  measure.Post,
-  refusal-of-reads.Asked,
-  refusal-of-reads.Learnt,
-) (walk-at t) walk.Post walk-Inv-loop walk-μ-loop
-walk-part-measure-start t c = ?
+walk-part-measure-start : (t : ℕ) → walk-lts.Need-part-measure-start (number-members-reads.Asked, number-members-reads.Learnt, measure-below t, measure.Post, refusal-of-reads.Asked, refusal-of-reads.Learnt) (walk-at t) walk.Post walk-Inv-loop walk-μ-loop
+walk-part-measure-start t c = let s = c .before .before .before .before .before .before .before .before .before .before .before .before .before .before .before .before in let a = s .args in omega (arith, end-long (rows-in (a .rows .now)) (a .fuel) (a .next) (a .held .now) (a .members .now) (a .ends .now) (s .pre .1 .0 .1) (s .pre .1 .1 .0 .0) (s .pre .1 .1 .0 .1) _ _ _ _ _ _ (c .before .before .before .before .before .before .before .loop .inv .1) (c .before .before .before .before .before .before .loop-test .taken), end-within (rows-in (a .rows .now)) (a .fuel) (a .next) (a .held .now) (a .members .now) (a .ends .now) (s .pre .1 .0 .1) (s .pre .1 .1 .0 .0) (s .pre .1 .1 .0 .1) _ _ _ _ _ _ (c .before .before .before .before .before .before .before .loop .inv .1) (c .before .before .before .before .before .before .loop-test .taken))
 
--- src/lib.rt:331:47
-walk-part-measure-end : (t : ℕ) → walk-lts.Need-part-measure-end (
-  number-members-reads.Asked,
-  number-members-reads.Learnt,
-  measure-below t,
-  measure.Post,
-  refusal-of-reads.Asked,
-  refusal-of-reads.Learnt,
-) (walk-at t) walk.Post walk-Inv-loop walk-μ-loop
-walk-part-measure-end t c = ?
+walk-part-measure-end : (t : ℕ) → walk-lts.Need-part-measure-end (number-members-reads.Asked, number-members-reads.Learnt, measure-below t, measure.Post, refusal-of-reads.Asked, refusal-of-reads.Learnt) (walk-at t) walk.Post walk-Inv-loop walk-μ-loop
+walk-part-measure-end t c = let s = c .before .before .before .before .before .before .before .before .before .before .before .before .before .before .before .before in let a = s .args in end-within (rows-in (a .rows .now)) (a .fuel) (a .next) (a .held .now) (a .members .now) (a .ends .now) (s .pre .1 .0 .1) (s .pre .1 .1 .0 .0) (s .pre .1 .1 .0 .1) _ _ _ _ _ _ (c .before .before .before .before .before .before .before .loop .inv .1) (c .before .before .before .before .before .before .loop-test .taken)
 
--- src/lib.rt:331:13
-walk-measure-requires : (t : ℕ) → walk-lts.Need-measure-requires (
-  number-members-reads.Asked,
-  number-members-reads.Learnt,
-  measure-below t,
-  measure.Post,
-  refusal-of-reads.Asked,
-  refusal-of-reads.Learnt,
-) (walk-at t) walk.Post walk-Inv-loop walk-μ-loop
-walk-measure-requires t c κs = ?
+walk-measure-requires : (t : ℕ) → walk-lts.Need-measure-requires (number-members-reads.Asked, number-members-reads.Learnt, measure-below t, measure.Post, refusal-of-reads.Asked, refusal-of-reads.Learnt) (walk-at t) walk.Post walk-Inv-loop walk-μ-loop
+walk-measure-requires t c κs = let s = c .before .before .before .before .before .before .before .before .before .before .before .before .before .before .before .before .before .before in let a = s .args in (omega (arith, s .pre .0), ((lent-on (a .fuel) (a .work .now) (a .text .now) _ _ (s .pre .1 .0 .0) (c .before .before .before .before .before .before .before .before .before .loop .inv .2) (c .before .before .before .before .before .before .before .before .before .loop .inv .3), number-holds (rows-in (a .rows .now)) (a .fuel) (a .next) (a .held .now) (a .members .now) (a .ends .now) (s .pre .1 .0 .1) (s .pre .1 .1 .0 .0) (s .pre .1 .1 .0 .1) _ _ _ _ _ _ (c .before .before .before .before .before .before .before .before .before .loop .inv .1) (c .before .before .before .before .before .before .before .before .before .loop .inv .0)), (group-here (rows-in (a .rows .now)) (a .fuel) (a .next) (a .held .now) (a .members .now) (a .ends .now) (s .pre .1 .0 .1) (s .pre .1 .1 .0 .0) (s .pre .1 .1 .0 .1) _ _ _ _ _ _ (c .before .before .before .before .before .before .before .before .before .loop .inv .1) (c .before .before .before .before .before .before .before .before .loop-test .taken), number-low (rows-in (a .rows .now)) (a .fuel) (a .next) (a .held .now) (a .members .now) (a .ends .now) (s .pre .1 .0 .1) (s .pre .1 .1 .0 .0) (s .pre .1 .1 .0 .1) _ _ _ _ _ _ (c .before .before .before .before .before .before .before .before .before .loop .inv .1) (c .before .before .before .before .before .before .before .before .before .loop .inv .0))))
 
--- src/lib.rt:332:25
-walk-enum-known-armed : (t : ℕ) → walk-lts.Need-enum-known-armed (
-  number-members-reads.Asked,
-  number-members-reads.Learnt,
-  measure-below t,
-  measure.Post,
-  refusal-of-reads.Asked,
-  refusal-of-reads.Learnt,
-) (walk-at t) walk.Post walk-Inv-loop walk-μ-loop
-walk-enum-known-armed t c = ?
+walk-enum-known-armed : (t : ℕ) → walk-lts.Need-enum-known-armed (number-members-reads.Asked, number-members-reads.Learnt, measure-below t, measure.Post, refusal-of-reads.Asked, refusal-of-reads.Learnt) (walk-at t) walk.Post walk-Inv-loop walk-μ-loop
+walk-enum-known-armed t c = search needs
 
--- src/lib.rt:333:36
-walk-enum-told : (t : ℕ) → walk-lts.Need-enum-told (
-  number-members-reads.Asked,
-  number-members-reads.Learnt,
-  measure-below t,
-  measure.Post,
-  refusal-of-reads.Asked,
-  refusal-of-reads.Learnt,
-) (walk-at t) walk.Post walk-Inv-loop walk-μ-loop
-walk-enum-told t c = ?
+walk-enum-told : (t : ℕ) → walk-lts.Need-enum-told (number-members-reads.Asked, number-members-reads.Learnt, measure-below t, measure.Post, refusal-of-reads.Asked, refusal-of-reads.Learnt) (walk-at t) walk.Post walk-Inv-loop walk-μ-loop
+walk-enum-told t c = search needs
 
--- src/lib.rt:333:36
-walk-refusal-of-requires : (t : ℕ) → walk-lts.Need-refusal-of-requires (
-  number-members-reads.Asked,
-  number-members-reads.Learnt,
-  measure-below t,
-  measure.Post,
-  refusal-of-reads.Asked,
-  refusal-of-reads.Learnt,
-) (walk-at t) walk.Post walk-Inv-loop walk-μ-loop
-walk-refusal-of-requires t c κs = ?
+walk-refusal-of-requires : (t : ℕ) → walk-lts.Need-refusal-of-requires (number-members-reads.Asked, number-members-reads.Learnt, measure-below t, measure.Post, refusal-of-reads.Asked, refusal-of-reads.Learnt) (walk-at t) walk.Post walk-Inv-loop walk-μ-loop
+walk-refusal-of-requires t c κs = search needs
 
--- src/lib.rt:333:13
-walk-same-length : (t : ℕ) → walk-lts.Need-same-length (
-  number-members-reads.Asked,
-  number-members-reads.Learnt,
-  measure-below t,
-  measure.Post,
-  refusal-of-reads.Asked,
-  refusal-of-reads.Learnt,
-) (walk-at t) walk.Post walk-Inv-loop walk-μ-loop
-walk-same-length t c = ?
+walk-same-length : (t : ℕ) → walk-lts.Need-same-length (number-members-reads.Asked, number-members-reads.Learnt, measure-below t, measure.Post, refusal-of-reads.Asked, refusal-of-reads.Learnt) (walk-at t) walk.Post walk-Inv-loop walk-μ-loop
+walk-same-length t c = search needs
 
--- src/lib.rt:333:13
-walk-same-length-2 : (t : ℕ) → walk-lts.Need-same-length-2 (
-  number-members-reads.Asked,
-  number-members-reads.Learnt,
-  measure-below t,
-  measure.Post,
-  refusal-of-reads.Asked,
-  refusal-of-reads.Learnt,
-) (walk-at t) walk.Post walk-Inv-loop walk-μ-loop
-walk-same-length-2 t c = ?
+walk-same-length-2 : (t : ℕ) → walk-lts.Need-same-length-2 (number-members-reads.Asked, number-members-reads.Learnt, measure-below t, measure.Post, refusal-of-reads.Asked, refusal-of-reads.Learnt) (walk-at t) walk.Post walk-Inv-loop walk-μ-loop
+walk-same-length-2 t c = search needs
 
--- src/lib.rt:333:13
-walk-same-length-3 : (t : ℕ) → walk-lts.Need-same-length-3 (
-  number-members-reads.Asked,
-  number-members-reads.Learnt,
-  measure-below t,
-  measure.Post,
-  refusal-of-reads.Asked,
-  refusal-of-reads.Learnt,
-) (walk-at t) walk.Post walk-Inv-loop walk-μ-loop
-walk-same-length-3 t c = ?
+walk-same-length-3 : (t : ℕ) → walk-lts.Need-same-length-3 (number-members-reads.Asked, number-members-reads.Learnt, measure-below t, measure.Post, refusal-of-reads.Asked, refusal-of-reads.Learnt) (walk-at t) walk.Post walk-Inv-loop walk-μ-loop
+walk-same-length-3 t c = search needs
 
--- src/lib.rt:333:13
-walk-same-length-4 : (t : ℕ) → walk-lts.Need-same-length-4 (
-  number-members-reads.Asked,
-  number-members-reads.Learnt,
-  measure-below t,
-  measure.Post,
-  refusal-of-reads.Asked,
-  refusal-of-reads.Learnt,
-) (walk-at t) walk.Post walk-Inv-loop walk-μ-loop
-walk-same-length-4 t c = ?
+walk-same-length-4 : (t : ℕ) → walk-lts.Need-same-length-4 (number-members-reads.Asked, number-members-reads.Learnt, measure-below t, measure.Post, refusal-of-reads.Asked, refusal-of-reads.Learnt) (walk-at t) walk.Post walk-Inv-loop walk-μ-loop
+walk-same-length-4 t c = search needs
 
--- src/lib.rt:333:13
-walk-returns : (t : ℕ) → walk-lts.Need-returns (
-  number-members-reads.Asked,
-  number-members-reads.Learnt,
-  measure-below t,
-  measure.Post,
-  refusal-of-reads.Asked,
-  refusal-of-reads.Learnt,
-) (walk-at t) walk.Post walk-Inv-loop walk-μ-loop
-walk-returns t c = ?
+walk-returns : (t : ℕ) → walk-lts.Need-returns (number-members-reads.Asked, number-members-reads.Learnt, measure-below t, measure.Post, refusal-of-reads.Asked, refusal-of-reads.Learnt) (walk-at t) walk.Post walk-Inv-loop walk-μ-loop
+unfolding groups-told
+walk-returns t c = let s = c .before .before .before .before .before .before .before .before .before .before .before .before .before .before .before .before .before .before .before .before .before .before .before .before .before .before in let a = s .args in walk-ends-refused (inner (rows-in (a .rows .now)) (a .fuel)) (a .held .now) (place-groups (a .held .now)) (a .next) _ _ _ _ _ _ (c .before .before .before .before .before .before .before .before .before .before .before .before .before .before .before .before .before .loop .inv .1) (c .before .before .before .before .before .before .before .measure .result) (answer-here (rows-in (a .rows .now)) (a .fuel) (a .next) (a .held .now) (a .members .now) (a .ends .now) (s .pre .1 .0 .1) (s .pre .1 .1 .0 .0) (s .pre .1 .1 .0 .1) _ _ _ _ _ _ (c .before .before .before .before .before .before .before .before .before .before .before .before .before .before .before .before .before .loop .inv .1) (c .before .before .before .before .before .before .before .before .before .before .before .before .before .before .before .before .loop-test .taken) (c .before .before .before .before .before .before .before .measure .result) (c .before .before .before .before .before .before .before .measure .ensures)) (length (place-groups (a .held .now))) (omega (arith, c .before .before .before .before .before .before .before .before .before .before .before .before .before .before .before .before .loop-test .taken, ends-many (rows-in (a .rows .now)) (a .fuel) (a .next) (a .held .now) (a .members .now) (a .ends .now) (s .pre .1 .0 .1) (s .pre .1 .1 .0 .0) (s .pre .1 .1 .0 .1))) _ (c .before .enum-told .given .1) _ (c .refusal-of .ensures) _ _
 
--- src/lib.rt:335:9
-walk-mul-sizes : (t : ℕ) → walk-lts.Need-mul-sizes (
-  number-members-reads.Asked,
-  number-members-reads.Learnt,
-  measure-below t,
-  measure.Post,
-  refusal-of-reads.Asked,
-  refusal-of-reads.Learnt,
-) (walk-at t) walk.Post walk-Inv-loop walk-μ-loop
-walk-mul-sizes t c = ?
+walk-mul-sizes : (t : ℕ) → walk-lts.Need-mul-sizes (number-members-reads.Asked, number-members-reads.Learnt, measure-below t, measure.Post, refusal-of-reads.Asked, refusal-of-reads.Learnt) (walk-at t) walk.Post walk-Inv-loop walk-μ-loop
+walk-mul-sizes t c = let s = c .before .before .before .before .before .before .before .before .before .before .before .before .before .before .before .before .before .before .before .before .before .before .before .before .before .before in omega (arith, s .good .1 .1 .1 .1 .1 .1 .1 .1 .1 .0, c .before .before .before .before .before .before .before .before .before .before .before .before .before .before .before .before .before .loop .inv .5, s .pre .1 .1 .1 .1, c .before .before .before .before .before .before .before .before .before .before .before .before .before .before .before .before .loop-test .taken)
 
--- src/lib.rt:335:9
-walk-slice-write-sizes : (t : ℕ) → walk-lts.Need-slice-write-sizes (
-  number-members-reads.Asked,
-  number-members-reads.Learnt,
-  measure-below t,
-  measure.Post,
-  refusal-of-reads.Asked,
-  refusal-of-reads.Learnt,
-) (walk-at t) walk.Post walk-Inv-loop walk-μ-loop
-walk-slice-write-sizes t c = ?
+walk-slice-write-sizes : (t : ℕ) → walk-lts.Need-slice-write-sizes (number-members-reads.Asked, number-members-reads.Learnt, measure-below t, measure.Post, refusal-of-reads.Asked, refusal-of-reads.Learnt) (walk-at t) walk.Post walk-Inv-loop walk-μ-loop
+walk-slice-write-sizes t c = let s = c .before .before .before .before .before .before .before .before .before .before .before .before .before .before .before .before .before .before .before .before .before .before .before .before .before .before in omega (arith, c .before .before .before .before .before .before .before .before .before .before .before .before .before .before .before .before .before .loop .inv .5, s .pre .1 .1 .1 .1, c .before .before .before .before .before .before .before .before .before .before .before .before .before .before .before .before .loop-test .taken)
 
--- src/lib.rt:337:9
-walk-add-extracted : (t : ℕ) → walk-lts.Need-add-extracted (
-  number-members-reads.Asked,
-  number-members-reads.Learnt,
-  measure-below t,
-  measure.Post,
-  refusal-of-reads.Asked,
-  refusal-of-reads.Learnt,
-) (walk-at t) walk.Post walk-Inv-loop walk-μ-loop
-walk-add-extracted t c = ?
+walk-add-extracted : (t : ℕ) → walk-lts.Need-add-extracted (number-members-reads.Asked, number-members-reads.Learnt, measure-below t, measure.Post, refusal-of-reads.Asked, refusal-of-reads.Learnt) (walk-at t) walk.Post walk-Inv-loop walk-μ-loop
+walk-add-extracted t c = let s = c .before .before .before .before .before .before .before .before .before .before .before .before .before .before .before .before .before .before .before .before .before .before .before .before .before .before in let a = s .args in let z = (walk-goes-on (inner (rows-in (a .rows .now)) (a .fuel)) (a .held .now) (place-groups (a .held .now)) (a .next) _ _ _ _ _ _ (c .before .before .before .before .before .before .before .before .before .before .before .before .before .before .before .before .before .loop .inv .1) (c .before .before .before .before .before .before .before .measure .result) (answer-here (rows-in (a .rows .now)) (a .fuel) (a .next) (a .held .now) (a .members .now) (a .ends .now) (s .pre .1 .0 .1) (s .pre .1 .1 .0 .0) (s .pre .1 .1 .0 .1) _ _ _ _ _ _ (c .before .before .before .before .before .before .before .before .before .before .before .before .before .before .before .before .before .loop .inv .1) (c .before .before .before .before .before .before .before .before .before .before .before .before .before .before .before .before .loop-test .taken) (c .before .before .before .before .before .before .before .measure .result) (c .before .before .before .before .before .before .before .measure .ensures)) _ _ _ (c .before .armed .given .1) _ (count-here (rows-in (a .rows .now)) (a .fuel) (a .next) (a .held .now) (a .members .now) (a .ends .now) (s .pre .1 .0 .1) (s .pre .1 .1 .0 .0) (s .pre .1 .1 .0 .1) _ _ _ _ _ _ (c .before .before .before .before .before .before .before .before .before .before .before .before .before .before .before .before .before .loop .inv .1) (c .before .before .before .before .before .before .before .before .before .before .before .before .before .before .before .before .loop-test .taken)) (getD (a .ends .now) (c .before .before .before .before .before .before .before .before .before .before .before .before .before .before .before .before .before .loop .g) 0) (omega (arith, end-long (rows-in (a .rows .now)) (a .fuel) (a .next) (a .held .now) (a .members .now) (a .ends .now) (s .pre .1 .0 .1) (s .pre .1 .1 .0 .0) (s .pre .1 .1 .0 .1) _ _ _ _ _ _ (c .before .before .before .before .before .before .before .before .before .before .before .before .before .before .before .before .before .loop .inv .1) (c .before .before .before .before .before .before .before .before .before .before .before .before .before .before .before .before .loop-test .taken))) (omega (arith, end-long (rows-in (a .rows .now)) (a .fuel) (a .next) (a .held .now) (a .members .now) (a .ends .now) (s .pre .1 .0 .1) (s .pre .1 .1 .0 .0) (s .pre .1 .1 .0 .1) _ _ _ _ _ _ (c .before .before .before .before .before .before .before .before .before .before .before .before .before .before .before .before .before .loop .inv .1) (c .before .before .before .before .before .before .before .before .before .before .before .before .before .before .before .before .loop-test .taken), end-within (rows-in (a .rows .now)) (a .fuel) (a .next) (a .held .now) (a .members .now) (a .ends .now) (s .pre .1 .0 .1) (s .pre .1 .1 .0 .0) (s .pre .1 .1 .0 .1) _ _ _ _ _ _ (c .before .before .before .before .before .before .before .before .before .before .before .before .before .before .before .before .before .loop .inv .1) (c .before .before .before .before .before .before .before .before .before .before .before .before .before .before .before .before .loop-test .taken), s .pre .1 .1 .1 .0, c .before .before .before .before .before .before .before .before .before .before .before .before .before .before .before .before .before .loop .inv .4)) (omega (arith, c .before .before .before .before .before .before .before .before .before .before .before .before .before .before .before .before .before .loop .inv .5, s .pre .1 .1 .1 .1, c .before .before .before .before .before .before .before .before .before .before .before .before .before .before .before .before .loop-test .taken)) _ (c .before .before .before .before .before .before .before .before .before .before .before .before .before .number-members .ensures)) in omega (arith, made-low (rows-in (a .rows .now)) (a .fuel) (a .next) (a .held .now) (a .members .now) (a .ends .now) (s .pre .1 .0 .1) (s .pre .1 .1 .0 .0) (s .pre .1 .1 .0 .1) _ _ _ _ _ _ z (omega (arith, c .before .before .before .before .before .before .before .before .before .before .before .before .before .before .before .before .loop-test .taken)))
 
--- src/lib.rt:339:9
-walk-add-g : (t : ℕ) → walk-lts.Need-add-g (
-  number-members-reads.Asked,
-  number-members-reads.Learnt,
-  measure-below t,
-  measure.Post,
-  refusal-of-reads.Asked,
-  refusal-of-reads.Learnt,
-) (walk-at t) walk.Post walk-Inv-loop walk-μ-loop
-walk-add-g t c = ?
+walk-add-g : (t : ℕ) → walk-lts.Need-add-g (number-members-reads.Asked, number-members-reads.Learnt, measure-below t, measure.Post, refusal-of-reads.Asked, refusal-of-reads.Learnt) (walk-at t) walk.Post walk-Inv-loop walk-μ-loop
+walk-add-g t c = let s = c .before .before .before .before .before .before .before .before .before .before .before .before .before .before .before .before .before .before .before .before .before .before .before .before .before .before in let a = s .args in omega (arith, c .before .before .before .before .before .before .before .before .before .before .before .before .before .before .before .before .loop-test .taken, ends-few (rows-in (a .rows .now)) (a .fuel) (a .next) (a .held .now) (a .members .now) (a .ends .now) (s .pre .1 .0 .1) (s .pre .1 .1 .0 .0) (s .pre .1 .1 .0 .1))
 
--- src/lib.rt:328:5
-walk-loop-less : (t : ℕ) → walk-lts.Need-loop-less (
-  number-members-reads.Asked,
-  number-members-reads.Learnt,
-  measure-below t,
-  measure.Post,
-  refusal-of-reads.Asked,
-  refusal-of-reads.Learnt,
-) (walk-at t) walk.Post walk-Inv-loop walk-μ-loop
-walk-loop-less t c = ?
+walk-loop-less : (t : ℕ) → walk-lts.Need-loop-less (number-members-reads.Asked, number-members-reads.Learnt, measure-below t, measure.Post, refusal-of-reads.Asked, refusal-of-reads.Learnt) (walk-at t) walk.Post walk-Inv-loop walk-μ-loop
+walk-loop-less t c = search needs
 
--- src/lib.rt:328:5
-walk-loop-again : (t : ℕ) → walk-lts.Need-loop-again (
-  number-members-reads.Asked,
-  number-members-reads.Learnt,
-  measure-below t,
-  measure.Post,
-  refusal-of-reads.Asked,
-  refusal-of-reads.Learnt,
-) (walk-at t) walk.Post walk-Inv-loop walk-μ-loop
-walk-loop-again t c = ?
+walk-loop-again : (t : ℕ) → walk-lts.Need-loop-again (number-members-reads.Asked, number-members-reads.Learnt, measure-below t, measure.Post, refusal-of-reads.Asked, refusal-of-reads.Learnt) (walk-at t) walk.Post walk-Inv-loop walk-μ-loop
+walk-loop-again t c = let s = c .before .before .before .before .before .before .before .before .before .before .before .before .before .before .before .before .before .before .before .before .before .before .before .before .before .before in let a = s .args in (omega (arith, c .before .before .before .before .before .before .before .before .before .before .before .before .before .before .before .before .loop-test .taken), (walk-goes-on (inner (rows-in (a .rows .now)) (a .fuel)) (a .held .now) (place-groups (a .held .now)) (a .next) _ _ _ _ _ _ (c .before .before .before .before .before .before .before .before .before .before .before .before .before .before .before .before .before .loop .inv .1) (c .before .before .before .before .before .before .before .measure .result) (answer-here (rows-in (a .rows .now)) (a .fuel) (a .next) (a .held .now) (a .members .now) (a .ends .now) (s .pre .1 .0 .1) (s .pre .1 .1 .0 .0) (s .pre .1 .1 .0 .1) _ _ _ _ _ _ (c .before .before .before .before .before .before .before .before .before .before .before .before .before .before .before .before .before .loop .inv .1) (c .before .before .before .before .before .before .before .before .before .before .before .before .before .before .before .before .loop-test .taken) (c .before .before .before .before .before .before .before .measure .result) (c .before .before .before .before .before .before .before .measure .ensures)) _ _ _ (c .before .armed .given .1) _ (count-here (rows-in (a .rows .now)) (a .fuel) (a .next) (a .held .now) (a .members .now) (a .ends .now) (s .pre .1 .0 .1) (s .pre .1 .1 .0 .0) (s .pre .1 .1 .0 .1) _ _ _ _ _ _ (c .before .before .before .before .before .before .before .before .before .before .before .before .before .before .before .before .before .loop .inv .1) (c .before .before .before .before .before .before .before .before .before .before .before .before .before .before .before .before .loop-test .taken)) (getD (a .ends .now) (c .before .before .before .before .before .before .before .before .before .before .before .before .before .before .before .before .before .loop .g) 0) (omega (arith, end-long (rows-in (a .rows .now)) (a .fuel) (a .next) (a .held .now) (a .members .now) (a .ends .now) (s .pre .1 .0 .1) (s .pre .1 .1 .0 .0) (s .pre .1 .1 .0 .1) _ _ _ _ _ _ (c .before .before .before .before .before .before .before .before .before .before .before .before .before .before .before .before .before .loop .inv .1) (c .before .before .before .before .before .before .before .before .before .before .before .before .before .before .before .before .loop-test .taken))) (omega (arith, end-long (rows-in (a .rows .now)) (a .fuel) (a .next) (a .held .now) (a .members .now) (a .ends .now) (s .pre .1 .0 .1) (s .pre .1 .1 .0 .0) (s .pre .1 .1 .0 .1) _ _ _ _ _ _ (c .before .before .before .before .before .before .before .before .before .before .before .before .before .before .before .before .before .loop .inv .1) (c .before .before .before .before .before .before .before .before .before .before .before .before .before .before .before .before .loop-test .taken), end-within (rows-in (a .rows .now)) (a .fuel) (a .next) (a .held .now) (a .members .now) (a .ends .now) (s .pre .1 .0 .1) (s .pre .1 .1 .0 .0) (s .pre .1 .1 .0 .1) _ _ _ _ _ _ (c .before .before .before .before .before .before .before .before .before .before .before .before .before .before .before .before .before .loop .inv .1) (c .before .before .before .before .before .before .before .before .before .before .before .before .before .before .before .before .loop-test .taken), s .pre .1 .1 .1 .0, c .before .before .before .before .before .before .before .before .before .before .before .before .before .before .before .before .before .loop .inv .4)) (omega (arith, c .before .before .before .before .before .before .before .before .before .before .before .before .before .before .before .before .before .loop .inv .5, s .pre .1 .1 .1 .1, c .before .before .before .before .before .before .before .before .before .before .before .before .before .before .before .before .loop-test .taken)) _ (c .before .before .before .before .before .before .before .before .before .before .before .before .before .number-members .ensures)), c .before .before .before .before .before .before .before .measure .kept .1 .0 ∙ c .before .before .before .before .before .before .before .before .before .before .before .before .before .before .before .before .before .loop .inv .2, c .before .before .before .before .before .before .before .measure .kept .1 .1 .1 .1 .1 .1 .0 ∙ c .before .before .before .before .before .before .before .before .before .before .before .before .before .before .before .before .before .loop .inv .3, c .before .before .before .before .before .before .before .before .before .before .before .before .before .number-members .kept .1 .1 .1 .0 ∙ c .before .before .before .before .before .before .before .before .before .before .before .before .before .before .before .before .before .loop .inv .4, length-set _ _ _ ∙ c .before .before .before .before .before .before .before .before .before .before .before .before .before .before .before .before .before .loop .inv .5)
 
--- src/lib.rt:306:1
-walk-same-length-5 : (t : ℕ) → walk-lts.Need-same-length-5 (
-  number-members-reads.Asked,
-  number-members-reads.Learnt,
-  measure-below t,
-  measure.Post,
-  refusal-of-reads.Asked,
-  refusal-of-reads.Learnt,
-) (walk-at t) walk.Post walk-Inv-loop walk-μ-loop
-walk-same-length-5 t c = ?
+walk-same-length-5 : (t : ℕ) → walk-lts.Need-same-length-5 (number-members-reads.Asked, number-members-reads.Learnt, measure-below t, measure.Post, refusal-of-reads.Asked, refusal-of-reads.Learnt) (walk-at t) walk.Post walk-Inv-loop walk-μ-loop
+walk-same-length-5 t c = search needs
 
--- src/lib.rt:306:1
-walk-same-length-6 : (t : ℕ) → walk-lts.Need-same-length-6 (
-  number-members-reads.Asked,
-  number-members-reads.Learnt,
-  measure-below t,
-  measure.Post,
-  refusal-of-reads.Asked,
-  refusal-of-reads.Learnt,
-) (walk-at t) walk.Post walk-Inv-loop walk-μ-loop
-walk-same-length-6 t c = ?
+walk-same-length-6 : (t : ℕ) → walk-lts.Need-same-length-6 (number-members-reads.Asked, number-members-reads.Learnt, measure-below t, measure.Post, refusal-of-reads.Asked, refusal-of-reads.Learnt) (walk-at t) walk.Post walk-Inv-loop walk-μ-loop
+walk-same-length-6 t c = search needs
 
--- src/lib.rt:306:1
-walk-same-length-7 : (t : ℕ) → walk-lts.Need-same-length-7 (
-  number-members-reads.Asked,
-  number-members-reads.Learnt,
-  measure-below t,
-  measure.Post,
-  refusal-of-reads.Asked,
-  refusal-of-reads.Learnt,
-) (walk-at t) walk.Post walk-Inv-loop walk-μ-loop
-walk-same-length-7 t c = ?
+walk-same-length-7 : (t : ℕ) → walk-lts.Need-same-length-7 (number-members-reads.Asked, number-members-reads.Learnt, measure-below t, measure.Post, refusal-of-reads.Asked, refusal-of-reads.Learnt) (walk-at t) walk.Post walk-Inv-loop walk-μ-loop
+walk-same-length-7 t c = search needs
 
--- src/lib.rt:306:1
-walk-same-length-8 : (t : ℕ) → walk-lts.Need-same-length-8 (
-  number-members-reads.Asked,
-  number-members-reads.Learnt,
-  measure-below t,
-  measure.Post,
-  refusal-of-reads.Asked,
-  refusal-of-reads.Learnt,
-) (walk-at t) walk.Post walk-Inv-loop walk-μ-loop
-walk-same-length-8 t c = ?
+walk-same-length-8 : (t : ℕ) → walk-lts.Need-same-length-8 (number-members-reads.Asked, number-members-reads.Learnt, measure-below t, measure.Post, refusal-of-reads.Asked, refusal-of-reads.Learnt) (walk-at t) walk.Post walk-Inv-loop walk-μ-loop
+walk-same-length-8 t c = search needs
 
--- src/lib.rt:306:1
-walk-returns-2 : (t : ℕ) → walk-lts.Need-returns-2 (
-  number-members-reads.Asked,
-  number-members-reads.Learnt,
-  measure-below t,
-  measure.Post,
-  refusal-of-reads.Asked,
-  refusal-of-reads.Learnt,
-) (walk-at t) walk.Post walk-Inv-loop walk-μ-loop
-walk-returns-2 t c = ?
+walk-returns-2 : (t : ℕ) → walk-lts.Need-returns-2 (number-members-reads.Asked, number-members-reads.Learnt, measure-below t, measure.Post, refusal-of-reads.Asked, refusal-of-reads.Learnt) (walk-at t) walk.Post walk-Inv-loop walk-μ-loop
+unfolding groups-told
+walk-returns-2 t c = let s = c .before .before .before .before .before .before .before .before .before .before in let a = s .args in walk-all (inner (rows-in (a .rows .now)) (a .fuel)) (a .held .now) (place-groups (a .held .now)) (a .next) _ _ _ _ _ _ (c .before .loop .inv .1) (length (place-groups (a .held .now))) (omega (arith, c .before .loop .inv .0, c .loop-test .left, ends-many (rows-in (a .rows .now)) (a .fuel) (a .next) (a .held .now) (a .members .now) (a .ends .now) (s .pre .1 .0 .1) (s .pre .1 .1 .0 .0) (s .pre .1 .1 .0 .1)))
 
--- src/lib.rt:366:9
-write-match-write-match-head-requires : (t : ℕ) → write-match-lts.Need-write-match-head-requires (
-  write-match-head-reads.Asked,
-  write-match-head-reads.Learnt,
-  group-begin-reads.Asked,
-  group-begin-reads.Learnt,
-  arms-below t,
-  arms.Post,
-) (write-match-at t) write-match.Post
-write-match-write-match-head-requires t c κs = ?
+write-match-write-match-head-requires : (t : ℕ) → write-match-lts.Need-write-match-head-requires (write-match-head-reads.Asked, write-match-head-reads.Learnt, group-begin-reads.Asked, group-begin-reads.Learnt, arms-below t, arms.Post) (write-match-at t) write-match.Post
+write-match-write-match-head-requires t c κs = let s = c .before .before .before .before .before .before .before .before .before in let a = s .args in (s .pre .1 .1 .0 .0, (s .pre .1 .1 .1 .0, head-fits (rows-in (a .rows .now)) (a .fuel) (a .held .now) (a .members .now) (a .ends .now) (a .numbers .now) (a .g) (a .size) (a .at) (s .pre .1 .0 .1) (s .pre .1 .1 .0 .0) (s .pre .1 .1 .0 .1) (s .pre .1 .1 .1 .0) (s .pre .1 .1 .1 .1)))
 
--- src/lib.rt:368:16
-write-match-add-result : (t : ℕ) → write-match-lts.Need-add-result (
-  write-match-head-reads.Asked,
-  write-match-head-reads.Learnt,
-  group-begin-reads.Asked,
-  group-begin-reads.Learnt,
-  arms-below t,
-  arms.Post,
-) (write-match-at t) write-match.Post
-write-match-add-result t c = ?
+write-match-add-result : (t : ℕ) → write-match-lts.Need-add-result (write-match-head-reads.Asked, write-match-head-reads.Learnt, group-begin-reads.Asked, group-begin-reads.Learnt, arms-below t, arms.Post) (write-match-at t) write-match.Post
+write-match-add-result t c = let s = c .before .before .before .before .before .before .before .before .before .before .before .before .before in let a = s .args in omega (arith, c .before .before .before .write-match-head .ensures .0, all-fits (rows-in (a .rows .now)) (a .fuel) (a .held .now) (a .members .now) (a .ends .now) (a .numbers .now) (a .g) (a .size) (a .at) (s .pre .1 .0 .1) (s .pre .1 .1 .0 .0) (s .pre .1 .1 .0 .1) (s .pre .1 .1 .1 .0) (s .pre .1 .1 .1 .1))
 
--- src/lib.rt:368:9
-write-match-same-length : (t : ℕ) → write-match-lts.Need-same-length (
-  write-match-head-reads.Asked,
-  write-match-head-reads.Learnt,
-  group-begin-reads.Asked,
-  group-begin-reads.Learnt,
-  arms-below t,
-  arms.Post,
-) (write-match-at t) write-match.Post
-write-match-same-length t c = ?
+write-match-same-length : (t : ℕ) → write-match-lts.Need-same-length (write-match-head-reads.Asked, write-match-head-reads.Learnt, group-begin-reads.Asked, group-begin-reads.Learnt, arms-below t, arms.Post) (write-match-at t) write-match.Post
+write-match-same-length t c = search needs
 
--- src/lib.rt:368:9
-write-match-returns : (t : ℕ) → write-match-lts.Need-returns (
-  write-match-head-reads.Asked,
-  write-match-head-reads.Learnt,
-  group-begin-reads.Asked,
-  group-begin-reads.Learnt,
-  arms-below t,
-  arms.Post,
-) (write-match-at t) write-match.Post
-write-match-returns t c = ?
+write-match-returns : (t : ℕ) → write-match-lts.Need-returns (write-match-head-reads.Asked, write-match-head-reads.Learnt, group-begin-reads.Asked, group-begin-reads.Learnt, arms-below t, arms.Post) (write-match-at t) write-match.Post
+write-match-returns t c = let s = c .before .before .before .before .before .before .before .before .before .before .before .before .before in let a = s .args in match-past (rows-in (a .rows .now)) (a .fuel) (a .held .now) (a .members .now) (a .ends .now) (a .numbers .now) (a .g) (a .size) (a .at) (s .pre .1 .0 .1) (s .pre .1 .1 .0 .0) (s .pre .1 .1 .0 .1) (s .pre .1 .1 .1 .0) (s .pre .1 .1 .1 .1) (a .table .now) _ (c .before .before .before .write-match-head .ensures .1) (c .before .before .before .write-match-head .result) (c .before .before .before .write-match-head .ensures .0) (omega (arith, c .if1 .taken))
 
--- src/lib.rt:370:9
-write-match-group-begin-requires : (t : ℕ) → write-match-lts.Need-group-begin-requires (
-  write-match-head-reads.Asked,
-  write-match-head-reads.Learnt,
-  group-begin-reads.Asked,
-  group-begin-reads.Learnt,
-  arms-below t,
-  arms.Post,
-) (write-match-at t) write-match.Post
-write-match-group-begin-requires t c κs = ?
+write-match-group-begin-requires : (t : ℕ) → write-match-lts.Need-group-begin-requires (write-match-head-reads.Asked, write-match-head-reads.Learnt, group-begin-reads.Asked, group-begin-reads.Learnt, arms-below t, arms.Post) (write-match-at t) write-match.Post
+write-match-group-begin-requires t c κs = let s = c .before .before .before .before .before .before .before .before .before .before .before .before .before in s .pre .1 .1 .1 .0
 
--- src/lib.rt:371:15
-write-match-mul-end : (t : ℕ) → write-match-lts.Need-mul-end (
-  write-match-head-reads.Asked,
-  write-match-head-reads.Learnt,
-  group-begin-reads.Asked,
-  group-begin-reads.Learnt,
-  arms-below t,
-  arms.Post,
-) (write-match-at t) write-match.Post
-write-match-mul-end t c = ?
+write-match-mul-end : (t : ℕ) → write-match-lts.Need-mul-end (write-match-head-reads.Asked, write-match-head-reads.Learnt, group-begin-reads.Asked, group-begin-reads.Learnt, arms-below t, arms.Post) (write-match-at t) write-match.Post
+write-match-mul-end t c = search needs
 
--- src/lib.rt:371:15
-write-match-shared-slice-read-end : (t : ℕ) → write-match-lts.Need-shared-slice-read-end (
-  write-match-head-reads.Asked,
-  write-match-head-reads.Learnt,
-  group-begin-reads.Asked,
-  group-begin-reads.Learnt,
-  arms-below t,
-  arms.Post,
-) (write-match-at t) write-match.Post
-write-match-shared-slice-read-end t c = ?
+write-match-shared-slice-read-end : (t : ℕ) → write-match-lts.Need-shared-slice-read-end (write-match-head-reads.Asked, write-match-head-reads.Learnt, group-begin-reads.Asked, group-begin-reads.Learnt, arms-below t, arms.Post) (write-match-at t) write-match.Post
+write-match-shared-slice-read-end t c = search needs
 
--- src/lib.rt:372:17
-write-match-mul-first : (t : ℕ) → write-match-lts.Need-mul-first (
-  write-match-head-reads.Asked,
-  write-match-head-reads.Learnt,
-  group-begin-reads.Asked,
-  group-begin-reads.Learnt,
-  arms-below t,
-  arms.Post,
-) (write-match-at t) write-match.Post
-write-match-mul-first t c = ?
+write-match-mul-first : (t : ℕ) → write-match-lts.Need-mul-first (write-match-head-reads.Asked, write-match-head-reads.Learnt, group-begin-reads.Asked, group-begin-reads.Learnt, arms-below t, arms.Post) (write-match-at t) write-match.Post
+write-match-mul-first t c = let s = c .before .before .before .before .before .before .before .before .before .before .before .before .before .before .before in let a = s .args in omega (arith, start-within (rows-in (a .rows .now)) (a .fuel) (a .held .now) (a .members .now) (a .ends .now) (a .numbers .now) (a .g) (a .size) (a .at) (s .pre .1 .0 .1) (s .pre .1 .1 .0 .0) (s .pre .1 .1 .0 .1) (s .pre .1 .1 .1 .0) (s .pre .1 .1 .1 .1) (c .before .group-begin .result) (c .before .group-begin .ensures), s .good .1 .1 .1 .1 .1 .0)
 
--- src/lib.rt:372:17
-write-match-shared-slice-read-first : (t : ℕ) → write-match-lts.Need-shared-slice-read-first (
-  write-match-head-reads.Asked,
-  write-match-head-reads.Learnt,
-  group-begin-reads.Asked,
-  group-begin-reads.Learnt,
-  arms-below t,
-  arms.Post,
-) (write-match-at t) write-match.Post
-write-match-shared-slice-read-first t c = ?
+write-match-shared-slice-read-first : (t : ℕ) → write-match-lts.Need-shared-slice-read-first (write-match-head-reads.Asked, write-match-head-reads.Learnt, group-begin-reads.Asked, group-begin-reads.Learnt, arms-below t, arms.Post) (write-match-at t) write-match.Post
+write-match-shared-slice-read-first t c = let s = c .before .before .before .before .before .before .before .before .before .before .before .before .before .before .before .before in let a = s .args in start-within (rows-in (a .rows .now)) (a .fuel) (a .held .now) (a .members .now) (a .ends .now) (a .numbers .now) (a .g) (a .size) (a .at) (s .pre .1 .0 .1) (s .pre .1 .1 .0 .0) (s .pre .1 .1 .0 .1) (s .pre .1 .1 .1 .0) (s .pre .1 .1 .1 .1) (c .before .before .group-begin .result) (c .before .before .group-begin .ensures)
 
--- src/lib.rt:372:35
-write-match-sub-first : (t : ℕ) → write-match-lts.Need-sub-first (
-  write-match-head-reads.Asked,
-  write-match-head-reads.Learnt,
-  group-begin-reads.Asked,
-  group-begin-reads.Learnt,
-  arms-below t,
-  arms.Post,
-) (write-match-at t) write-match.Post
-write-match-sub-first t c = ?
+write-match-sub-first : (t : ℕ) → write-match-lts.Need-sub-first (write-match-head-reads.Asked, write-match-head-reads.Learnt, group-begin-reads.Asked, group-begin-reads.Learnt, arms-below t, arms.Post) (write-match-at t) write-match.Post
+write-match-sub-first t c = let s = c .before .before .before .before .before .before .before .before .before .before .before .before .before .before .before .before in let a = s .args in start-under (rows-in (a .rows .now)) (a .fuel) (a .held .now) (a .members .now) (a .ends .now) (a .numbers .now) (a .g) (a .size) (a .at) (s .pre .1 .0 .1) (s .pre .1 .1 .0 .0) (s .pre .1 .1 .0 .1) (s .pre .1 .1 .1 .0) (s .pre .1 .1 .1 .1) (c .before .before .group-begin .result) (c .before .before .group-begin .ensures)
 
--- src/lib.rt:372:17
-write-match-add-first : (t : ℕ) → write-match-lts.Need-add-first (
-  write-match-head-reads.Asked,
-  write-match-head-reads.Learnt,
-  group-begin-reads.Asked,
-  group-begin-reads.Learnt,
-  arms-below t,
-  arms.Post,
-) (write-match-at t) write-match.Post
-write-match-add-first t c = ?
+write-match-add-first : (t : ℕ) → write-match-lts.Need-add-first (write-match-head-reads.Asked, write-match-head-reads.Learnt, group-begin-reads.Asked, group-begin-reads.Learnt, arms-below t, arms.Post) (write-match-at t) write-match.Post
+write-match-add-first t c = let s = c .before .before .before .before .before .before .before .before .before .before .before .before .before .before .before .before in let a = s .args in omega (arith, number-small (rows-in (a .rows .now)) (a .fuel) (a .held .now) (a .members .now) (a .ends .now) (a .numbers .now) (a .g) (a .size) (a .at) (s .pre .1 .0 .1) (s .pre .1 .1 .0 .0) (s .pre .1 .1 .0 .1) (s .pre .1 .1 .1 .0) (s .pre .1 .1 .1 .1) (c .before .before .group-begin .result) (c .before .before .group-begin .ensures), start-under (rows-in (a .rows .now)) (a .fuel) (a .held .now) (a .members .now) (a .ends .now) (a .numbers .now) (a .g) (a .size) (a .at) (s .pre .1 .0 .1) (s .pre .1 .1 .0 .0) (s .pre .1 .1 .0 .1) (s .pre .1 .1 .1 .0) (s .pre .1 .1 .1 .1) (c .before .before .group-begin .result) (c .before .before .group-begin .ensures), ends-within (rows-in (a .rows .now)) (a .fuel) (a .held .now) (a .members .now) (a .ends .now) (a .numbers .now) (a .g) (a .size) (a .at) (s .pre .1 .0 .1) (s .pre .1 .1 .0 .0) (s .pre .1 .1 .0 .1) (s .pre .1 .1 .1 .0) (s .pre .1 .1 .1 .1), members-few (rows-in (a .rows .now)) (a .fuel) (a .held .now) (a .members .now) (a .ends .now) (a .numbers .now) (a .g) (a .size) (a .at) (s .pre .1 .0 .1) (s .pre .1 .1 .0 .0) (s .pre .1 .1 .0 .1) (s .pre .1 .1 .1 .0) (s .pre .1 .1 .1 .1))
 
--- src/lib.rt:377:9
-write-match-mul-arms : (t : ℕ) → write-match-lts.Need-mul-arms (
-  write-match-head-reads.Asked,
-  write-match-head-reads.Learnt,
-  group-begin-reads.Asked,
-  group-begin-reads.Learnt,
-  arms-below t,
-  arms.Post,
-) (write-match-at t) write-match.Post
-write-match-mul-arms t c = ?
+write-match-mul-arms : (t : ℕ) → write-match-lts.Need-mul-arms (write-match-head-reads.Asked, write-match-head-reads.Learnt, group-begin-reads.Asked, group-begin-reads.Learnt, arms-below t, arms.Post) (write-match-at t) write-match.Post
+write-match-mul-arms t c = let s = c .before .before .before .before .before .before .before .before .before .before .before .before .before .before .before .before .before in let a = s .args in omega (arith, start-under (rows-in (a .rows .now)) (a .fuel) (a .held .now) (a .members .now) (a .ends .now) (a .numbers .now) (a .g) (a .size) (a .at) (s .pre .1 .0 .1) (s .pre .1 .1 .0 .0) (s .pre .1 .1 .0 .1) (s .pre .1 .1 .1 .0) (s .pre .1 .1 .1 .1) (c .before .before .before .group-begin .result) (c .before .before .before .group-begin .ensures), ends-within (rows-in (a .rows .now)) (a .fuel) (a .held .now) (a .members .now) (a .ends .now) (a .numbers .now) (a .g) (a .size) (a .at) (s .pre .1 .0 .1) (s .pre .1 .1 .0 .0) (s .pre .1 .1 .0 .1) (s .pre .1 .1 .1 .0) (s .pre .1 .1 .1 .1), members-few (rows-in (a .rows .now)) (a .fuel) (a .held .now) (a .members .now) (a .ends .now) (a .numbers .now) (a .g) (a .size) (a .at) (s .pre .1 .0 .1) (s .pre .1 .1 .0 .0) (s .pre .1 .1 .0 .1) (s .pre .1 .1 .1 .0) (s .pre .1 .1 .1 .1))
 
--- src/lib.rt:377:9
-write-match-sub-arms : (t : ℕ) → write-match-lts.Need-sub-arms (
-  write-match-head-reads.Asked,
-  write-match-head-reads.Learnt,
-  group-begin-reads.Asked,
-  group-begin-reads.Learnt,
-  arms-below t,
-  arms.Post,
-) (write-match-at t) write-match.Post
-write-match-sub-arms t c = ?
+write-match-sub-arms : (t : ℕ) → write-match-lts.Need-sub-arms (write-match-head-reads.Asked, write-match-head-reads.Learnt, group-begin-reads.Asked, group-begin-reads.Learnt, arms-below t, arms.Post) (write-match-at t) write-match.Post
+write-match-sub-arms t c = let s = c .before .before .before .before .before .before .before .before .before .before .before .before .before .before .before .before .before in let a = s .args in start-under (rows-in (a .rows .now)) (a .fuel) (a .held .now) (a .members .now) (a .ends .now) (a .numbers .now) (a .g) (a .size) (a .at) (s .pre .1 .0 .1) (s .pre .1 .1 .0 .0) (s .pre .1 .1 .0 .1) (s .pre .1 .1 .1 .0) (s .pre .1 .1 .1 .1) (c .before .before .before .group-begin .result) (c .before .before .before .group-begin .ensures)
 
--- src/lib.rt:377:9
-write-match-part-arms-start : (t : ℕ) → write-match-lts.Need-part-arms-start (
-  write-match-head-reads.Asked,
-  write-match-head-reads.Learnt,
-  group-begin-reads.Asked,
-  group-begin-reads.Learnt,
-  arms-below t,
-  arms.Post,
-) (write-match-at t) write-match.Post
-write-match-part-arms-start t c = ?
+write-match-part-arms-start : (t : ℕ) → write-match-lts.Need-part-arms-start (write-match-head-reads.Asked, write-match-head-reads.Learnt, group-begin-reads.Asked, group-begin-reads.Learnt, arms-below t, arms.Post) (write-match-at t) write-match.Post
+write-match-part-arms-start t c = let s = c .before .before .before .before .before .before .before .before .before .before .before .before .before .before .before .before .before in let a = s .args in omega (arith, start-under (rows-in (a .rows .now)) (a .fuel) (a .held .now) (a .members .now) (a .ends .now) (a .numbers .now) (a .g) (a .size) (a .at) (s .pre .1 .0 .1) (s .pre .1 .1 .0 .0) (s .pre .1 .1 .0 .1) (s .pre .1 .1 .1 .0) (s .pre .1 .1 .1 .1) (c .before .before .before .group-begin .result) (c .before .before .before .group-begin .ensures), ends-within (rows-in (a .rows .now)) (a .fuel) (a .held .now) (a .members .now) (a .ends .now) (a .numbers .now) (a .g) (a .size) (a .at) (s .pre .1 .0 .1) (s .pre .1 .1 .0 .0) (s .pre .1 .1 .0 .1) (s .pre .1 .1 .1 .0) (s .pre .1 .1 .1 .1))
 
--- src/lib.rt:377:9
-write-match-part-arms-end : (t : ℕ) → write-match-lts.Need-part-arms-end (
-  write-match-head-reads.Asked,
-  write-match-head-reads.Learnt,
-  group-begin-reads.Asked,
-  group-begin-reads.Learnt,
-  arms-below t,
-  arms.Post,
-) (write-match-at t) write-match.Post
-write-match-part-arms-end t c = ?
+write-match-part-arms-end : (t : ℕ) → write-match-lts.Need-part-arms-end (write-match-head-reads.Asked, write-match-head-reads.Learnt, group-begin-reads.Asked, group-begin-reads.Learnt, arms-below t, arms.Post) (write-match-at t) write-match.Post
+write-match-part-arms-end t c = let s = c .before .before .before .before .before .before .before .before .before .before .before .before .before .before .before .before .before in let a = s .args in ends-within (rows-in (a .rows .now)) (a .fuel) (a .held .now) (a .members .now) (a .ends .now) (a .numbers .now) (a .g) (a .size) (a .at) (s .pre .1 .0 .1) (s .pre .1 .1 .0 .0) (s .pre .1 .1 .0 .1) (s .pre .1 .1 .1 .0) (s .pre .1 .1 .1 .1)
 
--- src/lib.rt:373:9
-write-match-arms-requires : (t : ℕ) → write-match-lts.Need-arms-requires (
-  write-match-head-reads.Asked,
-  write-match-head-reads.Learnt,
-  group-begin-reads.Asked,
-  group-begin-reads.Learnt,
-  arms-below t,
-  arms.Post,
-) (write-match-at t) write-match.Post
-write-match-arms-requires t c κs = ?
+write-match-arms-requires : (t : ℕ) → write-match-lts.Need-arms-requires (write-match-head-reads.Asked, write-match-head-reads.Learnt, group-begin-reads.Asked, group-begin-reads.Learnt, arms-below t, arms.Post) (write-match-at t) write-match.Post
+write-match-arms-requires t c κs = let s = c .before .before .before .before .before .before .before .before .before .before .before .before .before .before .before .before .before .before .before .before in let a = s .args in (omega (arith, s .pre .0), ((s .pre .1 .0 .0, part-holds (rows-in (a .rows .now)) (a .fuel) (a .held .now) (a .members .now) (a .ends .now) (a .numbers .now) (a .g) (a .size) (a .at) (s .pre .1 .0 .1) (s .pre .1 .1 .0 .0) (s .pre .1 .1 .0 .1) (s .pre .1 .1 .1 .0) (s .pre .1 .1 .1 .1) (c .before .before .before .before .before .before .group-begin .result) (c .before .before .before .before .before .before .group-begin .ensures)), (part-group (rows-in (a .rows .now)) (a .fuel) (a .held .now) (a .members .now) (a .ends .now) (a .numbers .now) (a .g) (a .size) (a .at) (s .pre .1 .0 .1) (s .pre .1 .1 .0 .0) (s .pre .1 .1 .0 .1) (s .pre .1 .1 .1 .0) (s .pre .1 .1 .1 .1) (c .before .before .before .before .before .before .group-begin .result) (c .before .before .before .before .before .before .group-begin .ensures), (subst (Arms-fit (rows-in (a .rows .now)) (a .fuel) (a .held .now) _ _) (sym (c .before .before .before .before .before .before .before .before .before .before .write-match-head .ensures .0)) (part-fits (rows-in (a .rows .now)) (a .fuel) (a .held .now) (a .members .now) (a .ends .now) (a .numbers .now) (a .g) (a .size) (a .at) (s .pre .1 .0 .1) (s .pre .1 .1 .0 .0) (s .pre .1 .1 .0 .1) (s .pre .1 .1 .1 .0) (s .pre .1 .1 .1 .1) (c .before .before .before .before .before .before .group-begin .result) (c .before .before .before .before .before .before .group-begin .ensures)), omega (arith, c .before .before .before .before .before .before .before .before .before .before .write-match-head .ensures .0, head-fits (rows-in (a .rows .now)) (a .fuel) (a .held .now) (a .members .now) (a .ends .now) (a .numbers .now) (a .g) (a .size) (a .at) (s .pre .1 .0 .1) (s .pre .1 .1 .0 .0) (s .pre .1 .1 .0 .1) (s .pre .1 .1 .1 .0) (s .pre .1 .1 .1 .1))))))
 
--- src/lib.rt:384:21
-write-match-enum-known-armed : (t : ℕ) → write-match-lts.Need-enum-known-armed (
-  write-match-head-reads.Asked,
-  write-match-head-reads.Learnt,
-  group-begin-reads.Asked,
-  group-begin-reads.Learnt,
-  arms-below t,
-  arms.Post,
-) (write-match-at t) write-match.Post
-write-match-enum-known-armed t c = ?
+write-match-enum-known-armed : (t : ℕ) → write-match-lts.Need-enum-known-armed (write-match-head-reads.Asked, write-match-head-reads.Learnt, group-begin-reads.Asked, group-begin-reads.Learnt, arms-below t, arms.Post) (write-match-at t) write-match.Post
+write-match-enum-known-armed t c = search needs
 
--- src/lib.rt:385:9
-write-match-enum-told : (t : ℕ) → write-match-lts.Need-enum-told (
-  write-match-head-reads.Asked,
-  write-match-head-reads.Learnt,
-  group-begin-reads.Asked,
-  group-begin-reads.Learnt,
-  arms-below t,
-  arms.Post,
-) (write-match-at t) write-match.Post
-write-match-enum-told t c = ?
+write-match-enum-told : (t : ℕ) → write-match-lts.Need-enum-told (write-match-head-reads.Asked, write-match-head-reads.Learnt, group-begin-reads.Asked, group-begin-reads.Learnt, arms-below t, arms.Post) (write-match-at t) write-match.Post
+write-match-enum-told t c = search needs
 
--- src/lib.rt:385:9
-write-match-same-length-2 : (t : ℕ) → write-match-lts.Need-same-length-2 (
-  write-match-head-reads.Asked,
-  write-match-head-reads.Learnt,
-  group-begin-reads.Asked,
-  group-begin-reads.Learnt,
-  arms-below t,
-  arms.Post,
-) (write-match-at t) write-match.Post
-write-match-same-length-2 t c = ?
+write-match-same-length-2 : (t : ℕ) → write-match-lts.Need-same-length-2 (write-match-head-reads.Asked, write-match-head-reads.Learnt, group-begin-reads.Asked, group-begin-reads.Learnt, arms-below t, arms.Post) (write-match-at t) write-match.Post
+write-match-same-length-2 t c = search needs
 
--- src/lib.rt:385:9
-write-match-same-length-3 : (t : ℕ) → write-match-lts.Need-same-length-3 (
-  write-match-head-reads.Asked,
-  write-match-head-reads.Learnt,
-  group-begin-reads.Asked,
-  group-begin-reads.Learnt,
-  arms-below t,
-  arms.Post,
-) (write-match-at t) write-match.Post
-write-match-same-length-3 t c = ?
+write-match-same-length-3 : (t : ℕ) → write-match-lts.Need-same-length-3 (write-match-head-reads.Asked, write-match-head-reads.Learnt, group-begin-reads.Asked, group-begin-reads.Learnt, arms-below t, arms.Post) (write-match-at t) write-match.Post
+write-match-same-length-3 t c = search needs
 
--- src/lib.rt:385:9
-write-match-same-length-4 : (t : ℕ) → write-match-lts.Need-same-length-4 (
-  write-match-head-reads.Asked,
-  write-match-head-reads.Learnt,
-  group-begin-reads.Asked,
-  group-begin-reads.Learnt,
-  arms-below t,
-  arms.Post,
-) (write-match-at t) write-match.Post
-write-match-same-length-4 t c = ?
+write-match-same-length-4 : (t : ℕ) → write-match-lts.Need-same-length-4 (write-match-head-reads.Asked, write-match-head-reads.Learnt, group-begin-reads.Asked, group-begin-reads.Learnt, arms-below t, arms.Post) (write-match-at t) write-match.Post
+write-match-same-length-4 t c = search needs
 
--- src/lib.rt:385:9
-write-match-returns-2 : (t : ℕ) → write-match-lts.Need-returns-2 (
-  write-match-head-reads.Asked,
-  write-match-head-reads.Learnt,
-  group-begin-reads.Asked,
-  group-begin-reads.Learnt,
-  arms-below t,
-  arms.Post,
-) (write-match-at t) write-match.Post
-write-match-returns-2 t c = ?
+write-match-returns-2 : (t : ℕ) → write-match-lts.Need-returns-2 (write-match-head-reads.Asked, write-match-head-reads.Learnt, group-begin-reads.Asked, group-begin-reads.Learnt, arms-below t, arms.Post) (write-match-at t) write-match.Post
+write-match-returns-2 t c = let s = c .before .before .before .before .before .before .before .before .before .before .before .before .before .before .before .before .before .before .before .before .before .before .before .before .before .before .before .before .before in let a = s .args in absurd (match-never (rows-in (a .rows .now)) (a .fuel) (a .held .now) (a .members .now) (a .ends .now) (a .numbers .now) (a .g) (a .size) (a .at) (s .pre .1 .0 .1) (s .pre .1 .1 .0 .0) (s .pre .1 .1 .0 .1) (s .pre .1 .1 .1 .0) (s .pre .1 .1 .1 .1) (c .before .before .before .before .before .before .before .before .before .before .before .before .before .before .before .group-begin .result) (c .before .before .before .before .before .before .before .before .before .before .before .before .before .before .before .group-begin .ensures) (c .before .before .before .before .before .before .before .before .arms .result) (a .table .now) _ _ (c .before .before .before .before .before .before .before .before .before .before .before .before .before .before .before .before .before .before .before .write-match-head .ensures .1) (c .before .before .before .before .before .before .before .before .before .before .before .before .before .before .before .before .before .before .before .write-match-head .result) (c .before .before .before .before .before .before .before .before .before .before .before .before .before .before .before .before .before .before .before .write-match-head .ensures .0) (c .before .before .before .before .before .before .before .before .arms .ensures) _ (c .enum-told .given .1))
 
--- src/lib.rt:346:1
-write-match-same-length-5 : (t : ℕ) → write-match-lts.Need-same-length-5 (
-  write-match-head-reads.Asked,
-  write-match-head-reads.Learnt,
-  group-begin-reads.Asked,
-  group-begin-reads.Learnt,
-  arms-below t,
-  arms.Post,
-) (write-match-at t) write-match.Post
-write-match-same-length-5 t c = ?
+write-match-same-length-5 : (t : ℕ) → write-match-lts.Need-same-length-5 (write-match-head-reads.Asked, write-match-head-reads.Learnt, group-begin-reads.Asked, group-begin-reads.Learnt, arms-below t, arms.Post) (write-match-at t) write-match.Post
+write-match-same-length-5 t c = search needs
 
--- src/lib.rt:346:1
-write-match-same-length-6 : (t : ℕ) → write-match-lts.Need-same-length-6 (
-  write-match-head-reads.Asked,
-  write-match-head-reads.Learnt,
-  group-begin-reads.Asked,
-  group-begin-reads.Learnt,
-  arms-below t,
-  arms.Post,
-) (write-match-at t) write-match.Post
-write-match-same-length-6 t c = ?
+write-match-same-length-6 : (t : ℕ) → write-match-lts.Need-same-length-6 (write-match-head-reads.Asked, write-match-head-reads.Learnt, group-begin-reads.Asked, group-begin-reads.Learnt, arms-below t, arms.Post) (write-match-at t) write-match.Post
+write-match-same-length-6 t c = search needs
 
--- src/lib.rt:346:1
-write-match-same-length-7 : (t : ℕ) → write-match-lts.Need-same-length-7 (
-  write-match-head-reads.Asked,
-  write-match-head-reads.Learnt,
-  group-begin-reads.Asked,
-  group-begin-reads.Learnt,
-  arms-below t,
-  arms.Post,
-) (write-match-at t) write-match.Post
-write-match-same-length-7 t c = ?
+write-match-same-length-7 : (t : ℕ) → write-match-lts.Need-same-length-7 (write-match-head-reads.Asked, write-match-head-reads.Learnt, group-begin-reads.Asked, group-begin-reads.Learnt, arms-below t, arms.Post) (write-match-at t) write-match.Post
+write-match-same-length-7 t c = search needs
 
--- src/lib.rt:346:1
-write-match-returns-3 : (t : ℕ) → write-match-lts.Need-returns-3 (
-  write-match-head-reads.Asked,
-  write-match-head-reads.Learnt,
-  group-begin-reads.Asked,
-  group-begin-reads.Learnt,
-  arms-below t,
-  arms.Post,
-) (write-match-at t) write-match.Post
-write-match-returns-3 t c = ?
+write-match-returns-3 : (t : ℕ) → write-match-lts.Need-returns-3 (write-match-head-reads.Asked, write-match-head-reads.Learnt, group-begin-reads.Asked, group-begin-reads.Learnt, arms-below t, arms.Post) (write-match-at t) write-match.Post
+write-match-returns-3 t c = let s = c .before .before .before .before .before .before .before .before .before .before .before .before .before .before .before .before .before .before .before .before .before .before .before .before .before .before .before .before .before .before in let a = s .args in match-done (rows-in (a .rows .now)) (a .fuel) (a .held .now) (a .members .now) (a .ends .now) (a .numbers .now) (a .g) (a .size) (a .at) (s .pre .1 .0 .1) (s .pre .1 .1 .0 .0) (s .pre .1 .1 .0 .1) (s .pre .1 .1 .1 .0) (s .pre .1 .1 .1 .1) (c .before .before .before .before .before .before .before .before .before .before .before .before .before .before .before .before .group-begin .result) (c .before .before .before .before .before .before .before .before .before .before .before .before .before .before .before .before .group-begin .ensures) (c .before .before .before .before .before .before .before .before .before .arms .result) (a .table .now) _ _ (c .before .before .before .before .before .before .before .before .before .before .before .before .before .before .before .before .before .before .before .before .write-match-head .ensures .1) (c .before .before .before .before .before .before .before .before .before .before .before .before .before .before .before .before .before .before .before .before .write-match-head .result) (c .before .before .before .before .before .before .before .before .before .before .before .before .before .before .before .before .before .before .before .before .write-match-head .ensures .0) (c .before .before .before .before .before .before .before .before .before .arms .ensures) _ _ _ (c .before .armed .given .1)
 
--- src/lib.rt:497:16
-write-scope-sub-made : (t : ℕ) → write-scope-lts.Need-sub-made (
-  order-stmts-reads.Asked,
-  order-stmts-reads.Learnt,
-  write-stmts-below t,
-  write-stmts.Post,
-  write-values-reads.Asked,
-  write-values-reads.Learnt,
-) (write-scope-at t) write-scope.Post
-write-scope-sub-made t c = ?
+write-scope-sub-made : (t : ℕ) → write-scope-lts.Need-sub-made (order-stmts-reads.Asked, order-stmts-reads.Learnt, write-stmts-below t, write-stmts.Post, write-values-reads.Asked, write-values-reads.Learnt) (write-scope-at t) write-scope.Post
+write-scope-sub-made t c = let s = c .before .before .before .before .before .before .before .before .before .before .before .before in s .pre .1 .1 .0 .0 .enough
 
--- src/lib.rt:498:17
-write-scope-add-count : (t : ℕ) → write-scope-lts.Need-add-count (
-  order-stmts-reads.Asked,
-  order-stmts-reads.Learnt,
-  write-stmts-below t,
-  write-stmts.Post,
-  write-values-reads.Asked,
-  write-values-reads.Learnt,
-) (write-scope-at t) write-scope.Post
-write-scope-add-count t c = ?
+write-scope-add-count : (t : ℕ) → write-scope-lts.Need-add-count (order-stmts-reads.Asked, order-stmts-reads.Learnt, write-stmts-below t, write-stmts.Post, write-values-reads.Asked, write-values-reads.Learnt) (write-scope-at t) write-scope.Post
+write-scope-add-count t c = let s = c .before .before .before .before .before .before .before .before .before .before .before .before in let a = s .args in omega (arith, lets-few (rows-in (a .rows .now)) (a .fuel) (a .tokens .now) (a .results) (a .first) (a .places .now) (a .held .now) (a .starts .now) (a .members .now) (a .ends .now) (a .numbers .now) (a .sizes .now) (s .pre .1 .0 .1) (s .pre .1 .1 .0 .0) (s .pre .1 .1 .0 .1 .sized))
 
--- src/lib.rt:498:17
-write-scope-add-count-2 : (t : ℕ) → write-scope-lts.Need-add-count-2 (
-  order-stmts-reads.Asked,
-  order-stmts-reads.Learnt,
-  write-stmts-below t,
-  write-stmts.Post,
-  write-values-reads.Asked,
-  write-values-reads.Learnt,
-) (write-scope-at t) write-scope.Post
-write-scope-add-count-2 t c = ?
+write-scope-add-count-2 : (t : ℕ) → write-scope-lts.Need-add-count-2 (order-stmts-reads.Asked, order-stmts-reads.Learnt, write-stmts-below t, write-stmts.Post, write-values-reads.Asked, write-values-reads.Learnt) (write-scope-at t) write-scope.Post
+write-scope-add-count-2 t c = let s = c .before .before .before .before .before .before .before .before .before .before .before .before in let a = s .args in omega (arith, statements-here (rows-in (a .rows .now)) (a .fuel) (a .tokens .now) (a .results) (a .first) (a .places .now) (a .held .now) (a .starts .now) (a .members .now) (a .ends .now) (a .numbers .now) (a .sizes .now) (a .after) (a .extracted) (a .row) (s .pre .1 .0 .1) (s .pre .1 .1 .0 .0) (s .pre .1 .1 .0 .1), s .pre .1 .1 .0 .0 .statements)
 
--- src/lib.rt:500:79
 write-scope-slice-aggregate-order-stmts :
     (t : ℕ) → write-scope-lts.Need-slice-aggregate-order-stmts (
       order-stmts-reads.Asked,
@@ -2327,42 +931,17 @@ write-scope-slice-aggregate-order-stmts :
       write-values-reads.Asked,
       write-values-reads.Learnt,
     ) (write-scope-at t) write-scope.Post
-write-scope-slice-aggregate-order-stmts t c = ?
+write-scope-slice-aggregate-order-stmts t c = search needs
 
--- src/lib.rt:499:9
-write-scope-order-stmts-requires : (t : ℕ) → write-scope-lts.Need-order-stmts-requires (
-  order-stmts-reads.Asked,
-  order-stmts-reads.Learnt,
-  write-stmts-below t,
-  write-stmts.Post,
-  write-values-reads.Asked,
-  write-values-reads.Learnt,
-) (write-scope-at t) write-scope.Post
-write-scope-order-stmts-requires t c κs = ?
+write-scope-order-stmts-requires : (t : ℕ) → write-scope-lts.Need-order-stmts-requires (order-stmts-reads.Asked, order-stmts-reads.Learnt, write-stmts-below t, write-stmts.Post, write-values-reads.Asked, write-values-reads.Learnt) (write-scope-at t) write-scope.Post
+write-scope-order-stmts-requires t c κs = let s = c .before .before .before .before .before .before .before .before .before .before .before .before .before in (s .pre .1 .1 .0 .0, omega arith)
 
--- src/lib.rt:506:17
-write-scope-enum-told : (t : ℕ) → write-scope-lts.Need-enum-told (
-  order-stmts-reads.Asked,
-  order-stmts-reads.Learnt,
-  write-stmts-below t,
-  write-stmts.Post,
-  write-values-reads.Asked,
-  write-values-reads.Learnt,
-) (write-scope-at t) write-scope.Post
-write-scope-enum-told t c = ?
+write-scope-enum-told : (t : ℕ) → write-scope-lts.Need-enum-told (order-stmts-reads.Asked, order-stmts-reads.Learnt, write-stmts-below t, write-stmts.Post, write-values-reads.Asked, write-values-reads.Learnt) (write-scope-at t) write-scope.Post
+write-scope-enum-told t c = search needs
 
--- src/lib.rt:517:17
-write-scope-array-share-prefix-taken : (t : ℕ) → write-scope-lts.Need-array-share-prefix-taken (
-  order-stmts-reads.Asked,
-  order-stmts-reads.Learnt,
-  write-stmts-below t,
-  write-stmts.Post,
-  write-values-reads.Asked,
-  write-values-reads.Learnt,
-) (write-scope-at t) write-scope.Post
-write-scope-array-share-prefix-taken t c = ?
+write-scope-array-share-prefix-taken : (t : ℕ) → write-scope-lts.Need-array-share-prefix-taken (order-stmts-reads.Asked, order-stmts-reads.Learnt, write-stmts-below t, write-stmts.Post, write-values-reads.Asked, write-values-reads.Learnt) (write-scope-at t) write-scope.Post
+write-scope-array-share-prefix-taken t c = let s = c .before .before .before .before .before .before .before .before .before .before .before .before .before .before .before .before .before .before in let a = s .args in omega (arith, statements-here (rows-in (a .rows .now)) (a .fuel) (a .tokens .now) (a .results) (a .first) (a .places .now) (a .held .now) (a .starts .now) (a .members .now) (a .ends .now) (a .numbers .now) (a .sizes .now) (a .after) (a .extracted) (a .row) (s .pre .1 .0 .1) (s .pre .1 .1 .0 .0) (s .pre .1 .1 .0 .1), s .pre .1 .1 .0 .0 .statements)
 
--- src/lib.rt:517:17
 write-scope-slice-aggregate-write-stmts :
     (t : ℕ) → write-scope-lts.Need-slice-aggregate-write-stmts (
       order-stmts-reads.Asked,
@@ -2372,253 +951,86 @@ write-scope-slice-aggregate-write-stmts :
       write-values-reads.Asked,
       write-values-reads.Learnt,
     ) (write-scope-at t) write-scope.Post
-write-scope-slice-aggregate-write-stmts t c = ?
+write-scope-slice-aggregate-write-stmts t c = let s = c .before .before .before .before .before .before .before .before .before .before .before .before .before .before .before .before .before .before .before in let a = s .args in sym (length-take-le _ _ (omega (arith, statements-here (rows-in (a .rows .now)) (a .fuel) (a .tokens .now) (a .results) (a .first) (a .places .now) (a .held .now) (a .starts .now) (a .members .now) (a .ends .now) (a .numbers .now) (a .sizes .now) (a .after) (a .extracted) (a .row) (s .pre .1 .0 .1) (s .pre .1 .1 .0 .0) (s .pre .1 .1 .0 .1), s .pre .1 .1 .0 .0 .statements, c .before .before .before .before .before .order-stmts .kept .1 .1 .1 .1 .1 .1 .1 .1 .1 .0)))
 
--- src/lib.rt:504:17
-write-scope-write-stmts-requires : (t : ℕ) → write-scope-lts.Need-write-stmts-requires (
-  order-stmts-reads.Asked,
-  order-stmts-reads.Learnt,
-  write-stmts-below t,
-  write-stmts.Post,
-  write-values-reads.Asked,
-  write-values-reads.Learnt,
-) (write-scope-at t) write-scope.Post
-write-scope-write-stmts-requires t c κs = ?
+write-scope-write-stmts-requires : (t : ℕ) → write-scope-lts.Need-write-stmts-requires (order-stmts-reads.Asked, order-stmts-reads.Learnt, write-stmts-below t, write-stmts.Post, write-values-reads.Asked, write-values-reads.Learnt) (write-scope-at t) write-scope.Post
+write-scope-write-stmts-requires t c κs = let s = c .before .before .before .before .before .before .before .before .before .before .before .before .before .before .before .before .before .before .before .before .before in let a = s .args in (omega (arith, s .pre .0), (s .pre .1 .0, ((s .pre .1 .1 .0 .0, s .pre .1 .1 .0 .1 .sized), (positions (rows-in (a .rows .now)) (a .fuel) (a .tokens .now) (a .results) (a .first) (a .places .now) (a .held .now) (a .starts .now) (a .members .now) (a .ends .now) (a .numbers .now) (a .sizes .now) (a .after) (a .extracted) (a .row) (s .pre .1 .0 .1) (s .pre .1 .1 .0 .0) (s .pre .1 .1 .0 .1) (c .before .before .before .before .before .before .before .order-stmts .result) _ _ (c .before .before .before .before .before .before .before .order-stmts .ensures) (a .at) (a .table .now) (c .before .before .before .before .enum-told .given .1) _ (statements-here (rows-in (a .rows .now)) (a .fuel) (a .tokens .now) (a .results) (a .first) (a .places .now) (a .held .now) (a .starts .now) (a .members .now) (a .ends .now) (a .numbers .now) (a .sizes .now) (a .after) (a .extracted) (a .row) (s .pre .1 .0 .1) (s .pre .1 .1 .0 .0) (s .pre .1 .1 .0 .1)) (s .pre .1 .1 .1), stmts-fit (rows-in (a .rows .now)) (a .fuel) (a .tokens .now) (a .results) (a .first) (a .places .now) (a .held .now) (a .starts .now) (a .members .now) (a .ends .now) (a .numbers .now) (a .sizes .now) (a .after) (a .extracted) (a .row) (s .pre .1 .0 .1) (s .pre .1 .1 .0 .0) (s .pre .1 .1 .0 .1) (c .before .before .before .before .before .before .before .order-stmts .result) _ _ (c .before .before .before .before .before .before .before .order-stmts .ensures) (a .at) (a .table .now) (c .before .before .before .before .enum-told .given .1) _ (statements-here (rows-in (a .rows .now)) (a .fuel) (a .tokens .now) (a .results) (a .first) (a .places .now) (a .held .now) (a .starts .now) (a .members .now) (a .ends .now) (a .numbers .now) (a .sizes .now) (a .after) (a .extracted) (a .row) (s .pre .1 .0 .1) (s .pre .1 .1 .0 .0) (s .pre .1 .1 .0 .1)) (s .pre .1 .1 .1)))))
 
--- src/lib.rt:523:17
-write-scope-write-values-requires : (t : ℕ) → write-scope-lts.Need-write-values-requires (
-  order-stmts-reads.Asked,
-  order-stmts-reads.Learnt,
-  write-stmts-below t,
-  write-stmts.Post,
-  write-values-reads.Asked,
-  write-values-reads.Learnt,
-) (write-scope-at t) write-scope.Post
-write-scope-write-values-requires t c κs = ?
+write-scope-write-values-requires : (t : ℕ) → write-scope-lts.Need-write-values-requires (order-stmts-reads.Asked, order-stmts-reads.Learnt, write-stmts-below t, write-stmts.Post, write-values-reads.Asked, write-values-reads.Learnt) (write-scope-at t) write-scope.Post
+write-scope-write-values-requires t c κs = let s = c .before .before .before .before .before .before .before .before .before .before .before .before .before .before .before .before .before .before .before .before .before .before .before .before .before .before .before .before .before in let a = s .args in (readied (rows-in (a .rows .now)) (a .fuel) (a .tokens .now) (a .results) (a .first) (a .places .now) (a .held .now) (a .starts .now) (a .members .now) (a .ends .now) (a .numbers .now) (a .sizes .now) (s .pre .1 .0 .1) (s .pre .1 .1 .0 .0) (s .pre .1 .1 .0 .1 .sized), values-fit (rows-in (a .rows .now)) (a .fuel) (a .tokens .now) (a .results) (a .first) (a .places .now) (a .held .now) (a .starts .now) (a .members .now) (a .ends .now) (a .numbers .now) (a .sizes .now) (a .after) (a .extracted) (a .row) (s .pre .1 .0 .1) (s .pre .1 .1 .0 .0) (s .pre .1 .1 .0 .1) (c .before .before .before .before .before .before .before .before .before .before .before .before .before .before .before .order-stmts .result) _ _ (c .before .before .before .before .before .before .before .before .before .before .before .before .before .before .before .order-stmts .ensures) (a .at) (a .table .now) (c .before .before .before .before .before .before .before .before .before .before .before .before .enum-told .given .1) _ (statements-here (rows-in (a .rows .now)) (a .fuel) (a .tokens .now) (a .results) (a .first) (a .places .now) (a .held .now) (a .starts .now) (a .members .now) (a .ends .now) (a .numbers .now) (a .sizes .now) (a .after) (a .extracted) (a .row) (s .pre .1 .0 .1) (s .pre .1 .1 .0 .0) (s .pre .1 .1 .0 .1)) (s .pre .1 .1 .1) (c .before .before .before .before .before .before .before .write-stmts .result) (c .before .before .before .before .before .before .before .write-stmts .ensures .0))
 
--- src/lib.rt:526:47
-write-scope-add-t42 : (t : ℕ) → write-scope-lts.Need-add-t42 (
-  order-stmts-reads.Asked,
-  order-stmts-reads.Learnt,
-  write-stmts-below t,
-  write-stmts.Post,
-  write-values-reads.Asked,
-  write-values-reads.Learnt,
-) (write-scope-at t) write-scope.Post
-write-scope-add-t42 t c = ?
+write-scope-add-t42 : (t : ℕ) → write-scope-lts.Need-add-t42 (order-stmts-reads.Asked, order-stmts-reads.Learnt, write-stmts-below t, write-stmts.Post, write-values-reads.Asked, write-values-reads.Learnt) (write-scope-at t) write-scope.Post
+write-scope-add-t42 t c = let s = c .before .before .before .before .before .before .before .before .before .before .before .before .before .before .before .before .before .before .before .before .before .before .before .before .before .before .before .before .before .before .before .before in let a = s .args in omega (arith, extracted-low (rows-in (a .rows .now)) (a .fuel) (a .tokens .now) (a .results) (a .first) (a .places .now) (a .held .now) (a .starts .now) (a .members .now) (a .ends .now) (a .numbers .now) (a .sizes .now) (a .after) (a .extracted) (a .row) (s .pre .1 .0 .1) (s .pre .1 .1 .0 .0) (s .pre .1 .1 .0 .1), lets-few (rows-in (a .rows .now)) (a .fuel) (a .tokens .now) (a .results) (a .first) (a .places .now) (a .held .now) (a .starts .now) (a .members .now) (a .ends .now) (a .numbers .now) (a .sizes .now) (s .pre .1 .0 .1) (s .pre .1 .1 .0 .0) (s .pre .1 .1 .0 .1 .sized))
 
--- src/lib.rt:528:29
-write-scope-enum-told-2 : (t : ℕ) → write-scope-lts.Need-enum-told-2 (
-  order-stmts-reads.Asked,
-  order-stmts-reads.Learnt,
-  write-stmts-below t,
-  write-stmts.Post,
-  write-values-reads.Asked,
-  write-values-reads.Learnt,
-) (write-scope-at t) write-scope.Post
-write-scope-enum-told-2 t c = ?
+write-scope-enum-told-2 : (t : ℕ) → write-scope-lts.Need-enum-told-2 (order-stmts-reads.Asked, order-stmts-reads.Learnt, write-stmts-below t, write-stmts.Post, write-values-reads.Asked, write-values-reads.Learnt) (write-scope-at t) write-scope.Post
+write-scope-enum-told-2 t c = search needs
 
--- src/lib.rt:529:28
-write-scope-enum-told-3 : (t : ℕ) → write-scope-lts.Need-enum-told-3 (
-  order-stmts-reads.Asked,
-  order-stmts-reads.Learnt,
-  write-stmts-below t,
-  write-stmts.Post,
-  write-values-reads.Asked,
-  write-values-reads.Learnt,
-) (write-scope-at t) write-scope.Post
-write-scope-enum-told-3 t c = ?
+write-scope-enum-told-3 : (t : ℕ) → write-scope-lts.Need-enum-told-3 (order-stmts-reads.Asked, order-stmts-reads.Learnt, write-stmts-below t, write-stmts.Post, write-values-reads.Asked, write-values-reads.Learnt) (write-scope-at t) write-scope.Post
+write-scope-enum-told-3 t c = search needs
 
--- src/lib.rt:469:1
-write-scope-same-length : (t : ℕ) → write-scope-lts.Need-same-length (
-  order-stmts-reads.Asked,
-  order-stmts-reads.Learnt,
-  write-stmts-below t,
-  write-stmts.Post,
-  write-values-reads.Asked,
-  write-values-reads.Learnt,
-) (write-scope-at t) write-scope.Post
-write-scope-same-length t c = ?
+write-scope-same-length : (t : ℕ) → write-scope-lts.Need-same-length (order-stmts-reads.Asked, order-stmts-reads.Learnt, write-stmts-below t, write-stmts.Post, write-values-reads.Asked, write-values-reads.Learnt) (write-scope-at t) write-scope.Post
+write-scope-same-length t c = search needs
 
--- src/lib.rt:469:1
-write-scope-same-length-2 : (t : ℕ) → write-scope-lts.Need-same-length-2 (
-  order-stmts-reads.Asked,
-  order-stmts-reads.Learnt,
-  write-stmts-below t,
-  write-stmts.Post,
-  write-values-reads.Asked,
-  write-values-reads.Learnt,
-) (write-scope-at t) write-scope.Post
-write-scope-same-length-2 t c = ?
+write-scope-same-length-2 : (t : ℕ) → write-scope-lts.Need-same-length-2 (order-stmts-reads.Asked, order-stmts-reads.Learnt, write-stmts-below t, write-stmts.Post, write-values-reads.Asked, write-values-reads.Learnt) (write-scope-at t) write-scope.Post
+write-scope-same-length-2 t c = search needs
 
--- src/lib.rt:469:1
-write-scope-same-length-3 : (t : ℕ) → write-scope-lts.Need-same-length-3 (
-  order-stmts-reads.Asked,
-  order-stmts-reads.Learnt,
-  write-stmts-below t,
-  write-stmts.Post,
-  write-values-reads.Asked,
-  write-values-reads.Learnt,
-) (write-scope-at t) write-scope.Post
-write-scope-same-length-3 t c = ?
+write-scope-same-length-3 : (t : ℕ) → write-scope-lts.Need-same-length-3 (order-stmts-reads.Asked, order-stmts-reads.Learnt, write-stmts-below t, write-stmts.Post, write-values-reads.Asked, write-values-reads.Learnt) (write-scope-at t) write-scope.Post
+write-scope-same-length-3 t c = search needs
 
--- src/lib.rt:469:1
-write-scope-returns : (t : ℕ) → write-scope-lts.Need-returns (
-  order-stmts-reads.Asked,
-  order-stmts-reads.Learnt,
-  write-stmts-below t,
-  write-stmts.Post,
-  write-values-reads.Asked,
-  write-values-reads.Learnt,
-) (write-scope-at t) write-scope.Post
-write-scope-returns t c = ?
+write-scope-returns : (t : ℕ) → write-scope-lts.Need-returns (order-stmts-reads.Asked, order-stmts-reads.Learnt, write-stmts-below t, write-stmts.Post, write-values-reads.Asked, write-values-reads.Learnt) (write-scope-at t) write-scope.Post
+write-scope-returns t c = let s = c .before .before .before .before .before .before .before .before .before .before .before .before .before .before .before .before .before .before .before .before .before .before .before .before .before .before .before .before .before .before .before .before in let a = s .args in all-done (rows-in (a .rows .now)) (a .fuel) (a .tokens .now) (a .results) (a .first) (a .places .now) (a .held .now) (a .starts .now) (a .members .now) (a .ends .now) (a .numbers .now) (a .sizes .now) (a .after) (a .extracted) (a .row) (s .pre .1 .0 .1) (s .pre .1 .1 .0 .0) (s .pre .1 .1 .0 .1) (c .before .before .before .before .before .before .before .before .before .before .before .before .before .before .before .before .before .before .order-stmts .result) _ _ (c .before .before .before .before .before .before .before .before .before .before .before .before .before .before .before .before .before .before .order-stmts .ensures) (a .at) (a .table .now) (c .before .before .before .before .before .before .before .before .before .before .before .before .before .before .before .enum-told .given .1) _ (statements-here (rows-in (a .rows .now)) (a .fuel) (a .tokens .now) (a .results) (a .first) (a .places .now) (a .held .now) (a .starts .now) (a .members .now) (a .ends .now) (a .numbers .now) (a .sizes .now) (a .after) (a .extracted) (a .row) (s .pre .1 .0 .1) (s .pre .1 .1 .0 .0) (s .pre .1 .1 .0 .1)) (s .pre .1 .1 .1) (c .before .before .before .before .before .before .before .before .before .before .write-stmts .result) _ (c .before .before .before .before .before .before .before .before .before .before .write-stmts .ensures) (c .before .before .write-values .result) _ (c .before .before .write-values .ensures) _ refl
 
--- src/lib.rt:469:1
-write-scope-returns-2 : (t : ℕ) → write-scope-lts.Need-returns-2 (
-  order-stmts-reads.Asked,
-  order-stmts-reads.Learnt,
-  write-stmts-below t,
-  write-stmts.Post,
-  write-values-reads.Asked,
-  write-values-reads.Learnt,
-) (write-scope-at t) write-scope.Post
-write-scope-returns-2 t c = ?
+write-scope-returns-2 : (t : ℕ) → write-scope-lts.Need-returns-2 (order-stmts-reads.Asked, order-stmts-reads.Learnt, write-stmts-below t, write-stmts.Post, write-values-reads.Asked, write-values-reads.Learnt) (write-scope-at t) write-scope.Post
+write-scope-returns-2 t c = let s = c .before .before .before .before .before .before .before .before .before .before .before .before .before .before .before .before .before in let a = s .args in ring-done (rows-in (a .rows .now)) (a .fuel) (a .tokens .now) (a .results) (a .first) (a .places .now) (a .held .now) (a .starts .now) (a .members .now) (a .ends .now) (a .numbers .now) (a .sizes .now) (a .after) (a .extracted) (a .row) (s .pre .1 .0 .1) (s .pre .1 .1 .0 .0) (s .pre .1 .1 .0 .1) (c .before .before .before .order-stmts .result) _ _ (c .before .before .before .order-stmts .ensures) (a .at) (a .table .now) _ (c .enum-told2 .given .1)
 
--- src/lib.rt:469:1
-write-scope-returns-3 : (t : ℕ) → write-scope-lts.Need-returns-3 (
-  order-stmts-reads.Asked,
-  order-stmts-reads.Learnt,
-  write-stmts-below t,
-  write-stmts.Post,
-  write-values-reads.Asked,
-  write-values-reads.Learnt,
-) (write-scope-at t) write-scope.Post
-write-scope-returns-3 t c = ?
+write-scope-returns-3 : (t : ℕ) → write-scope-lts.Need-returns-3 (order-stmts-reads.Asked, order-stmts-reads.Learnt, write-stmts-below t, write-stmts.Post, write-values-reads.Asked, write-values-reads.Learnt) (write-scope-at t) write-scope.Post
+write-scope-returns-3 t c = let s = c .before .before .before .before .before .before .before .before .before .before .before .before .before .before .before .before .before in let a = s .args in absurd (never-broken (rows-in (a .rows .now)) (a .fuel) (a .tokens .now) (a .results) (a .first) (a .places .now) (a .held .now) (a .starts .now) (a .members .now) (a .ends .now) (a .numbers .now) (a .sizes .now) (a .after) (a .extracted) (a .row) (s .pre .1 .0 .1) (s .pre .1 .1 .0 .0) (s .pre .1 .1 .0 .1) (c .before .before .before .order-stmts .result) _ _ (c .before .before .before .order-stmts .ensures) (a .at) (a .table .now) (c .enum-told3 .given .1))
 
--- src/lib.rt:416:16
-write-stmt-sub-lets : (t : ℕ) → write-stmt-lts.Need-sub-lets (
-  write-let-reads.Asked,
-  write-let-reads.Learnt,
-  write-match-below t,
-  write-match.Post,
-) (write-stmt-at t) write-stmt.Post
-write-stmt-sub-lets t c = ?
+write-stmt-sub-lets : (t : ℕ) → write-stmt-lts.Need-sub-lets (write-let-reads.Asked, write-let-reads.Learnt, write-match-below t, write-match.Post) (write-stmt-at t) write-stmt.Post
+write-stmt-sub-lets t c = let s = c .before .before .before .before .before .before .before .before .before .before .before .before in s .pre .1 .1 .0 .0 .enough
 
--- src/lib.rt:416:16
-write-stmt-add-lets : (t : ℕ) → write-stmt-lts.Need-add-lets (
-  write-let-reads.Asked,
-  write-let-reads.Learnt,
-  write-match-below t,
-  write-match.Post,
-) (write-stmt-at t) write-stmt.Post
-write-stmt-add-lets t c = ?
+write-stmt-add-lets : (t : ℕ) → write-stmt-lts.Need-add-lets (write-let-reads.Asked, write-let-reads.Learnt, write-match-below t, write-match.Post) (write-stmt-at t) write-stmt.Post
+write-stmt-add-lets t c = let s = c .before .before .before .before .before .before .before .before .before .before .before .before in let a = s .args in omega (arith, lets-few (rows-in (a .rows .now)) (a .fuel) (a .tokens .now) (a .results) (a .first) (a .places .now) (a .held .now) (a .starts .now) (a .members .now) (a .ends .now) (a .numbers .now) (a .sizes .now) (s .pre .1 .0 .1) (s .pre .1 .1 .0 .0) (s .pre .1 .1 .0 .1))
 
--- src/lib.rt:418:9
-write-stmt-write-let-requires : (t : ℕ) → write-stmt-lts.Need-write-let-requires (
-  write-let-reads.Asked,
-  write-let-reads.Learnt,
-  write-match-below t,
-  write-match.Post,
-) (write-stmt-at t) write-stmt.Post
-write-stmt-write-let-requires t c κs = ?
+write-stmt-write-let-requires : (t : ℕ) → write-stmt-lts.Need-write-let-requires (write-let-reads.Asked, write-let-reads.Learnt, write-match-below t, write-match.Post) (write-stmt-at t) write-stmt.Post
+write-stmt-write-let-requires t c κs = let s = c .before .before .before .before .before .before .before .before .before .before .before .before .before .before in let a = s .args in (readied (rows-in (a .rows .now)) (a .fuel) (a .tokens .now) (a .results) (a .first) (a .places .now) (a .held .now) (a .starts .now) (a .members .now) (a .ends .now) (a .numbers .now) (a .sizes .now) (s .pre .1 .0 .1) (s .pre .1 .1 .0 .0) (s .pre .1 .1 .0 .1), (let-there (rows-in (a .rows .now)) (a .fuel) (a .tokens .now) (a .results) (a .first) (a .places .now) (a .held .now) (a .starts .now) (a .members .now) (a .ends .now) (a .numbers .now) (a .sizes .now) (s .pre .1 .0 .1) (s .pre .1 .1 .0 .0) (s .pre .1 .1 .0 .1) (a .p) (c .before .if1 .taken), subst (λ (z : List ℕ). a .at + length z ≤ 9223372036854775808) (let-is (rows-in (a .rows .now)) (a .fuel) (a .tokens .now) (a .results) (a .first) (a .places .now) (a .held .now) (a .starts .now) (a .members .now) (a .ends .now) (a .numbers .now) (a .sizes .now) (s .pre .1 .0 .1) (s .pre .1 .1 .0 .0) (s .pre .1 .1 .0 .1) (a .p) (c .before .if1 .taken)) (s .pre .1 .1 .1 .1)))
 
--- src/lib.rt:418:9
-write-stmt-same-length : (t : ℕ) → write-stmt-lts.Need-same-length (
-  write-let-reads.Asked,
-  write-let-reads.Learnt,
-  write-match-below t,
-  write-match.Post,
-) (write-stmt-at t) write-stmt.Post
-write-stmt-same-length t c = ?
+write-stmt-same-length : (t : ℕ) → write-stmt-lts.Need-same-length (write-let-reads.Asked, write-let-reads.Learnt, write-match-below t, write-match.Post) (write-stmt-at t) write-stmt.Post
+write-stmt-same-length t c = search needs
 
--- src/lib.rt:418:9
-write-stmt-returns : (t : ℕ) → write-stmt-lts.Need-returns (
-  write-let-reads.Asked,
-  write-let-reads.Learnt,
-  write-match-below t,
-  write-match.Post,
-) (write-stmt-at t) write-stmt.Post
-write-stmt-returns t c = ?
+write-stmt-returns : (t : ℕ) → write-stmt-lts.Need-returns (write-let-reads.Asked, write-let-reads.Learnt, write-match-below t, write-match.Post) (write-stmt-at t) write-stmt.Post
+write-stmt-returns t c = let s = c .before .before .before .before .before .before .before .before .before .before .before .before .before .before .before .before .before in let a = s .args in subst (λ (z : List ℕ). (c .before .before .write-let .result ≡ a .at + length z) × (_ ≡ overlay (a .at) z (a .table .now))) (sym (let-is (rows-in (a .rows .now)) (a .fuel) (a .tokens .now) (a .results) (a .first) (a .places .now) (a .held .now) (a .starts .now) (a .members .now) (a .ends .now) (a .numbers .now) (a .sizes .now) (s .pre .1 .0 .1) (s .pre .1 .1 .0 .0) (s .pre .1 .1 .0 .1) (a .p) (c .before .before .before .before .if1 .taken))) (c .before .before .write-let .ensures)
 
--- src/lib.rt:423:16
-write-stmt-mul-size : (t : ℕ) → write-stmt-lts.Need-mul-size (
-  write-let-reads.Asked,
-  write-let-reads.Learnt,
-  write-match-below t,
-  write-match.Post,
-) (write-stmt-at t) write-stmt.Post
-write-stmt-mul-size t c = ?
+write-stmt-mul-size : (t : ℕ) → write-stmt-lts.Need-mul-size (write-let-reads.Asked, write-let-reads.Learnt, write-match-below t, write-match.Post) (write-stmt-at t) write-stmt.Post
+write-stmt-mul-size t c = let s = c .before .before .before .before .before .before .before .before .before .before .before .before .before in let a = s .args in omega (arith, size-in (rows-in (a .rows .now)) (a .fuel) (a .tokens .now) (a .results) (a .first) (a .places .now) (a .held .now) (a .starts .now) (a .members .now) (a .ends .now) (a .numbers .now) (a .sizes .now) (s .pre .1 .0 .1) (s .pre .1 .1 .0 .0) (s .pre .1 .1 .0 .1) (a .p) (s .pre .1 .1 .1 .0) (omega (arith, c .if1 .left)), s .good .1 .1 .1 .1 .1 .1 .1 .1 .1 .1 .1 .0)
 
--- src/lib.rt:423:16
-write-stmt-shared-slice-read-size : (t : ℕ) → write-stmt-lts.Need-shared-slice-read-size (
-  write-let-reads.Asked,
-  write-let-reads.Learnt,
-  write-match-below t,
-  write-match.Post,
-) (write-stmt-at t) write-stmt.Post
-write-stmt-shared-slice-read-size t c = ?
+write-stmt-shared-slice-read-size : (t : ℕ) → write-stmt-lts.Need-shared-slice-read-size (write-let-reads.Asked, write-let-reads.Learnt, write-match-below t, write-match.Post) (write-stmt-at t) write-stmt.Post
+write-stmt-shared-slice-read-size t c = let s = c .before .before .before .before .before .before .before .before .before .before .before .before .before .before in let a = s .args in size-in (rows-in (a .rows .now)) (a .fuel) (a .tokens .now) (a .results) (a .first) (a .places .now) (a .held .now) (a .starts .now) (a .members .now) (a .ends .now) (a .numbers .now) (a .sizes .now) (s .pre .1 .0 .1) (s .pre .1 .1 .0 .0) (s .pre .1 .1 .0 .1) (a .p) (s .pre .1 .1 .1 .0) (omega (arith, c .before .if1 .left))
 
--- src/lib.rt:424:5
-write-stmt-write-match-requires : (t : ℕ) → write-stmt-lts.Need-write-match-requires (
-  write-let-reads.Asked,
-  write-let-reads.Learnt,
-  write-match-below t,
-  write-match.Post,
-) (write-stmt-at t) write-stmt.Post
-write-stmt-write-match-requires t c κs = ?
+write-stmt-write-match-requires : (t : ℕ) → write-stmt-lts.Need-write-match-requires (write-let-reads.Asked, write-let-reads.Learnt, write-match-below t, write-match.Post) (write-stmt-at t) write-stmt.Post
+write-stmt-write-match-requires t c κs = let s = c .before .before .before .before .before .before .before .before .before .before .before .before .before .before .before .before .before in let a = s .args in (omega (arith, s .pre .0), ((s .pre .1 .0 .0, member-holds (rows-in (a .rows .now)) (a .fuel) (a .tokens .now) (a .results) (a .first) (a .places .now) (a .held .now) (a .starts .now) (a .members .now) (a .ends .now) (a .numbers .now) (a .sizes .now) (s .pre .1 .0 .1) (s .pre .1 .1 .0 .0) (s .pre .1 .1 .0 .1) (a .p) (s .pre .1 .1 .1 .0) (omega (arith, c .before .before .before .before .if1 .left))), ((grouped (rows-in (a .rows .now)) (a .fuel) (a .tokens .now) (a .results) (a .first) (a .places .now) (a .held .now) (a .starts .now) (a .members .now) (a .ends .now) (a .numbers .now) (a .sizes .now) (s .pre .1 .0 .1) (s .pre .1 .1 .0 .0) (s .pre .1 .1 .0 .1), group-sized (rows-in (a .rows .now)) (a .fuel) (a .tokens .now) (a .results) (a .first) (a .places .now) (a .held .now) (a .starts .now) (a .members .now) (a .ends .now) (a .numbers .now) (a .sizes .now) (s .pre .1 .0 .1) (s .pre .1 .1 .0 .0) (s .pre .1 .1 .0 .1) (a .p) (s .pre .1 .1 .1 .0) (omega (arith, c .before .before .before .before .if1 .left))), (group-there (rows-in (a .rows .now)) (a .fuel) (a .tokens .now) (a .results) (a .first) (a .places .now) (a .held .now) (a .starts .now) (a .members .now) (a .ends .now) (a .numbers .now) (a .sizes .now) (s .pre .1 .0 .1) (s .pre .1 .1 .0 .0) (s .pre .1 .1 .0 .1) (a .p) (s .pre .1 .1 .1 .0) (omega (arith, c .before .before .before .before .if1 .left)), subst (λ (z : List ℕ). a .at + length z ≤ most-rows) (stmt-match-is (rows-in (a .rows .now)) (a .fuel) (a .tokens .now) (a .results) (a .first) (a .places .now) (a .held .now) (a .starts .now) (a .members .now) (a .ends .now) (a .numbers .now) (a .sizes .now) (s .pre .1 .0 .1) (s .pre .1 .1 .0 .0) (s .pre .1 .1 .0 .1) (a .p) (s .pre .1 .1 .1 .0) (omega (arith, c .before .before .before .before .if1 .left))) (s .pre .1 .1 .1 .1)))))
 
--- src/lib.rt:391:1
-write-stmt-same-length-2 : (t : ℕ) → write-stmt-lts.Need-same-length-2 (
-  write-let-reads.Asked,
-  write-let-reads.Learnt,
-  write-match-below t,
-  write-match.Post,
-) (write-stmt-at t) write-stmt.Post
-write-stmt-same-length-2 t c = ?
+write-stmt-same-length-2 : (t : ℕ) → write-stmt-lts.Need-same-length-2 (write-let-reads.Asked, write-let-reads.Learnt, write-match-below t, write-match.Post) (write-stmt-at t) write-stmt.Post
+write-stmt-same-length-2 t c = search needs
 
--- src/lib.rt:391:1
-write-stmt-same-length-3 : (t : ℕ) → write-stmt-lts.Need-same-length-3 (
-  write-let-reads.Asked,
-  write-let-reads.Learnt,
-  write-match-below t,
-  write-match.Post,
-) (write-stmt-at t) write-stmt.Post
-write-stmt-same-length-3 t c = ?
+write-stmt-same-length-3 : (t : ℕ) → write-stmt-lts.Need-same-length-3 (write-let-reads.Asked, write-let-reads.Learnt, write-match-below t, write-match.Post) (write-stmt-at t) write-stmt.Post
+write-stmt-same-length-3 t c = search needs
 
--- src/lib.rt:391:1
-write-stmt-same-length-4 : (t : ℕ) → write-stmt-lts.Need-same-length-4 (
-  write-let-reads.Asked,
-  write-let-reads.Learnt,
-  write-match-below t,
-  write-match.Post,
-) (write-stmt-at t) write-stmt.Post
-write-stmt-same-length-4 t c = ?
+write-stmt-same-length-4 : (t : ℕ) → write-stmt-lts.Need-same-length-4 (write-let-reads.Asked, write-let-reads.Learnt, write-match-below t, write-match.Post) (write-stmt-at t) write-stmt.Post
+write-stmt-same-length-4 t c = search needs
 
--- src/lib.rt:391:1
-write-stmt-returns-2 : (t : ℕ) → write-stmt-lts.Need-returns-2 (
-  write-let-reads.Asked,
-  write-let-reads.Learnt,
-  write-match-below t,
-  write-match.Post,
-) (write-stmt-at t) write-stmt.Post
-write-stmt-returns-2 t c = ?
+write-stmt-returns-2 : (t : ℕ) → write-stmt-lts.Need-returns-2 (write-let-reads.Asked, write-let-reads.Learnt, write-match-below t, write-match.Post) (write-stmt-at t) write-stmt.Post
+write-stmt-returns-2 t c = let s = c .before .before .before .before .before .before .before .before .before .before .before .before .before .before .before .before .before .before .before .before .before .before .before .before in let a = s .args in subst (λ (z : List ℕ). (c .before .before .before .before .before .before .write-match .result ≡ a .at + length z) × (_ ≡ overlay (a .at) z (a .table .now))) (sym (stmt-match-is (rows-in (a .rows .now)) (a .fuel) (a .tokens .now) (a .results) (a .first) (a .places .now) (a .held .now) (a .starts .now) (a .members .now) (a .ends .now) (a .numbers .now) (a .sizes .now) (s .pre .1 .0 .1) (s .pre .1 .1 .0 .0) (s .pre .1 .1 .0 .1) (a .p) (s .pre .1 .1 .1 .0) (omega (arith, c .before .before .before .before .before .before .before .before .before .before .before .if1 .left)))) (c .before .before .before .before .before .before .write-match .ensures)
 
 abbrev write-stmts-Inv-loop : write-stmts-lts.InvT-loop
-write-stmts-Inv-loop rows work₀ tokens results first places held starts members ends numbers sizes taken fuel text₀ at table₀ to₀ q₀ work text table to q =
-    ?
+write-stmts-Inv-loop rows work₀ tokens results first places held starts members ends numbers sizes taken fuel text₀ at table₀ to₀ q₀ work text table to q = (q ≤ length taken) × (to ≡ at + length (stmts-runs tokens results first places numbers (scope-arms (rows-in rows) fuel tokens results first places) taken q)) × (table ≡ overlay at (stmts-runs tokens results first places numbers (scope-arms (rows-in rows) fuel tokens results first places) taken q) table₀) × (length work ≡ length work₀) × (length text ≡ length text₀) × (length table ≡ length table₀)
 
 abbrev write-stmts-μ-loop : write-stmts-lts.MeasureT-loop
-write-stmts-μ-loop rows work₀ tokens results first places held starts members ends numbers sizes taken fuel text₀ at table₀ to₀ q₀ work text table to q =
-    ?
+write-stmts-μ-loop rows work₀ tokens results first places held starts members ends numbers sizes taken fuel text₀ at table₀ to₀ q₀ work text table to q = length taken - q
 
--- src/lib.rt:457:5
-write-stmts-loop-holds : (t : ℕ) → write-stmts-lts.Need-loop-holds (
-  write-stmt-below t,
-  write-stmt.Post,
-) (write-stmts-at t) write-stmts.Post write-stmts-Inv-loop write-stmts-μ-loop
-write-stmts-loop-holds t c = ?
+write-stmts-loop-holds : (t : ℕ) → write-stmts-lts.Need-loop-holds (write-stmt-below t, write-stmt.Post) (write-stmts-at t) write-stmts.Post write-stmts-Inv-loop write-stmts-μ-loop
+write-stmts-loop-holds t c = let s = c .before .before .before .before .before .before .before .before .before .before .before .before .before in let a = s .args in let z = stmts-begin (rows-in (a .rows .now)) (a .fuel) (a .tokens .now) (a .results) (a .first) (a .places .now) (a .held .now) (a .starts .now) (a .members .now) (a .ends .now) (a .numbers .now) (a .sizes .now) (s .pre .1 .0 .1) (s .pre .1 .1 .0 .0) (s .pre .1 .1 .0 .1) (a .taken .now) (a .at) (a .table .now) (s .pre .1 .1 .1 .1) in (omega arith, z .to-is, z .table-is, refl, refl, refl)
 
--- src/lib.rt:458:17
 write-stmts-mul-p :
     (t : ℕ) →
     write-stmts-lts.Need-mul-p
@@ -2627,23 +1039,14 @@ write-stmts-mul-p :
     write-stmts.Post
     write-stmts-Inv-loop
     write-stmts-μ-loop
-write-stmts-mul-p t c = ?
+write-stmts-mul-p t c = search needs
 
--- src/lib.rt:458:17
-write-stmts-shared-slice-read-p : (t : ℕ) → write-stmts-lts.Need-shared-slice-read-p (
-  write-stmt-below t,
-  write-stmt.Post,
-) (write-stmts-at t) write-stmts.Post write-stmts-Inv-loop write-stmts-μ-loop
-write-stmts-shared-slice-read-p t c = ?
+write-stmts-shared-slice-read-p : (t : ℕ) → write-stmts-lts.Need-shared-slice-read-p (write-stmt-below t, write-stmt.Post) (write-stmts-at t) write-stmts.Post write-stmts-Inv-loop write-stmts-μ-loop
+write-stmts-shared-slice-read-p t c = search needs
 
--- src/lib.rt:459:9
-write-stmts-write-stmt-requires : (t : ℕ) → write-stmts-lts.Need-write-stmt-requires (
-  write-stmt-below t,
-  write-stmt.Post,
-) (write-stmts-at t) write-stmts.Post write-stmts-Inv-loop write-stmts-μ-loop
-write-stmts-write-stmt-requires t c κs = ?
+write-stmts-write-stmt-requires : (t : ℕ) → write-stmts-lts.Need-write-stmt-requires (write-stmt-below t, write-stmt.Post) (write-stmts-at t) write-stmts.Post write-stmts-Inv-loop write-stmts-μ-loop
+write-stmts-write-stmt-requires t c κs = let s = c .before .before .before .before .before .before .before .before .before .before .before .before .before .before .before .before .before .before .before in let a = s .args in (omega (arith, s .pre .0), ((lent-on (a .fuel) (a .work .now) (a .text .now) _ _ (s .pre .1 .0 .0) (c .before .before .before .before .before .loop .inv .3) (c .before .before .before .before .before .loop .inv .4), s .pre .1 .0 .1), (s .pre .1 .1 .0, (s .pre .1 .1 .1 .0 (c .before .before .before .before .before .loop .q) (c .before .before .before .before .loop-test .taken), entry-fits (rows-in (a .rows .now)) (a .fuel) (a .tokens .now) (a .results) (a .first) (a .places .now) (a .held .now) (a .starts .now) (a .members .now) (a .ends .now) (a .numbers .now) (a .sizes .now) (s .pre .1 .0 .1) (s .pre .1 .1 .0 .0) (s .pre .1 .1 .0 .1) (a .taken .now) (a .at) (a .table .now) (s .pre .1 .1 .1 .1) (c .before .before .before .before .before .loop .q) (c .before .before .before .before .before .loop .to) _ (record { to-is = c .before .before .before .before .before .loop .inv .1; table-is = c .before .before .before .before .before .loop .inv .2 }) (c .before .before .before .before .loop-test .taken)))))
 
--- src/lib.rt:463:9
 write-stmts-add-q :
     (t : ℕ) →
     write-stmts-lts.Need-add-q
@@ -2652,44 +1055,23 @@ write-stmts-add-q :
     write-stmts.Post
     write-stmts-Inv-loop
     write-stmts-μ-loop
-write-stmts-add-q t c = ?
+write-stmts-add-q t c = let s = c .before .before .before .before .before .before .before .before .before .before .before .before .before .before .before .before .before .before .before .before .before .before .before .before .before .before in omega (arith, c .before .before .before .before .before .before .before .before .before .before .before .loop-test .taken, s .good .1 .1 .1 .1 .1 .1 .1 .1 .1 .1 .1 .1 .0)
 
--- src/lib.rt:457:5
-write-stmts-loop-less : (t : ℕ) → write-stmts-lts.Need-loop-less (
-  write-stmt-below t,
-  write-stmt.Post,
-) (write-stmts-at t) write-stmts.Post write-stmts-Inv-loop write-stmts-μ-loop
-write-stmts-loop-less t c = ?
+write-stmts-loop-less : (t : ℕ) → write-stmts-lts.Need-loop-less (write-stmt-below t, write-stmt.Post) (write-stmts-at t) write-stmts.Post write-stmts-Inv-loop write-stmts-μ-loop
+write-stmts-loop-less t c = search needs
 
--- src/lib.rt:457:5
-write-stmts-loop-again : (t : ℕ) → write-stmts-lts.Need-loop-again (
-  write-stmt-below t,
-  write-stmt.Post,
-) (write-stmts-at t) write-stmts.Post write-stmts-Inv-loop write-stmts-μ-loop
-write-stmts-loop-again t c = ?
+write-stmts-loop-again : (t : ℕ) → write-stmts-lts.Need-loop-again (write-stmt-below t, write-stmt.Post) (write-stmts-at t) write-stmts.Post write-stmts-Inv-loop write-stmts-μ-loop
+write-stmts-loop-again t c = let s = c .before .before .before .before .before .before .before .before .before .before .before .before .before .before .before .before .before .before .before .before .before .before .before .before .before .before in let a = s .args in let z = stmts-on (rows-in (a .rows .now)) (a .fuel) (a .tokens .now) (a .results) (a .first) (a .places .now) (a .held .now) (a .starts .now) (a .members .now) (a .ends .now) (a .numbers .now) (a .sizes .now) (s .pre .1 .0 .1) (s .pre .1 .1 .0 .0) (s .pre .1 .1 .0 .1) (a .taken .now) (a .at) (a .table .now) (s .pre .1 .1 .1 .1) (c .before .before .before .before .before .before .before .before .before .before .before .before .loop .q) (c .before .before .before .before .before .before .before .before .before .before .before .before .loop .to) _ (record { to-is = c .before .before .before .before .before .before .before .before .before .before .before .before .loop .inv .1; table-is = c .before .before .before .before .before .before .before .before .before .before .before .before .loop .inv .2 }) (c .before .before .before .before .before .before .write-stmt .result) _ (c .before .before .before .before .before .before .write-stmt .ensures) in (omega (arith, c .before .before .before .before .before .before .before .before .before .before .before .loop-test .taken), z .to-is, z .table-is, c .before .before .before .before .before .before .write-stmt .kept .1 .0 ∙ c .before .before .before .before .before .before .before .before .before .before .before .before .loop .inv .3, c .before .before .before .before .before .before .write-stmt .kept .1 .1 .1 .1 .1 .1 .1 .1 .1 .1 .1 .1 .1 .1 .0 ∙ c .before .before .before .before .before .before .before .before .before .before .before .before .loop .inv .4, c .before .before .before .before .before .before .write-stmt .kept .1 .1 .1 .1 .1 .1 .1 .1 .1 .1 .1 .1 .1 .1 .1 .1 .0 ∙ c .before .before .before .before .before .before .before .before .before .before .before .before .loop .inv .5)
 
--- src/lib.rt:430:1
-write-stmts-same-length : (t : ℕ) → write-stmts-lts.Need-same-length (
-  write-stmt-below t,
-  write-stmt.Post,
-) (write-stmts-at t) write-stmts.Post write-stmts-Inv-loop write-stmts-μ-loop
-write-stmts-same-length t c = ?
+write-stmts-same-length : (t : ℕ) → write-stmts-lts.Need-same-length (write-stmt-below t, write-stmt.Post) (write-stmts-at t) write-stmts.Post write-stmts-Inv-loop write-stmts-μ-loop
+write-stmts-same-length t c = search needs
 
--- src/lib.rt:430:1
-write-stmts-same-length-2 : (t : ℕ) → write-stmts-lts.Need-same-length-2 (
-  write-stmt-below t,
-  write-stmt.Post,
-) (write-stmts-at t) write-stmts.Post write-stmts-Inv-loop write-stmts-μ-loop
-write-stmts-same-length-2 t c = ?
+write-stmts-same-length-2 : (t : ℕ) → write-stmts-lts.Need-same-length-2 (write-stmt-below t, write-stmt.Post) (write-stmts-at t) write-stmts.Post write-stmts-Inv-loop write-stmts-μ-loop
+write-stmts-same-length-2 t c = search needs
 
--- src/lib.rt:430:1
-write-stmts-same-length-3 : (t : ℕ) → write-stmts-lts.Need-same-length-3 (
-  write-stmt-below t,
-  write-stmt.Post,
-) (write-stmts-at t) write-stmts.Post write-stmts-Inv-loop write-stmts-μ-loop
-write-stmts-same-length-3 t c = ?
+write-stmts-same-length-3 : (t : ℕ) → write-stmts-lts.Need-same-length-3 (write-stmt-below t, write-stmt.Post) (write-stmts-at t) write-stmts.Post write-stmts-Inv-loop write-stmts-μ-loop
+write-stmts-same-length-3 t c = search needs
 
--- src/lib.rt:430:1
 write-stmts-returns :
     (t : ℕ) →
     write-stmts-lts.Need-returns
@@ -2698,7 +1080,7 @@ write-stmts-returns :
     write-stmts.Post
     write-stmts-Inv-loop
     write-stmts-μ-loop
-write-stmts-returns t c = ?
+write-stmts-returns t c = let s = c .before .before .before .before .before .before .before .before .before .before .before .before .before .before .before in let a = s .args in stmts-end (rows-in (a .rows .now)) (a .fuel) (a .tokens .now) (a .results) (a .first) (a .places .now) (a .held .now) (a .starts .now) (a .members .now) (a .ends .now) (a .numbers .now) (a .sizes .now) (s .pre .1 .0 .1) (s .pre .1 .1 .0 .0) (s .pre .1 .1 .0 .1) (a .taken .now) (a .at) (a .table .now) (s .pre .1 .1 .1 .1) (c .before .loop .q) (c .before .loop .to) _ (record { to-is = c .before .loop .inv .1; table-is = c .before .loop .inv .2 }) (omega (arith, c .before .loop .inv .0, c .loop-test .left))
 
 pub +arm+arms+measure+scope+scope-grouped+scope-held+scope-listed+walk+write-match+write-scope+write-stmt+write-stmts-spec :
     {M : Type 1} → statement M

@@ -4,7 +4,7 @@ use mathlib.Core.Path.{sym, _∙_, ap, subst}
 use lib.ListN.{length}
 use lib.Seq.{length-take-le}
 use Rattle.switches.proofs.Told.{switches-few}
-use Rattle.scope.specs.Frame.{Grouping-so}
+use Rattle.scope.proofs.Leaves.{found-so}
 use borrow.Author.Needs.{needs}
 use Rattle.scope.proofs.group_all.Statement.{statement}
 use Rattle.scope.proofs.group_all.Tie as tie
@@ -35,7 +35,7 @@ same-length-2 : tie.Need-same-length-2
 same-length-2 c = search needs
 
 returns : tie.Need-returns
-returns c = let s = c .before .before .before .before .before .before .before .before .before .before .before .before .before .before in let a = s .args in subst (λ n. Grouping-so (a .held .now) n (c .before .before .before .before .group-listed .result) _ _) (length-take-le _ _ (c .before .before .before .before .before .before .before .before .before .list-all .ensures .1)) (c .before .before .before .before .group-listed .ensures)
+returns c = let s = c .before .before .before .before .before .before .before .before .before .before .before .before .before .before in let a = s .args in found-so (a .held .now) _ _ _ _ _ (c .before .before .before .before .group-listed .ensures) (length-take-le _ _ (c .before .before .before .before .before .before .before .before .before .list-all .ensures .1))
 
 pub group-all-spec : {M : Type 1} → statement M
 group-all-spec =

@@ -2,7 +2,7 @@
 use native.Mathlib.Omega.{arith}
 use mathlib.Core.Path.{_≡_, refl, sym, _∙_, subst}
 use lib.ListN.{length, length-set}
-use Prim.Native.Nat.{_≤_, _-_}
+use Prim.Native.Nat.{_≤_, _-_, _+_}
 use Rattle.fusion.specs.Words.{numbers-from}
 use Rattle.scopeplaces.specs.Overlay.{overlay}
 use Rattle.scope.proofs.Leaves.{numbers-none, numbers-more}
@@ -40,7 +40,7 @@ loop-less : tie.Need-loop-less Inv-loop μ-loop
 loop-less c = search needs
 
 loop-again : tie.Need-loop-again Inv-loop μ-loop
-loop-again c = let a = c .before .before .args in (omega (arith, c .loop-test .taken), numbers-more (a .first) (a .at) (a .numbers .now) (c .before .loop .numbers) (c .before .loop .i) (c .before .loop .inv .1), length-set _ _ _ ∙ c .before .loop .inv .2)
+loop-again c = let a = c .before .before .args in (omega (arith, c .loop-test .taken), numbers-more (a .first) (a .at) (a .numbers .now) (c .before .loop .numbers) (c .before .loop .i) (c .before .loop .inv .1), length-set (c .before .loop .numbers) (a .at + c .before .loop .i) (a .first + c .before .loop .i) ∙ c .before .loop .inv .2)
 
 same-length : tie.Need-same-length Inv-loop μ-loop
 same-length c = c .before .loop .inv .2
