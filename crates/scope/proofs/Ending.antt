@@ -202,3 +202,7 @@ module _ (rows : List Row) (fuel : ℕ) (ws : List ℕ) (k first : ℕ) (places 
             (y
             ∙ (ap₂ (λ (j : ℕ) (t : List ℕ). overlay j values t) q w
             ∙ (sym (overlay-append at (stmts (take n taken')) values old) ∙ ap (λ (z : List ℕ). overlay at (z ++ values) old) same)))))
+
+-- the same by an equal outcome
+pub done-as : (o p : Outcome Told) → o ≡ p → (at : ℕ) (old : List ℕ) (r : Scoped) (new : List ℕ) → Scope-done p at old r new → Scope-done o at old r new
+done-as o p e at old r new d = subst (λ (q : Outcome Told). Scope-done q at old r new) (sym e) d

@@ -182,3 +182,7 @@ module _ (rows : List Row) (fuel : ℕ) (ws : List ℕ) (k first : ℕ) (places 
 
         pub stmts-end : n ≡ length taken → (to ≡ at + length (all-runs (length taken))) × (table ≡ overlay at (all-runs (length taken)) old)
         stmts-end e = (so .to-is ∙ ap (λ (j : ℕ). at + length (all-runs j)) e, so .table-is ∙ ap (λ (j : ℕ). overlay at (all-runs j) old) e)
+
+-- the same by an equal run
+pub rows-as : (x y : List ℕ) → x ≡ y → (at : ℕ) (old : List ℕ) (r : ℕ) (new : List ℕ) → (r ≡ at + length y) × (new ≡ overlay at y old) → (r ≡ at + length x) × (new ≡ overlay at x old)
+rows-as x y e at old r new d = subst (λ (z : List ℕ). (r ≡ at + length z) × (new ≡ overlay at z old)) (sym e) d

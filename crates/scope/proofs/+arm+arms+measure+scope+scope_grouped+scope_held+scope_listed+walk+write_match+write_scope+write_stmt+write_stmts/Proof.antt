@@ -15,7 +15,7 @@ use Rattle.scope.proofs.Sound.{holds-later, group-few, all-few}
 use Rattle.scope.proofs.WalkLaws.{Walk-so, walk-begin, walk-goes-on, walk-ends-refused, walk-all}
 use Rattle.scope.proofs.Walking.{ends-many, ends-few, so-bound, number-low, number-holds, made-low, start-at, end-at, end-long, end-within, members-here, group-here, answer-here, count-here}
 use Rattle.scope.proofs.Writing.{match-is, head-fits, all-fits, begins, ends-at, ends-within, some-member, begin-within, first-small, members-few, part-is, start-under, start-within, number-small, part-group, part-holds, part-fits, match-done, match-never, match-past}
-use Rattle.scope.proofs.Statements.{readied, grouped, lets-few, let-is, let-there, group-there, size-in, group-sized, number-holds as member-holds, match-is as stmt-match-is, Stmts-so, stmts-begin, entry-fits, stmts-on, stmts-end}
+use Rattle.scope.proofs.Statements.{rows-as, readied, grouped, lets-few, let-is, let-there, group-there, size-in, group-sized, number-holds as member-holds, match-is as stmt-match-is, Stmts-so, stmts-begin, entry-fits, stmts-on, stmts-end}
 use Rattle.scopeparts.proofs.Held.{lets-are, count-is, trees-few, places-few}
 use mathlib.Core.List.{List}
 use Rattle.scopeplaces.specs.Overlay.{overlay}
@@ -26,7 +26,7 @@ use lib.Seq.{length-take-le}
 use Rattle.scope.proofs.Beginning.{lets-small, from-low, holds-from, members-short, ends-short, walk-refused, numbered-so, prepared-so, left-there, left-holds, held-whole as held-complete, trees-short, starts-long, ready-so}
 use native.Mathlib.Nat.{le-refl}
 use Rattle.scope.proofs.Beginning.{whole-so, lent-rest, used-few, tokens-are, tokens-left, tokens-whole, trees-enough, trees-few-here, places-short, tokens-there, too-many, held-in, held-are, held-short, outcome-is}
-use Rattle.scope.proofs.Ending.{Scope-done}
+use Rattle.scope.proofs.Ending.{Scope-done, done-as}
 use Rattle.scope.specs.Answers.{told-rows}
 use Rattle.scope.proofs.Scoping.{too-deep, too-long, too-large, ten, words-in, places-in, left-so, scope-is}
 use Rattle.scope.specs.Frame.{Lent}
@@ -429,7 +429,7 @@ scope-same-length-5 : (t : ℕ) → scope-lts.Need-same-length-5 (tree-count-rea
 scope-same-length-5 t c = search needs
 
 scope-returns-5 : (t : ℕ) → scope-lts.Need-returns-5 (tree-count-reads.Asked, tree-count-reads.Learnt, extract-and-list-reads.Asked, extract-and-list-reads.Learnt, scope-listed-below t, scope-listed.Post) (scope-at t) scope.Post
-scope-returns-5 t c = let s = c .before .before .before .before .before .before .before .before .before .before .before .before .before .before .before .before .before .before .before .before .before .before .before .before .before .before .before .before .before .before .before .before in let a = s .args in subst (λ o. Scope-done o (a .at) (a .table .now) (c .before .before .before .before .before .before .scope-listed .result) _) (sym (scope-is (rows-in (a .rows .now)) (a .row) (a .next) (take (a .len) (a .work .now)) (a .at) (a .table .now) (a .fuel) (omega (arith, c .before .before .before .before .before .before .before .before .before .before .before .before .before .before .before .before .before .before .before .before .before .before .before .before .before .before .before .if1 .left)) (omega (arith, length-take-le (a .len) (a .work .now) (s .pre .1 .1 .0 .1), c .before .before .before .before .before .before .before .before .before .before .before .before .before .before .before .before .before .before .before .before .before .before .before .before .before .before .if2 .left)) (omega (arith, c .before .before .before .before .before .before .before .before .before .before .before .before .before .before .before .before .before .before .before .before .before .before .before .before .before .if3 .left)) (s .pre .1 .0 .0) (s .pre .1 .0 .1) (c .before .before .before .before .before .before .before .before .before .before .before .before .before .before .before .before .before .before .before .extract-and-list .result) _ _ (c .before .before .before .before .before .before .before .before .before .before .before .before .before .before .before .before .before .before .before .extract-and-list .ensures) _ _ (c .before .before .before .before .before .before .before .before .before .before .before .before .listed .given .1) (c .before .before .before .before .before .before .before .before .before .before .before .before .before .before .before .before .before .before .before .before .before .before .before .tree-count .result) (c .before .before .before .before .before .before .before .before .before .before .before .before .before .before .before .before .before .before .before .before .before .before .before .tree-count .ensures))) (c .before .before .before .before .before .before .scope-listed .ensures)
+scope-returns-5 t c = let s = c .before .before .before .before .before .before .before .before .before .before .before .before .before .before .before .before .before .before .before .before .before .before .before .before .before .before .before .before .before .before .before .before in let a = s .args in done-as _ _ (scope-is (rows-in (a .rows .now)) (a .row) (a .next) (take (a .len) (a .work .now)) (a .at) (a .table .now) (a .fuel) (omega (arith, c .before .before .before .before .before .before .before .before .before .before .before .before .before .before .before .before .before .before .before .before .before .before .before .before .before .before .before .if1 .left)) (omega (arith, length-take-le (a .len) (a .work .now) (s .pre .1 .1 .0 .1), c .before .before .before .before .before .before .before .before .before .before .before .before .before .before .before .before .before .before .before .before .before .before .before .before .before .before .if2 .left)) (omega (arith, c .before .before .before .before .before .before .before .before .before .before .before .before .before .before .before .before .before .before .before .before .before .before .before .before .before .if3 .left)) (s .pre .1 .0 .0) (s .pre .1 .0 .1) (c .before .before .before .before .before .before .before .before .before .before .before .before .before .before .before .before .before .before .before .extract-and-list .result) _ _ (c .before .before .before .before .before .before .before .before .before .before .before .before .before .before .before .before .before .before .before .extract-and-list .ensures) _ _ (c .before .before .before .before .before .before .before .before .before .before .before .before .listed .given .1) (c .before .before .before .before .before .before .before .before .before .before .before .before .before .before .before .before .before .before .before .before .before .before .before .tree-count .result) (c .before .before .before .before .before .before .before .before .before .before .before .before .before .before .before .before .before .before .before .before .before .before .before .tree-count .ensures)) (a .at) (a .table .now) _ _ (c .before .before .before .before .before .before .scope-listed .ensures)
 
 scope-grouped-sub-next : (t : ℕ) → scope-grouped-lts.Need-sub-next (walk-below t, walk.Post, walk-refusal-reads.Asked, walk-refusal-reads.Learnt, write-scope-below t, write-scope.Post) (scope-grouped-at t) scope-grouped.Post
 scope-grouped-sub-next t c = let s = c .before .before .before .before .before .before .before .before .before .before in s .pre .1 .1 .0 .enough
@@ -738,7 +738,7 @@ scope-listed-same-length-4 : (t : ℕ) → scope-listed-lts.Need-same-length-4 (
 scope-listed-same-length-4 t c = search needs
 
 scope-listed-returns-2 : (t : ℕ) → scope-listed-lts.Need-returns-2 (put-reads.Asked, put-reads.Learnt, tree-count-reads.Asked, tree-count-reads.Learnt, hold-all-reads.Asked, hold-all-reads.Learnt, scope-held-below t, scope-held.Post) (scope-listed-at t) scope-listed.Post
-scope-listed-returns-2 t c = let s = c .before .before .before .before .before .before .before .before .before .before .before .before .before .before .before .before .before .before .before .before .before .before .before .before .before .before .before .before .before .before in let a = s .args in subst (λ o. Scope-done o (a .at) (a .table .now) (c .before .before .before .before .before .before .scope-held .result) _) (sym (outcome-is (rows-in (a .rows .now)) (a .fuel) (a .row) (a .work .now) (a .used) (a .results) (a .first) (a .places .now) (s .pre .1 .0 .1) (s .pre .1 .1 .0) _ _ refl (c .before .before .before .before .before .before .before .before .before .before .before .before .before .before .before .before .before .before .before .before .before .before .put .ensures) (c .before .before .before .before .before .before .before .before .before .before .before .before .before .before .before .before .before .before .before .tree-count .result) (c .before .before .before .before .before .before .before .before .before .before .before .before .before .before .before .before .before .before .before .tree-count .ensures) (c .before .before .before .before .before .before .before .before .before .before .before .before .before .before .before .before .hold-all .result) _ (c .before .before .before .before .before .before .before .before .before .before .before .before .before .before .before .before .hold-all .ensures) _ (c .before .before .before .before .before .before .before .before .before .before .before .before .before .holding .given .1))) (c .before .before .before .before .before .before .scope-held .ensures)
+scope-listed-returns-2 t c = let s = c .before .before .before .before .before .before .before .before .before .before .before .before .before .before .before .before .before .before .before .before .before .before .before .before .before .before .before .before .before .before in let a = s .args in done-as _ _ (outcome-is (rows-in (a .rows .now)) (a .fuel) (a .row) (a .work .now) (a .used) (a .results) (a .first) (a .places .now) (s .pre .1 .0 .1) (s .pre .1 .1 .0) _ _ refl (c .before .before .before .before .before .before .before .before .before .before .before .before .before .before .before .before .before .before .before .before .before .before .put .ensures) (c .before .before .before .before .before .before .before .before .before .before .before .before .before .before .before .before .before .before .before .tree-count .result) (c .before .before .before .before .before .before .before .before .before .before .before .before .before .before .before .before .before .before .before .tree-count .ensures) (c .before .before .before .before .before .before .before .before .before .before .before .before .before .before .before .before .hold-all .result) _ (c .before .before .before .before .before .before .before .before .before .before .before .before .before .before .before .before .hold-all .ensures) _ (c .before .before .before .before .before .before .before .before .before .before .before .before .before .holding .given .1)) (a .at) (a .table .now) _ _ (c .before .before .before .before .before .before .scope-held .ensures)
 
 abbrev walk-Inv-loop : walk-lts.InvT-loop
 walk-Inv-loop rows work₀ held members ends fuel next text₀ numbers₀ sizes₀ number₀ extracted₀ start₀ g₀ work text numbers sizes number extracted start g = (g ≤ length ends) × Walk-so (inner (rows-in rows) fuel) held (place-groups held) next g number extracted start numbers sizes × (length work ≡ length work₀) × (length text ≡ length text₀) × (length numbers ≡ length numbers₀) × (length sizes ≡ length sizes₀)
@@ -817,7 +817,7 @@ walk-loop-less : (t : ℕ) → walk-lts.Need-loop-less (number-members-reads.Ask
 walk-loop-less t c = search needs
 
 walk-loop-again : (t : ℕ) → walk-lts.Need-loop-again (number-members-reads.Asked, number-members-reads.Learnt, measure-below t, measure.Post, refusal-of-reads.Asked, refusal-of-reads.Learnt) (walk-at t) walk.Post walk-Inv-loop walk-μ-loop
-walk-loop-again t c = let s = c .before .before .before .before .before .before .before .before .before .before .before .before .before .before .before .before .before .before .before .before .before .before .before .before .before .before in let a = s .args in (omega (arith, c .before .before .before .before .before .before .before .before .before .before .before .before .before .before .before .before .loop-test .taken), (walk-goes-on (inner (rows-in (a .rows .now)) (a .fuel)) (a .held .now) (place-groups (a .held .now)) (a .next) _ _ _ _ _ _ (c .before .before .before .before .before .before .before .before .before .before .before .before .before .before .before .before .before .loop .inv .1) (c .before .before .before .before .before .before .before .measure .result) (answer-here (rows-in (a .rows .now)) (a .fuel) (a .next) (a .held .now) (a .members .now) (a .ends .now) (s .pre .1 .0 .1) (s .pre .1 .1 .0 .0) (s .pre .1 .1 .0 .1) _ _ _ _ _ _ (c .before .before .before .before .before .before .before .before .before .before .before .before .before .before .before .before .before .loop .inv .1) (c .before .before .before .before .before .before .before .before .before .before .before .before .before .before .before .before .loop-test .taken) (c .before .before .before .before .before .before .before .measure .result) (c .before .before .before .before .before .before .before .measure .ensures)) _ _ _ (c .before .armed .given .1) _ (count-here (rows-in (a .rows .now)) (a .fuel) (a .next) (a .held .now) (a .members .now) (a .ends .now) (s .pre .1 .0 .1) (s .pre .1 .1 .0 .0) (s .pre .1 .1 .0 .1) _ _ _ _ _ _ (c .before .before .before .before .before .before .before .before .before .before .before .before .before .before .before .before .before .loop .inv .1) (c .before .before .before .before .before .before .before .before .before .before .before .before .before .before .before .before .loop-test .taken)) (getD (a .ends .now) (c .before .before .before .before .before .before .before .before .before .before .before .before .before .before .before .before .before .loop .g) 0) (omega (arith, end-long (rows-in (a .rows .now)) (a .fuel) (a .next) (a .held .now) (a .members .now) (a .ends .now) (s .pre .1 .0 .1) (s .pre .1 .1 .0 .0) (s .pre .1 .1 .0 .1) _ _ _ _ _ _ (c .before .before .before .before .before .before .before .before .before .before .before .before .before .before .before .before .before .loop .inv .1) (c .before .before .before .before .before .before .before .before .before .before .before .before .before .before .before .before .loop-test .taken))) (omega (arith, end-long (rows-in (a .rows .now)) (a .fuel) (a .next) (a .held .now) (a .members .now) (a .ends .now) (s .pre .1 .0 .1) (s .pre .1 .1 .0 .0) (s .pre .1 .1 .0 .1) _ _ _ _ _ _ (c .before .before .before .before .before .before .before .before .before .before .before .before .before .before .before .before .before .loop .inv .1) (c .before .before .before .before .before .before .before .before .before .before .before .before .before .before .before .before .loop-test .taken), end-within (rows-in (a .rows .now)) (a .fuel) (a .next) (a .held .now) (a .members .now) (a .ends .now) (s .pre .1 .0 .1) (s .pre .1 .1 .0 .0) (s .pre .1 .1 .0 .1) _ _ _ _ _ _ (c .before .before .before .before .before .before .before .before .before .before .before .before .before .before .before .before .before .loop .inv .1) (c .before .before .before .before .before .before .before .before .before .before .before .before .before .before .before .before .loop-test .taken), s .pre .1 .1 .1 .0, c .before .before .before .before .before .before .before .before .before .before .before .before .before .before .before .before .before .loop .inv .4)) (omega (arith, c .before .before .before .before .before .before .before .before .before .before .before .before .before .before .before .before .before .loop .inv .5, s .pre .1 .1 .1 .1, c .before .before .before .before .before .before .before .before .before .before .before .before .before .before .before .before .loop-test .taken)) _ (c .before .before .before .before .before .before .before .before .before .before .before .before .before .number-members .ensures)), c .before .before .before .before .before .before .before .measure .kept .1 .0 ∙ c .before .before .before .before .before .before .before .before .before .before .before .before .before .before .before .before .before .loop .inv .2, c .before .before .before .before .before .before .before .measure .kept .1 .1 .1 .1 .1 .1 .0 ∙ c .before .before .before .before .before .before .before .before .before .before .before .before .before .before .before .before .before .loop .inv .3, c .before .before .before .before .before .before .before .before .before .before .before .before .before .number-members .kept .1 .1 .1 .0 ∙ c .before .before .before .before .before .before .before .before .before .before .before .before .before .before .before .before .before .loop .inv .4, length-set _ _ _ ∙ c .before .before .before .before .before .before .before .before .before .before .before .before .before .before .before .before .before .loop .inv .5)
+walk-loop-again t c = let s = c .before .before .before .before .before .before .before .before .before .before .before .before .before .before .before .before .before .before .before .before .before .before .before .before .before .before in let a = s .args in (omega (arith, c .before .before .before .before .before .before .before .before .before .before .before .before .before .before .before .before .loop-test .taken), (walk-goes-on (inner (rows-in (a .rows .now)) (a .fuel)) (a .held .now) (place-groups (a .held .now)) (a .next) _ _ _ _ _ _ (c .before .before .before .before .before .before .before .before .before .before .before .before .before .before .before .before .before .loop .inv .1) (c .before .before .before .before .before .before .before .measure .result) (answer-here (rows-in (a .rows .now)) (a .fuel) (a .next) (a .held .now) (a .members .now) (a .ends .now) (s .pre .1 .0 .1) (s .pre .1 .1 .0 .0) (s .pre .1 .1 .0 .1) _ _ _ _ _ _ (c .before .before .before .before .before .before .before .before .before .before .before .before .before .before .before .before .before .loop .inv .1) (c .before .before .before .before .before .before .before .before .before .before .before .before .before .before .before .before .loop-test .taken) (c .before .before .before .before .before .before .before .measure .result) (c .before .before .before .before .before .before .before .measure .ensures)) _ _ _ (c .before .armed .given .1) _ (count-here (rows-in (a .rows .now)) (a .fuel) (a .next) (a .held .now) (a .members .now) (a .ends .now) (s .pre .1 .0 .1) (s .pre .1 .1 .0 .0) (s .pre .1 .1 .0 .1) _ _ _ _ _ _ (c .before .before .before .before .before .before .before .before .before .before .before .before .before .before .before .before .before .loop .inv .1) (c .before .before .before .before .before .before .before .before .before .before .before .before .before .before .before .before .loop-test .taken)) (getD (a .ends .now) (c .before .before .before .before .before .before .before .before .before .before .before .before .before .before .before .before .before .loop .g) 0) (omega (arith, end-long (rows-in (a .rows .now)) (a .fuel) (a .next) (a .held .now) (a .members .now) (a .ends .now) (s .pre .1 .0 .1) (s .pre .1 .1 .0 .0) (s .pre .1 .1 .0 .1) _ _ _ _ _ _ (c .before .before .before .before .before .before .before .before .before .before .before .before .before .before .before .before .before .loop .inv .1) (c .before .before .before .before .before .before .before .before .before .before .before .before .before .before .before .before .loop-test .taken))) (omega (arith, end-long (rows-in (a .rows .now)) (a .fuel) (a .next) (a .held .now) (a .members .now) (a .ends .now) (s .pre .1 .0 .1) (s .pre .1 .1 .0 .0) (s .pre .1 .1 .0 .1) _ _ _ _ _ _ (c .before .before .before .before .before .before .before .before .before .before .before .before .before .before .before .before .before .loop .inv .1) (c .before .before .before .before .before .before .before .before .before .before .before .before .before .before .before .before .loop-test .taken), end-within (rows-in (a .rows .now)) (a .fuel) (a .next) (a .held .now) (a .members .now) (a .ends .now) (s .pre .1 .0 .1) (s .pre .1 .1 .0 .0) (s .pre .1 .1 .0 .1) _ _ _ _ _ _ (c .before .before .before .before .before .before .before .before .before .before .before .before .before .before .before .before .before .loop .inv .1) (c .before .before .before .before .before .before .before .before .before .before .before .before .before .before .before .before .loop-test .taken), s .pre .1 .1 .1 .0, c .before .before .before .before .before .before .before .before .before .before .before .before .before .before .before .before .before .loop .inv .4)) (omega (arith, c .before .before .before .before .before .before .before .before .before .before .before .before .before .before .before .before .before .loop .inv .5, s .pre .1 .1 .1 .1, c .before .before .before .before .before .before .before .before .before .before .before .before .before .before .before .before .loop-test .taken)) _ (c .before .before .before .before .before .before .before .before .before .before .before .before .before .number-members .ensures)), c .before .before .before .before .before .before .before .measure .kept .1 .0 ∙ c .before .before .before .before .before .before .before .before .before .before .before .before .before .before .before .before .before .loop .inv .2, c .before .before .before .before .before .before .before .measure .kept .1 .1 .1 .1 .1 .1 .0 ∙ c .before .before .before .before .before .before .before .before .before .before .before .before .before .before .before .before .before .loop .inv .3, c .before .before .before .before .before .before .before .before .before .before .before .before .before .number-members .kept .1 .1 .1 .0 ∙ c .before .before .before .before .before .before .before .before .before .before .before .before .before .before .before .before .before .loop .inv .4, length-set (c .before .before .before .before .before .before .before .before .before .before .before .before .before .before .before .before .before .loop .sizes) (c .before .before .before .before .before .before .before .before .before .before .before .before .before .before .before .before .before .loop .g) (c .before .armed .given .0 .0) ∙ c .before .before .before .before .before .before .before .before .before .before .before .before .before .before .before .before .before .loop .inv .5)
 
 walk-same-length-5 : (t : ℕ) → walk-lts.Need-same-length-5 (number-members-reads.Asked, number-members-reads.Learnt, measure-below t, measure.Post, refusal-of-reads.Asked, refusal-of-reads.Learnt) (walk-at t) walk.Post walk-Inv-loop walk-μ-loop
 walk-same-length-5 t c = search needs
@@ -999,7 +999,7 @@ write-stmt-same-length : (t : ℕ) → write-stmt-lts.Need-same-length (write-le
 write-stmt-same-length t c = search needs
 
 write-stmt-returns : (t : ℕ) → write-stmt-lts.Need-returns (write-let-reads.Asked, write-let-reads.Learnt, write-match-below t, write-match.Post) (write-stmt-at t) write-stmt.Post
-write-stmt-returns t c = let s = c .before .before .before .before .before .before .before .before .before .before .before .before .before .before .before .before .before in let a = s .args in subst (λ (z : List ℕ). (c .before .before .write-let .result ≡ a .at + length z) × (_ ≡ overlay (a .at) z (a .table .now))) (sym (let-is (rows-in (a .rows .now)) (a .fuel) (a .tokens .now) (a .results) (a .first) (a .places .now) (a .held .now) (a .starts .now) (a .members .now) (a .ends .now) (a .numbers .now) (a .sizes .now) (s .pre .1 .0 .1) (s .pre .1 .1 .0 .0) (s .pre .1 .1 .0 .1) (a .p) (c .before .before .before .before .if1 .taken))) (c .before .before .write-let .ensures)
+write-stmt-returns t c = let s = c .before .before .before .before .before .before .before .before .before .before .before .before .before .before .before .before .before in let a = s .args in rows-as _ _ (let-is (rows-in (a .rows .now)) (a .fuel) (a .tokens .now) (a .results) (a .first) (a .places .now) (a .held .now) (a .starts .now) (a .members .now) (a .ends .now) (a .numbers .now) (a .sizes .now) (s .pre .1 .0 .1) (s .pre .1 .1 .0 .0) (s .pre .1 .1 .0 .1) (a .p) (c .before .before .before .before .if1 .taken)) (a .at) (a .table .now) _ _ (c .before .before .write-let .ensures)
 
 write-stmt-mul-size : (t : ℕ) → write-stmt-lts.Need-mul-size (write-let-reads.Asked, write-let-reads.Learnt, write-match-below t, write-match.Post) (write-stmt-at t) write-stmt.Post
 write-stmt-mul-size t c = let s = c .before .before .before .before .before .before .before .before .before .before .before .before .before in let a = s .args in omega (arith, size-in (rows-in (a .rows .now)) (a .fuel) (a .tokens .now) (a .results) (a .first) (a .places .now) (a .held .now) (a .starts .now) (a .members .now) (a .ends .now) (a .numbers .now) (a .sizes .now) (s .pre .1 .0 .1) (s .pre .1 .1 .0 .0) (s .pre .1 .1 .0 .1) (a .p) (s .pre .1 .1 .1 .0) (omega (arith, c .if1 .left)), s .good .1 .1 .1 .1 .1 .1 .1 .1 .1 .1 .1 .0)
@@ -1020,7 +1020,7 @@ write-stmt-same-length-4 : (t : ℕ) → write-stmt-lts.Need-same-length-4 (writ
 write-stmt-same-length-4 t c = search needs
 
 write-stmt-returns-2 : (t : ℕ) → write-stmt-lts.Need-returns-2 (write-let-reads.Asked, write-let-reads.Learnt, write-match-below t, write-match.Post) (write-stmt-at t) write-stmt.Post
-write-stmt-returns-2 t c = let s = c .before .before .before .before .before .before .before .before .before .before .before .before .before .before .before .before .before .before .before .before .before .before .before .before in let a = s .args in subst (λ (z : List ℕ). (c .before .before .before .before .before .before .write-match .result ≡ a .at + length z) × (_ ≡ overlay (a .at) z (a .table .now))) (sym (stmt-match-is (rows-in (a .rows .now)) (a .fuel) (a .tokens .now) (a .results) (a .first) (a .places .now) (a .held .now) (a .starts .now) (a .members .now) (a .ends .now) (a .numbers .now) (a .sizes .now) (s .pre .1 .0 .1) (s .pre .1 .1 .0 .0) (s .pre .1 .1 .0 .1) (a .p) (s .pre .1 .1 .1 .0) (omega (arith, c .before .before .before .before .before .before .before .before .before .before .before .if1 .left)))) (c .before .before .before .before .before .before .write-match .ensures)
+write-stmt-returns-2 t c = let s = c .before .before .before .before .before .before .before .before .before .before .before .before .before .before .before .before .before .before .before .before .before .before .before .before in let a = s .args in rows-as _ _ (stmt-match-is (rows-in (a .rows .now)) (a .fuel) (a .tokens .now) (a .results) (a .first) (a .places .now) (a .held .now) (a .starts .now) (a .members .now) (a .ends .now) (a .numbers .now) (a .sizes .now) (s .pre .1 .0 .1) (s .pre .1 .1 .0 .0) (s .pre .1 .1 .0 .1) (a .p) (s .pre .1 .1 .1 .0) (omega (arith, c .before .before .before .before .before .before .before .before .before .before .before .if1 .left))) (a .at) (a .table .now) _ _ (c .before .before .before .before .before .before .write-match .ensures)
 
 abbrev write-stmts-Inv-loop : write-stmts-lts.InvT-loop
 write-stmts-Inv-loop rows work₀ tokens results first places held starts members ends numbers sizes taken fuel text₀ at table₀ to₀ q₀ work text table to q = (q ≤ length taken) × (to ≡ at + length (stmts-runs tokens results first places numbers (scope-arms (rows-in rows) fuel tokens results first places) taken q)) × (table ≡ overlay at (stmts-runs tokens results first places numbers (scope-arms (rows-in rows) fuel tokens results first places) taken q) table₀) × (length work ≡ length work₀) × (length text ≡ length text₀) × (length table ≡ length table₀)
