@@ -1,0 +1,331 @@
+-- The beginning of a scope: what its rounds leave, what it holds, its groups, and its members numbered (01, "Scoped fusion"). Assumes nothing.
+use Prim.Native.Nat.{ℕ, zero, suc, _+_, _-_, _*_, _≤_, _<_}
+use native.Mathlib.Omega.{arith}
+use mathlib.Core.Path.{_≡_, refl, sym, _∙_, ap, ap₂, subst}
+use mathlib.Core.Bool.{Bool, true, false, cond, _&&_}
+use mathlib.Core.Option.{Option, some}
+use mathlib.Core.List.{List, [], _∷_, _++_, map}
+use lib.ListN.{length, getD, take, drop, length-append, length-drop, length-take, length-map}
+use lib.Seq.{take-at, length-take-le, take-all}
+use lib.Dec.{T, leb}
+use borrow.Author.Tests.{le-leb, lt-leb}
+use borrow.Rule.Slice.PartMut.{putMid}
+use Rattle.tree.specs.Outcome.{Refusal, Outcome, ok, refused, by, _>>=_}
+use Rattle.tree.specs.Rows.{Row}
+use Rattle.tree.specs.Tokens.{read, numbered, trees-in, name-in}
+use Rattle.tree.proofs.TokenLaws.{complete-length, complete-within}
+use Rattle.words.specs.Words.{some-trees}
+use Rattle.renaming.specs.Names.{is-number, symbols-pass}
+use Rattle.renaming.specs.Rounds.{next-number}
+use Rattle.kept.specs.Sound.{extractable}
+use Rattle.kept.proofs.Steps.{ready-of}
+use Rattle.reciprocal.specs.Bindings.{all-there}
+use Rattle.reciprocal.proofs.There.{there-tested}
+use Rattle.treelist.specs.Starts.{starts-of, tree-listing, listing-by, listing-room, TreeListing}
+use Rattle.treelist.proofs.Begins.{as-many}
+use Rattle.switchplaces.proofs.GroupColumns.{every-at}
+use Rattle.scopeplaces.specs.Overlay.{overlay}
+use Rattle.scopeplaces.specs.Parts.{place-groups, joined-groups, ends-from, reciprocals-first, lets-count, trees-held, words-held, held-words}
+use Rattle.scopeplaces.specs.Whole.{most-number, Told, Walk, walked, stmts-count, ordered-scope, fused-scope}
+use Rattle.tables.proofs.Laws.{overlay-front}
+use Rattle.scopesound.proofs.Bounds.{Walk-bound, walk-bound, numbers-small, numbers-all}
+use Rattle.scopesound.proofs.Counting.{places-there, first-is, held-extractable, held-passes, held-trees, first-lets, trees-few, lets-few, last-most, stmts-few, members-few, groups-few}
+use Rattle.scopeparts.specs.Prepared.{Prepared}
+use Rattle.scopeparts.proofs.Groups.{ends-count}
+use Rattle.scope.specs.Answers.{inner, scope-answer, scope-table, told-rows, walk-answer, Walk-wrote, walk-refusal, Holding-so}
+use Rattle.scope.specs.Frame.{most-rows, Lent, Holds, Members, Ready, groups-told, grouped-scope, Sized, Numbered, Left, Grouping-so}
+use Rattle.scope.specs.declared.Scoped.{Scoped}
+use Rattle.scope.specs.declared.Scoped.the-variants as scoped
+use Rattle.scope.specs.declared.Holding.{Holding}
+use Rattle.scope.specs.declared.Holding.the-variants as holding
+use Rattle.scope.specs.declared.Walked.{Walked}
+use Rattle.scope.specs.declared.Walked.the-variants as walked-enum
+use Rattle.scope.proofs.Sound.{words-ok, all-few}
+use Rattle.scope.proofs.Walking.{ends-few}
+use Rattle.reciprocals.proofs.Parts.{All-there, settle-tree, settled-reciprocals}
+use Rattle.renaming.specs.Places.{divisors-to-bind, numbered-at}
+use Rattle.fusion.specs.Switchless.{with-switches}
+use Rattle.scope.proofs.Statements.{by-test, by-no-test}
+use Rattle.scope.proofs.Ending.{Scope-done, scope-refused}
+
+-- ---- from the groups on
+
+module _ (rows : List Row) (fuel row : ℕ) (ws : List ℕ) (k first : ℕ) (places held starts members ends : List ℕ)
+    (h : Holds rows (reciprocals-first ws k first places + length places) held) (rd : Ready ws k first places held starts members ends) where
+  abbrev from : ℕ
+  from = reciprocals-first ws k first places + length places
+
+  abbrev lets : ℕ
+  lets = (length starts - k) + length places
+
+  abbrev gs : List (List ℕ)
+  gs = place-groups held
+
+  lets-are : lets-count ws k first places ≡ lets
+  unfolding lets-count
+  lets-are = omega (arith, length-drop k (read numbered ws), complete-length numbered ws (length starts) (rd .complete))
+
+  pub lets-small : lets ≤ 1024
+  unfolding stmts-count
+  lets-small = omega (arith, lets-are, rd .statements [])
+
+  pub from-low : first + lets ≤ 2147484672
+  from-low = omega (arith, lets-small, rd .low)
+
+  pub holds-from : Holds rows (first + lets) held
+  holds-from = subst (λ (n : ℕ). Holds rows n held) (sym (rd .last)) h
+
+  pub members-short : length members ≤ 1024
+  members-short = omega (arith, ap length (rd .grouped .members-are), all-few rows from held h)
+
+  pub ends-short : length ends ≤ 1024
+  ends-short = ends-few rows fuel from held members ends h (rd .grouped) (omega (arith, rd .last, from-low))
+
+  module _ (w : Walked) (numbers sizes : List ℕ) (given : (w ≡ walk-answer (groups-told rows fuel (first + lets) held)) × Walk-wrote (groups-told rows fuel (first + lets) held) numbers sizes) where
+    pub record Walk-done (after extracted : ℕ) : Type 0 where
+      pub walk : Walk
+      pub told : groups-told rows fuel from held ≡ ok walk
+      pub after-is : after ≡ walk .next
+      pub extracted-is : extracted ≡ walk .extracted
+      pub numbers-are : take (length (walk .numbers)) numbers ≡ walk .numbers
+      pub sizes-are : take (length (walk .arms)) sizes ≡ map length (walk .arms)
+
+    abbrev By : Walked → Type 0
+    By (walked-enum.Done after extracted) = Walk-done after extracted
+    By (walked-enum.Refused q) = (i : Refusal) × (groups-told rows fuel from held ≡ refused i) × (i .number ≡ q)
+
+    by-outcome : (o : Outcome Walk) → groups-told rows fuel from held ≡ o → Walk-wrote o numbers sizes → By (walk-answer o)
+    unfolding walk-answer
+    by-outcome (ok l) e x = record { walk = l; told = e; after-is = refl; extracted-is = refl; numbers-are = x .0; sizes-are = x .1 }
+    by-outcome (refused i) e x = (i, e, refl)
+
+    by-answer : By w
+    by-answer =
+        let s = ap (λ (n : ℕ). groups-told rows fuel n held) (rd .last) in
+        subst By (sym (given .0 ∙ ap walk-answer s)) (by-outcome (groups-told rows fuel from held) refl (subst (λ (o : Outcome Walk). Walk-wrote o numbers sizes) s (given .1)))
+
+    pub walk-refused : (q : ℕ) → w ≡ walked-enum.Refused q → (z : ℕ) → z ≡ walk-refusal w → (at : ℕ) (old : List ℕ) → Scope-done (grouped-scope rows fuel row ws k first places) at old (scoped.Refused z) old
+    unfolding grouped-scope walk-refusal
+    walk-refused q e z f at old =
+        let m = subst By e by-answer in
+        let s : grouped-scope rows fuel row ws k first places ≡ refused (m .0) =
+            ap (λ (y : List ℕ). groups-told rows fuel from y >>= λ l. ordered-scope row ws k first places l) (sym (rd .held-is)) ∙ ap (λ (o : Outcome Walk). o >>= λ l. ordered-scope row ws k first places l) (m .1) in
+        subst (λ (n : ℕ). Scope-done (grouped-scope rows fuel row ws k first places) at old (scoped.Refused n) old) (m .2 ∙ sym (f ∙ ap walk-refusal e)) (scope-refused (grouped-scope rows fuel row ws k first places) (m .0) s at old)
+
+    module _ (after extracted : ℕ) (e : w ≡ walked-enum.Done after extracted) where
+      d : Walk-done after extracted
+      d = subst By e by-answer
+
+      bound : Walk-bound gs from (length gs) (d .walk)
+      unfolding groups-told
+      bound = walk-bound rows (is-number rows) fuel from held (h .good) (h .pass) (words-ok rows from held h) (length gs) (omega arith) (d .walk) (d .told)
+
+      numbers-many : length (d .walk .numbers) ≡ length members
+      numbers-many = numbers-all gs from (length gs) (d .walk) bound refl ∙ sym (ap length (rd .grouped .members-are))
+
+      arms-many : length (d .walk .arms) ≡ length ends
+      arms-many = bound .arms-many ∙ sym (ap length (rd .grouped .ends-are) ∙ ends-count 0 gs)
+
+      numbers-here : take (length members) numbers ≡ d .walk .numbers
+      numbers-here = ap (λ (n : ℕ). take n numbers) (sym numbers-many) ∙ d .numbers-are
+
+      pub numbered-so : Numbered rows fuel from held (take (length members) numbers) (take (length ends) sizes) after extracted
+      numbered-so = record {
+        sized = record { walk = d .walk; told = d .told; numbers-are = numbers-here; sizes-are = ap (λ (n : ℕ). take n sizes) (sym arms-many) ∙ d .sizes-are };
+        after-is = d .after-is;
+        extracted-is = d .extracted-is;
+      }
+
+      pub prepared-so : Prepared ws k first places held starts members ends (take (length members) numbers)
+      prepared-so = record {
+        complete = rd .complete;
+        enough = rd .enough;
+        there = rd .there;
+        few = rd .few;
+        low = rd .low;
+        held-is = rd .held-is;
+        short = h .few;
+        starts-are = rd .starts-are;
+        members-are = rd .grouped .members-are;
+        ends-are = rd .grouped .ends-are;
+        numbered = ap length numbers-here ∙ numbers-many;
+        small = λ i l.
+            let q : getD (take (length members) numbers) i 0 ≡ getD (d .walk .numbers) i 0 = ap (λ (y : List ℕ). getD y i 0) numbers-here in
+            let r = every-at (λ (j : ℕ). j ≤ 549755813888) 0 (d .walk .numbers) (numbers-small gs from (length gs) (d .walk) bound (omega (arith, rd .last, from-low))) i (omega (arith, l, ap length numbers-here)) in
+            omega (arith, q, r);
+        statements = rd .statements (take (length members) numbers);
+      }
+
+-- ---- from what is held on
+
+take-front : (n : ℕ) (a b : List ℕ) → n ≤ length a → take n (a ++ b) ≡ take n a
+take-front zero a b h = refl
+take-front (suc n) [] b h = absurd (omega arith)
+take-front (suc n) (x ∷ a) b h = ap (λ (l : List ℕ). x ∷ l) (take-front n a b (omega arith))
+
+starts-listed : (hs old : List ℕ) (m : ℕ) → trees-in hs ≡ some m → m ≤ length old → tree-listing hs old .out ≡ starts-of hs ++ drop m old
+unfolding tree-listing listing-by listing-room
+starts-listed hs old m e l =
+    ap (λ (o : Option ℕ). listing-by o (starts-of hs) old .out) e ∙ ap (λ (b : Bool). listing-room b m (starts-of hs) old .out) (le-leb m (length old) l)
+
+lets-of : (ws : List ℕ) (k first : ℕ) (places : List ℕ) (trees : ℕ) → trees-in ws ≡ some trees → lets-count ws k first places ≡ (trees - k) + length places
+unfolding lets-count
+lets-of ws k first places trees whole = omega (arith, length-drop k (read numbered ws), complete-length numbered ws trees whole)
+
+module _ (rows : List Row) (ws : List ℕ) (k first : ℕ) (places : List ℕ) (l : Left rows ws k first places) where
+  abbrev good : ℕ → Bool
+  good = is-number rows
+
+  abbrev same : List ℕ → Type 0
+  same ps = ps ≡ places
+
+  pub left-there : T (all-there ws places)
+  left-there = there-tested ws places (subst (All-there ws) (sym (l .places-are)) (places-there rows good k first ws (l .good) (l .pass)))
+
+  module _ (held : List ℕ) (held-is : held ≡ held-words ws k first places) (short : length held ≤ 1024) where
+    at-places : (P : List ℕ → Type 0) → P (divisors-to-bind ws (name-in rows) true) → P places
+    at-places P x = subst P (sym (l .places-are)) x
+
+    pub left-holds : Holds rows (reciprocals-first ws k first places + length places) held
+    left-holds = record {
+      good = subst (λ (z : List ℕ). T (extractable rows (reciprocals-first ws k first places + length places) z)) (sym held-is) (at-places (λ ps. T (extractable rows (reciprocals-first ws k first ps + length ps) (held-words ws k first ps))) (held-extractable rows good k first ws (l .good) (l .pass)));
+      pass = subst (λ (z : List ℕ). T (symbols-pass good z)) (sym held-is) (at-places (λ ps. T (symbols-pass good (held-words ws k first ps))) (held-passes rows good k first ws (l .good) (l .pass)));
+      few = short;
+    }
+
+    trees-here : trees-in held ≡ some (length (trees-held ws (next-number k first (read numbered ws)) places))
+    trees-here = ap trees-in held-is ∙ at-places (λ ps. trees-in (held-words ws k first ps) ≡ some (length (trees-held ws (next-number k first (read numbered ws)) ps))) (held-trees rows good k first ws (l .good) (l .pass))
+
+    pub held-whole : T (some-trees (trees-in held))
+    unfolding some-trees
+    held-whole = subst (λ (o : Option ℕ). T (some-trees o)) (sym trees-here) tt
+
+    module _ (trees : ℕ) (whole : trees-in ws ≡ some trees) where
+      pub trees-short : trees ≤ 1024
+      trees-short = omega (arith, complete-length numbered ws trees whole, trees-few rows good k first ws (l .good) (l .pass) (l .few))
+
+      module _ (old starts : List ℕ) (lent : length old ≡ 1024) (listed : starts ≡ tree-listing held old .out) where
+        abbrev m : ℕ
+        m = length (trees-held ws (next-number k first (read numbered ws)) places)
+
+        held-many : trees ≤ m
+        unfolding trees-held
+        held-many = omega (arith, complete-length numbered ws trees whole, length-append (map (settle-tree (map (numbered-at ws) places) (next-number k first (read numbered ws))) (read numbered ws)) (with-switches (settled-reciprocals (map (numbered-at ws) places) (next-number k first (read numbered ws)))), length-map (read numbered ws) (settle-tree (map (numbered-at ws) places) (next-number k first (read numbered ws))))
+
+        all-starts : length (starts-of held) ≡ m
+        all-starts = as-many held ∙ complete-length numbered held m trees-here
+
+        starts-are : take trees starts ≡ take trees (starts-of held)
+        starts-are =
+            ap (take trees) (listed ∙ starts-listed held old m trees-here (omega (arith, lent, complete-within held m trees-here))) ∙ take-front trees (starts-of held) (drop m old) (omega (arith, all-starts, held-many))
+
+        pub starts-long : length (take trees starts) ≡ trees
+        starts-long = ap length starts-are ∙ length-take-le trees (starts-of held) (omega (arith, all-starts, held-many))
+
+        pub ready-so : (members ends : List ℕ) (mm gg : ℕ) → Grouping-so held mm gg members ends → Ready ws k first places held (take trees starts) (take mm members) (take gg ends)
+        ready-so members ends mm gg g =
+            record {
+              complete = whole ∙ ap some (sym starts-long);
+              enough = omega (arith, starts-long, l .enough, complete-length numbered ws trees whole);
+              there = left-there;
+              few = l .few;
+              low = l .low;
+              held-is = held-is;
+              starts-are = starts-are ∙ ap (λ (n : ℕ). take n (starts-of held)) (sym starts-long);
+              grouped = record { members-are = g .members-are; ends-are = g .ends-are };
+              statements = at-places (λ ps. (numbers : List ℕ) → stmts-count ws k first ps numbers ≤ 1024) (stmts-few rows good k first ws (l .good) (l .pass) (l .few) (subst (λ (n : ℕ). n ≤ 1024) (ap length held-is ∙ ap (λ (ps : List ℕ). length (held-words ws k first ps)) (l .places-are)) short));
+              last = last-is;
+            }
+          where
+            last-is : first + ((length (take trees starts) - k) + length places) ≡ reciprocals-first ws k first places + length places
+            last-is =
+                let q = at-places (λ ps. reciprocals-first ws k first ps + length ps ≡ first + lets-count ws k first ps) (first-lets rows good k first ws (l .good) (l .pass)) in
+                omega (arith, q, lets-of ws k first places trees whole, starts-long)
+
+-- ---- from the rounds on
+
+pub whole-so : (rows : List Row) (n : ℕ) (ws : List ℕ) → T (extractable rows n ws) → T (some-trees (trees-in ws))
+unfolding some-trees
+whole-so rows n ws g = let r = ready-of rows n ws g in subst (λ (o : Option ℕ). T (some-trees o)) (sym (r .complete)) tt
+
+-- the rest of the work area is what is lent on, and what comes back stands after the words used
+pub rest-is : (w : List ℕ) (u : ℕ) → take (length w - u) (drop u w) ≡ drop u w
+rest-is w u = take-all (length w - u) (drop u w) (omega (arith, length-drop u w))
+
+pub lent-rest : (fuel : ℕ) (work text : List ℕ) (u : ℕ) → Lent (suc fuel) work text → u ≤ 1024 → Lent fuel (take (length work - u) (drop u work)) text
+lent-rest fuel work text u l h = record { words = omega (arith, l .words, ap length (rest-is work u), length-drop u work); bytes = l .bytes }
+
+module _ (rows : List Row) (fuel row : ℕ) (work : List ℕ) (used k first : ℕ) (places : List ℕ) (there : used ≤ length work) (l : Left rows (take used work) k first places) where
+  abbrev vs : List ℕ
+  vs = take used work
+
+  used-long : length vs ≡ used
+  used-long = length-take-le used work there
+
+  pub used-few : used ≤ 1024
+  used-few = omega (arith, used-long, l .few)
+
+  abbrev outcome : Outcome Told
+  outcome = fused-scope (inner rows fuel) row vs k first places
+
+  module _ (old tokens : List ℕ) (long : length old ≡ 1024) (copied : tokens ≡ overlay 0 vs old) where
+    pub tokens-are : take used tokens ≡ vs
+    tokens-are = ap (take used) (copied ∙ overlay-front vs old (omega (arith, used-long, used-few, long))) ∙ take-at vs (drop (length vs) old) used used-long
+
+    pub tokens-left : Left rows (take used tokens) k first places
+    tokens-left = subst (λ (z : List ℕ). Left rows z k first places) (sym tokens-are) l
+
+    pub tokens-whole : T (some-trees (trees-in (take used tokens)))
+    tokens-whole = whole-so rows (next-number k first (read numbered (take used tokens))) (take used tokens) (tokens-left .good)
+
+    module _ (trees : ℕ) (whole : trees-in (take used tokens) ≡ some trees) where
+      pub trees-enough : k ≤ trees
+      trees-enough = omega (arith, tokens-left .enough, complete-length numbered (take used tokens) trees whole)
+
+      pub trees-few-here : trees ≤ 1024
+      trees-few-here = omega (arith, complete-length numbered (take used tokens) trees whole, trees-few rows (is-number rows) k first (take used tokens) (tokens-left .good) (tokens-left .pass) (tokens-left .few))
+
+      number-is : first + (trees - k) ≡ reciprocals-first (take used tokens) k first places
+      unfolding reciprocals-first next-number
+      number-is = omega (arith, length-drop k (read numbered (take used tokens)), complete-length numbered (take used tokens) trees whole)
+
+      pub places-short : length places ≤ 1024
+      places-short = omega (arith, lets-of (take used tokens) k first places trees whole, subst (λ (ps : List ℕ). lets-count (take used tokens) k first ps ≤ 1024) (sym (tokens-left .places-are)) (lets-few rows (is-number rows) k first (take used tokens) (tokens-left .good) (tokens-left .pass) (tokens-left .few)))
+
+      pub tokens-there : T (all-there (take used tokens) places)
+      tokens-there = left-there rows (take used tokens) k first places tokens-left
+
+      module _ (r : Holding) (held : List ℕ) (given : Holding-so (words-held (take used tokens) (first + (trees - k)) places) r held) where
+        words-are : words-held (take used tokens) (first + (trees - k)) places ≡ held-words (take used tokens) k first places
+        unfolding held-words
+        words-are = ap (λ (n : ℕ). words-held (take used tokens) n places) number-is
+
+        same-outcome : outcome ≡ fused-scope (inner rows fuel) row (take used tokens) k first places
+        same-outcome = ap (λ (z : List ℕ). fused-scope (inner rows fuel) row z k first places) (sym tokens-are)
+
+        pub too-many : r ≡ holding.TooMany → (at : ℕ) (table : List ℕ) → Scope-done outcome at table (scoped.Refused 23) table
+        unfolding fused-scope
+        too-many e at table =
+            let g = subst (λ (q : Holding). Holding-so (words-held (take used tokens) (first + (trees - k)) places) q held) e given in
+            let hs = held-words (take used tokens) k first places in
+            let b : leb (length hs) 1024 ≡ false = lt-leb (length hs) 1024 (omega (arith, g, ap length words-are)) in
+            scope-refused outcome (by 23) (same-outcome ∙ by-no-test (leb (length hs) 1024) _ (refused (by 23)) b) at table
+
+        module _ (n : ℕ) (e : r ≡ holding.Words n) where
+          so : Holding-so (words-held (take used tokens) (first + (trees - k)) places) (holding.Words n) held
+          so = subst (λ (q : Holding). Holding-so (words-held (take used tokens) (first + (trees - k)) places) q held) e given
+
+          pub held-in : n ≤ length held
+          held-in = so .1
+
+          pub held-are : take n held ≡ held-words (take used tokens) k first places
+          held-are = so .0 ∙ words-are
+
+          pub held-short : length (take n held) ≤ 1024
+          held-short = omega (arith, ap length (so .0), so .2)
+
+          pub outcome-is : outcome ≡ grouped-scope rows fuel row (take used tokens) k first places
+          unfolding fused-scope grouped-scope groups-told
+          outcome-is =
+              same-outcome
+              ∙ by-test (leb (length (held-words (take used tokens) k first places)) 1024) _ (refused (by 23)) (le-leb (length (held-words (take used tokens) k first places)) 1024 (omega (arith, ap length held-are, held-short)))

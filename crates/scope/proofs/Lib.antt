@@ -1,0 +1,11 @@
+pub mod ArmLaws
+pub mod Sound
+pub mod Asking
+pub mod WalkLaws
+pub mod Walking
+pub mod Writing
+pub mod Statements
+pub mod Ending
+pub mod Beginning
+pub mod Scoping
+pub mod Leaves

@@ -1,0 +1,188 @@
+-- The rows of a scope's statements, each a let or a match (01, "Scoped fusion"). Assumes nothing.
+use Prim.Native.Nat.{ℕ, zero, suc, _+_, _-_, _*_, _≤_, _<_}
+use native.Mathlib.Omega.{arith}
+use mathlib.Core.Path.{_≡_, refl, sym, _∙_, ap, ap₂, subst}
+use mathlib.Core.Bool.{Bool, true, false, cond}
+use mathlib.Core.List.{List, [], _∷_, _++_, map}
+use lib.ListN.{length, getD, take, drop, length-append, List·getD-map}
+use lib.Dec.{T, ltb, lt→ltb}
+use borrow.Author.Tests.{lt-ltb, le-ltb}
+use Rattle.tree.specs.Outcome.{Refusal, Outcome, ok, refused}
+use Rattle.tree.specs.Rows.{Row}
+use Rattle.renaming.specs.Names.{is-number}
+use Rattle.finishlaws.specs.Entries.{runs}
+use Rattle.switchplaces.proofs.GroupColumns.{every-at}
+use Rattle.kept.proofs.Steps.{ready-of}
+use Rattle.scopeplaces.specs.Overlay.{overlay}
+use Rattle.scopeplaces.specs.Parts.{place-groups, group-at, group-start, match-run, let-run, reciprocals-first, lets-count, held-words}
+use Rattle.scopeplaces.specs.Whole.{Told, Arms-told, Walk, walked, tree-run, stmts-count, stmt-run, stmts-runs}
+use Rattle.tables.proofs.Laws.{overlay-none, overlay-append}
+use Rattle.scopesound.proofs.Columns.{group-fused}
+use Rattle.scopesound.proofs.Sums.{runs-within}
+use Rattle.scopesound.proofs.Bounds.{Walk-bound, walk-bound}
+use Rattle.scopeparts.specs.Prepared.{Prepared, Readied, Grouped}
+use Rattle.scopeparts.proofs.Groups.{ends-count}
+use Rattle.scopeparts.proofs.Held.{lets-are, count-is, trees-few, places-few, held-complete}
+use Rattle.scope.specs.Answers.{inner, arms-of, words-of}
+use Rattle.scope.specs.Frame.{most-rows, Lent, Holds, groups-told, Sized, group-again, Group-sized, scope-arms}
+use Rattle.scope.proofs.Sound.{words-ok, holds-later}
+use Rattle.scope.proofs.WalkLaws.{Walked-at, walked-at, starts-grow}
+
+pub by-test : {A : Type 0} (b : Bool) (x y : A) → b ≡ true → cond b x y ≡ x
+by-test true x y e = refl
+by-test false x y e = absurd (let z : _≡_ {A = ℕ} 0 1 = cc in omega arith)
+
+pub by-no-test : {A : Type 0} (b : Bool) (x y : A) → b ≡ false → cond b x y ≡ y
+by-no-test true x y e = absurd (let z : _≡_ {A = ℕ} 0 1 = cc in omega arith)
+by-no-test false x y e = refl
+
+module _ (rows : List Row) (fuel : ℕ) (ws : List ℕ) (k first : ℕ) (places held starts members ends numbers sizes : List ℕ)
+    (h : Holds rows (reciprocals-first ws k first places + length places) held) (p : Prepared ws k first places held starts members ends numbers)
+    (sz : Sized rows fuel (reciprocals-first ws k first places + length places) held numbers sizes) where
+  abbrev from : ℕ
+  from = reciprocals-first ws k first places + length places
+
+  abbrev lets : ℕ
+  lets = (length starts - k) + length places
+
+  abbrev arms : List (List ℕ)
+  arms = scope-arms rows fuel ws k first places
+
+  abbrev gs : List (List ℕ)
+  gs = place-groups held
+
+  abbrev run : ℕ → List ℕ
+  run q = stmt-run ws k first places numbers arms q
+
+  pub readied : Readied ws k first places held starts members numbers
+  readied = (ends, p)
+
+  pub grouped : Grouped held members ends numbers
+  grouped = record { complete = held-complete p; short = p .short; members-are = p .members-are; ends-are = p .ends-are; numbered = p .numbered; small = p .small }
+
+  pub lets-few : lets ≤ 1024
+  lets-few = omega (arith, count-is p, p .statements)
+
+  pub let-is : (q : ℕ) → q < lets → run q ≡ let-run (first + q) (tree-run ws k first places numbers (k + q))
+  unfolding stmt-run
+  let-is q l = by-test (ltb q (lets-count ws k first places)) _ _ (lt-ltb q (lets-count ws k first places) (omega (arith, lets-are p)))
+
+  pub let-there : (q : ℕ) → q < lets → q < lets-count ws k first places
+  let-there q l = omega (arith, lets-are p)
+
+  -- ---- a match
+
+  all-told : walked (inner rows fuel) held gs from (length gs) ≡ ok (sz .walk)
+  unfolding groups-told
+  all-told = sz .told
+
+  pub arms-are : arms ≡ sz .walk .arms
+  unfolding scope-arms arms-of
+  arms-are = ap (λ (z : List ℕ). arms-of (groups-told rows fuel from z)) (sym (p .held-is)) ∙ ap arms-of (sz .told)
+
+  bound : (n : ℕ) (r : Walk) → n ≤ length gs → walked (inner rows fuel) held gs from n ≡ ok r → Walk-bound gs from n r
+  bound n r l e = walk-bound rows (is-number rows) fuel from held (h .good) (h .pass) (words-ok rows from held h) n l r e
+
+  module _ (q : ℕ) (l : q < stmts-count ws k first places numbers) (past : lets ≤ q) where
+    abbrev g : ℕ
+    g = q - lets
+
+    inside : g < length gs
+    inside = omega (arith, count-is p)
+
+    pub group-there : g < length ends
+    group-there = omega (arith, inside, ap length (p .ends-are) ∙ ends-count 0 gs)
+
+    at-g : Walked-at (inner rows fuel) held gs from (λ n r i e. (let b = bound n r i e in (b .numbers-many, b .arms-many))) (λ j i. (let r = ready-of rows from held (h .good) in group-fused held (r .trees) (r .complete) j i .some-member)) (sz .walk) g
+    at-g = walked-at (inner rows fuel) held gs from (λ n r i e. (let b = bound n r i e in (b .numbers-many, b .arms-many))) (λ j i. (let r = ready-of rows from held (h .good) in group-fused held (r .trees) (r .complete) j i .some-member)) (length gs) (omega arith) (sz .walk) all-told g inside
+
+    again : group-again rows fuel held numbers g ≡ ok (at-g .arms)
+    unfolding group-again
+    again = subst (λ (z : List ℕ). group-again rows fuel held z g ≡ ok (at-g .arms)) (sym (sz .numbers-are)) (at-g .told)
+
+    pub size-in : g < length sizes
+    size-in = omega (arith, inside, ap length (sz .sizes-are), map-long (sz .walk .arms), bound (length gs) (sz .walk) (omega arith) all-told .arms-many)
+      where
+        map-long : (z : List (List ℕ)) → length (map length z) ≡ length z
+        map-long [] = refl
+        map-long (y ∷ z) = ap suc (map-long z)
+
+    size-of : getD sizes g 0 ≡ length (at-g .arms .words)
+    size-of = ap (λ (z : List ℕ). getD z g 0) (sz .sizes-are) ∙ (at-map (sz .walk .arms) g ∙ ap length (at-g .rows))
+      where
+        at-map : (z : List (List ℕ)) (i : ℕ) → getD (map length z) i 0 ≡ length (getD z i [])
+        at-map [] i = refl
+        at-map (y ∷ z) zero = refl
+        at-map (y ∷ z) (suc i) = at-map z i
+
+    pub group-sized : Group-sized rows fuel held numbers g (getD sizes g 0)
+    group-sized = record { arms = at-g .arms; told = again; size-is = size-of }
+
+    pub number-holds : Holds rows (getD numbers (group-start gs g) 0) held
+    number-holds =
+        let b = bound (length gs) (sz .walk) (omega arith) all-told in
+        let i : group-start gs g < length (sz .walk .numbers) =
+            omega (arith, b .numbers-many, starts-grow (inner rows fuel) held gs from (λ n r i e. (let b = bound n r i e in (b .numbers-many, b .arms-many))) (λ j i. (let r = ready-of rows from held (h .good) in group-fused held (r .trees) (r .complete) j i .some-member)) (length gs) g inside (omega arith)) in
+        let e = every-at (λ (j : ℕ). (from ≤ j) × (j < sz .walk .next)) 0 (sz .walk .numbers) (b .numbers-between) (group-start gs g) i in
+        let f : getD numbers (group-start gs g) 0 ≡ getD (sz .walk .numbers) (group-start gs g) 0 = ap (λ (z : List ℕ). getD z (group-start gs g) 0) (sz .numbers-are) in
+        holds-later rows from (getD numbers (group-start gs g) 0) held (omega (arith, e .0, f)) h
+
+    pub match-is : run q ≡ match-run held gs numbers (words-of (group-again rows fuel held numbers g)) g
+    unfolding stmt-run words-of
+    match-is =
+        by-no-test (ltb q (lets-count ws k first places)) _ _ (le-ltb q (lets-count ws k first places) (omega (arith, lets-are p)))
+        ∙ (ap (λ (j : ℕ). match-run (held-words ws k first places) (place-groups (held-words ws k first places)) numbers (getD arms (q - j) []) (q - j)) (lets-are p)
+        ∙ (ap (λ (z : List ℕ). match-run z (place-groups z) numbers (getD arms g []) g) (sym (p .held-is))
+        ∙ ap (λ (z : List ℕ). match-run held gs numbers z g) (ap (λ (z : List (List ℕ)). getD z g []) arms-are ∙ (at-g .rows ∙ sym (ap words-of again)))))
+
+  -- ---- all statements
+
+  module _ (taken : List ℕ) where
+    abbrev entry : ℕ → List ℕ
+    entry q = run (getD taken q 0)
+
+    abbrev all-runs : ℕ → List ℕ
+    all-runs n = stmts-runs ws k first places numbers arms taken n
+
+    next-run : (n : ℕ) → all-runs (suc n) ≡ all-runs n ++ entry n
+    unfolding stmts-runs runs
+    next-run n = refl
+
+    no-runs : all-runs 0 ≡ []
+    unfolding stmts-runs runs
+    no-runs = refl
+
+    runs-under : (q n : ℕ) → q ≤ n → length (all-runs q) ≤ length (all-runs n)
+    unfolding stmts-runs
+    runs-under q n l = runs-within entry q n l
+
+    module _ (at : ℕ) (old : List ℕ) (fits : at + length (all-runs (length taken)) ≤ most-rows) where
+      -- after the first n
+      pub record Stmts-so (n to : ℕ) (table : List ℕ) : Type 0 where
+        pub to-is : to ≡ at + length (all-runs n)
+        pub table-is : table ≡ overlay at (all-runs n) old
+
+      pub stmts-begin : Stmts-so 0 at old
+      stmts-begin = record { to-is = omega (arith, ap length no-runs); table-is = sym (ap (λ (z : List ℕ). overlay at z old) no-runs ∙ overlay-none at old) }
+
+      module _ (n to : ℕ) (table : List ℕ) (so : Stmts-so n to table) where
+        pub entry-fits : n < length taken → to + length (entry n) ≤ most-rows
+        entry-fits l = omega (arith, so .to-is, ap length (next-run n), length-append (all-runs n) (entry n), runs-under (suc n) (length taken) (omega arith))
+
+        pub stmts-on : (r : ℕ) (new : List ℕ) → (r ≡ to + length (entry n)) × (new ≡ overlay to (entry n) table) → Stmts-so (n + 1) r new
+        stmts-on r new (e, f) =
+            subst (λ (j : ℕ). Stmts-so j r new) (omega arith)
+            (record {
+              to-is = omega (arith, e, so .to-is, ap length (next-run n), length-append (all-runs n) (entry n));
+              table-is =
+                  f
+                  ∙ (ap₂ (λ (j : ℕ) (t : List ℕ). overlay j (entry n) t) (so .to-is) (so .table-is)
+                  ∙ (sym (overlay-append at (all-runs n) (entry n) old) ∙ ap (λ (z : List ℕ). overlay at z old) (sym (next-run n))));
+            })
+
+        pub stmts-end : n ≡ length taken → (to ≡ at + length (all-runs (length taken))) × (table ≡ overlay at (all-runs (length taken)) old)
+        stmts-end e = (so .to-is ∙ ap (λ (j : ℕ). at + length (all-runs j)) e, so .table-is ∙ ap (λ (j : ℕ). overlay at (all-runs j) old) e)
+
+-- the same by an equal run
+pub rows-as : (x y : List ℕ) → x ≡ y → (at : ℕ) (old : List ℕ) (r : ℕ) (new : List ℕ) → (r ≡ at + length y) × (new ≡ overlay at y old) → (r ≡ at + length x) × (new ≡ overlay at x old)
+rows-as x y e at old r new d = subst (λ (z : List ℕ). (r ≡ at + length z) × (new ≡ overlay at z old)) (sym e) d

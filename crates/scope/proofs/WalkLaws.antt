@@ -1,0 +1,215 @@
+-- The groups of a scope one after another (01, "Scoped fusion"): their members take numbers, their arms are done, and the first that is refused ends them; and what
+-- was found of one group afterwards. Assumes nothing.
+use Prim.Native.Nat.{ℕ, zero, suc, _+_, _-_, _≤_, _<_}
+use native.Mathlib.Nat.{add-zero, add-assoc}
+use native.Mathlib.Omega.{arith}
+use mathlib.Core.Path.{_≡_, refl, sym, _∙_, ap, ap₂, subst}
+use mathlib.Core.List.{List, [], _∷_, _++_, map, append-assoc}
+use lib.ListN.{length, getD, take, drop, set, length-append, List·getD-append}
+use lib.Seq.{take-at, length-take-le, getD-append-add}
+use Rattle.tree.specs.Outcome.{Refusal, Outcome, ok, refused, _>>=_}
+use Rattle.fusion.specs.Words.{numbers-from}
+use Rattle.fusion.proofs.Members.{numbers-count}
+use Rattle.scopeplaces.specs.Overlay.{overlay}
+use Rattle.scopeplaces.specs.Parts.{group-at, group-start}
+use Rattle.scopeplaces.specs.Whole.{Told, Arms-told, Walk, arms-told, group-told, walked}
+use Rattle.tables.proofs.Laws.{overlay-fits, overlay-word}
+use Rattle.scope.specs.Answers.{arms-answer, walk-answer, Walk-wrote, refusal-number}
+use Rattle.scope.specs.declared.Armed.{Armed}
+use Rattle.scope.specs.declared.Armed.the-variants as armed
+use Rattle.scope.specs.declared.Walked.{Walked}
+use Rattle.scope.specs.declared.Walked.the-variants as walked-enum
+use Rattle.scope.proofs.ArmLaws.{got, never-ok, Or, first, second, lt-or-eq}
+use Rattle.scopesound.proofs.Bounds.{start-next}
+
+-- ---- words in front grow
+
+pub front-grows : (xs new old : List ℕ) (at : ℕ) → at ≡ length xs → take (length xs) old ≡ xs → at + length new ≤ length old → take (length (xs ++ new)) (overlay at new old) ≡ xs ++ new
+front-grows xs new old at e f fits =
+    let s : overlay at new old ≡ (xs ++ new) ++ drop (at + length new) old =
+        overlay-fits at new old fits
+        ∙ (ap (λ (l : List ℕ). l ++ (new ++ drop (at + length new) old)) (ap (λ (k : ℕ). take k old) e ∙ f) ∙ sym (append-assoc xs new (drop (at + length new) old))) in
+    ap (take (length (xs ++ new))) s ∙ take-at (xs ++ new) (drop (at + length new) old) (length (xs ++ new)) refl
+
+map-more : (l : List (List ℕ)) (x : List ℕ) → map length (l ++ (x ∷ [])) ≡ map length l ++ (length x ∷ [])
+map-more [] x = refl
+map-more (y ∷ l) x = ap (λ (k : List ℕ). length y ∷ k) (map-more l x)
+
+map-long : (l : List (List ℕ)) → length (map length l) ≡ length l
+map-long [] = refl
+map-long (y ∷ l) = ap suc (map-long l)
+
+module _ (scope : ℕ → List ℕ → Outcome Told) (hs : List ℕ) (gs : List (List ℕ)) where
+  abbrev pub with-group : ℕ → Walk → Arms-told → Walk
+  with-group n r a =
+      record { numbers = r .numbers ++ numbers-from (r .next) (length (group-at gs n)); arms = r .arms ++ (a .words ∷ []); next = a .next; extracted = r .extracted + a .extracted }
+
+  module _ (next n : ℕ) where
+    abbrev then-group : Outcome Walk → Outcome Walk
+    then-group o = o >>= λ r. group-told scope hs (group-at gs n) (r .next) >>= λ a. ok (with-group n r a)
+
+    pub walked-more : (r : Walk) (a : Arms-told) → walked scope hs gs next n ≡ ok r → group-told scope hs (group-at gs n) (r .next) ≡ ok a → walked scope hs gs next (suc n) ≡ ok (with-group n r a)
+    unfolding walked
+    walked-more r a e f = ap then-group e ∙ ap (λ (o : Outcome Arms-told). o >>= λ a. ok (with-group n r a)) f
+
+    pub walked-stop : (r : Walk) (i : Refusal) → walked scope hs gs next n ≡ ok r → group-told scope hs (group-at gs n) (r .next) ≡ refused i → walked scope hs gs next (suc n) ≡ refused i
+    unfolding walked
+    walked-stop r i e f = ap then-group e ∙ ap (λ (o : Outcome Arms-told). o >>= λ a. ok (with-group n r a)) f
+
+    pub walked-stay : (i : Refusal) → walked scope hs gs next n ≡ refused i → walked scope hs gs next (suc n) ≡ refused i
+    unfolding walked
+    walked-stay i e = ap then-group e
+
+    pub record Walked-back (r : Walk) : Type 0 where
+      pub before : Walk
+      pub last : Arms-told
+      pub before-told : walked scope hs gs next n ≡ ok before
+      pub last-told : group-told scope hs (group-at gs n) (before .next) ≡ ok last
+      pub is : with-group n before last ≡ r
+
+    pub walked-back : (r : Walk) → walked scope hs gs next (suc n) ≡ ok r → Walked-back r
+    unfolding walked
+    walked-back r e = first (walked scope hs gs next n) refl e
+      where
+        second : (b : Walk) → walked scope hs gs next n ≡ ok b → (o : Outcome Arms-told) → group-told scope hs (group-at gs n) (b .next) ≡ o → (o >>= λ a. ok (with-group n b a)) ≡ ok r → Walked-back r
+        second b f (ok t) s q = record { before = b; last = t; before-told = f; last-told = s; is = got q }
+        second b f (refused i) s q = absurd (never-ok q)
+        first : (o : Outcome Walk) → walked scope hs gs next n ≡ o → then-group o ≡ ok r → Walked-back r
+        first (ok b) f q = second b f (group-told scope hs (group-at gs n) (b .next)) refl q
+        first (refused i) f q = absurd (never-ok q)
+
+  pub walked-stopped : (next n m : ℕ) (i : Refusal) → walked scope hs gs next n ≡ refused i → walked scope hs gs next (m + n) ≡ refused i
+  walked-stopped next n zero i e = subst (λ (k : ℕ). walked scope hs gs next k ≡ refused i) (omega arith) e
+  walked-stopped next n (suc m) i e = subst (λ (k : ℕ). walked scope hs gs next k ≡ refused i) (omega arith) (walked-stay next (m + n) i (walked-stopped next n m i e))
+
+  -- ---- the loop
+
+  module _ (next : ℕ) where
+    -- after the first n groups
+    pub record Walk-so (n number extracted start : ℕ) (numbers sizes : List ℕ) : Type 0 where
+      pub done : Walk
+      pub told : walked scope hs gs next n ≡ ok done
+      pub number-is : number ≡ done .next
+      pub extracted-is : extracted ≡ done .extracted
+      pub start-is : start ≡ length (done .numbers)
+      pub arms-many : n ≡ length (done .arms)
+      pub numbers-are : take (length (done .numbers)) numbers ≡ done .numbers
+      pub sizes-are : take (length (map length (done .arms))) sizes ≡ map length (done .arms)
+
+    pub walk-begin : (numbers sizes : List ℕ) → Walk-so 0 next 0 0 numbers sizes
+    unfolding walked
+    walk-begin numbers sizes =
+        record { done = record { numbers = []; arms = []; next = next; extracted = 0 }; told = refl; number-is = refl; extracted-is = refl; start-is = refl; arms-many = refl; numbers-are = refl; sizes-are = refl }
+
+    module _ (n number extracted start : ℕ) (numbers sizes : List ℕ) (so : Walk-so n number extracted start numbers sizes) (r : Armed)
+        (given : r ≡ arms-answer (group-told scope hs (group-at gs n) number) 0) where
+      abbrev Step-by : Armed → Type 0
+      Step-by (armed.Rows size after more) =
+          (count : ℕ) → count ≡ length (group-at gs n) → (end : ℕ) → end ≡ start + count → start + count ≤ length numbers → n < length sizes
+          → (numbers' : List ℕ) → numbers' ≡ overlay start (numbers-from number count) numbers → Walk-so (n + 1) after (extracted + more) end numbers' (set sizes n size)
+      Step-by (armed.Refused q) = (i : Refusal) × (walked scope hs gs next (suc n) ≡ refused i) × (i .number ≡ q)
+
+      step-ok : (a : Arms-told) → group-told scope hs (group-at gs n) number ≡ ok a → Step-by (armed.Rows (0 + length (a .words)) (a .next) (a .extracted))
+      step-ok a e count c end f fits inside numbers' p =
+          let d = so .done in
+          let nums = numbers-from (d .next) (length (group-at gs n)) in
+          let k : length nums ≡ count = numbers-count (d .next) (length (group-at gs n)) ∙ sym c in
+          let same : numbers-from number count ≡ nums = ap₂ numbers-from (so .number-is) c in
+          record {
+            done = with-group n d a;
+            told = subst (λ (j : ℕ). walked scope hs gs next j ≡ ok (with-group n d a)) (omega arith) (walked-more next n d a (so .told) (subst (λ (j : ℕ). group-told scope hs (group-at gs n) j ≡ ok a) (so .number-is) e));
+            number-is = refl;
+            extracted-is = ap (λ (j : ℕ). j + a .extracted) (so .extracted-is);
+            start-is = omega (arith, f, so .start-is, k, length-append (d .numbers) nums);
+            arms-many = omega (arith, so .arms-many, length-append (d .arms) (a .words ∷ []));
+            numbers-are =
+                ap (take (length (d .numbers ++ nums))) (p ∙ ap (λ (l : List ℕ). overlay start l numbers) same)
+                ∙ front-grows (d .numbers) nums numbers start (so .start-is) (so .numbers-are) (omega (arith, k, fits));
+            sizes-are =
+                let m = map length (d .arms) in
+                let size = 0 + length (a .words) in
+                let z : map length (d .arms ++ (a .words ∷ [])) ≡ m ++ (size ∷ []) = map-more (d .arms) (a .words) ∙ ap (λ (j : ℕ). m ++ (j ∷ [])) (omega arith) in
+                ap₂ (λ (l : List ℕ) (s : List ℕ). take (length l) s) z (sym (overlay-word n size sizes))
+                ∙ (front-grows m (size ∷ []) sizes n (so .arms-many ∙ sym (map-long (d .arms))) (so .sizes-are) (omega (arith, inside)) ∙ sym z);
+          }
+
+      step-by-outcome : (o : Outcome Arms-told) → group-told scope hs (group-at gs n) number ≡ o → Step-by (arms-answer o 0)
+      unfolding arms-answer
+      step-by-outcome (ok a) e = step-ok a e
+      step-by-outcome (refused i) e = (i, walked-stop next n (so .done) i (so .told) (subst (λ (j : ℕ). group-told scope hs (group-at gs n) j ≡ refused i) (so .number-is) e), refl)
+
+      step-by : Step-by r
+      step-by = subst Step-by (sym given) (step-by-outcome (group-told scope hs (group-at gs n) number) refl)
+
+      pub walk-goes-on : (size after more : ℕ) → r ≡ armed.Rows size after more → Step-by (armed.Rows size after more)
+      walk-goes-on size after more e = subst Step-by e step-by
+
+      pub walk-ends-refused : (count : ℕ) → n < count → (q : ℕ) → r ≡ armed.Refused q → (z : ℕ) → z ≡ refusal-number r → (numbers' sizes' : List ℕ)
+          → (walked-enum.Refused z ≡ walk-answer (walked scope hs gs next count)) × Walk-wrote (walked scope hs gs next count) numbers' sizes'
+      unfolding refusal-number walk-answer
+      walk-ends-refused count h q e z f numbers' sizes' =
+          let m = subst Step-by e step-by in
+          let s : walked scope hs gs next count ≡ refused (m .0) = subst (λ (k : ℕ). walked scope hs gs next k ≡ refused (m .0)) (omega arith) (walked-stopped next (suc n) (count - suc n) (m .0) (m .1)) in
+          let y : z ≡ m .0 .number = f ∙ (ap refusal-number e ∙ sym (m .2)) in
+          subst (λ (o : Outcome Walk). (walked-enum.Refused z ≡ walk-answer o) × Walk-wrote o numbers' sizes') (sym s) (ap (λ (k : ℕ). walked-enum.Refused k) y, tt)
+
+    pub walk-all : (n number extracted start : ℕ) (numbers sizes : List ℕ) → Walk-so n number extracted start numbers sizes → (count : ℕ) → n ≡ count
+        → (walked-enum.Done number extracted ≡ walk-answer (walked scope hs gs next count)) × Walk-wrote (walked scope hs gs next count) numbers sizes
+    unfolding walk-answer
+    walk-all n number extracted start numbers sizes so count e =
+        let s : walked scope hs gs next count ≡ ok (so .done) = subst (λ (k : ℕ). walked scope hs gs next k ≡ ok (so .done)) e (so .told) in
+        subst (λ (o : Outcome Walk). (walked-enum.Done number extracted ≡ walk-answer o) × Walk-wrote o numbers sizes) (sym s)
+        (ap₂ walked-enum.Done (so .number-is) (so .extracted-is), (so .numbers-are, ap (λ (k : ℕ). take k sizes) (sym (map-long (so .done .arms))) ∙ so .sizes-are))
+
+-- ---- one group of those walked
+
+module _ (scope : ℕ → List ℕ → Outcome Told) (hs : List ℕ) (gs : List (List ℕ)) (next : ℕ)
+    (many : (n : ℕ) (r : Walk) → n ≤ length gs → walked scope hs gs next n ≡ ok r → (length (r .numbers) ≡ group-start gs n) × (length (r .arms) ≡ n))
+    (some : (g : ℕ) → g < length gs → 1 ≤ length (group-at gs g)) where
+  pub starts-grow : (n g : ℕ) → g < n → n ≤ length gs → group-start gs g < group-start gs n
+  starts-grow zero g l h = absurd (omega arith)
+  starts-grow (suc n) g l h = go (lt-or-eq g n (omega arith)) (λ q. starts-grow n g q (omega arith))
+    where
+      go : Or (g < n) (g ≡ n) → (g < n → group-start gs g < group-start gs n) → group-start gs g < group-start gs (suc n)
+      go (first q) ih = omega (arith, ih q, start-next gs n (omega arith))
+      go (second q) ih = omega (arith, ap (group-start gs) q, start-next gs n (omega arith), some n (omega arith))
+
+  pub record Walked-at (l : Walk) (g : ℕ) : Type 0 where
+    pub arms : Arms-told
+    pub told : group-told scope hs (group-at gs g) (getD (l .numbers) (group-start gs g) 0) ≡ ok arms
+    pub rows : getD (l .arms) g [] ≡ arms .words
+
+  numbers-first : (n k : ℕ) → 1 ≤ k → getD (numbers-from n k) 0 0 ≡ n
+  unfolding numbers-from
+  numbers-first n zero h = absurd (omega arith)
+  numbers-first n (suc k) h = refl
+
+  last-at : (n : ℕ) (l : Walk) → n < length gs → Walked-back scope hs gs next n l → Walked-at l n
+  last-at n l h b =
+      let m = many n (b .before) (omega arith) (b .before-told) in
+      let nums = numbers-from (b .before .next) (length (group-at gs n)) in
+      let z : length (b .before .numbers) + 0 ≡ group-start gs n = omega (arith, m .0) in
+      let y : length (b .before .arms) + 0 ≡ n = omega (arith, m .1) in
+      let number : getD (b .before .numbers ++ nums) (group-start gs n) 0 ≡ b .before .next =
+          ap (λ (k : ℕ). getD (b .before .numbers ++ nums) k 0) (sym z) ∙ (getD-append-add (b .before .numbers) nums 0 0 ∙ numbers-first (b .before .next) (length (group-at gs n)) (some n h)) in
+      let arms : getD (b .before .arms ++ (b .last .words ∷ [])) n [] ≡ b .last .words =
+          ap (λ (k : ℕ). getD (b .before .arms ++ (b .last .words ∷ [])) k []) (sym y) ∙ getD-append-add (b .before .arms) (b .last .words ∷ []) 0 [] in
+      subst (λ (w : Walk). Walked-at w n) (b .is) (record { arms = b .last; told = ap (λ (k : ℕ). group-told scope hs (group-at gs n) k) number ∙ b .last-told; rows = arms })
+
+  earlier-at : (n g : ℕ) (l : Walk) → g < n → n < length gs → (b : Walked-back scope hs gs next n l) → Walked-at (b .before) g → Walked-at l g
+  earlier-at n g l q h b w =
+      let m = many n (b .before) (omega arith) (b .before-told) in
+      let nums = numbers-from (b .before .next) (length (group-at gs n)) in
+      let number : getD (b .before .numbers ++ nums) (group-start gs g) 0 ≡ getD (b .before .numbers) (group-start gs g) 0 =
+          List·getD-append (b .before .numbers) nums 0 (group-start gs g) (omega (arith, m .0, starts-grow n g q (omega arith))) in
+      let arms : getD (b .before .arms ++ (b .last .words ∷ [])) g [] ≡ getD (b .before .arms) g [] =
+          List·getD-append (b .before .arms) (b .last .words ∷ []) [] g (omega (arith, m .1)) in
+      subst (λ (z : Walk). Walked-at z g) (b .is) (record { arms = w .arms; told = ap (λ (k : ℕ). group-told scope hs (group-at gs g) k) number ∙ w .told; rows = arms ∙ w .rows })
+
+  pub walked-at : (n : ℕ) → n ≤ length gs → (l : Walk) → walked scope hs gs next n ≡ ok l → (g : ℕ) → g < n → Walked-at l g
+  walked-at zero h l e g q = absurd (omega arith)
+  walked-at (suc n) h l e g q = go (lt-or-eq g n (omega arith)) (walked-back scope hs gs next n l e) (λ b f p. walked-at n (omega arith) b f g p)
+    where
+      go : Or (g < n) (g ≡ n) → Walked-back scope hs gs next n l → ((b : Walk) → walked scope hs gs next n ≡ ok b → g < n → Walked-at b g) → Walked-at l g
+      go (first p) b ih = earlier-at n g l p (omega arith) b (ih (b .before) (b .before-told) p)
+      go (second p) b ih = subst (Walked-at l) (sym p) (last-at n l (omega arith) b)

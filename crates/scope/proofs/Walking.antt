@@ -1,0 +1,79 @@
+-- What the walk over the groups of a scope asks of each is given, and its sums are words (01, "Scoped fusion"). Assumes nothing.
+use Prim.Native.Nat.{ℕ, zero, suc, _+_, _-_, _*_, _≤_, _<_}
+use native.Mathlib.Omega.{arith}
+use mathlib.Core.Path.{_≡_, refl, sym, _∙_, ap, subst}
+use mathlib.Core.List.{List, [], _∷_, _++_, map}
+use lib.ListN.{length, getD, take, drop}
+use lib.Dec.{T}
+use Rattle.tree.specs.Outcome.{Outcome, ok, refused}
+use Rattle.tree.specs.Rows.{Row}
+use Rattle.renaming.specs.Names.{is-number}
+use Rattle.scopeplaces.specs.Parts.{place-groups, joined-groups, ends-from, group-at, group-start, group-end}
+use Rattle.scopeplaces.specs.Whole.{Told, Arms-told, Walk, walked, group-told}
+use Rattle.kept.proofs.Steps.{ready-of}
+use Rattle.scopesound.proofs.Columns.{groups-count}
+use Rattle.scopesound.proofs.Counting.{switches-few}
+use Rattle.scopesound.proofs.Bounds.{Walk-bound, walk-bound}
+use Rattle.scope.specs.Answers.{inner, arms-answer}
+use Rattle.scope.specs.Frame.{Lent, Holds, Is-group, Members}
+use Rattle.scope.specs.declared.Armed.{Armed}
+use Rattle.scopeparts.proofs.Groups.{ends-count, end-is, group-long, group-inside, group-part}
+use Rattle.scope.proofs.Sound.{words-ok, all-few, holds-later}
+use Rattle.scope.proofs.WalkLaws.{Walk-so}
+
+module _ (rows : List Row) (fuel next : ℕ) (held members ends : List ℕ) (h : Holds rows next held) (m : Members held members ends) (low : next ≤ 4294967296) where
+  abbrev gs : List (List ℕ)
+  gs = place-groups held
+
+  pub ends-many : length ends ≡ length gs
+  ends-many = ap length (m .ends-are) ∙ ends-count 0 gs
+
+  pub ends-few : length ends ≤ 1024
+  ends-few =
+      let r = ready-of rows next held (h .good) in
+      omega (arith, ends-many, groups-count held (r .trees) (r .complete), switches-few rows held (words-ok rows next held h) (r .trees) (r .complete), h .few)
+
+  module _ (n number extracted start : ℕ) (numbers sizes : List ℕ) (so : Walk-so (inner rows fuel) held gs next n number extracted start numbers sizes) where
+    pub so-bound : n ≤ length ends → Walk-bound gs next n (so .done)
+    so-bound l = walk-bound rows (is-number rows) fuel next held (h .good) (h .pass) (words-ok rows next held h) n (omega (arith, ends-many)) (so .done) (so .told)
+
+    pub number-low : n ≤ length ends → number ≤ 4294967296
+    number-low l = let b = so-bound l in omega (arith, so .number-is, b .most 4294967296 low (omega arith))
+
+    pub number-holds : n ≤ length ends → Holds rows number held
+    number-holds l = let b = so-bound l in holds-later rows next number held (omega (arith, so .number-is, b .forth)) h
+
+    pub made-low : n ≤ length ends → extracted ≤ 4294967296
+    made-low l = let b = so-bound l in omega (arith, so .extracted-is, so .number-is, number-low l, b .made)
+
+    module _ (l : n < length ends) where
+      inside : n < length gs
+      inside = omega (arith, ends-many)
+
+      pub start-at : start ≡ group-start gs n
+      start-at = let b = so-bound (omega arith) in so .start-is ∙ b .numbers-many
+
+      pub end-at : getD ends n 0 ≡ group-end gs n
+      end-at = ap (λ (e : List ℕ). getD e n 0) (m .ends-are) ∙ end-is gs n inside
+
+      pub end-long : getD ends n 0 ≡ start + length (group-at gs n)
+      end-long = omega (arith, end-at, group-long gs n inside, start-at)
+
+      pub end-within : getD ends n 0 ≤ length members
+      end-within = omega (arith, end-at, group-inside gs n inside, ap length (m .members-are))
+
+      pub members-here : take (getD ends n 0 - start) (drop start members) ≡ group-at gs n
+      members-here =
+          ap (λ (k : ℕ). take (k - start) (drop start members)) end-at
+          ∙ (ap (λ (k : ℕ). take (group-end gs n - k) (drop k members)) start-at
+          ∙ (ap (λ (z : List ℕ). take (group-end gs n - group-start gs n) (drop (group-start gs n) z)) (m .members-are) ∙ group-part gs n inside))
+
+      pub group-here : Is-group held (take (getD ends n 0 - start) (drop start members))
+      group-here = record { number = n; there = inside; is = members-here }
+
+      pub answer-here : (r : Armed) → r ≡ arms-answer (group-told (inner rows fuel) held (take (getD ends n 0 - start) (drop start members)) number) 0
+          → r ≡ arms-answer (group-told (inner rows fuel) held (group-at gs n) number) 0
+      answer-here r e = subst (λ (z : List ℕ). r ≡ arms-answer (group-told (inner rows fuel) held z number) 0) members-here e
+
+      pub count-here : getD ends n 0 - start ≡ length (group-at gs n)
+      count-here = omega (arith, end-long)

@@ -1,0 +1,166 @@
+-- The rows of a match and of a statement, given what their parts write (01, "Scoped fusion"). Assumes nothing.
+use Prim.Native.Nat.{ℕ, zero, suc, _+_, _-_, _*_, _≤_, _<_}
+use native.Mathlib.Omega.{arith}
+use mathlib.Core.Path.{_≡_, refl, sym, _∙_, ap, ap₂, subst}
+use mathlib.Core.List.{List, [], _∷_, _++_, map, append-assoc}
+use lib.ListN.{length, getD, take, drop, length-append}
+use lib.Dec.{T}
+use Rattle.tree.specs.Outcome.{Refusal, Outcome, ok, refused}
+use Rattle.tree.specs.Rows.{Row}
+use Rattle.switchplaces.specs.Switches.{arm-count}
+use Rattle.scopeplaces.specs.Overlay.{overlay}
+use Rattle.scopeplaces.specs.Parts.{place-groups, joined-groups, ends-from, group-at, group-start, group-end, match-run, match-head, key-run, names-run}
+use Rattle.scopeplaces.specs.Whole.{Told, Arms-told, Walk, arms-told, group-told}
+use Rattle.tables.proofs.Laws.{overlay-append, overlay-past}
+use Rattle.scope.specs.Answers.{inner, arms-answer, Arms-wrote, words-of}
+use Rattle.scope.specs.Frame.{most-rows, Lent, Holds, Is-group, Arms-fit, group-again, Group-sized}
+use Rattle.scopeparts.specs.Prepared.{Grouped, begin-of, head-run}
+use Rattle.scope.specs.declared.Armed.{Armed}
+use Rattle.scope.specs.declared.Armed.the-variants as armed
+use Rattle.scope.proofs.ArmLaws.{arms-within, never-ok}
+use Rattle.scopeparts.proofs.Groups.{ends-count, end-is, begin-is, group-long, group-inside, group-part}
+use Rattle.scope.proofs.Sound.{fused, all-few, holds-later}
+
+-- a match's rows are those before its arms, and its arms'
+pub match-is : (hs : List ℕ) (gs : List (List ℕ)) (numbers arms : List ℕ) (g : ℕ) → match-run hs gs numbers arms g ≡ head-run hs gs numbers g ++ arms
+unfolding match-run head-run
+match-is hs gs numbers arms g = ap (λ (l : List ℕ). match-head hs gs numbers g ∷ l) (sym (append-assoc (key-run hs gs numbers g) (names-run hs gs numbers g) arms))
+
+module _ (rows : List Row) (fuel : ℕ) (held members ends numbers : List ℕ) (g size at : ℕ) where
+  abbrev gs : List (List ℕ)
+  gs = place-groups held
+
+  abbrev first : ℕ
+  first = getD numbers (group-start gs g) 0
+
+  abbrev arms-rows : List ℕ
+  arms-rows = words-of (group-again rows fuel held numbers g)
+
+  abbrev run : List ℕ
+  run = match-run held gs numbers arms-rows g
+
+  abbrev head : List ℕ
+  head = head-run held gs numbers g
+
+  module _ (h : Holds rows first held) (gr : Grouped held members ends numbers) (sz : Group-sized rows fuel held numbers g size) (l : g < length ends) (fits : at + length run ≤ most-rows) where
+    arms-are : arms-rows ≡ sz .arms .words
+    unfolding words-of
+    arms-are = ap words-of (sz .told)
+
+    run-long : length run ≡ length head + size
+    run-long = ap length (match-is held gs numbers arms-rows g) ∙ (length-append head arms-rows ∙ ap (λ (k : ℕ). length head + k) (ap length arms-are ∙ sym (sz .size-is)))
+
+    pub head-fits : at + length head ≤ 9223372036854775808
+    head-fits = omega (arith, run-long)
+
+    pub all-fits : at + length head + size ≤ 9223372036854775808
+    all-fits = omega (arith, run-long)
+
+    -- ---- where the group stands
+
+    inside : g < length gs
+    inside = omega (arith, ap length (gr .ends-are) ∙ ends-count 0 gs)
+
+    pub begins : begin-of ends g ≡ group-start gs g
+    begins = ap (λ (e : List ℕ). begin-of e g) (gr .ends-are) ∙ begin-is gs g inside
+
+    pub ends-at : getD ends g 0 ≡ group-start gs g + length (group-at gs g)
+    ends-at = ap (λ (e : List ℕ). getD e g 0) (gr .ends-are) ∙ (end-is gs g inside ∙ group-long gs g inside)
+
+    pub ends-within : getD ends g 0 ≤ length members
+    ends-within = omega (arith, ap (λ (e : List ℕ). getD e g 0) (gr .ends-are) ∙ end-is gs g inside, group-inside gs g inside, ap length (gr .members-are))
+
+    here : Is-group held (group-at gs g)
+    here = record { number = g; there = inside; is = refl }
+
+    pub some-member : 1 ≤ length (group-at gs g)
+    some-member = fused rows first held (group-at gs g) h here .some-member
+
+    pub begin-within : group-start gs g < length numbers
+    begin-within = omega (arith, ends-at, ends-within, some-member, gr .numbered)
+
+    pub first-small : first ≤ 549755813888
+    first-small = gr .small (group-start gs g) begin-within
+
+    pub members-few : length members ≤ 512
+    members-few = omega (arith, ap length (gr .members-are), all-few rows first held h)
+
+    module _ (start : ℕ) (starts : start ≡ begin-of ends g) where
+      abbrev part : List ℕ
+      part = take (getD ends g 0 - start) (drop start members)
+
+      abbrev count : ℕ
+      count = getD ends g 0 - start
+
+      start-is : start ≡ group-start gs g
+      start-is = starts ∙ begins
+
+      pub part-is : part ≡ group-at gs g
+      part-is =
+          let e : getD ends g 0 ≡ group-end gs g = ap (λ (e : List ℕ). getD e g 0) (gr .ends-are) ∙ end-is gs g inside in
+          ap (λ (k : ℕ). take (k - start) (drop start members)) e
+          ∙ (ap (λ (k : ℕ). take (group-end gs g - k) (drop k members)) start-is
+          ∙ (ap (λ (z : List ℕ). take (group-end gs g - group-start gs g) (drop (group-start gs g) z)) (gr .members-are) ∙ group-part gs g inside))
+
+      pub start-under : start ≤ getD ends g 0
+      start-under = omega (arith, start-is, ends-at)
+
+      pub start-within : start < length numbers
+      start-within = omega (arith, start-is, begin-within)
+
+      pub number-small : getD numbers start 0 ≤ 549755813888
+      number-small = subst (λ (k : ℕ). getD numbers k 0 ≤ 549755813888) (sym start-is) first-small
+
+      pub part-group : Is-group held part
+      part-group = record { number = g; there = inside; is = part-is }
+
+      number-is : getD numbers start 0 + count ≡ first + length (group-at gs g)
+      number-is = ap₂ (λ (a b : ℕ). a + b) (ap (λ (k : ℕ). getD numbers k 0) start-is) (omega (arith, start-is, ends-at))
+
+      pub part-holds : Holds rows (getD numbers start 0 + count) held
+      part-holds = holds-later rows first (getD numbers start 0 + count) held (omega (arith, number-is)) h
+
+      told : arms-told (inner rows fuel) held part (getD numbers start 0 + count) (arm-count held (getD part 0 0)) ≡ ok (sz .arms)
+      unfolding group-again group-told
+      told =
+          ap (λ (z : List ℕ). arms-told (inner rows fuel) held z (getD numbers start 0 + count) (arm-count held (getD z 0 0))) part-is
+          ∙ (ap (λ (k : ℕ). arms-told (inner rows fuel) held (group-at gs g) k (arm-count held (getD (group-at gs g) 0 0))) number-is ∙ sz .told)
+
+      pub part-fits : Arms-fit rows fuel held part (getD numbers start 0 + count) (at + length head)
+      part-fits n r q e =
+          omega (arith, arms-within (inner rows fuel) held part (getD numbers start 0 + count) (arm-count held (getD part 0 0)) (sz .arms) told n r q e, sz .size-is, all-fits)
+
+      module _ (r : Armed) (old table new : List ℕ) (headed : table ≡ overlay at head old) (body : ℕ) (bodied : body ≡ at + length head)
+          (given : (r ≡ arms-answer (arms-told (inner rows fuel) held part (getD numbers start 0 + count) (arm-count held (getD part 0 0))) body)
+          × Arms-wrote (arms-told (inner rows fuel) held part (getD numbers start 0 + count) (arm-count held (getD part 0 0))) body table new) where
+        abbrev Done-by : Armed → Type 0
+        Done-by (armed.Rows place after more) = (place ≡ at + length run) × (new ≡ overlay at run old)
+        Done-by (armed.Refused q) = ⊥
+
+        wrote : new ≡ overlay body (sz .arms .words) table
+        wrote = subst (λ (o : Outcome Arms-told). Arms-wrote o body table new) told (given .1)
+
+        done-by : Done-by (armed.Rows (body + length (sz .arms .words)) (sz .arms .next) (sz .arms .extracted))
+        done-by =
+            (omega (arith, bodied, run-long, sz .size-is),
+            wrote
+            ∙ (ap₂ (λ (k : ℕ) (t : List ℕ). overlay k (sz .arms .words) t) bodied headed
+            ∙ (sym (overlay-append at head (sz .arms .words) old) ∙ ap (λ (z : List ℕ). overlay at z old) (ap (λ (z : List ℕ). head ++ z) (sym arms-are) ∙ sym (match-is held gs numbers arms-rows g)))))
+
+        answered : r ≡ armed.Rows (body + length (sz .arms .words)) (sz .arms .next) (sz .arms .extracted)
+        unfolding arms-answer
+        answered = given .0 ∙ ap (λ (o : Outcome Arms-told). arms-answer o body) told
+
+        pub match-done : (place after more : ℕ) → r ≡ armed.Rows place after more → (place ≡ at + length run) × (new ≡ overlay at run old)
+        match-done place after more e = subst Done-by (sym answered ∙ e) done-by
+
+        pub match-never : (q : ℕ) → r ≡ armed.Refused q → ⊥
+        match-never q e = subst Done-by (sym answered ∙ e) done-by
+
+    -- where nothing would be written the place moves on
+    pub match-past : (old table : List ℕ) → table ≡ overlay at head old → (body : ℕ) → body ≡ at + length head → length table ≤ body → (body + size ≡ at + length run) × (table ≡ overlay at run old)
+    match-past old table headed body bodied past =
+        (omega (arith, bodied, run-long),
+        sym (ap (λ (z : List ℕ). overlay at z old) (match-is held gs numbers arms-rows g)
+        ∙ (overlay-append at head arms-rows old
+        ∙ (ap₂ (λ (k : ℕ) (t : List ℕ). overlay k arms-rows t) (sym bodied) (sym headed) ∙ overlay-past body arms-rows table past))))

@@ -1,0 +1,108 @@
+-- What a scope, an arm, the arms of a match and the groups of a scope answer, and what they leave in the table, by cases (01, "Scoped fusion"). Assumes nothing.
+use Prim.Native.Nat.{ℕ, suc, _+_, _≤_, _<_}
+use mathlib.Core.Path.{_≡_}
+use mathlib.Core.Bool.{true}
+use mathlib.Core.List.{List, [], _∷_, map}
+use lib.ListN.{length, take}
+use Rattle.tree.specs.Outcome.{Refusal, Outcome, ok, refused, _>>=_}
+use Rattle.tree.specs.Rows.{Row}
+use Rattle.tree.specs.Tokens.{word, name-in}
+use Rattle.cse.specs.AnswerRows.{arm-row, value-row}
+use Rattle.switchplaces.specs.Columns.{column-words}
+use Rattle.renaming.specs.Places.{divisors-to-bind}
+use Rattle.rounds.specs.Rounds.{all-rounds}
+use Rattle.scopeplaces.specs.Overlay.{overlay}
+use Rattle.scopeplaces.specs.Whole.{Told, Arms-told, Walk, scope-told}
+use Rattle.scope.specs.declared.Scoped.{Scoped}
+use Rattle.scope.specs.declared.Scoped.the-variants as scoped
+use Rattle.scope.specs.declared.Armed.{Armed}
+use Rattle.scope.specs.declared.Armed.the-variants as armed
+use Rattle.scope.specs.declared.Walked.{Walked}
+use Rattle.scope.specs.declared.Walked.the-variants as walked
+use Rattle.scope.specs.declared.Holding.{Holding}
+use Rattle.scope.specs.declared.Holding.the-variants as holding
+use Rattle.scope.specs.declared.Listed.{Listed}
+use Rattle.scope.specs.declared.Listed.the-variants as listed
+
+-- ---- a scope
+
+-- the place after its rows, its statements, the next number and the extraction count, or the number of the refusal
+unfoldable pub scope-answer : Outcome Told → ℕ → Scoped
+scope-answer (ok t) at = scoped.Told (at + length (t .words)) (t .steps) (t .next) (t .extracted)
+scope-answer (refused i) at = scoped.Refused (i .number)
+
+-- its rows laid over the table from a place on, or nothing written
+unfoldable pub scope-table : Outcome Told → ℕ → List ℕ → List ℕ
+unfolding overlay
+scope-table (ok t) at old = overlay at (t .words) old
+scope-table (refused i) at old = old
+
+-- how many rows it has
+unfoldable pub told-rows : Outcome Told → ℕ
+told-rows (ok t) = length (t .words)
+told-rows (refused i) = 0
+
+-- the words after the rounds stand in front, and so do the places of their divisors to bind; or the rounds are refused
+abbrev pub Lists : List Row → ℕ → List ℕ → Listed → List ℕ → List ℕ → Type 0
+Lists rows first ws (listed.Words n d) tokens places =
+    (all-rounds rows true first ws ≡ ok (take n tokens)) × (take d places ≡ divisors-to-bind (take n tokens) (name-in rows) true) × (n ≤ length tokens) × (d ≤ length places)
+Lists rows first ws listed.Refused tokens places = (i : Refusal) × (all-rounds rows true first ws ≡ refused i)
+
+-- ---- arms
+
+-- what an arm's scope gives
+abbrev pub inner : List Row → ℕ → ℕ → List ℕ → Outcome Told
+inner rows fuel n cs = scope-told rows fuel value-row n cs
+
+-- one arm of a group
+unfoldable pub arm-told : (ℕ → List ℕ → Outcome Told) → List ℕ → List ℕ → ℕ → ℕ → Outcome Arms-told
+unfolding column-words
+arm-told scope hs g next a =
+    scope next (column-words hs g a) >>= λ t.
+    ok (record { words = word arm-row (t .steps + length g) ∷ t .words; next = t .next; extracted = t .extracted })
+
+-- the place after the rows, the next number and the extraction count, or the number of the refusal
+unfoldable pub arms-answer : Outcome Arms-told → ℕ → Armed
+arms-answer (ok t) at = armed.Rows (at + length (t .words)) (t .next) (t .extracted)
+arms-answer (refused i) at = armed.Refused (i .number)
+
+-- the rows laid over the table; where arms are refused the table is free
+abbrev pub Arms-wrote : Outcome Arms-told → ℕ → List ℕ → List ℕ → Type 0
+Arms-wrote (ok t) at old new = new ≡ overlay at (t .words) old
+Arms-wrote (refused i) at old new = Unit {0}
+
+-- ---- groups
+
+-- the next number and the extraction count, or the number of the refusal
+unfoldable pub walk-answer : Outcome Walk → Walked
+walk-answer (ok l) = walked.Done (l .next) (l .extracted)
+walk-answer (refused i) = walked.Refused (i .number)
+
+-- the numbers of all members stand in front, and so do the numbers of rows of each group's arms; where the groups are refused both are free
+abbrev pub Walk-wrote : Outcome Walk → List ℕ → List ℕ → Type 0
+Walk-wrote (ok l) numbers sizes = (take (length (l .numbers)) numbers ≡ l .numbers) × (take (length (l .arms)) sizes ≡ map length (l .arms))
+Walk-wrote (refused i) numbers sizes = Unit {0}
+
+-- the rows of the groups' arms
+unfoldable pub arms-of : Outcome Walk → List (List ℕ)
+arms-of (ok l) = l .arms
+arms-of (refused i) = []
+
+-- the rows of some arms
+unfoldable pub words-of : Outcome Arms-told → List ℕ
+words-of (ok t) = t .words
+words-of (refused i) = []
+
+-- what a scope holds in front, at most 1,024 words
+abbrev pub Holding-so : List ℕ → Holding → List ℕ → Type 0
+Holding-so hs (holding.Words n) held = (take n held ≡ hs) × (n ≤ length held) × (length hs ≤ 1024)
+Holding-so hs holding.TooMany held = 1024 < length hs
+
+unfoldable pub walk-refusal : Walked → ℕ
+walk-refusal (walked.Done next extracted) = 0
+walk-refusal (walked.Refused n) = n
+
+-- the refusal's number, 0 where there is none
+unfoldable pub refusal-number : Armed → ℕ
+refusal-number (armed.Rows end next extracted) = 0
+refusal-number (armed.Refused n) = n

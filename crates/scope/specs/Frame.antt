@@ -1,0 +1,132 @@
+-- What the parts of a scope are given (01, "Scoped fusion"): the room lent, words whose columns may be scopes, a scope's words with its groups, and its members
+-- numbered. Assumes nothing.
+use Prim.Native.Nat.{ℕ, suc, _+_, _-_, _*_, _≤_, _<_}
+use mathlib.Core.Path.{_≡_}
+use mathlib.Core.List.{List, map}
+use mathlib.Core.Bool.{true}
+use mathlib.Core.Option.{some}
+use lib.ListN.{length, getD, take}
+use lib.Dec.{T}
+use Rattle.tree.specs.Outcome.{Outcome, ok, _>>=_}
+use Rattle.tree.specs.Rows.{Row}
+use Rattle.tree.specs.Tokens.{read, numbered, trees-in, name-in}
+use Rattle.renaming.specs.Names.{is-number, symbols-pass}
+use Rattle.renaming.specs.Places.{divisors-to-bind}
+use Rattle.renaming.specs.Rounds.{next-number}
+use Rattle.kept.specs.Sound.{extractable}
+use Rattle.treelist.specs.Starts.{starts-of}
+use Rattle.reciprocal.specs.Bindings.{all-there}
+use Rattle.switchplaces.specs.Switches.{arm-count}
+use Rattle.switchplaces.specs.Columns.{column-words}
+use Rattle.scopeplaces.specs.Parts.{place-groups, joined-groups, ends-from, group-at, group-start, reciprocals-first, lets-count, held-words}
+use Rattle.scopeplaces.specs.Whole.{most-number, Told, Arms-told, Walk, arms-told, group-told, walked, ordered-scope, stmts-count}
+use Rattle.scope.specs.Answers.{told-rows, inner, arms-of}
+
+-- the most rows: sums of them are words
+abbrev pub most-rows : ℕ
+most-rows = 9223372036854775808
+
+-- a thousand words for each scope that may still be opened, and the text
+pub record Lent (fuel : ℕ) (work text : List ℕ) : Type 0 where
+  pub words : 1024 * fuel ≤ length work
+  pub bytes : 131072 ≤ length text
+
+-- words whose columns may be scopes, with numbers from `next` on
+pub record Holds (rows : List Row) (next : ℕ) (held : List ℕ) : Type 0 where
+  pub good : T (extractable rows next held)
+  pub pass : T (symbols-pass (is-number rows) held)
+  pub few : length held ≤ 1024
+
+-- some places are a group of the words'
+pub record Is-group (held group : List ℕ) : Type 0 where
+  pub number : ℕ
+  pub there : number < length (place-groups held)
+  pub is : group ≡ group-at (place-groups held) number
+
+-- an arm's rows, its own before those of its scope
+abbrev pub Arm-fits : List Row → ℕ → List ℕ → List ℕ → ℕ → ℕ → ℕ → Type 0
+Arm-fits rows fuel held group next a at = at + suc (told-rows (inner rows fuel next (column-words held group a))) ≤ most-rows
+
+-- each arm's rows after those of the arms before it
+abbrev pub Arms-fit : List Row → ℕ → List ℕ → List ℕ → ℕ → ℕ → Type 0
+Arms-fit rows fuel held group next at =
+    (n : ℕ) (r : Arms-told) → n < arm-count held (getD group 0 0) → arms-told (inner rows fuel) held group next n ≡ ok r
+    → Arm-fits rows fuel held group (r .next) n (at + length (r .words))
+
+-- all members and where each group's end among them
+pub record Members (held members ends : List ℕ) : Type 0 where
+  pub members-are : members ≡ joined-groups (place-groups held)
+  pub ends-are : ends ≡ ends-from 0 (place-groups held)
+
+-- the outcome of all groups
+unfoldable pub groups-told : List Row → ℕ → ℕ → List ℕ → Outcome Walk
+unfolding place-groups walked
+groups-told rows fuel next held = walked (inner rows fuel) held (place-groups held) next (length (place-groups held))
+
+-- a scope after its rounds, what it holds, and its groups: all that its parts are given but its members' numbers
+pub record Ready (ws : List ℕ) (k first : ℕ) (places held starts members ends : List ℕ) : Type 0 where
+  pub complete : trees-in ws ≡ some (length starts)
+  pub enough : k ≤ length starts
+  pub there : T (all-there ws places)
+  pub few : length ws ≤ 1024
+  pub low : first ≤ most-number
+  pub held-is : held ≡ held-words ws k first places
+  pub starts-are : starts ≡ take (length starts) (starts-of held)
+  pub grouped : Members held members ends
+  pub statements : (numbers : List ℕ) → stmts-count ws k first places numbers ≤ 1024
+  pub last : first + ((length starts - k) + length places) ≡ reciprocals-first ws k first places + length places
+
+-- the rest of the scope: its groups, and then its statements in order
+unfoldable pub grouped-scope : List Row → ℕ → ℕ → List ℕ → ℕ → ℕ → List ℕ → Outcome Told
+unfolding groups-told held-words reciprocals-first ordered-scope
+grouped-scope rows fuel row ws k first places =
+    groups-told rows fuel (reciprocals-first ws k first places + length places) (held-words ws k first places) >>= λ l. ordered-scope row ws k first places l
+
+-- the members' numbers and how many rows each group's arms are
+pub record Sized (rows : List Row) (fuel next : ℕ) (held numbers sizes : List ℕ) : Type 0 where
+  pub walk : Walk
+  pub told : groups-told rows fuel next held ≡ ok walk
+  pub numbers-are : numbers ≡ walk .numbers
+  pub sizes-are : sizes ≡ map length (walk .arms)
+
+-- and the next number and the extraction count after them
+pub record Numbered (rows : List Row) (fuel next : ℕ) (held numbers sizes : List ℕ) (after extracted : ℕ) : Type 0 where
+  pub sized : Sized rows fuel next held numbers sizes
+  pub after-is : after ≡ sized .walk .next
+  pub extracted-is : extracted ≡ sized .walk .extracted
+
+-- the arms of group g, by the number of its first member
+unfoldable pub group-again : List Row → ℕ → List ℕ → List ℕ → ℕ → Outcome Arms-told
+unfolding group-told group-at group-start place-groups
+group-again rows fuel held numbers g = group-told (inner rows fuel) held (group-at (place-groups held) g) (getD numbers (group-start (place-groups held) g) 0)
+
+-- they are done, and this many rows
+pub record Group-sized (rows : List Row) (fuel : ℕ) (held numbers : List ℕ) (g size : ℕ) : Type 0 where
+  pub arms : Arms-told
+  pub told : group-again rows fuel held numbers g ≡ ok arms
+  pub size-is : size ≡ length (arms .words)
+
+-- the rows of all groups' arms
+unfoldable pub scope-arms : List Row → ℕ → List ℕ → ℕ → ℕ → List ℕ → List (List ℕ)
+unfolding arms-of groups-told reciprocals-first held-words
+scope-arms rows fuel ws k first places = arms-of (groups-told rows fuel (reciprocals-first ws k first places + length places) (held-words ws k first places))
+
+-- positions of statements
+abbrev pub Positions : List ℕ → ℕ → Type 0
+Positions taken count = (q : ℕ) → q < length taken → getD taken q 0 < count
+
+-- what rounds leave: k results and the bindings, and the divisors to bind
+pub record Left (rows : List Row) (ws : List ℕ) (k first : ℕ) (places : List ℕ) : Type 0 where
+  pub good : T (extractable rows (next-number k first (read numbered ws)) ws)
+  pub pass : T (symbols-pass (is-number rows) ws)
+  pub enough : k ≤ length (read numbered ws)
+  pub places-are : places ≡ divisors-to-bind ws (name-in rows) true
+  pub few : length ws ≤ 1024
+  pub low : first ≤ most-number
+
+-- what the groups of words are put into
+pub record Grouping-so (held : List ℕ) (m g : ℕ) (members ends : List ℕ) : Type 0 where
+  pub members-are : take m members ≡ joined-groups (place-groups held)
+  pub ends-are : take g ends ≡ ends-from 0 (place-groups held)
+  pub members-in : m ≤ length members
+  pub ends-in : g ≤ length ends

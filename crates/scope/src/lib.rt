@@ -1,0 +1,793 @@
+// One scope of the scoped form on words, `cse_scope` of the source (01, "Scoped fusion"): rounds, reciprocals, switches outside arms fused by group into matches, each
+// arm a scope of its own, and the statements in the order of their needs. An arm's scope works in the part of the work area after its caller's words. Arms are
+// measured first, which finds every refusal before anything is written, and scoped again where their rows are written.
+ghost use mathlib.Core.Path.{_≡_};
+ghost use mathlib.Core.Option.{some};
+ghost use mathlib.Core.List.{[], _∷_, _++_};
+ghost use Prim.Native.Nat.{suc, _+_, _-_, _*_, _≤_, _<_};
+ghost use lib.ListN.{length, getD, take, drop};
+ghost use lib.Dec.{T};
+ghost use Rattle.tree.specs.Tokens.{trees-in};
+ghost use Rattle.words.specs.Words.{some-trees};
+ghost use Rattle.checked.specs.Check.{rows-in};
+ghost use Rattle.renaming.specs.Names.{is-number, symbols-pass};
+ghost use Rattle.kept.specs.Sound.{extractable};
+ghost use Rattle.reciprocal.specs.Bindings.{all-there};
+ghost use Rattle.switchplaces.specs.Switches.{arm-count, switch-places};
+ghost use Rattle.switchplaces.specs.Columns.{column-words};
+ghost use Rattle.fusion.specs.Words.{numbers-from};
+ghost use Rattle.scopeplaces.specs.Overlay.{overlay};
+ghost use Rattle.scopeplaces.specs.Parts.{place-groups, group-start, match-run, let-run, reciprocals-first, lets-count, words-held, held-words};
+ghost use Rattle.scopeplaces.specs.Whole.{arms-told, group-told, stmts-count, tree-run, stmt-run, stmts-runs, values-runs, stmts-order, fused-scope, scope-told};
+ghost use Rattle.scope.specs.Answers.{scope-answer, scope-table, told-rows, Lists, inner, arm-told, arms-answer, Arms-wrote, walk-answer, Walk-wrote, words-of, Holding-so, walk-refusal, refusal-number};
+ghost use Rattle.scope.specs.Frame.{most-rows, Lent, Holds, Is-group, Arm-fits, Arms-fit, Members, groups-told, Ready, grouped-scope, Sized, Numbered, group-again, Group-sized, scope-arms, Positions, Left, Grouping-so};
+ghost use Rattle.scopeparts.specs.Prepared.{Prepared, Readied, Grouped, begin-of, order-told, head-run};
+use columns::Column;
+use columns::copy_column;
+use grouping::Grouping;
+use grouping::group_switches;
+use holding::Held;
+use holding::hold;
+use order::Ordered;
+use rounds::Rounds;
+use rounds::extract_all;
+use scopeparts::order_stmts;
+use scopeparts::write_let;
+use scopeparts::write_match_head;
+use scopeparts::write_values;
+use switches::SwitchList;
+use switches::list_switches;
+use tables::put;
+use tables::put_word;
+use tobind::ToBind;
+use tobind::divisors_to_bind;
+use tokens::Trees;
+use tokens::count_trees;
+use tokens::operand_count;
+use treelist::list_trees;
+
+// The most words of a scope.
+const MOST: usize = 1024;
+
+// The largest number that a scope may start with.
+const MOST_NUMBER: u64 = 2147483648;
+
+// An arm's row is ARM + KINDS * the count of its statements and values; a value's is of the kind VALUE.
+const ARM: u64 = 34;
+
+const KINDS: u64 = 64;
+
+const VALUE: u64 = 35;
+
+const BAD_COEFFICIENT: u64 = 10;
+
+const RING: u64 = 11;
+
+// More scopes, words or numbers than can be worked on.
+const TOO_MUCH: u64 = 23;
+
+// No refusal has this number. It stands where an answer of a step never comes up, which the proofs show.
+const NEVER: u64 = 0;
+
+pub enum Scoped {
+    // The place after the rows, the statements, the next number and the extraction count.
+    Told(usize, usize, u64, usize),
+    // The number of the refusal.
+    Refused(u64),
+}
+
+enum Armed {
+    // The place after the arms' rows, the next number and the extraction count.
+    Rows(usize, u64, usize),
+    Refused(u64),
+}
+
+enum Walked {
+    // The next number and the extraction count.
+    Done(u64, usize),
+    Refused(u64),
+}
+
+enum Holding {
+    // How many words are held.
+    Words(usize),
+    // More than 1,024 would be.
+    TooMany,
+}
+
+// How many members all groups have, and how many groups there are.
+struct Found {
+    members: usize,
+    groups: usize,
+}
+
+enum Listed {
+    // How many words there are after the rounds, and how many divisors are to be bound.
+    Words(usize, usize),
+    // A rebuilt coefficient is no constant: 10.
+    Refused,
+}
+
+// The words of one arm of each member, in front of the work area.
+fn column(held: &[u64], group: &[u64], a: usize, work: &mut [u64]) -> usize
+    requires { ⌜ Is-group (now held) (now group) × (a < arm-count (now held) (getD (now group) 0 0)) × (length (now held) ≤ length (now work)) × T (some-trees (trees-in (now held))) ⌝ }
+    ensures { λ r. ⌜ (take r (now (work .exit)) ≡ column-words (now (held .entry)) (now (group .entry)) a) × (r ≤ length (now (work .exit))) ⌝ }
+{
+    let copied = copy_column(held, group, a, work);
+    match copied {
+        Column::Words(n) => n,
+        Column::Broken => 0,
+        Column::NoRoom => 0,
+    }
+}
+
+// How many trees some words are.
+fn tree_count(tokens: &[u64]) -> usize
+    requires { ⌜ T (some-trees (trees-in (now tokens))) ⌝ }
+    ensures { λ r. ⌜ trees-in (now (tokens .entry)) ≡ some r ⌝ }
+{
+    let Trees::Count(count) = count_trees(tokens) else {
+        return 0;
+    };
+    count
+}
+
+// What the scope holds, at the front of `held`.
+fn hold_all(tokens: &[u64], places: &[u64], number: u64, held: &mut [u64]) -> Holding
+    requires { ⌜ T (some-trees (trees-in (now tokens))) × T (all-there (now tokens) (now places)) ⌝ }
+    requires { ⌜ (length (now tokens) ≤ 1024) × (length (now places) ≤ 1024) × (number ≤ 4294967296) × (1024 ≤ length (now held)) ⌝ }
+    ensures { λ r. ⌜ Holding-so (words-held (now (tokens .entry)) number (now (places .entry))) r (now (held .exit)) ⌝ }
+{
+    let done = hold(tokens, places, number, held);
+    match done {
+        Held::Words(n) => Holding::Words(n),
+        Held::TooMany => Holding::TooMany,
+        Held::Broken => Holding::TooMany,
+        Held::NoRoom => Holding::TooMany,
+    }
+}
+
+// The switches of words, at the front of `places`. That they can't be listed never comes up.
+fn list_all(held: &[u64], places: &mut [u64]) -> usize
+    requires { ⌜ T (some-trees (trees-in (now held))) × (length (now held) ≤ 1024) × (1024 ≤ length (now places)) ⌝ }
+    ensures { λ r. ⌜ (take r (now (places .exit)) ≡ switch-places (now (held .entry))) × (r ≤ length (now (places .exit))) ⌝ }
+{
+    let listed = list_switches(held, places);
+    match listed {
+        SwitchList::Count(n) => n,
+        SwitchList::Broken => 0,
+        SwitchList::NoRoom => 0,
+    }
+}
+
+// The groups of these switches. That they can't be made never comes up.
+fn group_listed(held: &[u64], places: &[u64], members: &mut [u64], ends: &mut [u64]) -> usize
+    requires { ⌜ T (some-trees (trees-in (now held))) × (now places ≡ switch-places (now held)) ⌝ }
+    requires { ⌜ (length (now places) ≤ length (now members)) × (length (now places) ≤ length (now ends)) ⌝ }
+    ensures { λ r. ⌜ Grouping-so (now (held .entry)) (length (now (places .entry))) r (now (members .exit)) (now (ends .exit)) ⌝ }
+{
+    let grouped = group_switches(held, places, members, ends);
+    match grouped {
+        Grouping::Count(n) => n,
+        Grouping::Broken => 0,
+        Grouping::NoRoom => 0,
+    }
+}
+
+// The groups of the switches of words: all members at the front of `members`, and where each group ends among them at the front of `ends`.
+fn group_all(held: &[u64], members: &mut [u64], ends: &mut [u64]) -> Found
+    requires { ⌜ T (some-trees (trees-in (now held))) × (length (now held) ≤ 1024) ⌝ }
+    requires { ⌜ (1024 ≤ length (now members)) × (1024 ≤ length (now ends)) ⌝ }
+    ensures { λ r. ⌜ Grouping-so (now (held .entry)) (r .members) (r .groups) (now (members .exit)) (now (ends .exit)) ⌝ }
+{
+    let mut switches = [0u64; MOST];
+    let count = list_all(held, &mut switches);
+    let groups = group_listed(held, &switches[..count], members, ends);
+    Found {
+        members: count,
+        groups,
+    }
+}
+
+// The rounds on the first `len` words, and then the places of the divisors to bind. That these can't be listed never comes up: rounds keep words that print takes.
+fn extract_and_list(
+    rows: &[u64],
+    tokens: &mut [u64],
+    len: usize,
+    first: u64,
+    text: &mut [u8],
+    places: &mut [u64],
+) -> Listed
+    requires { ⌜ T (extractable (rows-in (now rows)) first (take len (now tokens))) × T (symbols-pass (is-number (rows-in (now rows))) (take len (now tokens))) ⌝ }
+    requires { ⌜ (len ≤ 1024) × (len ≤ length (now tokens)) × (first ≤ 549755813888) ⌝ }
+    requires { ⌜ (131072 ≤ length (now text)) × (1024 ≤ length (now places)) ⌝ }
+    ensures { λ r. ⌜ Lists (rows-in (now (rows .entry))) first (take len (now (tokens .entry))) r (now (tokens .exit)) (now (places .exit)) ⌝ }
+{
+    let rounds = extract_all(rows, tokens, len, true, first, text);
+    let Rounds::Done(words, _) = rounds else {
+        return Listed::Refused;
+    };
+    let listed = divisors_to_bind(rows, &tokens[..words], true, text, places);
+    let ToBind::Count(divisors) = listed else {
+        return Listed::Refused;
+    };
+    Listed::Words(words, divisors)
+}
+
+// Where group g begins among the members.
+fn group_begin(ends: &[u64], g: usize) -> usize
+    requires { ⌜ g < length (now ends) ⌝ }
+    ensures { λ r. ⌜ r ≡ begin-of (now (ends .entry)) g ⌝ }
+{
+    if g == 0 {
+        return 0;
+    }
+    ends[g - 1] as usize
+}
+
+// How many arms each switch of a group has.
+fn count_arms(held: &[u64], group: &[u64]) -> usize
+    requires { ⌜ Is-group (now held) (now group) × (length (now held) ≤ 1024) × T (some-trees (trees-in (now held))) ⌝ }
+    ensures { λ r. ⌜ r ≡ arm-count (now (held .entry)) (getD (now (group .entry)) 0 0) ⌝ }
+{
+    let opener = group[0] as usize;
+    operand_count(held[opener]) as usize - 1
+}
+
+// One arm of a group: its words are a scope of their own, in the work area, and its row stands before theirs.
+fn arm(
+    rows: &[u64],
+    work: &mut [u64],
+    held: &[u64],
+    group: &[u64],
+    a: usize,
+    fuel: usize,
+    next: u64,
+    text: &mut [u8],
+    at: usize,
+    table: &mut [u64],
+) -> Armed
+    requires { ⌜ Lent fuel (now work) (now text) × Holds (rows-in (now rows)) next (now held) ⌝ }
+    requires { ⌜ Is-group (now held) (now group) × (a < arm-count (now held) (getD (now group) 0 0)) ⌝ }
+    requires { ⌜ Arm-fits (rows-in (now rows)) fuel (now held) (now group) next a at ⌝ }
+    ensures { λ r. ⌜ (r ≡ arms-answer (arm-told (inner (rows-in (now (rows .entry))) fuel) (now (held .entry)) (now (group .entry)) next a) at)
+        × Arms-wrote (arm-told (inner (rows-in (now (rows .entry))) fuel) (now (held .entry)) (now (group .entry)) next a) at (now (table .entry)) (now (table .exit)) ⌝ }
+{
+    if fuel == 0 {
+        return Armed::Refused(TOO_MUCH);
+    }
+    let n = column(held, group, a, work);
+    let told = scope(rows, work, n, fuel, VALUE, next, text, at + 1, table);
+    match told {
+        Scoped::Told(end, steps, after, extracted) => {
+            put_word(ARM + KINDS * (steps as u64 + group.len() as u64), at, table);
+            Armed::Rows(end, after, extracted)
+        }
+        Scoped::Refused(number) => Armed::Refused(number),
+    }
+}
+
+fn refusal_of(armed: Armed) -> u64
+    ensures { λ r. ⌜ r ≡ refusal-number armed ⌝ }
+{
+    match armed {
+        Armed::Rows(_, _, _) => NEVER,
+        Armed::Refused(number) => number,
+    }
+}
+
+fn walk_refusal(walked: Walked) -> u64
+    ensures { λ r. ⌜ r ≡ walk-refusal walked ⌝ }
+{
+    match walked {
+        Walked::Done(_, _) => NEVER,
+        Walked::Refused(number) => number,
+    }
+}
+
+// All arms of a group, one after another.
+fn arms(
+    rows: &[u64],
+    work: &mut [u64],
+    held: &[u64],
+    group: &[u64],
+    fuel: usize,
+    next: u64,
+    text: &mut [u8],
+    at: usize,
+    table: &mut [u64],
+) -> Armed
+    requires { ⌜ Lent fuel (now work) (now text) × Holds (rows-in (now rows)) next (now held) ⌝ }
+    requires { ⌜ Is-group (now held) (now group) ⌝ }
+    requires { ⌜ Arms-fit (rows-in (now rows)) fuel (now held) (now group) next at × (at ≤ most-rows) ⌝ }
+    ensures { λ r. ⌜ (r ≡ arms-answer (arms-told (inner (rows-in (now (rows .entry))) fuel) (now (held .entry)) (now (group .entry)) next (arm-count (now (held .entry)) (getD (now (group .entry)) 0 0))) at)
+        × Arms-wrote (arms-told (inner (rows-in (now (rows .entry))) fuel) (now (held .entry)) (now (group .entry)) next (arm-count (now (held .entry)) (getD (now (group .entry)) 0 0))) at (now (table .entry)) (now (table .exit)) ⌝ }
+{
+    let count = count_arms(held, group);
+    let mut end = at;
+    let mut number = next;
+    let mut extracted = 0;
+    let mut a = 0;
+    while a < count {
+        let armed = arm(
+            rows, work, held, group, a, fuel, number, text, end, table,
+        );
+        let Armed::Rows(place, after, more) = armed else {
+            return Armed::Refused(refusal_of(armed));
+        };
+        end = place;
+        number = after;
+        extracted += more;
+        a += 1;
+    }
+    Armed::Rows(end, number, extracted)
+}
+
+// The arms of a group without their rows written: a table of no rows takes none.
+fn measure(
+    rows: &[u64],
+    work: &mut [u64],
+    held: &[u64],
+    group: &[u64],
+    fuel: usize,
+    next: u64,
+    text: &mut [u8],
+) -> Armed
+    requires { ⌜ Lent fuel (now work) (now text) × Holds (rows-in (now rows)) next (now held) ⌝ }
+    requires { ⌜ Is-group (now held) (now group) × (next ≤ 4294967296) ⌝ }
+    ensures { λ r. ⌜ r ≡ arms-answer (group-told (inner (rows-in (now (rows .entry))) fuel) (now (held .entry)) (now (group .entry)) next) 0 ⌝ }
+{
+    let mut none = [0u64; 0];
+    let first = next + group.len() as u64;
+    arms(rows, work, held, group, fuel, first, text, 0, &mut none)
+}
+
+// The numbers of a group's members.
+fn number_members(first: u64, count: usize, at: usize, numbers: &mut [u64])
+    requires { ⌜ (at + count ≤ length (now numbers)) × (first + count ≤ 9223372036854775808) ⌝ }
+    ensures { λ _. ⌜ now (numbers .exit) ≡ overlay at (numbers-from first count) (now (numbers .entry)) ⌝ }
+{
+    let mut i = 0;
+    while i < count {
+        numbers[at + i] = first + i as u64;
+        i += 1;
+    }
+}
+
+// The groups in order: their members take numbers, and their arms are measured.
+fn walk(
+    rows: &[u64],
+    work: &mut [u64],
+    held: &[u64],
+    members: &[u64],
+    ends: &[u64],
+    fuel: usize,
+    next: u64,
+    text: &mut [u8],
+    numbers: &mut [u64],
+    sizes: &mut [u64],
+) -> Walked
+    requires { ⌜ Lent fuel (now work) (now text) × Holds (rows-in (now rows)) next (now held) ⌝ }
+    requires { ⌜ Members (now held) (now members) (now ends) × (next ≤ 4294967296) ⌝ }
+    requires { ⌜ (length (now members) ≤ length (now numbers)) × (length (now ends) ≤ length (now sizes)) ⌝ }
+    ensures { λ r. ⌜ (r ≡ walk-answer (groups-told (rows-in (now (rows .entry))) fuel next (now (held .entry))))
+        × Walk-wrote (groups-told (rows-in (now (rows .entry))) fuel next (now (held .entry))) (now (numbers .exit)) (now (sizes .exit)) ⌝ }
+{
+    let mut number = next;
+    let mut extracted = 0;
+    let mut start = 0;
+    let mut g = 0;
+    while g < ends.len() {
+        let end = ends[g] as usize;
+        number_members(number, end - start, start, numbers);
+        let armed = measure(rows, work, held, &members[start..end], fuel, number, text);
+        let Armed::Rows(size, after, more) = armed else {
+            return Walked::Refused(refusal_of(armed));
+        };
+        sizes[g] = size as u64;
+        number = after;
+        extracted += more;
+        start = end;
+        g += 1;
+    }
+    Walked::Done(number, extracted)
+}
+
+// The rows of the match of group g: those before its arms, and its arms', which are scoped again unless none of their rows has a place in the table. That they are
+// refused now never comes up.
+fn write_match(
+    rows: &[u64],
+    work: &mut [u64],
+    held: &[u64],
+    members: &[u64],
+    ends: &[u64],
+    numbers: &[u64],
+    g: usize,
+    size: usize,
+    fuel: usize,
+    text: &mut [u8],
+    at: usize,
+    table: &mut [u64],
+) -> usize
+    requires { ⌜ Lent fuel (now work) (now text) × Holds (rows-in (now rows)) (getD (now numbers) (group-start (place-groups (now held)) g) 0) (now held) ⌝ }
+    requires { ⌜ Grouped (now held) (now members) (now ends) (now numbers) × Group-sized (rows-in (now rows)) fuel (now held) (now numbers) g size ⌝ }
+    requires { ⌜ (g < length (now ends)) × (at + length (match-run (now held) (place-groups (now held)) (now numbers) (words-of (group-again (rows-in (now rows)) fuel (now held) (now numbers) g)) g) ≤ most-rows) ⌝ }
+    ensures { λ r. ⌜ (r ≡ at + length (match-run (now (held .entry)) (place-groups (now (held .entry))) (now (numbers .entry)) (words-of (group-again (rows-in (now (rows .entry))) fuel (now (held .entry)) (now (numbers .entry)) g)) g))
+        × (now (table .exit) ≡ overlay at (match-run (now (held .entry)) (place-groups (now (held .entry))) (now (numbers .entry)) (words-of (group-again (rows-in (now (rows .entry))) fuel (now (held .entry)) (now (numbers .entry)) g)) g) (now (table .entry))) ⌝ }
+{
+    let body = write_match_head(held, members, ends, numbers, g, at, table);
+    if body >= table.len() {
+        return body + size;
+    }
+    let start = group_begin(ends, g);
+    let end = ends[g] as usize;
+    let first = numbers[start] + (end - start) as u64;
+    let armed = arms(
+        rows,
+        work,
+        held,
+        &members[start..end],
+        fuel,
+        first,
+        text,
+        body,
+        table,
+    );
+    let Armed::Rows(place, _, _) = armed else {
+        return body;
+    };
+    place
+}
+
+// The rows of statement p: a let, or a match.
+fn write_stmt(
+    rows: &[u64],
+    work: &mut [u64],
+    tokens: &[u64],
+    results: usize,
+    first: u64,
+    places: &[u64],
+    held: &[u64],
+    starts: &[u64],
+    members: &[u64],
+    ends: &[u64],
+    numbers: &[u64],
+    sizes: &[u64],
+    p: usize,
+    fuel: usize,
+    text: &mut [u8],
+    at: usize,
+    table: &mut [u64],
+) -> usize
+    requires { ⌜ Lent fuel (now work) (now text) × Holds (rows-in (now rows)) (reciprocals-first (now tokens) results first (now places) + length (now places)) (now held) ⌝ }
+    requires { ⌜ Prepared (now tokens) results first (now places) (now held) (now starts) (now members) (now ends) (now numbers) × Sized (rows-in (now rows)) fuel (reciprocals-first (now tokens) results first (now places) + length (now places)) (now held) (now numbers) (now sizes) ⌝ }
+    requires { ⌜ (p < stmts-count (now tokens) results first (now places) (now numbers)) × (at + length (stmt-run (now tokens) results first (now places) (now numbers) (scope-arms (rows-in (now rows)) fuel (now tokens) results first (now places)) p) ≤ most-rows) ⌝ }
+    ensures { λ r. ⌜ (r ≡ at + length (stmt-run (now (tokens .entry)) results first (now (places .entry)) (now (numbers .entry)) (scope-arms (rows-in (now (rows .entry))) fuel (now (tokens .entry)) results first (now (places .entry))) p))
+        × (now (table .exit) ≡ overlay at (stmt-run (now (tokens .entry)) results first (now (places .entry)) (now (numbers .entry)) (scope-arms (rows-in (now (rows .entry))) fuel (now (tokens .entry)) results first (now (places .entry))) p) (now (table .entry))) ⌝ }
+{
+    let lets = starts.len() - results + places.len();
+    if p < lets {
+        return write_let(
+            tokens, results, first, places, held, starts, members, numbers, p, at, table,
+        );
+    }
+    let g = p - lets;
+    let size = sizes[g] as usize;
+    write_match(
+        rows, work, held, members, ends, numbers, g, size, fuel, text, at, table,
+    )
+}
+
+// The rows of the statements in their order; the place after them.
+fn write_stmts(
+    rows: &[u64],
+    work: &mut [u64],
+    tokens: &[u64],
+    results: usize,
+    first: u64,
+    places: &[u64],
+    held: &[u64],
+    starts: &[u64],
+    members: &[u64],
+    ends: &[u64],
+    numbers: &[u64],
+    sizes: &[u64],
+    taken: &[u64],
+    fuel: usize,
+    text: &mut [u8],
+    at: usize,
+    table: &mut [u64],
+) -> usize
+    requires { ⌜ Lent fuel (now work) (now text) × Holds (rows-in (now rows)) (reciprocals-first (now tokens) results first (now places) + length (now places)) (now held) ⌝ }
+    requires { ⌜ Prepared (now tokens) results first (now places) (now held) (now starts) (now members) (now ends) (now numbers) × Sized (rows-in (now rows)) fuel (reciprocals-first (now tokens) results first (now places) + length (now places)) (now held) (now numbers) (now sizes) ⌝ }
+    requires { ⌜ Positions (now taken) (stmts-count (now tokens) results first (now places) (now numbers)) × (at + length (stmts-runs (now tokens) results first (now places) (now numbers) (scope-arms (rows-in (now rows)) fuel (now tokens) results first (now places)) (now taken) (length (now taken))) ≤ most-rows) ⌝ }
+    ensures { λ r. ⌜ (r ≡ at + length (stmts-runs (now (tokens .entry)) results first (now (places .entry)) (now (numbers .entry)) (scope-arms (rows-in (now (rows .entry))) fuel (now (tokens .entry)) results first (now (places .entry))) (now (taken .entry)) (length (now (taken .entry)))))
+        × (now (table .exit) ≡ overlay at (stmts-runs (now (tokens .entry)) results first (now (places .entry)) (now (numbers .entry)) (scope-arms (rows-in (now (rows .entry))) fuel (now (tokens .entry)) results first (now (places .entry))) (now (taken .entry)) (length (now (taken .entry)))) (now (table .entry))) ⌝ }
+{
+    let mut to = at;
+    let mut q = 0;
+    while q < taken.len() {
+        let p = taken[q] as usize;
+        to = write_stmt(
+            rows, work, tokens, results, first, places, held, starts, members, ends, numbers,
+            sizes, p, fuel, text, to, table,
+        );
+        q += 1;
+    }
+    to
+}
+
+// The scope's rows, once its statements are in order. That the order is broken never comes up.
+fn write_scope(
+    rows: &[u64],
+    work: &mut [u64],
+    tokens: &[u64],
+    results: usize,
+    first: u64,
+    places: &[u64],
+    held: &[u64],
+    starts: &[u64],
+    members: &[u64],
+    ends: &[u64],
+    numbers: &[u64],
+    sizes: &[u64],
+    fuel: usize,
+    row: u64,
+    after: u64,
+    extracted: usize,
+    text: &mut [u8],
+    at: usize,
+    table: &mut [u64],
+) -> Scoped
+    requires { ⌜ Lent fuel (now work) (now text) × Holds (rows-in (now rows)) (reciprocals-first (now tokens) results first (now places) + length (now places)) (now held) ⌝ }
+    requires { ⌜ Prepared (now tokens) results first (now places) (now held) (now starts) (now members) (now ends) (now numbers) × Numbered (rows-in (now rows)) fuel (reciprocals-first (now tokens) results first (now places) + length (now places)) (now held) (now numbers) (now sizes) after extracted ⌝ }
+    requires { ⌜ at + told-rows (grouped-scope (rows-in (now rows)) fuel row (now tokens) results first (now places)) ≤ most-rows ⌝ }
+    ensures { λ r. ⌜ (r ≡ scope-answer (grouped-scope (rows-in (now (rows .entry))) fuel row (now (tokens .entry)) results first (now (places .entry))) at)
+        × (now (table .exit) ≡ scope-table (grouped-scope (rows-in (now (rows .entry))) fuel row (now (tokens .entry)) results first (now (places .entry))) at (now (table .entry))) ⌝ }
+{
+    let mut taken = [0u64; MOST];
+    let made = starts.len() - results;
+    let count = made + places.len() + ends.len();
+    let ordered = order_stmts(
+        tokens, results, first, places, held, starts, members, ends, numbers, &mut taken,
+    );
+    match ordered {
+        Ordered::All => {
+            let end = write_stmts(
+                rows,
+                work,
+                tokens,
+                results,
+                first,
+                places,
+                held,
+                starts,
+                members,
+                ends,
+                numbers,
+                sizes,
+                &taken[..count],
+                fuel,
+                text,
+                at,
+                table,
+            );
+            let place = write_values(
+                tokens, results, first, places, held, starts, members, numbers, row, end, table,
+            );
+            Scoped::Told(place, count, after, made + extracted)
+        }
+        Ordered::Ring(_) => Scoped::Refused(RING),
+        Ordered::Broken => Scoped::Refused(NEVER),
+    }
+}
+
+// The scope from its groups on: they are walked, and then its rows are written.
+fn scope_grouped(
+    rows: &[u64],
+    work: &mut [u64],
+    tokens: &[u64],
+    results: usize,
+    first: u64,
+    places: &[u64],
+    held: &[u64],
+    starts: &[u64],
+    members: &[u64],
+    ends: &[u64],
+    fuel: usize,
+    row: u64,
+    text: &mut [u8],
+    at: usize,
+    table: &mut [u64],
+) -> Scoped
+    requires { ⌜ Lent fuel (now work) (now text) × Holds (rows-in (now rows)) (reciprocals-first (now tokens) results first (now places) + length (now places)) (now held) ⌝ }
+    requires { ⌜ Ready (now tokens) results first (now places) (now held) (now starts) (now members) (now ends) ⌝ }
+    requires { ⌜ at + told-rows (grouped-scope (rows-in (now rows)) fuel row (now tokens) results first (now places)) ≤ most-rows ⌝ }
+    ensures { λ r. ⌜ (r ≡ scope-answer (grouped-scope (rows-in (now (rows .entry))) fuel row (now (tokens .entry)) results first (now (places .entry))) at)
+        × (now (table .exit) ≡ scope-table (grouped-scope (rows-in (now (rows .entry))) fuel row (now (tokens .entry)) results first (now (places .entry))) at (now (table .entry))) ⌝ }
+{
+    let mut numbers = [0u64; MOST];
+    let mut sizes = [0u64; MOST];
+    let next = first + (starts.len() - results + places.len()) as u64;
+    let walked = walk(
+        rows,
+        work,
+        held,
+        members,
+        ends,
+        fuel,
+        next,
+        text,
+        &mut numbers,
+        &mut sizes,
+    );
+    let Walked::Done(after, extracted) = walked else {
+        return Scoped::Refused(walk_refusal(walked));
+    };
+    let m = members.len();
+    let g = ends.len();
+    write_scope(
+        rows,
+        work,
+        tokens,
+        results,
+        first,
+        places,
+        held,
+        starts,
+        members,
+        ends,
+        &numbers[..m],
+        &sizes[..g],
+        fuel,
+        row,
+        after,
+        extracted,
+        text,
+        at,
+        table,
+    )
+}
+
+// The scope from what it holds on: where its trees begin there, and its groups.
+fn scope_held(
+    rows: &[u64],
+    work: &mut [u64],
+    tokens: &[u64],
+    results: usize,
+    trees: usize,
+    first: u64,
+    places: &[u64],
+    held: &[u64],
+    fuel: usize,
+    row: u64,
+    text: &mut [u8],
+    at: usize,
+    table: &mut [u64],
+) -> Scoped
+    requires { ⌜ Lent fuel (now work) (now text) × Left (rows-in (now rows)) (now tokens) results first (now places) ⌝ }
+    requires { ⌜ (trees-in (now tokens) ≡ some trees) × (now held ≡ held-words (now tokens) results first (now places)) × (length (now held) ≤ 1024) ⌝ }
+    requires { ⌜ at + told-rows (grouped-scope (rows-in (now rows)) fuel row (now tokens) results first (now places)) ≤ most-rows ⌝ }
+    ensures { λ r. ⌜ (r ≡ scope-answer (grouped-scope (rows-in (now (rows .entry))) fuel row (now (tokens .entry)) results first (now (places .entry))) at)
+        × (now (table .exit) ≡ scope-table (grouped-scope (rows-in (now (rows .entry))) fuel row (now (tokens .entry)) results first (now (places .entry))) at (now (table .entry))) ⌝ }
+{
+    let mut starts = [0u64; MOST];
+    let mut members = [0u64; MOST];
+    let mut ends = [0u64; MOST];
+    list_trees(held, &mut starts);
+    let found = group_all(held, &mut members, &mut ends);
+    let m = found.members;
+    let g = found.groups;
+    scope_grouped(
+        rows,
+        work,
+        tokens,
+        results,
+        first,
+        places,
+        held,
+        &starts[..trees],
+        &members[..m],
+        &ends[..g],
+        fuel,
+        row,
+        text,
+        at,
+        table,
+    )
+}
+
+// The scope after its rounds. Its words are copied out of the work area, whose rest is lent on to the scopes of its arms: a slice can't be used in two parts at once.
+fn scope_listed(
+    rows: &[u64],
+    work: &mut [u64],
+    used: usize,
+    results: usize,
+    first: u64,
+    places: &[u64],
+    fuel: usize,
+    row: u64,
+    text: &mut [u8],
+    at: usize,
+    table: &mut [u64],
+) -> Scoped
+    requires { ⌜ Lent (suc fuel) (now work) (now text) × (used ≤ length (now work)) ⌝ }
+    requires { ⌜ Left (rows-in (now rows)) (take used (now work)) results first (now places) ⌝ }
+    requires { ⌜ at + told-rows (fused-scope (inner (rows-in (now rows)) fuel) row (take used (now work)) results first (now places)) ≤ most-rows ⌝ }
+    ensures { λ r. ⌜ (r ≡ scope-answer (fused-scope (inner (rows-in (now (rows .entry))) fuel) row (take used (now (work .entry))) results first (now (places .entry))) at)
+        × (now (table .exit) ≡ scope-table (fused-scope (inner (rows-in (now (rows .entry))) fuel) row (take used (now (work .entry))) results first (now (places .entry))) at (now (table .entry))) ⌝ }
+{
+    let mut tokens = [0u64; MOST];
+    let mut held = [0u64; MOST];
+    put(&work[..used], 0, &mut tokens);
+    let trees = tree_count(&tokens[..used]);
+    let number = first + (trees - results) as u64;
+    let holding = hold_all(&tokens[..used], places, number, &mut held);
+    let Holding::Words(n) = holding else {
+        return Scoped::Refused(TOO_MUCH);
+    };
+    scope_held(
+        rows,
+        &mut work[used..],
+        &tokens[..used],
+        results,
+        trees,
+        first,
+        places,
+        &held[..n],
+        fuel,
+        row,
+        text,
+        at,
+        table,
+    )
+}
+
+// The scope of the first `len` words of the work area, with numbers from `next` on and values in rows of the kind `row`: its rows are laid over the table from `at`
+// on, those past its end dropped. A refusal writes nothing. `fuel` is how many scopes may be open at once from here on.
+pub fn scope(
+    rows: &[u64],
+    work: &mut [u64],
+    len: usize,
+    fuel: usize,
+    row: u64,
+    next: u64,
+    text: &mut [u8],
+    at: usize,
+    table: &mut [u64],
+) -> Scoped
+    requires { ⌜ T (extractable (rows-in (now rows)) next (take len (now work))) × T (symbols-pass (is-number (rows-in (now rows))) (take len (now work))) ⌝ }
+    requires { ⌜ Lent fuel (now work) (now text) × (len ≤ length (now work)) ⌝ }
+    requires { ⌜ at + told-rows (scope-told (rows-in (now rows)) fuel row next (take len (now work))) ≤ most-rows ⌝ }
+    ensures { λ r. ⌜ (r ≡ scope-answer (scope-told (rows-in (now (rows .entry))) fuel row next (take len (now (work .entry)))) at)
+        × (now (table .exit) ≡ scope-table (scope-told (rows-in (now (rows .entry))) fuel row next (take len (now (work .entry)))) at (now (table .entry))) ⌝ }
+{
+    if fuel == 0 {
+        return Scoped::Refused(TOO_MUCH);
+    }
+    if len > MOST {
+        return Scoped::Refused(TOO_MUCH);
+    }
+    if next > MOST_NUMBER {
+        return Scoped::Refused(TOO_MUCH);
+    }
+    let mut places = [0u64; MOST];
+    let results = tree_count(&work[..len]);
+    let listed = extract_and_list(rows, work, len, next, text, &mut places);
+    let Listed::Words(used, divisors) = listed else {
+        return Scoped::Refused(BAD_COEFFICIENT);
+    };
+    scope_listed(
+        rows,
+        work,
+        used,
+        results,
+        next,
+        &places[..divisors],
+        fuel - 1,
+        row,
+        text,
+        at,
+        table,
+    )
+}
