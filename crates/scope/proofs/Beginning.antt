@@ -26,7 +26,8 @@ use Rattle.treelist.proofs.Begins.{as-many}
 use Rattle.switchplaces.proofs.GroupColumns.{every-at}
 use Rattle.scopeplaces.specs.Overlay.{overlay}
 use Rattle.scopeplaces.specs.Parts.{place-groups, joined-groups, ends-from, reciprocals-first, lets-count, trees-held, words-held, held-words}
-use Rattle.scopeplaces.specs.Whole.{most-number, Told, Walk, walked, stmts-count, ordered-scope, fused-scope}
+use Rattle.cse.specs.Scope.{most-number}
+use Rattle.scopeplaces.specs.Whole.{Told, Walk, walked, stmts-count, ordered-scope, fused-scope}
 use Rattle.tables.proofs.Laws.{overlay-front}
 use Rattle.scopesound.proofs.Bounds.{Walk-bound, walk-bound, numbers-small, numbers-all}
 use Rattle.scopesound.proofs.Counting.{places-there, first-is, held-extractable, held-passes, held-trees, first-lets, trees-few, lets-few, last-most, stmts-few, members-few, groups-few}

@@ -17,7 +17,8 @@ use Rattle.renaming.specs.Names.{is-number, symbols-pass}
 use Rattle.renaming.specs.Places.{divisors-to-bind}
 use Rattle.kept.specs.Sound.{extractable}
 use Rattle.rounds.specs.Rounds.{all-rounds}
-use Rattle.scopeplaces.specs.Whole.{most-number, Told, fused-scope, scope-told}
+use Rattle.cse.specs.Scope.{most-number}
+use Rattle.scopeplaces.specs.Whole.{Told, fused-scope, scope-told}
 use Rattle.scopesound.proofs.Rounds.{rounds-sound, rounds-short, rounds-pass, rounds-results, rounds-ten}
 use Rattle.scope.specs.Answers.{inner, scope-answer, scope-table, told-rows, Lists}
 use Rattle.scope.specs.Frame.{most-rows, Lent, Left}

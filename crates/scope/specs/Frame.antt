@@ -19,7 +19,8 @@ use Rattle.reciprocal.specs.Bindings.{all-there}
 use Rattle.switchplaces.specs.Switches.{arm-count}
 use Rattle.switchplaces.specs.Columns.{column-words}
 use Rattle.scopeplaces.specs.Parts.{place-groups, joined-groups, ends-from, group-at, group-start, reciprocals-first, lets-count, held-words}
-use Rattle.scopeplaces.specs.Whole.{most-number, Told, Arms-told, Walk, arms-told, group-told, walked, ordered-scope, stmts-count}
+use Rattle.cse.specs.Scope.{most-number}
+use Rattle.scopeplaces.specs.Whole.{Told, Arms-told, Walk, arms-told, group-told, walked, ordered-scope, stmts-count}
 use Rattle.scope.specs.Answers.{told-rows, inner, arms-of}
 
 -- the most rows: sums of them are words
