@@ -204,6 +204,7 @@ module _ (scope : ℕ → List ℕ → Outcome Told) (hs g : List ℕ) (next n :
       second : (b : Arms-told) → arms-told scope hs g next n ≡ ok b → (o : Outcome Told) → scope (b .next) (column-words hs g n) ≡ o → (o >>= λ a. ok (and-arm b (arm-of g a))) ≡ ok r → Arms-back
       second b f (ok t) s q = record { before = b; last = t; before-told = f; last-told = s; is = got q }
       second b f (refused i) s q = absurd (never-ok q)
+
       first : (o : Outcome Arms-told) → arms-told scope hs g next n ≡ o → (o >>= λ r. scope (r .next) (column-words hs g n) >>= λ a. ok (and-arm r (arm-of g a))) ≡ ok r → Arms-back
       first (ok b) f q = second b f (scope (b .next) (column-words hs g n)) refl q
       first (refused i) f q = absurd (never-ok q)
@@ -230,14 +231,16 @@ module _ (scope : ℕ → List ℕ → Outcome Told) (hs g : List ℕ) (next : �
     where
       b : Arms-back scope hs g next count a
       b = arms-back scope hs g next count a e
+
       k : length (a .words) ≡ length (b .before .words) + suc (length (b .last .words))
       k = sym (ap (λ (z : Arms-told). length (z .words)) (b .is)) ∙ length-append (b .before .words) (arm-of g (b .last) .words)
+
       by-order : Or (n < count) (n ≡ count) → length (r .words) + suc (told-rows (scope (r .next) (column-words hs g n))) ≤ length (a .words)
       by-order (first q) = omega (arith, earlier (b .before) (b .before-told) q, k)
       by-order (second q) =
           let same : r ≡ b .before = got (sym f ∙ (ap (arms-told scope hs g next) q ∙ b .before-told)) in
           let t : told-rows (scope (r .next) (column-words hs g n)) ≡ length (b .last .words) =
-              ap told-rows (ap₂ (λ (z : Arms-told) (j : ℕ). scope (z .next) (column-words hs g j)) same q ∙ b .last-told) in
+          ap told-rows (ap₂ (λ (z : Arms-told) (j : ℕ). scope (z .next) (column-words hs g j)) same q ∙ b .last-told) in
           omega (arith, t, k, ap (λ (z : Arms-told). length (z .words)) same)
 
   pub arms-within : (count : ℕ) (a : Arms-told) → arms-told scope hs g next count ≡ ok a

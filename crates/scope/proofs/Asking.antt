@@ -87,7 +87,7 @@ module _ (rows : List Row) (fuel next : ℕ) (held group : List ℕ) (h : Holds 
       let s = arms-small n (omega arith) (b .before) (b .before-told) in
       let later = holds-later rows next (b .before .next) held (s .grows) h in
       let t = told-small rows fuel 35 (b .before .next) (column-words held group n)
-          (column-good rows (b .before .next) held group later g n (omega arith)) (column-passes rows (b .before .next) held group later g n (omega arith)) (b .last) (b .last-told) in
+      (column-good rows (b .before .next) held group later g n (omega arith)) (column-passes rows (b .before .next) held group later g n (omega arith)) (b .last) (b .last-told) in
       subst (Arms-small next (suc n)) (b .is) (record {
         rows = omega (arith, length-append (b .before .words) (arm-of group (b .last) .words), s .rows, t .rows);
         made = omega (arith, s .made, t .made);

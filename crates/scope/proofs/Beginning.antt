@@ -110,7 +110,7 @@ module _ (rows : List Row) (fuel row : ℕ) (ws : List ℕ) (k first : ℕ) (pla
     walk-refused q e z f at old =
         let m = subst By e by-answer in
         let s : grouped-scope rows fuel row ws k first places ≡ refused (m .0) =
-            ap (λ (y : List ℕ). groups-told rows fuel from y >>= λ l. ordered-scope row ws k first places l) (sym (rd .held-is)) ∙ ap (λ (o : Outcome Walk). o >>= λ l. ordered-scope row ws k first places l) (m .1) in
+        ap (λ (y : List ℕ). groups-told rows fuel from y >>= λ l. ordered-scope row ws k first places l) (sym (rd .held-is)) ∙ ap (λ (o : Outcome Walk). o >>= λ l. ordered-scope row ws k first places l) (m .1) in
         subst (λ (n : ℕ). Scope-done (grouped-scope rows fuel row ws k first places) at old (scoped.Refused n) old) (m .2 ∙ sym (f ∙ ap walk-refusal e)) (scope-refused (grouped-scope rows fuel row ws k first places) (m .0) s at old)
 
     module _ (after extracted : ℕ) (e : w ≡ walked-enum.Done after extracted) where

@@ -122,7 +122,7 @@ module _ (rows : List Row) (fuel : ℕ) (ws : List ℕ) (k first : ℕ) (places 
     number-holds =
         let b = bound (length gs) (sz .walk) (omega arith) all-told in
         let i : group-start gs g < length (sz .walk .numbers) =
-            omega (arith, b .numbers-many, starts-grow (inner rows fuel) held gs from (λ n r i e. (let b = bound n r i e in (b .numbers-many, b .arms-many))) (λ j i. (let r = ready-of rows from held (h .good) in group-fused held (r .trees) (r .complete) j i .some-member)) (length gs) g inside (omega arith)) in
+        omega (arith, b .numbers-many, starts-grow (inner rows fuel) held gs from (λ n r i e. (let b = bound n r i e in (b .numbers-many, b .arms-many))) (λ j i. (let r = ready-of rows from held (h .good) in group-fused held (r .trees) (r .complete) j i .some-member)) (length gs) g inside (omega arith)) in
         let e = every-at (λ (j : ℕ). (from ≤ j) × (j < sz .walk .next)) 0 (sz .walk .numbers) (b .numbers-between) (group-start gs g) i in
         let f : getD numbers (group-start gs g) 0 ≡ getD (sz .walk .numbers) (group-start gs g) 0 = ap (λ (z : List ℕ). getD z (group-start gs g) 0) (sz .numbers-are) in
         holds-later rows from (getD numbers (group-start gs g) 0) held (omega (arith, e .0, f)) h

@@ -27,8 +27,8 @@ use Rattle.scopesound.proofs.Bounds.{start-next}
 pub front-grows : (xs new old : List ℕ) (at : ℕ) → at ≡ length xs → take (length xs) old ≡ xs → at + length new ≤ length old → take (length (xs ++ new)) (overlay at new old) ≡ xs ++ new
 front-grows xs new old at e f fits =
     let s : overlay at new old ≡ (xs ++ new) ++ drop (at + length new) old =
-        overlay-fits at new old fits
-        ∙ (ap (λ (l : List ℕ). l ++ (new ++ drop (at + length new) old)) (ap (λ (k : ℕ). take k old) e ∙ f) ∙ sym (append-assoc xs new (drop (at + length new) old))) in
+    overlay-fits at new old fits
+    ∙ (ap (λ (l : List ℕ). l ++ (new ++ drop (at + length new) old)) (ap (λ (k : ℕ). take k old) e ∙ f) ∙ sym (append-assoc xs new (drop (at + length new) old))) in
     ap (take (length (xs ++ new))) s ∙ take-at (xs ++ new) (drop (at + length new) old) (length (xs ++ new)) refl
 
 map-more : (l : List (List ℕ)) (x : List ℕ) → map length (l ++ (x ∷ [])) ≡ map length l ++ (length x ∷ [])
@@ -74,6 +74,7 @@ module _ (scope : ℕ → List ℕ → Outcome Told) (hs : List ℕ) (gs : List 
         second : (b : Walk) → walked scope hs gs next n ≡ ok b → (o : Outcome Arms-told) → group-told scope hs (group-at gs n) (b .next) ≡ o → (o >>= λ a. ok (with-group n b a)) ≡ ok r → Walked-back r
         second b f (ok t) s q = record { before = b; last = t; before-told = f; last-told = s; is = got q }
         second b f (refused i) s q = absurd (never-ok q)
+
         first : (o : Outcome Walk) → walked scope hs gs next n ≡ o → then-group o ≡ ok r → Walked-back r
         first (ok b) f q = second b f (group-told scope hs (group-at gs n) (b .next)) refl q
         first (refused i) f q = absurd (never-ok q)
@@ -191,9 +192,9 @@ module _ (scope : ℕ → List ℕ → Outcome Told) (hs : List ℕ) (gs : List 
       let z : length (b .before .numbers) + 0 ≡ group-start gs n = omega (arith, m .0) in
       let y : length (b .before .arms) + 0 ≡ n = omega (arith, m .1) in
       let number : getD (b .before .numbers ++ nums) (group-start gs n) 0 ≡ b .before .next =
-          ap (λ (k : ℕ). getD (b .before .numbers ++ nums) k 0) (sym z) ∙ (getD-append-add (b .before .numbers) nums 0 0 ∙ numbers-first (b .before .next) (length (group-at gs n)) (some n h)) in
+      ap (λ (k : ℕ). getD (b .before .numbers ++ nums) k 0) (sym z) ∙ (getD-append-add (b .before .numbers) nums 0 0 ∙ numbers-first (b .before .next) (length (group-at gs n)) (some n h)) in
       let arms : getD (b .before .arms ++ (b .last .words ∷ [])) n [] ≡ b .last .words =
-          ap (λ (k : ℕ). getD (b .before .arms ++ (b .last .words ∷ [])) k []) (sym y) ∙ getD-append-add (b .before .arms) (b .last .words ∷ []) 0 [] in
+      ap (λ (k : ℕ). getD (b .before .arms ++ (b .last .words ∷ [])) k []) (sym y) ∙ getD-append-add (b .before .arms) (b .last .words ∷ []) 0 [] in
       subst (λ (w : Walk). Walked-at w n) (b .is) (record { arms = b .last; told = ap (λ (k : ℕ). group-told scope hs (group-at gs n) k) number ∙ b .last-told; rows = arms })
 
   earlier-at : (n g : ℕ) (l : Walk) → g < n → n < length gs → (b : Walked-back scope hs gs next n l) → Walked-at (b .before) g → Walked-at l g
@@ -201,9 +202,9 @@ module _ (scope : ℕ → List ℕ → Outcome Told) (hs : List ℕ) (gs : List 
       let m = many n (b .before) (omega arith) (b .before-told) in
       let nums = numbers-from (b .before .next) (length (group-at gs n)) in
       let number : getD (b .before .numbers ++ nums) (group-start gs g) 0 ≡ getD (b .before .numbers) (group-start gs g) 0 =
-          List·getD-append (b .before .numbers) nums 0 (group-start gs g) (omega (arith, m .0, starts-grow n g q (omega arith))) in
+      List·getD-append (b .before .numbers) nums 0 (group-start gs g) (omega (arith, m .0, starts-grow n g q (omega arith))) in
       let arms : getD (b .before .arms ++ (b .last .words ∷ [])) g [] ≡ getD (b .before .arms) g [] =
-          List·getD-append (b .before .arms) (b .last .words ∷ []) [] g (omega (arith, m .1)) in
+      List·getD-append (b .before .arms) (b .last .words ∷ []) [] g (omega (arith, m .1)) in
       subst (λ (z : Walk). Walked-at z g) (b .is) (record { arms = w .arms; told = ap (λ (k : ℕ). group-told scope hs (group-at gs g) k) number ∙ w .told; rows = arms ∙ w .rows })
 
   pub walked-at : (n : ℕ) → n ≤ length gs → (l : Walk) → walked scope hs gs next n ≡ ok l → (g : ℕ) → g < n → Walked-at l g

@@ -141,11 +141,12 @@ module _ (rows : List Row) (fuel : ℕ) (held members ends numbers : List ℕ) (
         wrote = subst (λ (o : Outcome Arms-told). Arms-wrote o body table new) told (given .1)
 
         done-by : Done-by (armed.Rows (body + length (sz .arms .words)) (sz .arms .next) (sz .arms .extracted))
-        done-by =
-            (omega (arith, bodied, run-long, sz .size-is),
-            wrote
-            ∙ (ap₂ (λ (k : ℕ) (t : List ℕ). overlay k (sz .arms .words) t) bodied headed
-            ∙ (sym (overlay-append at head (sz .arms .words) old) ∙ ap (λ (z : List ℕ). overlay at z old) (ap (λ (z : List ℕ). head ++ z) (sym arms-are) ∙ sym (match-is held gs numbers arms-rows g)))))
+        done-by = (
+          omega (arith, bodied, run-long, sz .size-is),
+          wrote
+              ∙ (ap₂ (λ (k : ℕ) (t : List ℕ). overlay k (sz .arms .words) t) bodied headed
+              ∙ (sym (overlay-append at head (sz .arms .words) old) ∙ ap (λ (z : List ℕ). overlay at z old) (ap (λ (z : List ℕ). head ++ z) (sym arms-are) ∙ sym (match-is held gs numbers arms-rows g)))),
+        )
 
         answered : r ≡ armed.Rows (body + length (sz .arms .words)) (sz .arms .next) (sz .arms .extracted)
         unfolding arms-answer
@@ -159,8 +160,9 @@ module _ (rows : List Row) (fuel : ℕ) (held members ends numbers : List ℕ) (
 
     -- where nothing would be written the place moves on
     pub match-past : (old table : List ℕ) → table ≡ overlay at head old → (body : ℕ) → body ≡ at + length head → length table ≤ body → (body + size ≡ at + length run) × (table ≡ overlay at run old)
-    match-past old table headed body bodied past =
-        (omega (arith, bodied, run-long),
-        sym (ap (λ (z : List ℕ). overlay at z old) (match-is held gs numbers arms-rows g)
-        ∙ (overlay-append at head arms-rows old
-        ∙ (ap₂ (λ (k : ℕ) (t : List ℕ). overlay k arms-rows t) (sym bodied) (sym headed) ∙ overlay-past body arms-rows table past))))
+    match-past old table headed body bodied past = (
+      omega (arith, bodied, run-long),
+      sym (ap (λ (z : List ℕ). overlay at z old) (match-is held gs numbers arms-rows g)
+          ∙ (overlay-append at head arms-rows old
+          ∙ (ap₂ (λ (k : ℕ) (t : List ℕ). overlay k arms-rows t) (sym bodied) (sym headed) ∙ overlay-past body arms-rows table past))),
+    )

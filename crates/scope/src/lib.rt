@@ -309,9 +309,7 @@ fn arms(
     let mut extracted = 0;
     let mut a = 0;
     while a < count {
-        let armed = arm(
-            rows, work, held, group, a, fuel, number, text, end, table,
-        );
+        let armed = arm(rows, work, held, group, a, fuel, number, text, end, table);
         let Armed::Rows(place, after, more) = armed else {
             return Armed::Refused(refusal_of(armed));
         };
@@ -468,13 +466,34 @@ fn write_stmt(
     let lets = starts.len() - results + places.len();
     if p < lets {
         return write_let(
-            tokens, results, first, places, held, starts, members, numbers, p, at, table,
+            tokens,
+            results,
+            first,
+            places,
+            held,
+            starts,
+            members,
+            numbers,
+            p,
+            at,
+            table,
         );
     }
     let g = p - lets;
     let size = sizes[g] as usize;
     write_match(
-        rows, work, held, members, ends, numbers, g, size, fuel, text, at, table,
+        rows,
+        work,
+        held,
+        members,
+        ends,
+        numbers,
+        g,
+        size,
+        fuel,
+        text,
+        at,
+        table,
     )
 }
 
@@ -509,8 +528,23 @@ fn write_stmts(
     while q < taken.len() {
         let p = taken[q] as usize;
         to = write_stmt(
-            rows, work, tokens, results, first, places, held, starts, members, ends, numbers,
-            sizes, p, fuel, text, to, table,
+            rows,
+            work,
+            tokens,
+            results,
+            first,
+            places,
+            held,
+            starts,
+            members,
+            ends,
+            numbers,
+            sizes,
+            p,
+            fuel,
+            text,
+            to,
+            table,
         );
         q += 1;
     }
@@ -549,7 +583,16 @@ fn write_scope(
     let made = starts.len() - results;
     let count = made + places.len() + ends.len();
     let ordered = order_stmts(
-        tokens, results, first, places, held, starts, members, ends, numbers, &mut taken,
+        tokens,
+        results,
+        first,
+        places,
+        held,
+        starts,
+        members,
+        ends,
+        numbers,
+        &mut taken,
     );
     match ordered {
         Ordered::All => {
@@ -573,7 +616,17 @@ fn write_scope(
                 table,
             );
             let place = write_values(
-                tokens, results, first, places, held, starts, members, numbers, row, end, table,
+                tokens,
+                results,
+                first,
+                places,
+                held,
+                starts,
+                members,
+                numbers,
+                row,
+                end,
+                table,
             );
             Scoped::Told(place, count, after, made + extracted)
         }

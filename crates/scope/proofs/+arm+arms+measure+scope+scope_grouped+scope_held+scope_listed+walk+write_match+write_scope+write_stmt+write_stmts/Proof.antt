@@ -1,4 +1,4 @@
--- `scope::scope`, `scope::arms` and `scope::arm` meet their contracts. A scope calls with one scope less that may be opened, and the others pass it on. Assumes nothing.
+-- `scope::scope` and the functions of its cycle meet their contracts. A scope calls with one scope less that may be opened, and the others pass it on. Assumes nothing.
 use native.Mathlib.Omega.{arith}
 use mathlib.Core.Path.{_≡_, refl, sym, _∙_, ap, subst}
 use lib.ListN.{length, take, getD, length-set}
