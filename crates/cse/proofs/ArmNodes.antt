@@ -173,40 +173,46 @@ no-switch-no-arms (Op k (q ◂ f) ∷ l) h = go (is-switch k) h (λ g. no-switch
     go true h g = absurd (h tt)
     go false h g = (let a = g h in omega arith)
 
--- trees before others: their arms are within them
-before-arms : (l r : List Tree) (N : ℕ) → sum-of arms-size (all-outer r) ≤ N → sum-of arms-size (all-outer (l ++ r)) ≤ occurrences l + N
-unfolding all-outer occurrences
-before-arms [] r N h = omega arith
-before-arms (t ∷ l) r N h = (let a = outer-arms t in let b = before-arms l r N h in let c = sum-append arms-size (outer t) (all-outer (l ++ r)) in omega arith)
-
-held-bindings-arms : (x : ℕ) (l : List Binding) → sum-of arms-size (all-outer (bound l)) ≤ occurrences (held-bindings x l)
-unfolding held-bindings holds-switch bound all-outer occurrences sum-of
-held-bindings-arms x [] = omega arith
-held-bindings-arms zero (b ∷ l) = go (some-switch (switches (outer (b .expr)))) (no-switch-no-arms (outer (b .expr))) (held-bindings-arms zero l)
-  where
-    go : (c : Bool) → ((T c → ⊥) → sum-of arms-size (outer (b .expr)) ≤ 0) → sum-of arms-size (all-outer (bound l)) ≤ occurrences (held-bindings zero l)
-        → sum-of arms-size (outer (b .expr) ++ all-outer (bound l)) ≤ occurrences (elim c [ true ↦ b .expr ∷ held-bindings zero l | false ↦ held-bindings zero l ])
-    go true h g = (let a = outer-arms (b .expr) in let c = sum-append arms-size (outer (b .expr)) (all-outer (bound l)) in omega arith)
-    go false h g = (let a = h (λ z. z) in let c = sum-append arms-size (outer (b .expr)) (all-outer (bound l)) in omega arith)
-held-bindings-arms (suc x) (b ∷ l) =
-    (let a = outer-arms (b .expr) in
-    let g = held-bindings-arms x l in
-    let c = sum-append arms-size (outer (b .expr)) (all-outer (bound l)) in
-    omega arith)
-
 pub occurrences-append : (l r : List Tree) → occurrences (l ++ r) ≡ occurrences l + occurrences r
 unfolding occurrences
 occurrences-append [] r = omega arith
 occurrences-append (t ∷ l) r = (let a = occurrences-append l r in omega arith)
 
+-- A weight of trees that is no more than a tree's nodes over its switches outside arms, and nothing where there is none: what the scope holds bounds its sum.
+module _ (v : Tree → ℕ) (fits : (t : Tree) → sum-of v (outer t) ≤ size t) (none : (l : List Tree) → (T (some-switch (switches l)) → ⊥) → sum-of v l ≤ 0) where
+  -- trees before others
+  before-sum : (l r : List Tree) (N : ℕ) → sum-of v (all-outer r) ≤ N → sum-of v (all-outer (l ++ r)) ≤ occurrences l + N
+  unfolding all-outer occurrences
+  before-sum [] r N h = omega arith
+  before-sum (t ∷ l) r N h = (let a = fits t in let b = before-sum l r N h in let c = sum-append v (outer t) (all-outer (l ++ r)) in omega arith)
+
+  bindings-sum : (x : ℕ) (l : List Binding) → sum-of v (all-outer (bound l)) ≤ occurrences (held-bindings x l)
+  unfolding held-bindings holds-switch bound all-outer occurrences sum-of
+  bindings-sum x [] = omega arith
+  bindings-sum zero (b ∷ l) = go (some-switch (switches (outer (b .expr)))) (none (outer (b .expr))) (bindings-sum zero l)
+    where
+      go : (c : Bool) → ((T c → ⊥) → sum-of v (outer (b .expr)) ≤ 0) → sum-of v (all-outer (bound l)) ≤ occurrences (held-bindings zero l)
+          → sum-of v (outer (b .expr) ++ all-outer (bound l)) ≤ occurrences (elim c [ true ↦ b .expr ∷ held-bindings zero l | false ↦ held-bindings zero l ])
+      go true h g = (let a = fits (b .expr) in let c = sum-append v (outer (b .expr)) (all-outer (bound l)) in omega arith)
+      go false h g = (let a = h (λ z. z) in let c = sum-append v (outer (b .expr)) (all-outer (bound l)) in omega arith)
+  bindings-sum (suc x) (b ∷ l) =
+      (let a = fits (b .expr) in
+      let g = bindings-sum x l in
+      let c = sum-append v (outer (b .expr)) (all-outer (bound l)) in
+      omega arith)
+
+  pub held-sum : (x : ℕ) (s : State) → sum-of v (distinct [] (all-outer (roots s))) ≤ occurrences (held x s)
+  unfolding held
+  held-sum x s =
+      (let a = distinct-sum v [] (all-outer (roots s)) in
+      let b : sum-of v (all-outer (roots s)) ≤ occurrences (s .results) + occurrences (held-bindings x (s .lets)) =
+      (unfold roots in before-sum (s .results) (bound (s .lets)) (occurrences (held-bindings x (s .lets))) (bindings-sum x (s .lets))) in
+      let c = occurrences-append (s .results) (held-bindings x (s .lets)) in
+      omega arith)
+
 held-total : (x : ℕ) (s : State) → arms-total (collect-switches (roots s)) ≤ occurrences (held x s)
-unfolding held
-held-total x s =
-    (let a = collected-outer (roots s) in
-    let b : sum-of arms-size (all-outer (roots s)) ≤ occurrences (s .results) + occurrences (held-bindings x (s .lets)) =
-    (unfold roots in before-arms (s .results) (bound (s .lets)) (occurrences (held-bindings x (s .lets))) (held-bindings-arms x (s .lets))) in
-    let c = occurrences-append (s .results) (held-bindings x (s .lets)) in
-    omega arith)
+unfolding collect-switches
+held-total x s = (let a = switches-total (distinct [] (all-outer (roots s))) in let b = held-sum arms-size outer-arms no-switch-no-arms x s in omega arith)
 
 -- ---- groups and columns: N bounds the arms of each group, and each arm has a property
 
@@ -237,7 +243,8 @@ module _ (P : Tree → Type 0) where
   groups-arms gs [] g h = g
   groups-arms gs (s ∷ l) g h = groups-arms (place s gs) l (place-arms s gs (h .0) g) (h .1)
 
-groups-total : List Group → ℕ
+unfoldable pub groups-total : List Group → ℕ
+unfolding members arms-total
 groups-total [] = 0
 groups-total (g ∷ l) = arms-total (members g) + groups-total l
 
@@ -276,11 +283,13 @@ collected-small N rs h =
     groups-small N (groups-from [] (collect-switches rs))
     (let a = from-total [] (collect-switches rs) in let b = collected-total rs in let c : groups-total [] ≡ 0 = (unfold groups-total in refl) in omega arith)
 
--- the arms of each group are no larger than what the scope holds
+-- the arms of all groups together are no larger than what the scope holds
+pub held-groups : (x : ℕ) (s : State) → groups-total (groups-from [] (collect-switches (roots s))) ≤ occurrences (held x s)
+held-groups x s = (let a = from-total [] (collect-switches (roots s)) in let b = held-total x s in let c : groups-total [] ≡ 0 = (unfold groups-total in refl) in omega arith)
+
+-- and so are those of each
 pub held-small : (N x : ℕ) (s : State) → occurrences (held x s) ≤ N → Small-groups N (groups-from [] (collect-switches (roots s)))
-held-small N x s h =
-    groups-small N (groups-from [] (collect-switches (roots s)))
-    (let a = from-total [] (collect-switches (roots s)) in let b = held-total x s in let c : groups-total [] ≡ 0 = (unfold groups-total in refl) in omega arith)
+held-small N x s h = groups-small N (groups-from [] (collect-switches (roots s))) (let a = held-groups x s in omega arith)
 
 -- and whatever they are, there is a number that is large enough
 pub some-small : (rs : List Tree) → Small-groups (arms-total (collect-switches rs)) (groups-from [] (collect-switches rs))
@@ -292,6 +301,12 @@ some-small rs =
 abbrev pub Given : (Tree → Type 0) → ℕ → List Tree → Type 0
 Given P N l = AllTrees P l × (occurrences l ≤ N) × (1 ≤ length l)
 
+-- of some lists together
+unfoldable pub lists-total : List (List Tree) → ℕ
+unfolding occurrences
+lists-total [] = 0
+lists-total (l ∷ ls) = occurrences l + lists-total ls
+
 module _ (P : Tree → Type 0) (N : ℕ) where
   abbrev pub Columns : List (List Tree) → Type 0
   Columns [] = Unit {0}
@@ -300,10 +315,6 @@ module _ (P : Tree → Type 0) (N : ℕ) where
   abbrev All-lists : List (List Tree) → Type 0
   All-lists [] = Unit {0}
   All-lists (l ∷ ls) = AllTrees P l × All-lists ls
-
-  lists-total : List (List Tree) → ℕ
-  lists-total [] = 0
-  lists-total (l ∷ ls) = occurrences l + lists-total ls
 
   first-column : (ls : List (List Tree)) → All-lists ls → AllTrees P (first-arms ls) × (occurrences (first-arms ls) ≤ lists-total ls)
   unfolding first-arms occurrences lists-total

@@ -31,6 +31,7 @@ pub mod CleanDivisors
 pub mod ArmNodes
 pub mod SwitchArms
 pub mod HeldRows
+pub mod NumbersMost
 pub mod RoomEnough
 pub mod RowCount
 pub mod AnyTable

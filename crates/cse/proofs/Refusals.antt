@@ -8,18 +8,17 @@ use mathlib.Core.List.{List, [], _∷_, reverse}
 use native.Mathlib.Omega.{arith}
 use lib.IntN.{ℤ}
 use lib.ListN.{length, getD}
-use lib.Dec.{T, eqb, leb, ltb, eqb-refl, ltb→lt}
+use lib.Dec.{T, eqb, ltb, eqb-refl, ltb→lt}
 use lib.Ieee.{Float, nan, inf, fin, up, down}
 use Rattle.tree.specs.Outcome.{Refusal, Outcome, ok, refused, _>>=_, each, by}
 use Rattle.tree.specs.Tree.{Name, xname, Tree, Forest, Sym, Const, Op, nil, _◂_, eq-tree}
 use Rattle.tree.specs.Kinds.{Mul}
 use Rattle.tree.specs.Facts.{all-operations, size}
 use Rattle.rewrite.specs.Rewrite.{Factors, whole-number, constant-of, built, build-mul-from-factors, match-factors, each-operand, replace-within, replace}
-use Rattle.tree.specs.Rows.{occurrences}
 use Rattle.cse.specs.Extract.{Binding, State, Candidate, roots, best, replace-bound, extract, rounds, extract-all, reciprocals}
 use Rattle.cse.specs.Answer.{Intermediate, Let, Match, names, symbols, free, elem}
 use Rattle.cse.specs.Order.{meets, needs-from, needs, member, positions-taken, nothing, at-each, topo-sort-intermediates}
-use Rattle.cse.specs.Scope.{Group, Work, Scoped, Armed, members, collect-switches, groups-from, name-members, columns, arms-of-members, scope-arms, fuse-group, fuse-groups, fuse-all, binds, unfused, finish, cse-scope, scope-rows, scopes-open, as-answer, answer}
+use Rattle.cse.specs.Scope.{Group, Work, Scoped, Armed, members, collect-switches, groups-from, name-members, columns, arms-of-members, scope-arms, fuse-group, fuse-groups, fuse-all, binds, unfused, finish, cse-scope, opens, scopes-open, as-answer, answer}
 use Rattle.tree.specs.Value.{values}
 use Rattle.tree.proofs.Logic.{and-right}
 use Rattle.rewrite.proofs.Names.{holds, holds-all}
@@ -206,7 +205,7 @@ scope-only (suc fuel) false next es =
     then-only Of-steps (extract-all false next es) (rounds-only false next es) _ (λ s. finish-only (unfused (length (s .lets)) (reciprocals false s)))
 scope-only (suc fuel) true next es =
     let inner : ℕ → List Tree → Outcome Scoped = λ n l. cse-scope fuel true n l in
-    or-no-room (Only Of-steps {A = Scoped}) (unfold Only in inr (inr refl)) (leb (occurrences es) scope-rows) _
+    or-no-room (Only Of-steps {A = Scoped}) (unfold Only in inr (inr refl)) (opens next es) _
     (then-only Of-steps (extract-all true next es) (rounds-only true next es) _
     (λ s. or-not-held (Only Of-steps) (unfold Only in inr (inr refl)) inner (length (s .lets)) (reciprocals true s)
     (then-only Of-steps (fuse-all inner (length (s .lets)) (reciprocals true s))

@@ -1,9 +1,10 @@
 -- Refusal 23 never arises on a list each of whose divisors holds a symbol, or no switch: no bound divisor holds a switch then, so a scope holds no more for
--- fusion than its input, and each arm's scope is no larger than that, and a level further in. Assumes nothing.
-use Prim.Native.Nat.{ℕ, zero, suc, _+_, _≤_}
+-- fusion than its input, and its arms' scopes are together no larger than that, and a level further in. So a scope's numbers, and those of the scopes in it, are
+-- at most twice its input for each level. Assumes nothing.
+use Prim.Native.Nat.{ℕ, zero, suc, _+_, _*_, _≤_}
 use mathlib.Core.Path.{_≡_, refl, sym, ap, subst}
 use mathlib.Core.Logic.{_⊎_, inl, inr}
-use mathlib.Core.Bool.{Bool, true, false}
+use mathlib.Core.Bool.{Bool, true, false, _&&_}
 use mathlib.Core.List.{List, [], _∷_, reverse}
 use native.Mathlib.Omega.{arith}
 use lib.ListN.{length}
@@ -24,21 +25,22 @@ use Rattle.rewrite.proofs.Measure.{sum-of}
 use Rattle.cse.specs.Extract.{State, roots, divisors, extract-all, replace-divisor-each, bind-reciprocal, bind-reciprocals, reciprocals}
 use Rattle.cse.specs.Answer.{Intermediate, Answer}
 use Rattle.cse.specs.Order.{needs, positions-taken, at-each, topo-sort-intermediates}
-use Rattle.cse.specs.Scope.{Group, Work, Scoped, Armed, members, collect-switches, groups-from, name-members, columns, arms-of-members, scope-arms, fuse-group, fuse-groups, fuse-all, unfused, finish, held, fuse-held, cse-scope, scope-rows, scopes-open, as-answer, answer}
+use Rattle.cse.specs.Scope.{Group, Work, Scoped, Armed, members, collect-switches, groups-from, name-members, columns, arms-of-members, scope-arms, fuse-group, fuse-groups, fuse-all, unfused, finish, held, fuse-held, cse-scope, scope-rows, most-number, opens, scopes-open, as-answer, answer}
 use Rattle.cse.proofs.Outcomes.{good-at}
 use Rattle.cse.proofs.RoundsCount.{made-before, below-made, extract-all-end}
 use Rattle.cse.proofs.RoundsValue.{reciprocals-keep, roots-known}
 use Rattle.cse.proofs.FlatCount.{some-reading}
 use Rattle.cse.proofs.ReciprocalsCount.{AllTrees, all-map, divisors-all, bound-divisors, bound-twice, inverse, roots-reciprocal, reciprocals-are, divided-formed, inverse-formed}
 use Rattle.cse.proofs.SizeCount.{total-size, extract-all-size}
-use Rattle.cse.proofs.ScopeValue.{under, under-le, under-below, name-members-later}
+use Rattle.cse.proofs.ScopeValue.{under, under-le, under-below}
 use Rattle.cse.proofs.ScopeRoom.{deep, deeps, most-down, deeper-op, no-arms, reciprocals-deep, nests-at-most, limits-rows, limits-nesting}
 use Rattle.cse.proofs.ScopedCount.{Started, started}
 use Rattle.cse.proofs.Refusals.{Only, only-at, Ten, extract-all-ten}
 use Rattle.cse.proofs.Levels.{Most, extract-all-within}
 use Rattle.cse.proofs.NestingLevel.{nesting-op, nesting-level, arms-deeper}
 use Rattle.cse.proofs.CleanDivisors.{all-ops, all-ops-each, divides-plain, clean, All-clean, extract-all-clean, reciprocals-clean, Plain-divisors, all-clean-from, bound-no-switch}
-use Rattle.cse.proofs.ArmNodes.{arms-total, All-arms, Groups, Small-groups, held-small, Given, Columns, group-columns}
+use Rattle.cse.proofs.ArmNodes.{arms-total, groups-total, lists-total, All-arms, Groups, Small-groups, held-groups, held-small, Given, Columns, group-columns}
+use Rattle.cse.proofs.NumbersMost.{members-total, held-members, name-members-next, group-total, opened-next, numbers-most, most-add, most-up}
 use Rattle.cse.proofs.SwitchArms.{All-operands, as-list, groups-all}
 use Rattle.cse.proofs.HeldRows.{held-rows}
 
@@ -145,49 +147,88 @@ unfolding Fine
 then-fine Q R (ok a) h f g = g a h
 then-fine Q R (refused i) h f g = h
 
-abbrev After : ℕ → Scoped → Type 0
-After start a = start ≤ a .next
+-- from a number on, and at most so many numbers later
+abbrev After : ℕ → ℕ → Scoped → Type 0
+After start n a = (start ≤ a .next) × (a .next ≤ start + n)
 
-finish-fine : (start : ℕ) (w : Work) → start ≤ w .next → Fine (After start) (finish w)
+abbrev Later : ℕ → ℕ → Work → Type 0
+Later start n w = (start ≤ w .next) × (w .next ≤ start + n)
+
+abbrev Armed-later : ℕ → ℕ → Armed → Type 0
+Armed-later start n a = (start ≤ a .next) × (a .next ≤ start + n)
+
+finish-fine : (start n : ℕ) (w : Work) → Later start n w → Fine (After start n) (finish w)
 unfolding finish topo-sort-intermediates
-finish-fine start w h = go (eqb (length (positions-taken (needs (w .inters) (w .inters)))) (length (w .inters)))
+finish-fine start n w h = go (eqb (length (positions-taken (needs (w .inters) (w .inters)))) (length (w .inters)))
   where
     go : (b : Bool)
-        → Fine {A = Scoped} (After start)
+        → Fine {A = Scoped} (After start n)
         ((elim b as (λ _. Outcome (List Intermediate)) [ true ↦ ok (reverse (at-each (w .inters) (positions-taken (needs (w .inters) (w .inters))))) | false ↦ refused (by 11) ])
         >>= λ l. ok (record { inters = l; results = w .results; next = w .next; extracted = w .extracted }))
     go true = (unfold Fine in h)
     go false = (unfold Fine in inr refl)
 
+then-later : (start n next m N : ℕ) → (start ≤ next) × (next ≤ start + n) → n + m ≤ N → (o : Outcome Work) → Fine (Later next m) o → Fine (Later start N) o
+unfolding Fine
+then-later start n next m N h b (ok w) g = ((let p = h .0 in let q = g .0 in omega arith), (let p = h .1 in let q = g .1 in omega arith))
+then-later start n next m N h b (refused i) g = g
+
 -- ---- arms and groups
 
-module _ (N D : ℕ) (scope : ℕ → List Tree → Outcome Scoped)
-    (ih : (start : ℕ) (es : List Tree) → Given (Fit (under start) D) N es → Fine (After start) (scope start es)) where
-  arms-fine : (low start : ℕ) → low ≤ start → (ls : List (List Tree)) → Columns (Fit (under low) D) N ls → Fine (λ (a : Armed). start ≤ a .next) (scope-arms scope start ls)
+-- the numbers of a list of arms, or of groups and their arms
+arms-numbers : ℕ → List (List Tree) → ℕ
+arms-numbers D ls = numbers-most D (lists-total ls)
+
+arms-within : (D k : ℕ) (g : Group) → arms-numbers D (columns k (arms-of-members (members g))) ≤ numbers-most D (arms-total (members g))
+unfolding arms-numbers
+arms-within D k g = most-up D (lists-total (columns k (arms-of-members (members g)))) (arms-total (members g)) (group-total k g)
+
+groups-numbers : ℕ → List Group → ℕ
+groups-numbers D gs = members-total gs + numbers-most D (groups-total gs)
+
+module _ (N D B : ℕ) (scope : ℕ → List Tree → Outcome Scoped)
+    (ih : (start : ℕ) (es : List Tree) → Given (Fit (under start) D) N es → start + numbers-most D (occurrences es) ≤ B → Fine (After start (numbers-most D (occurrences es))) (scope start es)) where
+  arms-fine :
+      (low start : ℕ) → low ≤ start → (ls : List (List Tree)) → Columns (Fit (under low) D) N ls → start + arms-numbers D ls ≤ B
+      → Fine (Armed-later start (arms-numbers D ls)) (scope-arms scope start ls)
   unfolding scope-arms
-  arms-fine low start h [] c = fine-ok (λ (a : Armed). start ≤ a .next) _ (omega arith)
-  arms-fine low start h (es ∷ ls) c =
-      then-fine (After start) (λ (a : Armed). start ≤ a .next) (scope start es)
-      (ih start es (fit-more (under low) (under start) (under-le low start h) D es (c .0 .0), c .0 .1, c .0 .2)) _
-      (λ a g. then-fine (λ (r : Armed). a .next ≤ r .next) (λ (r : Armed). start ≤ r .next) (scope-arms scope (a .next) ls) (arms-fine low (a .next) (omega arith) ls (c .1)) _
-      (λ r k. fine-ok (λ (r : Armed). start ≤ r .next) _ (omega arith)))
+  arms-fine low start h [] c m = fine-ok (Armed-later start (arms-numbers D [])) _ (omega arith, omega arith)
+  arms-fine low start h (es ∷ ls) c m =
+      let n = numbers-most D (occurrences es) in
+      let e : arms-numbers D (es ∷ ls) ≡ n + arms-numbers D ls = (unfold arms-numbers lists-total in most-add D (occurrences es) (lists-total ls)) in
+      then-fine (After start n) (Armed-later start (arms-numbers D (es ∷ ls))) (scope start es)
+      (ih start es (fit-more (under low) (under start) (under-le low start h) D es (c .0 .0), c .0 .1, c .0 .2) (omega arith)) _
+      (λ a g. then-fine (Armed-later (a .next) (arms-numbers D ls)) (Armed-later start (arms-numbers D (es ∷ ls))) (scope-arms scope (a .next) ls)
+      (arms-fine low (a .next) (let q = g .0 in omega arith) ls (c .1) (let q = g .1 in omega arith)) _
+      (λ r k. fine-ok (Armed-later start (arms-numbers D (es ∷ ls))) _ ((let q = g .0 in let u = k .0 in omega arith), (let q = g .1 in let u = k .1 in omega arith))))
 
-  group-fine : (low : ℕ) (g : Group) (w : Work) → low ≤ w .next → All-arms (Fit (under low) D) (members g) → arms-total (members g) ≤ N
-      → Fine (λ (v : Work). low ≤ v .next) (fuse-group scope g w)
+  group-fine :
+      (low : ℕ) (g : Group) (w : Work) → low ≤ w .next → All-arms (Fit (under low) D) (members g) → arms-total (members g) ≤ N
+      → (w .next + (length (members g) + numbers-most D (arms-total (members g))) ≤ B)
+      → Fine (Later (w .next) (length (members g) + numbers-most D (arms-total (members g)))) (fuse-group scope g w)
   unfolding fuse-group
-  group-fine low g w h a m =
+  group-fine low g w h a m b =
       let v = name-members (members g) w in
-      let q = name-members-later (members g) w in
+      let q = name-members-next (members g) w in
       let l = columns (length (g .first .arms)) (arms-of-members (members g)) in
-      then-fine (λ (r : Armed). v .next ≤ r .next) (λ (v : Work). low ≤ v .next) (scope-arms scope (v .next) l)
-      (arms-fine low (v .next) (omega arith) l (group-columns (Fit (under low) D) N g a m)) _
-      (λ r k. fine-ok (λ (v : Work). low ≤ v .next) _ (omega arith))
+      let n = length (members g) + numbers-most D (arms-total (members g)) in
+      let u = arms-within D (length (g .first .arms)) g in
+      then-fine (Armed-later (v .next) (arms-numbers D l)) (Later (w .next) n) (scope-arms scope (v .next) l)
+      (arms-fine low (v .next) (omega arith) l (group-columns (Fit (under low) D) N g a m) (omega arith)) _
+      (λ r k. fine-ok (Later (w .next) n) _ ((let z = k .0 in omega arith), (let z = k .1 in omega arith)))
 
-  groups-fine : (low : ℕ) (gs : List Group) (w : Work) → low ≤ w .next → Groups (Fit (under low) D) gs → Small-groups N gs → Fine (λ (v : Work). low ≤ v .next) (fuse-groups scope gs w)
+  groups-fine :
+      (low : ℕ) (gs : List Group) (w : Work) → low ≤ w .next → Groups (Fit (under low) D) gs → Small-groups N gs → w .next + groups-numbers D gs ≤ B
+      → Fine (Later (w .next) (groups-numbers D gs)) (fuse-groups scope gs w)
   unfolding fuse-groups
-  groups-fine low [] w h a m = fine-ok (λ (v : Work). low ≤ v .next) w h
-  groups-fine low (g ∷ gs) w h a m =
-      then-fine (λ (v : Work). low ≤ v .next) (λ (v : Work). low ≤ v .next) (fuse-group scope g w) (group-fine low g w h (a .0) (m .0)) _ (λ v k. groups-fine low gs v k (a .1) (m .1))
+  groups-fine low [] w h a m b = fine-ok (Later (w .next) (groups-numbers D [])) w (omega arith, omega arith)
+  groups-fine low (g ∷ gs) w h a m b =
+      let n = length (members g) + numbers-most D (arms-total (members g)) in
+      let e : groups-numbers D (g ∷ gs) ≡ n + groups-numbers D gs =
+      (unfold groups-numbers members-total groups-total in let q = most-add D (arms-total (members g)) (groups-total gs) in omega arith) in
+      then-fine (Later (w .next) n) (Later (w .next) (groups-numbers D (g ∷ gs))) (fuse-group scope g w) (group-fine low g w h (a .0) (m .0) (omega arith)) _
+      (λ v k. then-later (w .next) n (v .next) (groups-numbers D gs) (groups-numbers D (g ∷ gs)) k (omega arith) (fuse-groups scope gs v)
+      (groups-fine low gs v (let z = k .0 in omega arith) (a .1) (m .1) (let z = k .1 in omega arith)))
 
 -- ---- a scope
 
@@ -241,56 +282,81 @@ module _ (start m : ℕ) (es : List Tree) (F : AllTrees (Fit (under start) (suc 
         let d = total-is (roots s) in
         omega arith)
 
+    -- so it takes no more numbers than twice that, and those of its arms' scopes
+    groups-within : groups-numbers m (groups-from [] (collect-switches (roots t))) ≤ occurrences es + numbers-most m (occurrences es)
+    unfolding groups-numbers
+    groups-within =
+        (let a = held-members (length (s .lets)) t in
+        let b = held-groups (length (s .lets)) t in
+        let c = held-within in
+        let d = most-up m (groups-total (groups-from [] (collect-switches (roots t)))) (occurrences es) (omega arith) in
+        omega arith)
+
     fused-fine :
-        (scope : ℕ → List Tree → Outcome Scoped) → occurrences es ≤ scope-rows
-        → ((start : ℕ) (es : List Tree) → Given (Fit (under start) m) scope-rows es → Fine (After start) (scope start es))
-        → Fine (After start) (fuse-held scope (length (s .lets)) (reciprocals true s))
-    unfolding fuse-held fuse-all
-    fused-fine scope h ih = go (leb (occurrences (held x t)) scope-rows) (le→leb (occurrences (held x t)) scope-rows (let q = held-within in omega arith))
+        (B : ℕ) (scope : ℕ → List Tree → Outcome Scoped) → occurrences es ≤ scope-rows → start + numbers-most (suc m) (occurrences es) ≤ B
+        → ((start : ℕ) (es : List Tree) → Given (Fit (under start) m) scope-rows es → start + numbers-most m (occurrences es) ≤ B
+        → Fine (After start (numbers-most m (occurrences es))) (scope start es))
+        → Fine (After start (numbers-most (suc m) (occurrences es))) (fuse-held scope (length (s .lets)) (reciprocals true s))
+    unfolding fuse-held fuse-all numbers-most
+    fused-fine B scope h l ih = go (leb (occurrences (held x t)) scope-rows) (le→leb (occurrences (held x t)) scope-rows (let q = held-within in omega arith))
       where
         x : ℕ
         x = length (s .lets)
 
-        fused : Fine (After start) (fuse-groups scope (groups-from [] (collect-switches (roots t))) (unfused x t) >>= λ w. finish w)
+        gs : List Group
+        gs = groups-from [] (collect-switches (roots t))
+
+        opened : t .next ≤ start + occurrences es
+        opened = opened-next true start es formed made s e
+
+        fused : Fine (After start (2 * occurrences es + numbers-most m (occurrences es))) (fuse-groups scope (groups-from [] (collect-switches (roots t))) (unfused x t) >>= λ w. finish w)
         fused =
-            then-fine (λ (w : Work). t .next ≤ w .next) (After start) (fuse-groups scope (groups-from [] (collect-switches (roots t))) (unfused x t))
-            (groups-fine scope-rows m scope ih (t .next) (groups-from [] (collect-switches (roots t))) (unfused x t) (unfold unfused in omega arith)
-            (groups-fit (under (t .next)) m (roots t) roots-fit) (held-small scope-rows x t (let q = held-within in omega arith))) _
-            (λ w h. finish-fine start w (let q = after .later in omega arith))
+            then-fine (Later (t .next) (groups-numbers m gs)) (After start (2 * occurrences es + numbers-most m (occurrences es))) (fuse-groups scope gs (unfused x t))
+            (unfold unfused in groups-fine scope-rows m B scope ih (t .next) gs (unfused x t) (omega arith)
+            (groups-fit (under (t .next)) m (roots t) roots-fit) (held-small scope-rows x t (let q = held-within in omega arith)) (let q = opened in let z = groups-within in omega arith)) _
+            (λ w h. finish-fine start (2 * occurrences es + numbers-most m (occurrences es)) w
+            ((let q = after .later in let z = h .0 in omega arith), (let q = opened in let z = h .1 in let y = groups-within in omega arith)))
 
         go : (b : Bool) → T b
-            → Fine {A = Scoped} (After start)
+            → Fine {A = Scoped} (After start (2 * occurrences es + numbers-most m (occurrences es)))
             (elim b [ true ↦ (fuse-groups scope (groups-from [] (collect-switches (roots t))) (unfused x t) >>= λ w. finish w) | false ↦ refused (by 23) ])
         go true q = fused
         go false q = absurd q
 
--- An input of at most 1,024 occurrences whose arms nest less than D deep, where so many scopes can be open. Where none can be, nothing is given.
+-- An input of at most 1,024 occurrences whose arms nest less than D deep, where so many scopes can be open and their numbers are within 2^31. Where none can be
+-- open, nothing is given.
 scope-fine :
-    (D start : ℕ) (es : List Tree) → AllTrees (Fit (under start) D) es → occurrences es ≤ scope-rows → 1 ≤ D + length es → Fine (After start) (cse-scope D true start es)
-unfolding cse-scope
-scope-fine zero start [] F h n = absurd (omega arith)
-scope-fine zero start (e ∷ es) F h n = absurd (F .0)
-scope-fine (suc m) start es F h n =
-    fits (leb (occurrences es) scope-rows) (le→leb (occurrences es) scope-rows h) (extract-all true start es) refl (extract-all-ten true start es)
-    (λ n l G. scope-fine m n l (G .0) (G .1) (let z = G .2 in omega arith))
+    (D start : ℕ) (es : List Tree) → AllTrees (Fit (under start) D) es → occurrences es ≤ scope-rows → 1 ≤ D + length es → start + numbers-most D (occurrences es) ≤ most-number
+    → Fine (After start (numbers-most D (occurrences es))) (cse-scope D true start es)
+unfolding cse-scope opens
+scope-fine zero start [] F h n l = absurd (omega arith)
+scope-fine zero start (e ∷ es) F h n l = absurd (F .0)
+scope-fine (suc m) start es F h n l =
+    fits (leb (occurrences es) scope-rows && leb start most-number)
+    (and-both (leb (occurrences es) scope-rows) (leb start most-number) (le→leb (occurrences es) scope-rows h) (le→leb start most-number (omega arith))) (extract-all true start es) refl
+    (extract-all-ten true start es) (λ n l G b. scope-fine m n l (G .0) (G .1) (let z = G .2 in omega arith) b)
   where
     inner : ℕ → List Tree → Outcome Scoped
     inner n l = cse-scope m true n l
 
     fits : (b : Bool) → T b → (o : Outcome State) → extract-all true start es ≡ o → Only Ten o
-        → ((n : ℕ) (l : List Tree) → Given (Fit (under n) m) scope-rows l → Fine (After n) (inner n l))
-        → Fine {A = Scoped} (After start) (elim b [ true ↦ (o >>= λ s. fuse-held inner (length (s .lets)) (reciprocals true s)) | false ↦ refused (by 23) ])
-    fits true t (ok s) e T10 ih = fused-fine start m es F s e inner h ih
+        → ((n : ℕ) (l : List Tree) → Given (Fit (under n) m) scope-rows l → n + numbers-most m (occurrences l) ≤ most-number → Fine (After n (numbers-most m (occurrences l))) (inner n l))
+        → Fine {A = Scoped} (After start (numbers-most (suc m) (occurrences es))) (elim b [ true ↦ (o >>= λ s. fuse-held inner (length (s .lets)) (reciprocals true s)) | false ↦ refused (by 23) ])
+    fits true t (ok s) e T10 ih = fused-fine start m es F s e most-number inner h l ih
     fits true t (refused i) e T10 ih = (unfold Fine in inl (only-at Ten {A = State} (refused i) i refl T10))
     fits false t o e T10 ih = absurd t
 
 -- ---- the answer
 
+nine-most : (n : ℕ) → n ≤ scope-rows → 0 + numbers-most 9 n ≤ most-number
+unfolding numbers-most scope-rows
+nine-most n h = omega arith
+
 answer-fine : (es : List Tree) → T (well-formed-all es) → T (holds-all (under 0) es) → T (within-limits es) → Plain-divisors es → Fine (λ (a : Answer). Unit {0}) (answer true es)
 unfolding answer scopes-open scope-rows
 answer-fine es w h l p =
-    then-fine (After 0) (λ (a : Answer). Unit {0}) (cse-scope 9 true 0 es)
-    (scope-fine 9 0 es (fit-all (under 0) 8 es w h (all-clean-from es p) (nests-at-most 8 es (limits-nesting es l))) (limits-rows es l) (omega arith)) _
+    then-fine (After 0 (numbers-most 9 (occurrences es))) (λ (a : Answer). Unit {0}) (cse-scope 9 true 0 es)
+    (scope-fine 9 0 es (fit-all (under 0) 8 es w h (all-clean-from es p) (nests-at-most 8 es (limits-nesting es l))) (limits-rows es l) (omega arith) (nine-most (occurrences es) (limits-rows es l))) _
     (λ a q. fine-ok (λ (a : Answer). Unit {0}) (as-answer a) tt)
 
 -- For a list within the limits that holds no name of an answer, and each of whose divisors holds a symbol, or no Select or Branch.

@@ -8,15 +8,14 @@ use mathlib.Core.Bool.{Bool, true, false, not, _&&_, _||_}
 use mathlib.Core.List.{List, [], _∷_, _++_, reverse, reverseAux, append-assoc}
 use native.Mathlib.Omega.{arith}
 use lib.ListN.{length, getD}
-use lib.Dec.{T, eqb, leb, ltb, ltb→lt, lt→ltb, nltb→le, T-not, not-T, eqb→eq}
+use lib.Dec.{T, eqb, ltb, ltb→lt, lt→ltb, nltb→le, T-not, not-T, eqb→eq}
 use Rattle.tree.specs.Outcome.{Outcome, ok, refused, _>>=_, by}
 use Rattle.tree.specs.Tree.{Name, input, xname, mname, Tree}
-use Rattle.tree.specs.Rows.{occurrences}
 use Rattle.cse.specs.Extract.{Binding, State, extract-all, reciprocals, roots}
 use Rattle.cse.specs.Answer.{Intermediate, Arms, Answer, Let, Match, arm, block, names, symbols, all-symbols, free, free-stmts, free-arms, elem}
 use Rattle.cse.specs.Order.{needs, member, positions-taken, nothing, at-each, topo-sort-intermediates}
 use Rattle.cse.proofs.OrderLaws.{member-cases, member-later, member-here, All, Distinct, Ordered, Taken, taken-ok, none-missing}
-use Rattle.cse.specs.Scope.{Switch, Group, Work, Scoped, Armed, members, collect-switches, groups-from, replace-in-stmts, name-members, member-names, columns, arms-of-members, scope-arms, fuse-group, fuse-groups, fuse-all, binds, unfused, finish, cse-scope, scope-rows, scopes-open, fuse-held, as-answer, answer}
+use Rattle.cse.specs.Scope.{Switch, Group, Work, Scoped, Armed, members, collect-switches, groups-from, replace-in-stmts, name-members, member-names, columns, arms-of-members, scope-arms, fuse-group, fuse-groups, fuse-all, binds, unfused, finish, cse-scope, opens, scopes-open, fuse-held, as-answer, answer}
 use Rattle.tree.specs.Value.{Reading, Env, values}
 use Rattle.cse.specs.Demand.{bound-stmt, bound-stmts, bound-arms, all-different, known, in-scope, stmt-in-scope, arms-in-scope, well-scoped}
 use Rattle.tree.proofs.Logic.{and-left, and-right, and-both}
@@ -778,7 +777,7 @@ scope-names (suc fuel) false start es h =
     flat-step start es (extract-all false start es) (extract-all-keeps some-reading (λ s. true) start (ρ start es) false es h)
     (λ p g. extract-all-held (outside p start) start (outside-x start es p) false es (outside-all start es p g))
 scope-names (suc fuel) true start es h =
-    or-no-room (Named start es) tt (leb (occurrences es) scope-rows) _
+    or-no-room (Named start es) tt (opens start es) _
     (scoped-step start es (λ n l. cse-scope fuel true n l) (λ n l g. scope-names fuel true n l g) (extract-all true start es)
     (extract-all-keeps some-reading (λ s. true) start (ρ start es) true es h)
     (λ p g. extract-all-held (outside p start) start (outside-x start es p) true es (outside-all start es p g)))

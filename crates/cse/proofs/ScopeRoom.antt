@@ -1,9 +1,9 @@
 -- The rows and the number of open scopes. Fusion depends on the arms' scopes only by what it gives them; these inputs are no larger than what the scope holds,
--- and nest one level less. So refusal 23 arises, in a list of at most 1,024 occurrences, only where a scope would hold too much for fusion; and that nine scopes
--- can be open decides nothing where arms nest at most 8 deep. Assumes nothing.
+-- and nest one level less. So refusal 23 arises, in a list of at most 1,024 occurrences, only where a scope would hold too much for fusion, or begin at a number
+-- past 2^31; and that nine scopes can be open decides nothing where arms nest at most 8 deep. Assumes nothing.
 use Prim.Native.Nat.{ℕ, zero, suc, _+_, _≤_}
 use mathlib.Core.Path.{_≡_, refl, sym, _∙_, ap, fun-ext}
-use mathlib.Core.Bool.{Bool, true, false, cond}
+use mathlib.Core.Bool.{Bool, true, false, _&&_, cond}
 use mathlib.Core.List.{List, [], _∷_, _++_}
 use native.Mathlib.Omega.{arith}
 use lib.ListN.{length}
@@ -16,7 +16,7 @@ use Rattle.tree.specs.Rows.{occurrences, within-limits}
 use Rattle.tree.proofs.Logic.{and-left, and-right, and-both}
 use Rattle.cse.specs.Extract.{State, roots, extract-all, reciprocals}
 use Rattle.cse.specs.Answer.{Match, arm, block}
-use Rattle.cse.specs.Scope.{Group, Work, Scoped, Armed, members, member-names, collect-switches, groups-from, name-members, columns, arms-of-members, scope-arms, fuse-group, fuse-groups, fuse-all, finish, unfused, held, fuse-held, scope-rows, scopes-open, cse-scope, as-answer, answer}
+use Rattle.cse.specs.Scope.{Group, Work, Scoped, Armed, members, member-names, collect-switches, groups-from, name-members, columns, arms-of-members, scope-arms, fuse-group, fuse-groups, fuse-all, finish, unfused, held, fuse-held, scope-rows, most-number, opens, scopes-open, cse-scope, as-answer, answer}
 use Rattle.cse.proofs.Outcomes.{Good}
 use Rattle.cse.proofs.ReciprocalsCount.{AllTrees, all-map, divisors-all, inverse}
 use Rattle.cse.proofs.Levels.{trees-at, Most, μ, all-nodes-most, extract-all-within, reciprocals-within}
@@ -82,11 +82,15 @@ module _
 
 -- ---- what arms' scopes are given: no more than the scope holds
 
--- A scope that is refused where it would hold too much for fusion, and for nothing else of its own.
+-- A scope that is refused where it would begin at a number past 2^31 or hold too much for fusion, and for nothing else of its own.
 unfoldable pub by-held : ℕ → ℕ → List Tree → Outcome Scoped
 unfolding extract-all reciprocals fuse-held
 by-held zero next es = refused (by 23)
-by-held (suc fuel) next es = extract-all true next es >>= λ s. fuse-held (λ n l. by-held fuel n l) (length (s .lets)) (reciprocals true s)
+by-held (suc fuel) next es =
+    elim (leb next most-number) [
+      | true ↦ (extract-all true next es >>= λ s. fuse-held (λ n l. by-held fuel n l) (length (s .lets)) (reciprocals true s))
+      | false ↦ refused (by 23)
+    ]
 
 module _ (scope other : ℕ → List Tree → Outcome Scoped) (same : (n : ℕ) (l : List Tree) → occurrences l ≤ scope-rows → scope n l ≡ other n l) where
   held-same : (x : ℕ) (s : State) → fuse-held scope x s ≡ fuse-held other x s
@@ -112,22 +116,21 @@ module _ (scope other : ℕ → List Tree → Outcome Scoped) (same : (n : ℕ) 
           (fuse-same (λ t. Unit {0}) scope-rows scope other (λ n l g. same n l (g .1)) x s (anything (roots s)) (held-small scope-rows x s (h tt)))
       go false h = refl
 
--- For an input of at most 1,024 occurrences the first test never refuses, in it or in its arms' scopes.
+-- For an input of at most 1,024 occurrences the test of occurrences never refuses, in it or in its arms' scopes.
 pub held-alone : (fuel next : ℕ) (es : List Tree) → occurrences es ≤ scope-rows → cse-scope fuel true next es ≡ by-held fuel next es
-unfolding cse-scope by-held
+unfolding cse-scope by-held opens
 held-alone zero next es h = refl
 held-alone (suc fuel) next es h =
-    go (leb (occurrences es) scope-rows) (le→leb (occurrences es) scope-rows h)
-    ∙ then-ext (extract-all true next es) (λ s. fuse-held (λ n l. cse-scope fuel true n l) (length (s .lets)) (reciprocals true s))
+    go (leb (occurrences es) scope-rows) (le→leb (occurrences es) scope-rows h) (leb next most-number)
+    (then-ext (extract-all true next es) (λ s. fuse-held (λ n l. cse-scope fuel true n l) (length (s .lets)) (reciprocals true s))
     (λ s. fuse-held (λ n l. by-held fuel n l) (length (s .lets)) (reciprocals true s))
-    (λ s. held-same (λ n l. cse-scope fuel true n l) (λ n l. by-held fuel n l) (λ n l k. held-alone fuel n l k) (length (s .lets)) (reciprocals true s))
+    (λ s. held-same (λ n l. cse-scope fuel true n l) (λ n l. by-held fuel n l) (λ n l k. held-alone fuel n l k) (length (s .lets)) (reciprocals true s)))
   where
-    opened : Outcome Scoped
-    opened = extract-all true next es >>= λ s. fuse-held (λ n l. cse-scope fuel true n l) (length (s .lets)) (reciprocals true s)
-
-    go : (b : Bool) → T b → _≡_ {A = Outcome Scoped} (elim b [ true ↦ opened | false ↦ refused (by 23) ]) opened
-    go true t = refl
-    go false t = absurd t
+    go : (b : Bool) → T b → (c : Bool) {o q : Outcome Scoped} → o ≡ q
+        → _≡_ {A = Outcome Scoped} (elim (b && c) [ true ↦ o | false ↦ refused (by 23) ]) (elim c [ true ↦ q | false ↦ refused (by 23) ])
+    go true t true e = e
+    go true t false e = refl
+    go false t c e = absurd t
 
 -- ---- and trees that nest a level less
 
@@ -210,7 +213,7 @@ scopes-same zero f g p q next (e ∷ es) h n = absurd (h .0)
 scopes-same (suc m) zero g p q next es h n = absurd (omega arith)
 scopes-same (suc m) (suc f) zero p q next es h n = absurd (omega arith)
 scopes-same (suc m) (suc f) (suc g) p q next es h n =
-    ap (λ (o : Outcome Scoped). elim (leb (occurrences es) scope-rows) as (λ _. Outcome Scoped) [ true ↦ o | false ↦ refused (by 23) ])
+    ap (λ (o : Outcome Scoped). elim (opens next es) as (λ _. Outcome Scoped) [ true ↦ o | false ↦ refused (by 23) ])
     (opened-same m (λ n l. cse-scope f true n l) (λ n l. cse-scope g true n l) (λ n l H z. scopes-same m f g (omega arith) (omega arith) n l H (omega arith))
     (extract-all true next es) (extract-all-within nesting-op nesting-level m true next es h))
 
@@ -226,15 +229,15 @@ scopes-enough zero h scoped next es d = absurd (omega arith)
 scopes-enough (suc fuel) h false next es d = (unfold cse-scope in refl)
 scopes-enough (suc fuel) h true next es d = scopes-same 9 (suc fuel) 9 h (omega arith) next es (nests-at-most 8 es d) (omega arith)
 
--- A scope, without that number: it is refused by 23 where its input has more occurrences than rows, or where it would hold more for fusion, and else its arms'
--- scopes are scopes in the same way.
+-- A scope, without that number: it is refused by 23 where its input has more occurrences than rows, where its numbers are past 2^31, or where it would hold more
+-- for fusion, and else its arms' scopes are scopes in the same way.
 abbrev pub scope-of : ℕ → List Tree → Outcome Scoped
 scope-of next es = cse-scope scopes-open true next es
 
 pub scope-opens :
     (next : ℕ) (es : List Tree) → AllTrees (λ t. nesting t ≤ 8) es
     → scope-of next es
-    ≡ elim (leb (occurrences es) scope-rows) as (λ _. Outcome Scoped) [
+    ≡ elim (opens next es) as (λ _. Outcome Scoped) [
       | true ↦ (extract-all true next es >>= λ s. fuse-held (λ n l. scope-of n l) (length (s .lets)) (reciprocals true s))
       | false ↦ refused (by 23)
     ]
@@ -262,6 +265,6 @@ pub answer-by-more : (fuel : ℕ) → scopes-open ≤ fuel → (scoped : Bool) (
 unfolding answer
 answer-by-more fuel m scoped es h = ap (λ (o : Outcome Scoped). o >>= λ a. ok (as-answer a)) (sym (scopes-enough fuel m scoped 0 es (limits-nesting es h)))
 
--- and however many can be open, 23 arises only where a scope would hold too much for fusion.
+-- and however many can be open, 23 arises only where a scope would hold too much for fusion or begin at a number past 2^31.
 pub answer-by-held : (fuel : ℕ) → scopes-open ≤ fuel → (es : List Tree) → T (within-limits es) → answer true es ≡ (by-held fuel 0 es >>= λ a. ok (as-answer a))
 answer-by-held fuel m es h = answer-by-more fuel m true es h ∙ ap (λ (o : Outcome Scoped). o >>= λ a. ok (as-answer a)) (held-alone fuel 0 es (limits-rows es h))

@@ -7,16 +7,15 @@ use mathlib.Core.Bool.{Bool, true, false, not, _&&_, cond}
 use mathlib.Core.List.{List, [], _∷_, _++_, reverse, append-assoc}
 use native.Mathlib.Omega.{arith}
 use lib.ListN.{length, getD, List·getD-eq-default}
-use lib.Dec.{T, eqb, leb, ltb, ltb→lt, lt→ltb, nltb→le, not-T, eqb→eq, eqb-refl}
+use lib.Dec.{T, eqb, ltb, ltb→lt, lt→ltb, nltb→le, not-T, eqb→eq, eqb-refl}
 use Rattle.tree.specs.Outcome.{Outcome, ok, refused, _>>=_, by}
 use Rattle.tree.specs.Tree.{Name, input, xname, mname, Tree, Sym}
-use Rattle.tree.specs.Rows.{occurrences}
 use Rattle.cse.specs.Extract.{Binding, State, extract-all, reciprocals, roots}
 use Rattle.cse.specs.Answer.{Intermediate, Arms, Answer, Let, Match, arm, block, names, symbols, all-symbols, free, free-stmts, free-arms, elem}
 use Rattle.cse.specs.Order.{needs, positions-taken, nothing, at-each, topo-sort-intermediates}
 use Rattle.cse.proofs.OrderLaws.{All, Taken, taken-ok}
 use Rattle.rewrite.specs.Rewrite.{replace-outside-arms}
-use Rattle.cse.specs.Scope.{Switch, Group, Work, Scoped, Armed, members, collect-switches, groups-from, replace-in-results, replace-in-stmts, name-members, member-names, columns, arms-of-members, scope-arms, fuse-group, fuse-groups, fuse-all, binds, unfused, finish, cse-scope, scope-rows, scopes-open, fuse-held, as-answer, answer}
+use Rattle.cse.specs.Scope.{Switch, Group, Work, Scoped, Armed, members, collect-switches, groups-from, replace-in-results, replace-in-stmts, name-members, member-names, columns, arms-of-members, scope-arms, fuse-group, fuse-groups, fuse-all, binds, unfused, finish, cse-scope, opens, scopes-open, fuse-held, as-answer, answer}
 use Rattle.tree.specs.Value.{Reading, Env, value, values, choice}
 use Rattle.cse.specs.Read.{set, set-each, arm-count, read-stmt, read-stmts, read-arm, answer-values}
 use Rattle.tree.proofs.Logic.{and-left, and-right}
@@ -635,7 +634,7 @@ module _ (R : Reading) where
   scope-reads zero scoped start es h = tt
   scope-reads (suc fuel) false start es h = flat-step start es (extract-all false start es) (λ ρ. extract-all-keeps R inp start ρ false es (unfold inp in h))
   scope-reads (suc fuel) true start es h =
-      or-no-room (Reads start es) tt (leb (occurrences es) scope-rows) _
+      or-no-room (Reads start es) tt (opens start es) _
       (scoped-step start es (λ n l. cse-scope fuel true n l) (λ n l g. scope-reads fuel true n l g) (extract-all true start es)
       (λ ρ. extract-all-keeps R inp start ρ true es (unfold inp in h)))
 

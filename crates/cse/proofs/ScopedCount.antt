@@ -9,9 +9,8 @@ use mathlib.Core.List.{List, [], _∷_, _++_}
 use native.Mathlib.Omega.{arith}
 use lib.IntN.{pos}
 use lib.ListN.{length}
-use lib.Dec.{T, eqb, leb, eqb→eq}
+use lib.Dec.{T, eqb, eqb→eq}
 use Rattle.tree.specs.Outcome.{Outcome, ok, refused, _>>=_}
-use Rattle.tree.specs.Rows.{occurrences}
 use Rattle.tree.specs.Tree.{Name, xname, mname, Tree, Forest, Sym, Const, Op, nil, _◂_, eq-tree, eq-forest}
 use Rattle.tree.specs.Kinds.{Div, is-switch}
 use Rattle.tree.specs.Value.{values}
@@ -21,7 +20,7 @@ use Rattle.rewrite.proofs.Names.{holds-all, below, weaken-all}
 use Rattle.cse.specs.Extract.{Binding, State, roots, divisor-of, extract-all, replace-divisor-bound, bind-reciprocal, bind-reciprocals, reciprocals}
 use Rattle.cse.specs.Answer.{Intermediate, Intermediates, Arms, Answer, Let, Match, end, step, no-arm, arm, block}
 use Rattle.cse.specs.Order.{topo-sort-intermediates}
-use Rattle.cse.specs.Scope.{Switch, Group, Work, Scoped, Armed, members, collect-switches, groups-from, replace-in-stmts, name-members, member-names, columns, arms-of-members, scope-arms, fuse-group, fuse-groups, fuse-all, binds, unfused, finish, cse-scope, scope-rows, scopes-open, as-answer, answer}
+use Rattle.cse.specs.Scope.{Switch, Group, Work, Scoped, Armed, members, collect-switches, groups-from, replace-in-stmts, name-members, member-names, columns, arms-of-members, scope-arms, fuse-group, fuse-groups, fuse-all, binds, unfused, finish, cse-scope, opens, scopes-open, as-answer, answer}
 use Rattle.cse.proofs.Outcomes.{Good, then-good, good-ok, good-at}
 use Rattle.cse.proofs.RoundsCount.{made-before, below-made, length-append}
 use Rattle.cse.proofs.RoundsValue.{Model, Modeled, extract-all-keeps, reciprocals-keep, roots-known}
@@ -301,7 +300,7 @@ scope-tallied (suc fuel) false start es h =
     (λ s M. finish-tallied start (unfused (length (s .lets)) (reciprocals false s)) (unfold unfused in begun-tallied false start es s M .0) (unfold unfused in begun-tallied false start es s M .1))
 scope-tallied (suc fuel) true start es h =
     let inner : ℕ → List Tree → Outcome Scoped = λ n l. cse-scope fuel true n l in
-    or-no-room (Good (Scope-tallied start)) (unfold Good in tt) (leb (occurrences es) scope-rows) _
+    or-no-room (Good (Scope-tallied start)) (unfold Good in tt) (opens start es) _
     (then-good (Started start es) (Scope-tallied start) (extract-all true start es) (started true start es h) _
     (λ s M. or-not-held (Good (Scope-tallied start)) (unfold Good in tt) inner (length (s .lets)) (reciprocals true s)
     (then-good (Work-tallied start) (Scope-tallied start) (fuse-all inner (length (s .lets)) (reciprocals true s))

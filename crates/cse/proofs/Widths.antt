@@ -5,15 +5,14 @@ use mathlib.Core.Bool.{Bool, true, false, _&&_}
 use mathlib.Core.List.{List, [], _∷_, _++_}
 use native.Mathlib.Omega.{arith}
 use lib.ListN.{length}
-use lib.Dec.{T, eqb, leb, eqb-refl}
+use lib.Dec.{T, eqb, eqb-refl}
 use Rattle.tree.specs.Outcome.{Outcome, ok, refused, _>>=_, each}
 use Rattle.tree.specs.Tree.{Name, xname, mname, Tree, Forest, Sym, Const, Op, nil, _◂_}
 use Rattle.rewrite.specs.Rewrite.{replace}
-use Rattle.tree.specs.Rows.{occurrences}
 use Rattle.cse.specs.Extract.{Binding, State, roots, replace-bound, extract, extract-all, replace-divisor-each, bind-reciprocal, bind-reciprocals, reciprocals}
 use Rattle.cse.specs.Answer.{Intermediate, Intermediates, Arms, Answer, Let, Match, end, step, no-arm, arm, block}
 use Rattle.cse.specs.Order.{topo-sort-intermediates}
-use Rattle.cse.specs.Scope.{Switch, Group, Work, Scoped, Armed, members, collect-switches, groups-from, replace-in-results, replace-in-stmts, name-members, member-names, first-arms, rest-arms, columns, arms-of-members, scope-arms, fuse-group, fuse-groups, fuse-all, binds, unfused, finish, cse-scope, scope-rows, scopes-open, as-answer, answer}
+use Rattle.cse.specs.Scope.{Switch, Group, Work, Scoped, Armed, members, collect-switches, groups-from, replace-in-results, replace-in-stmts, name-members, member-names, first-arms, rest-arms, columns, arms-of-members, scope-arms, fuse-group, fuse-groups, fuse-all, binds, unfused, finish, cse-scope, opens, scopes-open, as-answer, answer}
 use Rattle.tree.proofs.Logic.{and-both}
 use Rattle.rewrite.proofs.Names.{holds, holds-each, holds-all}
 use Rattle.cse.proofs.SwitchLaws.{Fair-group, Fair-groups, groups-fair, All-like, members-like}
@@ -233,7 +232,7 @@ scope-even (suc fuel) false next es =
     (λ s h. finish-even (length es) (unfused (length (s .lets)) (reciprocals false s)) (begun-even (length es) (length (s .lets)) (reciprocals false s) (reciprocals-long false s ∙ h)))
 scope-even (suc fuel) true next es =
     let inner : ℕ → List Tree → Outcome Scoped = λ n l. cse-scope fuel true n l in
-    or-no-room (Good (Even-scope (length es))) (unfold Good in tt) (leb (occurrences es) scope-rows) _
+    or-no-room (Good (Even-scope (length es))) (unfold Good in tt) (opens next es) _
     (then-good (Long (length es)) (Even-scope (length es)) (extract-all true next es) (extract-all-long true next es) _
     (λ s h. or-not-held (Good (Even-scope (length es))) (unfold Good in tt) inner (length (s .lets)) (reciprocals true s)
     (then-good (Even-work (length es)) (Even-scope (length es)) (fuse-all inner (length (s .lets)) (reciprocals true s))

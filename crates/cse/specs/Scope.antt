@@ -180,6 +180,15 @@ scopes-open = 9
 unfoldable pub scope-rows : ℕ
 scope-rows = 1024
 
+-- The largest number that a scope may start with: 2^31, so that a word of 64 bits holds all its names.
+abbrev pub most-number : ℕ
+most-number = 2147483648
+
+-- whether a scope may be opened from a number on: its input fits its part, and its numbers their words
+unfoldable pub opens : ℕ → List Tree → Bool
+unfolding occurrences scope-rows
+opens next es = leb (occurrences es) scope-rows && leb next most-number
+
 unfoldable pub some-switch : List Switch → Bool
 some-switch [] = false
 some-switch (s ∷ l) = true
@@ -212,15 +221,15 @@ fuse-held scope x s =
     ]
 
 -- "an arm scope works in the part of the work area after its caller's last used row": each scope in a part of its own. Refusal 23, which 01 lacks, is for an
--- input with more occurrences than a part has rows, and for a scope that would hold more for fusion. The flat form opens one scope and fuses nothing, so that
--- it needs no such test. The first argument says how many more scopes can be open; where it ends decides nothing for a list whose arms nest at most 8 deep
--- (ScopeRoom).
+-- input with more occurrences than a part has rows, for numbers past 2^31, and for a scope that would hold more for fusion. The flat form opens one scope, from
+-- number 0 on, and fuses nothing, so that it needs no such test. The first argument says how many more scopes can be open; where it ends decides nothing for a
+-- list whose arms nest at most 8 deep (ScopeRoom).
 unfoldable pub cse-scope : ℕ → Bool → ℕ → List Tree → Outcome Scoped
-unfolding extract-all reciprocals unfused fuse-held finish occurrences scope-rows
+unfolding extract-all reciprocals unfused fuse-held finish opens
 cse-scope zero scoped next es = refused (by 23)
 cse-scope (suc fuel) false next es = extract-all false next es >>= λ s. finish (unfused (length (s .lets)) (reciprocals false s))
 cse-scope (suc fuel) true next es =
-    elim (leb (occurrences es) scope-rows) [
+    elim (opens next es) [
       | true ↦ (extract-all true next es >>= λ s.
           fuse-held (λ n l. cse-scope fuel true n l) (length (s .lets)) (reciprocals true s))
       | false ↦ refused (by 23)

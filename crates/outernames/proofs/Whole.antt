@@ -5,16 +5,15 @@ use mathlib.Core.Path.{_≡_}
 use mathlib.Core.Bool.{Bool, true, false}
 use mathlib.Core.List.{List, [], _++_}
 use lib.ListN.{length}
-use lib.Dec.{T, leb}
+use lib.Dec.{T}
 use Rattle.tree.specs.Outcome.{ok}
 use Rattle.tree.specs.Tree.{Name, Tree}
-use Rattle.tree.specs.Rows.{occurrences}
 use Rattle.rewrite.proofs.Counts.{well-formed-all}
 use Rattle.rewrite.proofs.Names.{holds-all}
 use Rattle.cse.specs.Extract.{State, roots, extract-all, reciprocals}
 use Rattle.cse.specs.Answer.{block, all-symbols, free-stmts, elem}
 use Rattle.cse.specs.Order.{needs}
-use Rattle.cse.specs.Scope.{Work, Scoped, collect-switches, groups-from, fuse-all, scope-rows, cse-scope}
+use Rattle.cse.specs.Scope.{Work, Scoped, collect-switches, groups-from, fuse-all, opens, cse-scope}
 use Rattle.cse.proofs.Outcomes.{Good, good-at}
 use Rattle.cse.proofs.ScopeValue.{under}
 use Rattle.cse.proofs.ScopeRoom.{or-no-room, or-not-held}
@@ -28,7 +27,7 @@ unfolding cse-scope
 scope-same zero scoped start es w = (unfold Good in tt)
 scope-same (suc fuel) false start es w = from-input false start es w _ (λ s B. plain-finished start es (length (s .lets)) (reciprocals false s) B)
 scope-same (suc fuel) true start es w =
-    or-no-room (Good (Same-names start es)) (unfold Good in tt) (leb (occurrences es) scope-rows) _
+    or-no-room (Good (Same-names start es)) (unfold Good in tt) (opens start es) _
     (from-input true start es w _
     (λ s B. or-not-held (Good (Same-names start es)) (unfold Good in tt) (λ n l. cse-scope fuel true n l) (length (s .lets)) (reciprocals true s)
     (fused-finished (λ n l. cse-scope fuel true n l) (λ n l v. scope-same fuel true n l v) start es (length (s .lets)) (reciprocals true s) B)))

@@ -10,7 +10,6 @@ use Rattle.tree.specs.Outcome.{Outcome, ok, refused, _>>=_}
 use Rattle.tree.specs.Tree.{mname, Tree, Forest, Sym, Const, Op, nil, _◂_, operands}
 use Rattle.tree.specs.Kinds.{is-switch, arity-ok, Neg}
 use Rattle.tree.specs.Facts.{all-outer}
-use Rattle.tree.specs.Rows.{occurrences}
 use Rattle.tree.specs.Passes.{symbol-ok, operands-ok}
 use Rattle.tree.proofs.Formed.{operand-count}
 use Rattle.tree.proofs.Logic.{and-right}
@@ -20,7 +19,7 @@ use Rattle.cse.specs.Answer.{Intermediate, Intermediates, Arms, Answer, Let, Ma
 use Rattle.cse.specs.Read.{arm-count}
 use Rattle.cse.specs.Order.{topo-sort-intermediates}
 use Rattle.cse.specs.AnswerRows.{let-name, match-names}
-use Rattle.cse.specs.Scope.{Switch, Group, Work, Scoped, Armed, switches, collect-switches, joins, place, groups-from, members, replace-in-results, replace-in-stmts, name-members, member-names, first-arms, rest-arms, columns, arms-of-members, scope-arms, fuse-group, fuse-groups, fuse-all, binds, unfused, finish, scope-rows, scopes-open, cse-scope, as-answer, answer}
+use Rattle.cse.specs.Scope.{Switch, Group, Work, Scoped, Armed, switches, collect-switches, joins, place, groups-from, members, replace-in-results, replace-in-stmts, name-members, member-names, first-arms, rest-arms, columns, arms-of-members, scope-arms, fuse-group, fuse-groups, fuse-all, binds, unfused, finish, opens, scopes-open, cse-scope, as-answer, answer}
 use Rattle.cse.proofs.Outcomes.{Good, then-good, good-ok, good-at}
 use Rattle.cse.proofs.SortCount.{Every, sorted-every}
 use Rattle.cse.proofs.SwitchLaws.{length-columns}
@@ -277,7 +276,7 @@ scope-ok (suc fuel) false next es h =
     (λ s g. finish-ok (unfused (length (s .lets)) (reciprocals false s)) (begun-ok (length (s .lets)) (reciprocals false s) (reciprocals-ok false s g)))
 scope-ok (suc fuel) true next es h =
     let inner : ℕ → List Tree → Outcome Scoped = λ n l. cse-scope fuel true n l in
-    or-no-room (Good Ok-scope) (unfold Good in tt) (leb (occurrences es) scope-rows) _
+    or-no-room (Good Ok-scope) (unfold Good in tt) (opens next es) _
     (then-good Ok-state Ok-scope (extract-all true next es) (extract-all-ok true next es h) _
     (λ s g. or-not-held (Good Ok-scope) (unfold Good in tt) inner (length (s .lets)) (reciprocals true s)
     (then-good Ok-work Ok-scope (fuse-all inner (length (s .lets)) (reciprocals true s))

@@ -67,7 +67,8 @@ scoped-refused-by-10-or-11 es h p = room.refused-by-10-or-11 es (passes-formed e
 pub nine-scopes : (fuel : ℕ) → scopes-open ≤ fuel → (scoped : Bool) (es : List Tree) → T (passes es) → answer scoped es ≡ (cse-scope fuel scoped 0 es >>= λ a. ok (as-answer a))
 nine-scopes fuel m scoped es h = scopes.answer-by-more fuel m scoped es (passes-limits es h)
 
--- and however many can be open, 23 arises only where a scope would hold more than 1,024 occurrences for fusion: a scope needs no other test
+-- and however many can be open, 23 arises only where a scope would hold more than 1,024 occurrences for fusion or begin at a number past 2^31: a scope needs no other
+-- test
 pub scoped-by-held : (fuel : ℕ) → scopes-open ≤ fuel → (es : List Tree) → T (passes es) → answer true es ≡ (by-held fuel 0 es >>= λ a. ok (as-answer a))
 scoped-by-held fuel m es h = scopes.answer-by-held fuel m es (passes-limits es h)
 

@@ -5,14 +5,12 @@ use mathlib.Core.Bool.{Bool, true, false, _&&_}
 use mathlib.Core.Option.{Option, none, some}
 use mathlib.Core.List.{List, [], _∷_}
 use lib.ListN.{length}
-use lib.Dec.{leb}
 use Rattle.tree.specs.Outcome.{Outcome, ok, refused, by, _>>=_}
 use Rattle.tree.specs.Tree.{Tree}
 use Rattle.tree.specs.Facts.{all-operations, all-nodes}
-use Rattle.tree.specs.Rows.{occurrences}
 use Rattle.text.specs.Text.{display, before}
 use Rattle.cse.specs.Extract.{State, roots, is-candidate, Candidate, candidate, beats, best-from, best, extract, rounds, extract-all, divisors, distinct, shared-divisors, insert-by-text, sort-by-text, bind-reciprocals, reciprocals}
-use Rattle.cse.specs.Scope.{Scoped, unfused, finish, fuse-held, scope-rows, scopes-open, cse-scope, as-answer, answer}
+use Rattle.cse.specs.Scope.{Scoped, unfused, finish, fuse-held, opens, scopes-open, cse-scope, as-answer, answer}
 use Rattle.renaming.specs.Shown.{beats-by, best-from-by, best-by, rounds-by, extract-all-by, insert-by, sort-by, reciprocals-by, cse-scope-by, answer-by}
 
 beats-text : (a b : Candidate) → beats-by display a b ≡ beats a b
@@ -102,7 +100,7 @@ scope-text (suc fuel) true next es =
     let f : ℕ → List Tree → Outcome Scoped = λ n l. cse-scope-by display fuel true n l in
     let g : ℕ → List Tree → Outcome Scoped = λ n l. cse-scope fuel true n l in
     let e : f ≡ g = fun-ext (λ n. fun-ext (λ l. scope-text fuel true n l)) in
-    ap (λ (o : Outcome Scoped). elim (leb (occurrences es) scope-rows) as (λ _. Outcome Scoped) [ true ↦ o | false ↦ refused (by 23) ]) (scoped-text next es f g e)
+    ap (λ (o : Outcome Scoped). elim (opens next es) as (λ _. Outcome Scoped) [ true ↦ o | false ↦ refused (by 23) ]) (scoped-text next es f g e)
 
 pub answer-text-order : (scoped : Bool) (es : List Tree) → answer-by display scoped es ≡ answer scoped es
 unfolding answer answer-by

@@ -8,16 +8,14 @@ use mathlib.Core.List.{List, [], _∷_, _++_, append-assoc, map}
 use lib.IntN.{pos}
 use lib.ListN.{length, take, drop, length-append, length-map, length-drop, take-append-drop}
 use lib.Seq.{take-at, drop-at, take-all, drop-length, length-take-le}
-use lib.Dec.{leb}
 use Rattle.tree.specs.Outcome.{Outcome, ok, refused, by, _>>=_, each}
 use Rattle.tree.specs.Tree.{xname, Tree, Const, Op, nil, _◂_}
 use Rattle.tree.specs.Kinds.{Div}
 use Rattle.tree.specs.Facts.{all-operations, all-nodes}
-use Rattle.tree.specs.Rows.{occurrences}
 use Rattle.tree.proofs.TokenLaws.{map-append}
 use Rattle.rewrite.specs.Rewrite.{replace, replace-divisor}
 use Rattle.cse.specs.Extract.{Binding, State, bound, roots, Candidate, replace-bound, extract, divisors, distinct, shared-divisors, replace-divisor-each, replace-divisor-bound, bind-reciprocal, bind-reciprocals}
-use Rattle.cse.specs.Scope.{Scoped, unfused, finish, fuse-held, scope-rows}
+use Rattle.cse.specs.Scope.{Scoped, unfused, finish, fuse-held, opens}
 use Rattle.cse.proofs.Outcomes.{Good, then-good, good-ok}
 use Rattle.renaming.specs.Shown.{best-by, rounds-by, extract-all-by, sort-by, reciprocals-by, cse-scope-by}
 use Rattle.renaming.specs.Rounds.{by-number, next-number, state-of, extract-on, bind-on, bind-each-on, rounds-on, reciprocals-on}
@@ -333,9 +331,9 @@ module _ (shown : Tree → List ℕ) where
       (λ us. finish (unfused (length (drop k us)) (state-of k next (reciprocals-on shown false k next us)))) (rounds-on-length (all-operations es) false k next es (omega arith))
       (λ us l. ap finish (ap₂ unfused (lets-length k next us) (reciprocals-on-state false k next us l)))
 
-  -- the scoped form, where the input has no more occurrences than the scope has rows
+  -- the scoped form, where the input has no more occurrences than the scope has rows, and its numbers are within 2^31
   pub scoped-on :
-      (fuel next : ℕ) (es : List Tree) → leb (occurrences es) scope-rows ≡ true → let k = length es in
+      (fuel next : ℕ) (es : List Tree) → opens next es ≡ true → let k = length es in
       cse-scope-by shown (suc fuel) true next es
       ≡ (rounds-on shown (all-operations es) true k next es >>= λ us.
       fuse-held (λ n l. cse-scope-by shown fuel true n l) (length (drop k us)) (state-of k next (reciprocals-on shown true k next us)))

@@ -2,7 +2,7 @@
 -- nothing.
 use Prim.Native.Nat.{ℕ, zero, suc, _+_}
 use mathlib.Core.Path.{_≡_, refl, sym, _∙_, ap, ap₂, subst}
-use mathlib.Core.Bool.{Bool, true, false}
+use mathlib.Core.Bool.{Bool, true, false, _&&_}
 use mathlib.Core.List.{List, [], _∷_, map}
 use native.Mathlib.Omega.{arith}
 use lib.ListN.{length, length-map}
@@ -14,7 +14,7 @@ use Rattle.tree.specs.Rows.{occurrences}
 use Rattle.cse.specs.Extract.{Binding, State, extract-all, reciprocals, roots}
 use Rattle.cse.specs.Answer.{Intermediate}
 use Rattle.cse.specs.Order.{topo-sort-intermediates}
-use Rattle.cse.specs.Scope.{Switch, Work, Scoped, switches, collect-switches, groups-from, fuse-groups, fuse-all, unfused, finish, some-switch, holds-switch, held-bindings, held, fuse-held, scope-rows, scopes-open, cse-scope, as-answer, answer}
+use Rattle.cse.specs.Scope.{Switch, Work, Scoped, switches, collect-switches, groups-from, fuse-groups, fuse-all, unfused, finish, some-switch, holds-switch, held-bindings, held, fuse-held, scope-rows, most-number, opens, scopes-open, cse-scope, as-answer, answer}
 use Rattle.cse.proofs.Outcomes.{Good}
 use Rattle.cse.proofs.ArmNodes.{occurrences-append}
 use Rattle.renaming.specs.Shown.{extract-all-by, reciprocals-by, cse-scope-by, answer-by}
@@ -134,7 +134,7 @@ module _ (R : Renaming) where
   pub cse-scope-renamed :
       (fuel : ℕ) (scoped : Bool) (next : ℕ) (es : List Tree) → Known-all R es
       → Agree (Known-scoped R) (renamed-scoped R) (cse-scope-by (shown R) fuel scoped next es) (cse-scope fuel scoped next (map (renamed R) es))
-  unfolding cse-scope cse-scope-by
+  unfolding cse-scope cse-scope-by opens
   cse-scope-renamed zero scoped next es h = refused-agrees
   cse-scope-renamed (suc fuel) false next es h =
       then-agree (Known-state R) (renamed-state R) (Known-scoped R) (renamed-scoped R) (extract-all-by (shown R) false next es) (extract-all false next (map (renamed R) es))
@@ -144,13 +144,13 @@ module _ (R : Renaming) where
       let scope : ℕ → List Tree → Outcome Scoped = λ n l. cse-scope-by (shown R) fuel true n l in
       let sense : ℕ → List Tree → Outcome Scoped = λ n l. cse-scope fuel true n l in
       let from : ℕ → Outcome Scoped = λ o.
-      elim (leb o scope-rows) as (λ _. Outcome Scoped) [
+      elim (leb o scope-rows && leb next most-number) as (λ _. Outcome Scoped) [
         | true ↦ (extract-all true next (map (renamed R) es) >>= λ s. fuse-held sense (length (s .lets)) (reciprocals true s))
         | false ↦ refused (by 23)
       ] in
       subst
       (λ (m : ℕ). Agree (Known-scoped R) (renamed-scoped R) (cse-scope-by (shown R) (suc fuel) true next es) (from m)) (sym (occurrences-renamed R es))
-      (room-step (leb (occurrences es) scope-rows)
+      (room-step (leb (occurrences es) scope-rows && leb next most-number)
       (extract-all-by (shown R) true next es >>= λ s. fuse-held scope (length (s .lets)) (reciprocals-by (shown R) true s))
       (extract-all true next (map (renamed R) es) >>= λ s. fuse-held sense (length (s .lets)) (reciprocals true s))
       (then-agree (Known-state R) (renamed-state R) (Known-scoped R) (renamed-scoped R) (extract-all-by (shown R) true next es) (extract-all true next (map (renamed R) es))

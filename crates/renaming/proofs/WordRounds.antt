@@ -5,15 +5,14 @@ use mathlib.Core.Bool.{Bool, true, false}
 use mathlib.Core.Option.{Option, none, some}
 use mathlib.Core.List.{List, []}
 use lib.ListN.{length, getD, drop}
-use lib.Dec.{T, leb}
+use lib.Dec.{T}
 use Rattle.tree.specs.Outcome.{Outcome, ok, _>>=_}
 use Rattle.tree.specs.Tree.{Tree}
 use Rattle.tree.specs.Facts.{all-operations}
-use Rattle.tree.specs.Rows.{occurrences}
 use Rattle.tree.specs.Tokens.{all-tokens, read, numbered, takes, trees-in}
 use Rattle.tree.proofs.TokenCode.{coded, all-coded, unnumbered, tokens-complete, writes-back}
 use Rattle.cse.specs.Extract.{State, Candidate, candidate}
-use Rattle.cse.specs.Scope.{Scoped, unfused, finish, fuse-held, scope-rows}
+use Rattle.cse.specs.Scope.{Scoped, unfused, finish, fuse-held, opens}
 use Rattle.cse.proofs.Outcomes.{Good}
 use Rattle.renaming.specs.Shown.{cse-scope-by}
 use Rattle.renaming.specs.Places.{numbered-at, best-place}
@@ -128,7 +127,7 @@ module _ (name-at : ℕ → List ℕ) where
       (rounds-words-are (all-operations ts) false k next ws m c)
 
   pub scoped-words :
-      (fuel next : ℕ) (ws : List ℕ) (m : ℕ) → trees-in ws ≡ some m → leb (occurrences (read numbered ws)) scope-rows ≡ true → let ts = read numbered ws in let k = length ts in
+      (fuel next : ℕ) (ws : List ℕ) (m : ℕ) → trees-in ws ≡ some m → opens next (read numbered ws) ≡ true → let ts = read numbered ws in let k = length ts in
       cse-scope-by text (suc fuel) true next ts
       ≡ (rounds-words name-at (all-operations ts) true k next ws >>= λ vs.
       fuse-held (λ n l. cse-scope-by text fuel true n l) (length (drop k (read numbered vs))) (state-of k next (read numbered (reciprocals-words name-at true k next vs))))

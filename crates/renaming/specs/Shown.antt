@@ -6,15 +6,14 @@ use mathlib.Core.Bool.{Bool, true, false, _&&_, _||_}
 use mathlib.Core.Option.{Option, none, some}
 use mathlib.Core.List.{List, [], _∷_}
 use lib.ListN.{length}
-use lib.Dec.{eqb, leb, ltb}
+use lib.Dec.{eqb, ltb}
 use Rattle.tree.specs.Outcome.{Outcome, ok, refused, by, _>>=_}
 use Rattle.tree.specs.Tree.{Tree}
 use Rattle.tree.specs.Facts.{all-operations, all-nodes}
-use Rattle.tree.specs.Rows.{occurrences}
 use Rattle.text.specs.Text.{before}
 use Rattle.cse.specs.Extract.{State, roots, is-candidate, Candidate, candidate, extract, divisors, distinct, shared-divisors, bind-reciprocals}
 use Rattle.cse.specs.Answer.{Answer}
-use Rattle.cse.specs.Scope.{Scoped, unfused, finish, fuse-held, scope-rows, scopes-open, as-answer}
+use Rattle.cse.specs.Scope.{Scoped, unfused, finish, fuse-held, opens, scopes-open, as-answer}
 
 module _ (shown : Tree → List ℕ) where
   -- ---- the best candidate (01, "Extraction")
@@ -73,11 +72,11 @@ module _ (shown : Tree → List ℕ) where
   -- ---- scopes (01, "Scoped fusion")
 
   unfoldable pub cse-scope-by : ℕ → Bool → ℕ → List Tree → Outcome Scoped
-  unfolding extract-all-by reciprocals-by unfused fuse-held finish occurrences scope-rows
+  unfolding extract-all-by reciprocals-by unfused fuse-held finish opens
   cse-scope-by zero scoped next es = refused (by 23)
   cse-scope-by (suc fuel) false next es = extract-all-by false next es >>= λ s. finish (unfused (length (s .lets)) (reciprocals-by false s))
   cse-scope-by (suc fuel) true next es =
-      elim (leb (occurrences es) scope-rows) [
+      elim (opens next es) [
         | true ↦ (extract-all-by true next es >>= λ s.
             fuse-held (λ n l. cse-scope-by fuel true n l) (length (s .lets)) (reciprocals-by true s))
         | false ↦ refused (by 23)

@@ -11,6 +11,7 @@ use Rattle.tree.specs.Rows.{Row}
 use Rattle.tree.specs.Tokens.{word, read, numbered, name-in}
 use Rattle.cse.specs.AnswerRows.{arm-row, value-row}
 use Rattle.cse.specs.Order.{positions-taken}
+use Rattle.cse.specs.Scope.{most-number}
 use Rattle.order.specs.Needs.{table-of}
 use Rattle.renaming.specs.Places.{divisors-to-bind}
 use Rattle.rounds.specs.Rounds.{all-rounds}
@@ -20,10 +21,6 @@ use Rattle.fusion.specs.Words.{numbers-from}
 use Rattle.finishlaws.specs.Entries.{runs}
 use Rattle.scopeplaces.specs.Parts.{place-groups, joined-groups, ends-from, group-at, opener, reciprocals-first, lets-count, held-words, settled-trees, fused-run, key-run, match-run, let-run, value-run}
 use Rattle.scopeplaces.specs.Reads.{with-reads, all-arms-run, marks-by}
-
--- the largest number that a scope may start with: 2^31, so that all its numbers are words' to hold
-abbrev pub most-number : ℕ
-most-number = 2147483648
 
 -- a scope's answer: the rows of its statements and of its values, how many statements there are, the next number, and how many bindings rounds made
 abbrev pub Told : Type 0

@@ -1,0 +1,2 @@
+pub mod Scoped
+pub mod Measuring
