@@ -18,7 +18,8 @@ use Rattle.cse.proofs.Outcomes.{Good, then-good, good-ok}
 use Rattle.cse.proofs.SortCount.{summed, sorted-sum}
 use Rattle.cse.proofs.Symbols.{elem-cases, elem-here, elem-later, holds-all-at, Sub, sub-left, sub-right, sub-append, no-elem, holds-all-by}
 use Rattle.cse.proofs.ScopeValue.{under}
-use Rattle.outernames.proofs.Rounds.{Begun, begun}
+use Rattle.renaming.specs.Shown.{extract-all-by, reciprocals-by}
+use Rattle.outernames.proofs.Rounds.{Begun, begun, begun-by}
 use Rattle.outernames.proofs.Arms.{read-by, Same-names}
 use Rattle.outernames.proofs.Fusing.{Stmts, Reads, Same-work, unfused-same, fused-same}
 
@@ -126,7 +127,14 @@ fused-finished scope ih start es x s B =
 pub plain-finished : (start : ℕ) (es : List Tree) (x : ℕ) (s : State) → Begun start es s → Good (Same-names start es) (finish (unfused x s))
 plain-finished start es x s B = finish-same start (s .next) es (B .later) (unfused x s) (unfused-same start es x s B)
 
--- from the input on, whatever is done with the roots
+-- from the input on, whatever the texts of trees are and whatever is done with the roots
+pub from-input-by :
+    (shown : Tree → List ℕ) (scoped : Bool) (start : ℕ) (es : List Tree) → T (well-formed-all es) → (next : State → Outcome Scoped)
+    → ((s : State) → Begun start es (reciprocals-by shown scoped s) → Good (Same-names start es) (next s)) → Good (Same-names start es) (extract-all-by shown scoped start es >>= next)
+from-input-by shown scoped start es w next f =
+    then-at (Same-names start es) (extract-all-by shown scoped start es) next (λ s e. f s (begun-by shown scoped start es s e w))
+
+-- with the texts of `Display`
 pub from-input :
     (scoped : Bool) (start : ℕ) (es : List Tree) → T (well-formed-all es) → (next : State → Outcome Scoped)
     → ((s : State) → Begun start es (reciprocals scoped s) → Good (Same-names start es) (next s)) → Good (Same-names start es) (extract-all scoped start es >>= next)

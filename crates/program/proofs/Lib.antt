@@ -2,4 +2,4 @@ pub mod Marked
 pub mod Misreadings
 pub mod Examples
 pub mod Whole
-pub mod FlatOperation
+pub mod Operation

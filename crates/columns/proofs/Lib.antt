@@ -1,0 +1,4 @@
+pub mod Armed
+pub mod Arms
+pub mod Ends
+pub mod Whole

@@ -1,0 +1,152 @@
+-- What holding answers and leaves, case by case. Assumes nothing.
+use Prim.Native.Nat.{ℕ, _≤_, _<_}
+use native.Mathlib.Omega.{arith}
+use borrow.Author.Tests.{le-leb, lt-leb, leb-true}
+use mathlib.Core.Path.{_≡_, refl, sym, _∙_, ap, subst}
+use mathlib.Core.Bool.{Bool, true, false, _&&_}
+use mathlib.Core.Option.{Option, none, some}
+use mathlib.Core.List.{List, _++_}
+use lib.ListN.{length, take, drop}
+use lib.Seq.{length-take-le, take-at}
+use lib.Dec.{T, leb}
+use Rattle.tree.specs.Tokens.{trees-in}
+use Rattle.tokens.specs.Answers.{count-answer}
+use Rattle.tokens.specs.declared.Trees.the-variants as trees
+use Rattle.words.specs.Words.{some-trees, Complete}
+use Rattle.reciprocal.specs.Bindings.{all-there}
+use Rattle.scopeplaces.specs.Overlay.{overlay}
+use Rattle.scopeplaces.specs.Parts.{words-held}
+use Rattle.tables.proofs.Laws.{overlay-length, overlay-front}
+use Rattle.holding.specs.Holding.{whole-there, room-to-hold, Ready, Holding, holding-by, holding}
+use Rattle.holding.specs.declared.Held.{Held}
+use Rattle.holding.specs.declared.Held.the-variants as held
+
+-- ---- the tests
+
+both-true : (b c : Bool) → b && c ≡ true → (b ≡ true) × (c ≡ true)
+both-true true c e = (refl, e)
+both-true false c e = absurd (subst T (sym e) tt)
+
+and-false : (b : Bool) → b && false ≡ false
+and-false true = refl
+and-false false = refl
+
+pub not-whole : (ws places : List ℕ) → trees.Broken ≡ count-answer (trees-in ws) → false ≡ whole-there ws places
+unfolding count-answer whole-there some-trees
+not-whole ws places e = go (trees-in ws) refl e
+  where
+    go : (o : Option ℕ) → trees-in ws ≡ o → trees.Broken ≡ count-answer o → false ≡ whole-there ws places
+    go none s q = sym (ap (λ (o : Option ℕ). some-trees o && all-there ws places) s)
+    go (some m) s q = let z : _≡_ {A = ℕ} 0 1 = cc in absurd (omega arith)
+
+pub whole-told : (ws places : List ℕ) (n : ℕ) (r : Bool) → trees.Count n ≡ count-answer (trees-in ws) → r ≡ all-there ws places → r ≡ whole-there ws places
+unfolding count-answer whole-there some-trees
+whole-told ws places n r e t = go (trees-in ws) refl e
+  where
+    go : (o : Option ℕ) → trees-in ws ≡ o → trees.Count n ≡ count-answer o → r ≡ whole-there ws places
+    go none s q = let z : _≡_ {A = ℕ} 0 1 = cc in absurd (omega arith)
+    go (some m) s q = t ∙ sym (ap (λ (o : Option ℕ). some-trees o && all-there ws places) s)
+
+whole-so : (ws places : List ℕ) → whole-there ws places ≡ true → Complete ws × (all-there ws places ≡ true)
+unfolding whole-there some-trees
+whole-so ws places e = go (trees-in ws) refl e
+  where
+    go : (o : Option ℕ) → trees-in ws ≡ o → some-trees o && all-there ws places ≡ true → Complete ws × (all-there ws places ≡ true)
+    go none s q = absurd (subst T (sym q) tt)
+    go (some m) s q = ((m, s), q)
+
+module _ (words places first lent : ℕ) where
+  pub words-many : 1024 < words → false ≡ room-to-hold words places first lent
+  unfolding room-to-hold
+  words-many h = sym (ap (λ (b : Bool). b && (leb first 4294967296 && (leb places 4294967296 && leb 1024 lent))) (lt-leb words 1024 h))
+
+  pub first-large : 4294967296 < first → false ≡ room-to-hold words places first lent
+  unfolding room-to-hold
+  first-large h = sym (ap (λ (b : Bool). leb words 1024 && (b && (leb places 4294967296 && leb 1024 lent))) (lt-leb first 4294967296 h) ∙ and-false (leb words 1024))
+
+  pub places-many : 4294967296 < places → false ≡ room-to-hold words places first lent
+  unfolding room-to-hold
+  places-many h =
+      sym (ap (λ (b : Bool). leb words 1024 && (leb first 4294967296 && (b && leb 1024 lent))) (lt-leb places 4294967296 h)
+      ∙ (ap (λ (b : Bool). leb words 1024 && b) (and-false (leb first 4294967296)) ∙ and-false (leb words 1024)))
+
+  pub room-told : words ≤ 1024 → first ≤ 4294967296 → places ≤ 4294967296 → leb 1024 lent ≡ room-to-hold words places first lent
+  unfolding room-to-hold
+  room-told w f p =
+      sym (ap (λ (b : Bool). b && (leb first 4294967296 && (leb places 4294967296 && leb 1024 lent))) (le-leb words 1024 w)
+      ∙ (ap (λ (b : Bool). b && (leb places 4294967296 && leb 1024 lent)) (le-leb first 4294967296 f) ∙ ap (λ (b : Bool). b && leb 1024 lent) (le-leb places 4294967296 p)))
+
+  room-so : room-to-hold words places first lent ≡ true → (words ≤ 1024) × ((first ≤ 4294967296) × ((places ≤ 4294967296) × (1024 ≤ lent)))
+  unfolding room-to-hold
+  room-so e =
+      let a = both-true (leb words 1024) (leb first 4294967296 && (leb places 4294967296 && leb 1024 lent)) e in
+      let b = both-true (leb first 4294967296) (leb places 4294967296 && leb 1024 lent) (a .1) in
+      let c = both-true (leb places 4294967296) (leb 1024 lent) (b .1) in
+      (leb-true words 1024 (a .0), (leb-true first 4294967296 (b .0), (leb-true places 4294967296 (c .0), leb-true 1024 lent (c .1))))
+
+-- ---- the answers
+
+-- what is answered and left is as the definition has it
+abbrev pub Holds : List ℕ → List ℕ → ℕ → List ℕ → Held → List ℕ → Type 0
+Holds ws places first old r out = (r ≡ holding ws places first old .answer) × (out ≡ holding ws places first old .out)
+
+module _ (ws places : List ℕ) (first : ℕ) (old : List ℕ) where
+  abbrev new : List ℕ
+  new = words-held ws first places
+
+  by-tests :
+      (b r f : Bool) → whole-there ws places ≡ b → room-to-hold (length ws) (length places) first (length old) ≡ r → leb (length (words-held ws first places)) 1024 ≡ f
+      → holding ws places first old ≡ holding-by b r f (words-held ws first places) old
+  unfolding holding
+  by-tests b r f e g h =
+      ap (λ (x : Bool). holding-by x (room-to-hold (length ws) (length places) first (length old)) (leb (length new) 1024) new old) e
+      ∙ (ap (λ (y : Bool). holding-by b y (leb (length new) 1024) new old) g ∙ ap (λ (z : Bool). holding-by b r z new old) h)
+
+  ends : (c : Holding) → holding ws places first old ≡ c → Holds ws places first old (c .answer) (c .out)
+  ends c e = (ap (λ (x : Holding). x .answer) (sym e), ap (λ (x : Holding). x .out) (sym e))
+
+  pub held-broken : (r : Bool) → r ≡ whole-there ws places → r ≡ false → Holds ws places first old held.Broken old
+  unfolding holding-by
+  held-broken r e f = ends (record { answer = held.Broken; out = old }) (by-tests false (room-to-hold (length ws) (length places) first (length old)) (leb (length new) 1024) (sym e ∙ f) refl refl)
+
+  module _ (b : Bool) (e : b ≡ whole-there ws places) (t : b ≡ true) where
+    pub held-full : (r : Bool) → r ≡ room-to-hold (length ws) (length places) first (length old) → r ≡ false → Holds ws places first old held.NoRoom old
+    unfolding holding-by
+    held-full r g f = ends (record { answer = held.NoRoom; out = old }) (by-tests true false (leb (length new) 1024) (sym e ∙ t) (sym g ∙ f) refl)
+
+    module _ (r : Bool) (g : r ≡ room-to-hold (length ws) (length places) first (length old)) (u : r ≡ true) where
+      room-is : (length ws ≤ 1024) × ((first ≤ 4294967296) × ((length places ≤ 4294967296) × (1024 ≤ length old)))
+      room-is = room-so (length ws) (length places) first (length old) (sym g ∙ u)
+
+      pub ready-so : Ready ws places first
+      ready-so = let q = room-is in (whole-so ws places (sym e ∙ t), (q .0, (q .1 .0, q .1 .1 .0)))
+
+      pub held-many : (n : ℕ) → n ≡ length (words-held ws first places) → 1024 < n → Holds ws places first old held.TooMany old
+      unfolding holding-by
+      held-many n c h =
+          ends (record { answer = held.TooMany; out = old })
+          (by-tests true true false (sym e ∙ t) (sym g ∙ u) (lt-leb (length new) 1024 (omega (arith, c, h))))
+
+      module _ (n : ℕ) (c : n ≡ length (words-held ws first places)) (few : n ≤ 1024) (blank work : List ℕ) (long : length blank ≡ 1024) (w : work ≡ overlay 0 (words-held ws first places) (overlay 0 ws blank)) where
+        base-long : length (overlay 0 ws blank) ≡ 1024
+        base-long = overlay-length 0 ws blank ∙ long
+
+        pub work-long : length work ≡ 1024
+        work-long = ap length w ∙ (overlay-length 0 (words-held ws first places) (overlay 0 ws blank) ∙ base-long)
+
+        pub front-counted : n ≡ length (take n work)
+        front-counted = sym (length-take-le n work (omega (arith, few, work-long)))
+
+        front-is : take n work ≡ words-held ws first places
+        front-is = ap (take n) (w ∙ overlay-front new (overlay 0 ws blank) (omega (arith, c, few, base-long))) ∙ take-at new (drop (length new) (overlay 0 ws blank)) n (sym c)
+
+        pub held-written : (out : List ℕ) → out ≡ overlay 0 (take n work) old → Holds ws places first old (held.Words n) out
+        unfolding holding-by
+        held-written out o =
+            let k =
+            ends (record { answer = held.Words (length new); out = new ++ drop (length new) old })
+            (by-tests true true true (sym e ∙ t) (sym g ∙ u) (le-leb (length new) 1024 (omega (arith, c, few)))) in
+            let q = room-is .1 .1 .1 in (
+              ap held.Words c ∙ k .0,
+              o ∙ (ap (λ (l : List ℕ). overlay 0 l old) front-is ∙ (overlay-front new old (omega (arith, c, few, q)) ∙ k .1)),
+            )

@@ -1,0 +1,5 @@
+pub mod Switch
+pub mod Taking
+pub mod Gathering
+pub mod Ends
+pub mod Always

@@ -1,0 +1,162 @@
+-- A scope after its test, on words and by trees (01, "Extraction", "Reciprocals", "Scoped fusion", "Order"): its rounds, and then what comes after them. Assumes
+-- nothing.
+use Prim.Native.Nat.{ℕ, _+_, _≤_, _<_}
+use native.Mathlib.Omega.{arith}
+use mathlib.Core.Path.{_≡_, sym, _∙_, ap, subst}
+use mathlib.Core.Bool.{true}
+use mathlib.Core.Option.{some}
+use mathlib.Core.List.{List, [], map, reverse}
+use lib.ListN.{length, getD, drop}
+use Rattle.tree.specs.Outcome.{Outcome, ok, _>>=_}
+use Rattle.tree.specs.Tree.{Tree}
+use Rattle.tree.specs.Facts.{all-operations}
+use Rattle.tree.specs.Rows.{Row}
+use Rattle.tree.specs.Tokens.{read, numbered, trees-in, name-in}
+use Rattle.cse.specs.AnswerRows.{value-row}
+use Rattle.cse.specs.Order.{needs, positions-taken}
+use Rattle.cse.specs.Scope.{Scoped, fuse-held}
+use Rattle.cse.proofs.Outcomes.{Good, good-at}
+use Rattle.renaming.specs.Shown.{extract-all-by, reciprocals-by}
+use Rattle.renaming.specs.Places.{numbered-at, divisors-to-bind}
+use Rattle.renaming.specs.Rounds.{next-number, state-of, bind-each-on, rounds-on, reciprocals-on}
+use Rattle.renaming.proofs.BestPlace.{text-of}
+use Rattle.renaming.proofs.Coded.{read-again}
+use Rattle.renaming.proofs.RoundsOn.{then-then, rounds-on-length}
+use Rattle.renaming.proofs.WordReciprocals.{to-bind-are, reciprocals-fit}
+use Rattle.renaming.proofs.WordRounds.{In-code, written, written-complete, rounds-words-are}
+use Rattle.reciprocals.proofs.Parts.{bound-are-settled}
+use Rattle.rounds.specs.Rounds.{all-rounds}
+use Rattle.switchplaces.specs.Switches.{arm-count}
+use Rattle.switchplaces.specs.Columns.{column-words}
+use Rattle.fusion.specs.Settled.{Walked, numbered-groups}
+use Rattle.fusion.specs.Words.{all-numbers}
+use Rattle.fusion.specs.Whole.{divisors-of, settled-roots, scope-groups, scope-stmts}
+use Rattle.fusion.proofs.Whole.{rounds-then}
+use Rattle.scopeplaces.specs.Parts.{reciprocals-first, held-words}
+use Rattle.scopeplaces.specs.Whole.{Told, stmts-order, fused-scope}
+use Rattle.scopelaws.specs.Told.{told}
+use Rattle.scopelaws.proofs.Groups.{places-of, Opens-group}
+use Rattle.scopelaws.proofs.Walking.{Proper}
+use Rattle.scopelaws.proofs.Fusing.{then-known, fused-is}
+
+-- ---- the trees that a scope settles are within the code
+
+module _ (name-at : ℕ → List ℕ) (k first : ℕ) (vs : List ℕ) (m : ℕ) (complete : trees-in vs ≡ some m) where
+  abbrev ts : List Tree
+  ts = read numbered vs
+
+  abbrev ds : List Tree
+  ds = map (numbered-at vs) (divisors-to-bind vs name-at true)
+
+  abbrev n : ℕ
+  n = next-number k first (read numbered vs)
+
+  -- the divisors that a scope binds are those at the places
+  pub divisors-are : divisors-of (text-of vs name-at) (read numbered vs) ≡ map (numbered-at vs) (divisors-to-bind vs name-at true)
+  unfolding divisors-of
+  divisors-are = to-bind-are vs name-at m complete true
+
+  bound : reciprocals-on (text-of vs name-at) true k first ts ≡ bind-each-on ds n ts
+  unfolding reciprocals-on
+  bound = ap (λ (l : List Tree). bind-each-on l n ts) (to-bind-are vs name-at m complete true)
+
+  pub roots-fit :
+      In-code (settled-roots (map (numbered-at vs) (divisors-to-bind vs name-at true)) (next-number k first (read numbered vs)) (read numbered vs))
+  unfolding settled-roots
+  roots-fit = subst In-code (bound ∙ bound-are-settled ds n ts) (reciprocals-fit name-at true k first vs m complete)
+
+-- ---- what a scope's arms and order owe, for the words that its rounds leave
+
+module _ (rows : List Row) (k first : ℕ) (vs : List ℕ) where
+  abbrev bind-at : List ℕ
+  bind-at = divisors-to-bind vs (name-in rows) true
+
+  abbrev hs : List ℕ
+  hs = held-words vs k first bind-at
+
+  abbrev pub Few-held : Type 0
+  Few-held = length hs ≤ 1024
+
+  module _ (scope : ℕ → List Tree → Outcome Scoped) where
+    -- the table of bits gives the order of the needs
+    abbrev pub Order-agrees : Type 0
+    Order-agrees =
+        (l : Walked)
+        → numbered-groups scope (reciprocals-first vs k first bind-at + length bind-at)
+        (scope-groups (map (numbered-at vs) bind-at) (next-number k first (read numbered vs)) (read numbered vs))
+        ≡ ok l
+        → stmts-order vs k first bind-at (all-numbers (l .groups))
+        ≡ reverse
+        (positions-taken
+        (needs (scope-stmts k first (read numbered vs) (map (numbered-at vs) bind-at) (l .groups)) (scope-stmts k first (read numbered vs) (map (numbered-at vs) bind-at) (l .groups))))
+
+    -- each arm's scope is the same on words as by trees
+    abbrev pub Arms-agree : (ℕ → List ℕ → Outcome Told) → Type 0
+    Arms-agree by-words =
+        (n i a : ℕ) → reciprocals-first vs k first bind-at + length bind-at ≤ n → Opens-group hs i → a < arm-count hs (getD (places-of hs i) 0 0)
+        → by-words n (column-words hs (places-of hs i) a) ≡ (scope n (read numbered (column-words hs (places-of hs i) a)) >>= λ s. ok (told value-row s))
+
+-- ---- rounds, and then what comes after them
+
+module _
+    (rows : List Row) (scope : ℕ → List Tree → Outcome Scoped) (proper : (n : ℕ) (es : List Tree) → Good (Proper n es) (scope n es)) (by-words : ℕ → List ℕ → Outcome Told)
+    (next : ℕ) (ws : List ℕ) (m : ℕ) (complete : trees-in ws ≡ some m)
+    (agree : (vs : List ℕ) → all-rounds rows true next ws ≡ ok vs → Few-held rows (length (read numbered ws)) next vs
+    → Arms-agree rows (length (read numbered ws)) next vs scope by-words × Order-agrees rows (length (read numbered ws)) next vs scope)
+    (row : ℕ)
+  where
+    abbrev names : ℕ → List ℕ
+    names = name-in rows
+
+    abbrev text : Tree → List ℕ
+    text = text-of [] (name-in rows)
+
+    abbrev es : List Tree
+    es = read numbered ws
+
+    abbrev k : ℕ
+    k = length (read numbered ws)
+
+    abbrev trees-left : Outcome (List Tree)
+    trees-left = rounds-on text (all-operations es) true k next es
+
+    -- what comes after the rounds, on words and by trees
+    abbrev on-words : List ℕ → Outcome Told
+    on-words vs = fused-scope by-words row vs k next (divisors-to-bind vs (name-in rows) true)
+
+    abbrev on-trees : List Tree → Outcome Scoped
+    on-trees us = fuse-held scope (length (drop k us)) (state-of k next (bind-each-on (divisors-of text us) (next-number k next us) us))
+
+    same-after :
+        (us : List Tree) → In-code us → k ≤ length us → all-rounds rows true next ws ≡ ok (written us) → on-words (written us) ≡ (on-trees us >>= λ a. ok (told row a))
+    same-after us code long e =
+        let vs = written us in
+        let back = read-again us code in
+        let c = written-complete us code in
+        fused-is scope proper by-words vs k next (divisors-to-bind vs names true) (subst (λ (l : List Tree). k ≤ length l) (sym back) long)
+        (roots-fit names k next vs (length us) c) (λ few. agree vs e few .0) (λ few. agree vs e few .1) row
+        ∙ (ap
+        (λ (ds : List Tree).
+        fuse-held scope (length (drop k (read numbered vs))) (state-of k next (bind-each-on ds (next-number k next (read numbered vs)) (read numbered vs))) >>= λ a. ok (told row a))
+        (sym (divisors-are names k next vs (length us) c))
+        ∙ ap (λ (l : List Tree). on-trees l >>= λ a. ok (told row a)) back)
+
+    rounds-are : all-rounds rows true next ws ≡ (trees-left >>= λ us. ok (written us))
+    unfolding all-rounds
+    rounds-are = rounds-words-are names (all-operations es) true k next ws m complete .1
+
+    -- the law of a scope after its test
+    pub body-is :
+        (all-rounds rows true next ws >>= λ vs. fused-scope by-words row vs (length (read numbered ws)) next (divisors-to-bind vs (name-in rows) true))
+        ≡ ((extract-all-by (text-of [] (name-in rows)) true next (read numbered ws) >>= λ s.
+        fuse-held scope (length (s .lets)) (reciprocals-by (text-of [] (name-in rows)) true s)) >>= λ a. ok (told row a))
+    body-is =
+        ap (λ (o : Outcome (List ℕ)). o >>= on-words) rounds-are
+        ∙ (then-then trees-left (λ us. ok (written us)) on-words
+        ∙ (then-known trees-left (λ us. on-words (written us)) (λ us. on-trees us >>= λ a. ok (told row a))
+        (λ us e.
+        same-after us (good-at In-code trees-left us e (rounds-words-are names (all-operations es) true k next ws m complete .0))
+        (good-at (λ (l : List Tree). k ≤ length l) trees-left us e (rounds-on-length text (all-operations es) true k next es (omega arith)))
+        (rounds-are ∙ ap (λ (o : Outcome (List Tree)). o >>= λ us. ok (written us)) e))
+        ∙ (sym (then-then trees-left on-trees (λ a. ok (told row a)))
+        ∙ ap (λ (o : Outcome Scoped). o >>= λ a. ok (told row a)) (sym (rounds-then (λ x s. fuse-held scope x s) text next es)))))

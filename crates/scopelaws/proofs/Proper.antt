@@ -1,0 +1,68 @@
+-- No scope's numbers go back, and it has a value for each tree (01, "Scoped fusion"), whatever the text of a tree is. Assumes nothing.
+use Prim.Native.Nat.{ℕ, _+_, _≤_}
+use native.Mathlib.Omega.{arith}
+use mathlib.Core.Path.{_≡_, sym, _∙_, subst}
+use mathlib.Core.Bool.{Bool, true, false}
+use mathlib.Core.List.{List}
+use lib.ListN.{length, take, drop, length-map}
+use lib.Seq.{length-take-le}
+use lib.Dec.{leb}
+use Rattle.tree.specs.Outcome.{Outcome, refused, by, _>>=_}
+use Rattle.tree.specs.Tree.{Tree}
+use Rattle.tree.specs.Facts.{all-operations}
+use Rattle.tree.specs.Rows.{occurrences}
+use Rattle.cse.specs.Order.{topo-sort-intermediates}
+use Rattle.cse.specs.Scope.{Scoped, finish, fuse-all, fuse-held, held, scope-rows}
+use Rattle.cse.proofs.Outcomes.{Good, then-good, any-good, good-ok}
+use Rattle.renaming.specs.Shown.{extract-all-by, reciprocals-by}
+use Rattle.renaming.specs.Rounds.{next-number, state-of, bind-each-on, rounds-on}
+use Rattle.renaming.proofs.RoundsOn.{rounds-on-length}
+use Rattle.fusion.specs.Settled.{Walked, numbered-groups, all-steps}
+use Rattle.fusion.specs.Whole.{divisors-of, settled-fused, scope-groups, scope-stmts, scope-work, settled-scope}
+use Rattle.fusion.proofs.Groups.{groups-forth}
+use Rattle.fusion.proofs.Whole.{scope-is, rounds-then}
+use Rattle.scopelaws.proofs.Walking.{Proper, forth}
+
+-- from a number on, with k values
+abbrev From : ℕ → ℕ → Scoped → Type 0
+From first k a = (first ≤ a .next) × (length (a .results) ≡ k)
+
+-- whatever a test says, a refusal or what has the property
+pub tested-good : {A : Type 0} (Q : A → Type 0) (o : Outcome A) (i : ℕ) → Good Q o → (b : Bool) → Good Q (elim b as (λ _. Outcome A) [ true ↦ o | false ↦ refused (by i) ])
+unfolding Good
+tested-good Q o i h true = h
+tested-good Q o i h false = tt
+
+module _ (scope : ℕ → List Tree → Outcome Scoped) (proper : (n : ℕ) (es : List Tree) → Good (Proper n es) (scope n es)) where
+  next-most : (k first : ℕ) (ts : List Tree) → first ≤ next-number k first ts
+  unfolding next-number
+  next-most k first ts = omega arith
+
+  settled-proper : (x k first : ℕ) (ts ds : List Tree) → k ≤ length ts → Good (From first k) (settled-scope scope x k first ts ds)
+  unfolding settled-scope finish scope-work
+  settled-proper x k first ts ds h =
+      let n = next-number k first ts in
+      then-good (λ (l : Walked). n + length ds ≤ l .next) (From first k) (numbered-groups scope (n + length ds) (scope-groups ds n ts))
+      (groups-forth scope (λ i es. forth scope proper i es) (n + length ds) (scope-groups ds n ts)) (λ l. finish (scope-work x k first ts ds l))
+      (λ l g. any-good (From first k) (topo-sort-intermediates (scope-stmts k first ts ds (l .groups))) _
+      (λ r. good-ok (From first k) _
+      (let z = next-most k first ts in omega (arith, z, g), length-map (take k ts) (settled-fused ds n (all-steps (l .groups))) ∙ length-take-le k ts h)))
+
+  held-proper : (k first : ℕ) (ts ds : List Tree) → k ≤ length ts
+      → Good (From first k) (fuse-held scope (length (drop k ts)) (state-of k first (bind-each-on ds (next-number k first ts) ts)))
+  unfolding fuse-held
+  held-proper k first ts ds h =
+      let x = length (drop k ts) in
+      let s = state-of k first (bind-each-on ds (next-number k first ts) ts) in
+      tested-good (From first k) (fuse-all scope x s >>= λ w. finish w) 23
+      (subst (Good (From first k)) (sym (scope-is k first ts ds h scope x)) (settled-proper x k first ts ds h)) (leb (occurrences (held x s)) scope-rows)
+
+  -- a scope after its test
+  pub body-proper :
+      (shown : Tree → List ℕ) (next : ℕ) (es : List Tree)
+      → Good (Proper next es) (extract-all-by shown true next es >>= λ s. fuse-held scope (length (s .lets)) (reciprocals-by shown true s))
+  body-proper shown next es =
+      let k = length es in
+      subst (Good (From next k)) (sym (rounds-then (λ x s. fuse-held scope x s) shown next es))
+      (then-good (λ (ts : List Tree). k ≤ length ts) (From next k) (rounds-on shown (all-operations es) true k next es)
+      (rounds-on-length shown (all-operations es) true k next es (omega arith)) _ (λ ts h. held-proper k next ts (divisors-of shown ts) h))

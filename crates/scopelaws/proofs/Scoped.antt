@@ -1,0 +1,48 @@
+-- A scope place by place on words is the scope of `cse_scoped` by trees, told as words (01, "Scoped fusion"). Assumes nothing.
+use Prim.Native.Nat.{ℕ, suc}
+use mathlib.Core.Path.{_≡_, refl}
+use mathlib.Core.Bool.{true, false, _&&_}
+use mathlib.Core.Option.{some}
+use mathlib.Core.List.{List, []}
+use lib.Dec.{leb}
+use Rattle.tree.specs.Outcome.{Outcome, ok, refused, by, _>>=_}
+use Rattle.tree.specs.Tree.{Tree}
+use Rattle.tree.specs.Rows.{Row, occurrences}
+use Rattle.tree.specs.Tokens.{read, numbered, trees-in, name-in}
+use Rattle.cse.specs.Scope.{Scoped, scope-rows, opens}
+use Rattle.cse.proofs.Outcomes.{Good}
+use Rattle.renaming.specs.Shown.{cse-scope-by}
+use Rattle.renaming.proofs.BestPlace.{text-of}
+use Rattle.scopeplaces.specs.Whole.{scope-told}
+use Rattle.scopelaws.specs.Told.{told}
+use Rattle.scopelaws.proofs.Walking.{Proper}
+use Rattle.scopelaws.proofs.Whole.{scope-body, Keeps-sound, Keeps-order, scoped-proper, told-is}
+
+module _ (rows : List Row) where
+  -- the scope by trees, its texts those under the names of the rows
+  abbrev pub by-trees : ℕ → ℕ → List Tree → Outcome Scoped
+  by-trees fuel next es = cse-scope-by (text-of [] (name-in rows)) fuel true next es
+
+  none-open : (next : ℕ) (es : List Tree) → by-trees 0 next es ≡ refused (by 23)
+  unfolding cse-scope-by
+  none-open next es = refl
+
+  more-open :
+      (fuel next : ℕ) (es : List Tree)
+      → by-trees (suc fuel) next es
+      ≡ (elim (leb (occurrences es) 1024 && leb next 2147483648) as (λ _. Outcome Scoped) [ true ↦ scope-body rows (λ n l. by-trees fuel n l) next es | false ↦ refused (by 23) ])
+  unfolding cse-scope-by opens scope-rows
+  more-open fuel next es = refl
+
+  -- its numbers don't go back, and it has a value for each tree
+  pub by-trees-proper : (fuel next : ℕ) (es : List Tree) → Good (Proper next es) (by-trees fuel next es)
+  by-trees-proper fuel next es = scoped-proper rows by-trees none-open more-open fuel next es
+
+  module _
+      (Sound : ℕ → List ℕ → Type 0) (whole : (next : ℕ) (ws : List ℕ) → Sound next ws → (m : ℕ) × (trees-in ws ≡ some m)) (keeps : Keeps-sound rows Sound)
+      (ordered : (fuel : ℕ) → Keeps-order rows Sound (λ n l. cse-scope-by (text-of [] (name-in rows)) fuel true n l))
+    where
+      pub scope-told-is :
+          (fuel row next : ℕ) (ws : List ℕ) → Sound next ws
+          → scope-told rows fuel row next ws ≡ (cse-scope-by (text-of [] (name-in rows)) fuel true next (read numbered ws) >>= λ a. ok (told row a))
+      scope-told-is fuel row next ws s = told-is rows by-trees none-open more-open Sound whole keeps ordered fuel row next ws s

@@ -1,0 +1,111 @@
+-- A scope place by place on words is the scope by trees, told as words (01, "Scoped fusion"), by induction on how many scopes may be open. `scoped` is the scope by
+-- trees, of which only its two cases are known; what the words of a scope satisfy, and that the table of bits gives the order of the needs, are given. Assumes nothing.
+use Prim.Native.Nat.{ℕ, zero, suc, _+_, _≤_, _<_}
+use mathlib.Core.Path.{_≡_, refl, sym, _∙_, ap, subst}
+use mathlib.Core.Bool.{Bool, true, false, _&&_, cond}
+use mathlib.Core.Option.{some}
+use mathlib.Core.List.{List, []}
+use lib.ListN.{length, getD}
+use lib.Dec.{T, leb, leb→le}
+use Rattle.tree.specs.Outcome.{Outcome, ok, refused, by, _>>=_}
+use Rattle.tree.specs.Tree.{Tree}
+use Rattle.tree.specs.Rows.{Row, occurrences}
+use Rattle.tree.specs.Tokens.{read, numbered, trees-in, name-in}
+use Rattle.tree.proofs.Logic.{and-left, and-right}
+use Rattle.tree.proofs.TokenCode.{unnumbered, all-tokens-length, writes-back}
+use Rattle.cse.specs.AnswerRows.{value-row}
+use Rattle.cse.specs.Scope.{Scoped, fuse-held}
+use Rattle.cse.proofs.Outcomes.{Good}
+use Rattle.renaming.specs.Shown.{extract-all-by, reciprocals-by}
+use Rattle.renaming.specs.Places.{divisors-to-bind}
+use Rattle.renaming.proofs.BestPlace.{text-of}
+use Rattle.rounds.specs.Rounds.{all-rounds}
+use Rattle.switchplaces.specs.Switches.{arm-count}
+use Rattle.switchplaces.specs.Columns.{column-words}
+use Rattle.scopeplaces.specs.Parts.{reciprocals-first, held-words}
+use Rattle.scopeplaces.specs.Whole.{fused-scope, scope-told}
+use Rattle.scopelaws.specs.Told.{told}
+use Rattle.scopelaws.proofs.Groups.{places-of, Opens-group}
+use Rattle.scopelaws.proofs.Walking.{Proper}
+use Rattle.scopelaws.proofs.Proper.{tested-good, body-proper}
+use Rattle.scopelaws.proofs.Body.{Order-agrees, body-is}
+
+-- a word for each occurrence
+pub words-many : (ws : List ℕ) (m : ℕ) → trees-in ws ≡ some m → occurrences (read numbered ws) ≡ length ws
+words-many ws m c = sym (all-tokens-length unnumbered (read numbered ws)) ∙ ap length (writes-back ws m c)
+
+-- a scope by trees: the scope of its arms may be any
+module _ (rows : List Row) (scope : ℕ → List Tree → Outcome Scoped) where
+  abbrev pub scope-body : ℕ → List Tree → Outcome Scoped
+  scope-body next es =
+      extract-all-by (text-of [] (name-in rows)) true next es >>= λ s. fuse-held scope (length (s .lets)) (reciprocals-by (text-of [] (name-in rows)) true s)
+
+-- what the words of a scope satisfy, the words of its arms do
+abbrev pub Keeps-sound : List Row → (ℕ → List ℕ → Type 0) → Type 0
+Keeps-sound rows Sound =
+    (next : ℕ) (ws vs : List ℕ) → Sound next ws → length ws ≤ 1024 → next ≤ 2147483648 → all-rounds rows true next ws ≡ ok vs
+    → let k = length (read numbered ws) in
+    let places = divisors-to-bind vs (name-in rows) true in
+    let hs = held-words vs k next places in
+    length hs ≤ 1024 → (n i a : ℕ) → reciprocals-first vs k next places + length places ≤ n → Opens-group hs i → a < arm-count hs (getD (places-of hs i) 0 0)
+    → Sound n (column-words hs (places-of hs i) a)
+
+-- and its table of bits gives the order of the needs
+abbrev pub Keeps-order : List Row → (ℕ → List ℕ → Type 0) → (ℕ → List Tree → Outcome Scoped) → Type 0
+Keeps-order rows Sound scope =
+    (next : ℕ) (ws vs : List ℕ) → Sound next ws → length ws ≤ 1024 → next ≤ 2147483648 → all-rounds rows true next ws ≡ ok vs
+    → length (held-words vs (length (read numbered ws)) next (divisors-to-bind vs (name-in rows) true)) ≤ 1024
+    → Order-agrees rows (length (read numbered ws)) next vs scope
+
+module _
+    (rows : List Row) (scoped : ℕ → ℕ → List Tree → Outcome Scoped) (none : (next : ℕ) (es : List Tree) → scoped 0 next es ≡ refused (by 23))
+    (more : (fuel next : ℕ) (es : List Tree)
+    → scoped (suc fuel) next es
+    ≡ (elim (leb (occurrences es) 1024 && leb next 2147483648) as (λ _. Outcome Scoped) [ true ↦ scope-body rows (λ n l. scoped fuel n l) next es | false ↦ refused (by 23) ]))
+  where
+    -- no scope's numbers go back, and it has a value for each tree
+    pub scoped-proper : (fuel next : ℕ) (es : List Tree) → Good (Proper next es) (scoped fuel next es)
+    scoped-proper zero next es = subst (Good (Proper next es)) (sym (none next es)) (unfold Good in tt)
+    scoped-proper (suc fuel) next es =
+        subst (Good (Proper next es)) (sym (more fuel next es))
+        (tested-good (Proper next es) (scope-body rows (λ n l. scoped fuel n l) next es) 23
+        (body-proper (λ n l. scoped fuel n l) (λ n l. scoped-proper fuel n l) (text-of [] (name-in rows)) next es) (leb (occurrences es) 1024 && leb next 2147483648))
+
+    module _
+        (Sound : ℕ → List ℕ → Type 0) (whole : (next : ℕ) (ws : List ℕ) → Sound next ws → (m : ℕ) × (trees-in ws ≡ some m)) (keeps : Keeps-sound rows Sound)
+        (ordered : (fuel : ℕ) → Keeps-order rows Sound (λ n l. scoped fuel n l))
+      where
+        pub told-is :
+            (fuel row next : ℕ) (ws : List ℕ) → Sound next ws → scope-told rows fuel row next ws ≡ (scoped fuel next (read numbered ws) >>= λ a. ok (told row a))
+        unfolding scope-told
+        told-is zero row next ws s = ap (λ (o : Outcome Scoped). o >>= λ a. ok (told row a)) (sym (none next (read numbered ws)))
+        told-is (suc fuel) row next ws s =
+            go (leb (length ws) 1024 && leb next 2147483648) refl (λ n cs h. told-is fuel value-row n cs h)
+            ∙ (ap (λ (x : ℕ). test (leb x 1024 && leb next 2147483648) >>= λ a. ok (told row a)) (sym (words-many ws (w .0) (w .1)))
+            ∙ ap (λ (o : Outcome Scoped). o >>= λ a. ok (told row a)) (sym (more fuel next (read numbered ws))))
+          where
+            w : (m : ℕ) × (trees-in ws ≡ some m)
+            w = whole next ws s
+
+            held : List ℕ → List ℕ
+            held vs = held-words vs (length (read numbered ws)) next (divisors-to-bind vs (name-in rows) true)
+
+            test : Bool → Outcome Scoped
+            test b = elim b as (λ _. Outcome Scoped) [ true ↦ scope-body rows (λ n l. scoped fuel n l) next (read numbered ws) | false ↦ refused (by 23) ]
+
+            go : (b : Bool) → (leb (length ws) 1024 && leb next 2147483648) ≡ b
+                → ((n : ℕ) (cs : List ℕ) → Sound n cs → scope-told rows fuel value-row n cs ≡ (scoped fuel n (read numbered cs) >>= λ a. ok (told value-row a)))
+                → cond b
+                (all-rounds rows true next ws >>= λ vs.
+                fused-scope (λ n cs. scope-told rows fuel value-row n cs) row vs (length (read numbered ws)) next (divisors-to-bind vs (name-in rows) true)) (refused (by 23))
+                ≡ (test b >>= λ a. ok (told row a))
+            go true e inner =
+                let both = subst T (sym e) tt in
+                let few = leb→le (length ws) 1024 (and-left (leb (length ws) 1024) (leb next 2147483648) both) in
+                let low = leb→le next 2147483648 (and-right (leb (length ws) 1024) (leb next 2147483648) both) in
+                body-is rows (λ n l. scoped fuel n l) (λ n l. scoped-proper fuel n l) (λ n cs. scope-told rows fuel value-row n cs) next ws (w .0) (w .1)
+                (λ vs q h. (
+                  λ n i a b o l. inner n (column-words (held vs) (places-of (held vs) i) a) (keeps next ws vs s few low q h n i a b o l),
+                  ordered fuel next ws vs s few low q h,
+                )) row
+            go false e inner = refl

@@ -1,0 +1,118 @@
+-- Whether a place is a new switch, test by test, and the list of all so far: how it starts, goes on and ends. Assumes nothing.
+use Prim.Native.Nat.{ℕ, zero, suc, _+_, _≤_, _<_}
+use native.Mathlib.Omega.{arith}
+use mathlib.Core.Path.{_≡_, refl, sym, _∙_, ap, subst}
+use mathlib.Core.Bool.{Bool, true, false, not, _&&_}
+use mathlib.Core.List.{List, [], _∷_, _++_, append-nil, append-assoc}
+use borrow.Author.Tests.{le-leb}
+use lib.ListN.{length, getD, take, drop, set, length-append, length-drop}
+use lib.Seq.{drop-cons, set-at, take-at}
+use lib.Dec.{leb}
+use Rattle.renaming.specs.Places.{outside-at, among-places}
+use Rattle.renaming.proofs.Extraction.{Every}
+use Rattle.uses.specs.Marks.{is-marked}
+use Rattle.switchplaces.specs.Switches.{switch-at, places-within, switch-places, new-switch}
+use Rattle.switchplaces.proofs.Stepping.{Outer, places-next, places-begin, places-end, places-few, places-outer}
+use Rattle.switches.specs.Listing.{switch-word, Inside, Outsides, Listed}
+use Rattle.switches.proofs.Words.{word-at}
+
+-- ---- one place
+
+and-none : (b : Bool) → (b && false) ≡ false
+and-none true = refl
+and-none false = refl
+
+module _ (ws marks met : List ℕ) (p : ℕ) (k : Outsides ws marks) (here : p < length ws) where
+  pub in-an-arm : getD marks p 0 ≡ 0 → false ≡ new-switch ws met p
+  unfolding new-switch is-marked
+  in-an-arm e =
+      let o : outside-at ws true p ≡ false = sym (k .marked p here) ∙ ap (leb 1) e in
+      sym (ap (λ (b : Bool). b && (switch-at ws p && not (among-places ws p met))) o)
+
+  pub no-switch : false ≡ switch-word (getD ws p 0) → false ≡ new-switch ws met p
+  unfolding new-switch
+  no-switch e =
+      let s : switch-at ws p ≡ false = sym (word-at ws p) ∙ sym e in
+      sym (ap (λ (b : Bool). outside-at ws true p && (b && not (among-places ws p met))) s ∙ and-none (outside-at ws true p))
+
+  pub last-test : (getD marks p 0 ≡ 0 → ⊥) → true ≡ switch-word (getD ws p 0) → (b : Bool) → b ≡ among-places ws p met → not b ≡ new-switch ws met p
+  unfolding new-switch is-marked
+  last-test ne e b d =
+      let o : outside-at ws true p ≡ true = sym (k .marked p here) ∙ le-leb 1 (getD marks p 0) (some-mark (getD marks p 0) ne) in
+      let s : switch-at ws p ≡ true = sym (word-at ws p) ∙ sym e in
+      ap not d
+      ∙ sym (ap (λ (c : Bool). outside-at ws true p && (c && not (among-places ws p met))) s ∙ ap (λ (c : Bool). c && not (among-places ws p met)) o)
+    where
+      some-mark : (m : ℕ) → (m ≡ 0 → ⊥) → 1 ≤ m
+      some-mark zero h = absurd (h refl)
+      some-mark (suc m) h = omega arith
+
+-- ---- all places so far
+
+all-inside : (ws : List ℕ) (n : ℕ) (l : List ℕ) → n ≤ length ws → Every (Outer ws n) l → Inside (length ws) l
+all-inside ws n [] g h = tt
+all-inside ws n (p ∷ l) g h = ((let k = h .0 .0 in omega arith), all-inside ws n l g (h .1))
+
+module _ (ws : List ℕ) where
+  pub record State (old out : List ℕ) (n p : ℕ) : Type 0 where
+    pub inside : p ≤ length ws
+    pub count : n ≡ length (places-within ws p)
+    pub places : out ≡ places-within ws p ++ drop n old
+
+  pub starts : (old : List ℕ) → State old old 0 0
+  starts old =
+      let e = places-begin ws in
+      record { inside = omega arith; count = sym (ap length e); places = sym (ap (λ (l : List ℕ). l ++ old) e) }
+
+  module _ {old out : List ℕ} {n p : ℕ} (state : State old out n p) where
+    pub few : n ≤ p
+    few = omega (arith, state .count, places-few ws p)
+
+    pub met-are : take n out ≡ places-within ws p
+    met-are = ap (take n) (state .places) ∙ take-at (places-within ws p) (drop n old) n (sym (state .count))
+
+    -- as many as are counted
+    pub met-long : n ≡ length (take n out)
+    met-long = state .count ∙ ap length (sym met-are)
+
+    pub met-inside : Inside (length ws) (take n out)
+    met-inside = subst (Inside (length ws)) (sym met-are) (all-inside ws p (places-within ws p) (state .inside) (places-outer ws p))
+
+    pub list-long : length ws ≤ length old → length out ≡ length old
+    list-long room =
+        ap length (state .places) ∙ omega (arith, length-append (places-within ws p) (drop n old), length-drop n old, state .count, few, state .inside, room)
+
+    next : (b : Bool) → b ≡ new-switch ws (take n out) p → places-within ws (p + 1) ≡ places-within ws p ++ elim b as (λ _. List ℕ) [ true ↦ p ∷ [] | false ↦ [] ]
+    next b e =
+        let i : p + 1 ≡ suc p = omega arith in
+        let d : new-switch ws (places-within ws p) p ≡ b = ap (λ (l : List ℕ). new-switch ws l p) (sym met-are) ∙ sym e in
+        ap (places-within ws) i ∙ places-next ws p ∙ ap (λ (c : Bool). places-within ws p ++ elim c as (λ _. List ℕ) [ true ↦ p ∷ [] | false ↦ [] ]) d
+
+    module _ (here : p < length ws) where
+      pub turn-none : false ≡ new-switch ws (take n out) p → State old out n (p + 1)
+      turn-none e =
+          let g : places-within ws (p + 1) ≡ places-within ws p = next false e ∙ append-nil (places-within ws p) in
+          record { inside = omega arith; count = state .count ∙ ap length (sym g); places = state .places ∙ ap (λ (l : List ℕ). l ++ drop n old) (sym g) }
+
+      pub turn-one : length ws ≤ length old → true ≡ new-switch ws (take n out) p → State old (set out n p) (n + 1) (p + 1)
+      turn-one room e =
+          let l = places-within ws p in
+          let g : places-within ws (p + 1) ≡ l ++ (p ∷ []) = next true e in
+          let i : suc n ≡ n + 1 = omega arith in
+          record {
+            inside = omega arith;
+            count = omega (arith, ap length g, length-append l (p ∷ []), state .count);
+            places =
+                ap (λ (x : List ℕ). set x n p) (state .places ∙ ap (λ (x : List ℕ). l ++ x) (drop-cons old n 0 (omega (arith, few, room))))
+                ∙ set-at l (getD old n 0) (drop (suc n) old) p n (sym (state .count))
+                ∙ sym (append-assoc l (p ∷ []) (drop (suc n) old))
+                ∙ ap (λ (x : List ℕ). x ++ drop (suc n) old) (sym g)
+                ∙ ap (λ (k : ℕ). places-within ws (p + 1) ++ drop k old) i;
+          }
+
+    pub list-ends : length ws ≤ p → Listed (switch-places ws) old n out
+    list-ends h =
+        let i : p ≡ length ws = omega (arith, state .inside, h) in
+        let w : places-within ws p ≡ switch-places ws = ap (places-within ws) i ∙ sym (places-end ws) in
+        let c : n ≡ length (switch-places ws) = state .count ∙ ap length w in
+        record { count = c; places = state .places ∙ ap (λ (x : List ℕ). x ++ drop n old) w ∙ ap (λ (k : ℕ). switch-places ws ++ drop k old) c }

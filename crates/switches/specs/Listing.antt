@@ -1,0 +1,54 @@
+-- What the functions that list switches are lent and leave, and what listing answers, by cases (01, "Scoped fusion"). Assumes nothing.
+use Prim.Native.Nat.{ℕ, _≤_, _<_}
+use mathlib.Core.Path.{_≡_}
+use mathlib.Core.Bool.{Bool, true, false, _&&_}
+use mathlib.Core.List.{List, [], _∷_, _++_}
+use lib.ListN.{length, drop}
+use lib.Dec.{leb}
+use Rattle.tree.specs.Kinds.{is-switch}
+use Rattle.tree.specs.Tokens.{kind-of, takes, trees-in}
+use Rattle.renaming.specs.Places.{outside-at}
+use Rattle.words.specs.Words.{some-trees}
+use Rattle.uses.specs.Marks.{is-marked}
+use Rattle.switchplaces.specs.Switches.{switch-places}
+use Rattle.switches.specs.declared.SwitchList.{SwitchList}
+use Rattle.switches.specs.declared.SwitchList.the-variants as switch-list
+
+-- whether a word is a switch's, with a key at least
+unfoldable pub switch-word : ℕ → Bool
+unfolding takes
+switch-word w = is-switch (kind-of w) && leb 1 (takes w)
+
+-- each place is below n
+abbrev pub Inside : ℕ → List ℕ → Type 0
+Inside n [] = Unit {0}
+Inside n (q ∷ l) = (q < n) × Inside n l
+
+-- the places outside arms are marked
+pub record Outsides (ws marks : List ℕ) : Type 0 where
+  pub long : length ws ≤ length marks
+  pub marked : (j : ℕ) → j < length ws → is-marked marks j ≡ outside-at ws true j
+
+-- places stand in front, n of them, and everything after is as it was
+pub record Listed (new old : List ℕ) (n : ℕ) (out : List ℕ) : Type 0 where
+  pub count : n ≡ length new
+  pub places : out ≡ new ++ drop (length new) old
+
+-- what listing answers, and the places lent after it
+pub record Listing : Type 0 where
+  pub answer : SwitchList
+  pub out : List ℕ
+
+-- by whether no word lacks an operand, and whether there is room: the places in front of what stood after as many, or nothing written
+unfoldable pub listing-by : Bool → Bool → List ℕ → List ℕ → Listing
+listing-by false room new old = record { answer = switch-list.Broken; out = old }
+listing-by true false new old = record { answer = switch-list.NoRoom; out = old }
+listing-by true true new old = record { answer = switch-list.Count (length new); out = new ++ drop (length new) old }
+
+-- 1,024 words at most, and a place for each
+unfoldable pub room-for : ℕ → ℕ → Bool
+room-for words lent = leb words 1024 && leb words lent
+
+unfoldable pub listing : List ℕ → List ℕ → Listing
+unfolding listing-by trees-in some-trees room-for switch-places
+listing ws old = listing-by (some-trees (trees-in ws)) (room-for (length ws) (length old)) (switch-places ws) old

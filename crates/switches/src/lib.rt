@@ -1,0 +1,150 @@
+// The switches outside arms (01, "Scoped fusion") as places among words of trees, each tree once, where it stands first; and whether there is a switch at all.
+ghost use mathlib.Core.Path.{_≡_};
+ghost use Prim.Native.Nat.{_≤_, _<_};
+ghost use lib.ListN.{length};
+ghost use Rattle.tree.specs.Tree.{eq-tree};
+ghost use Rattle.words.specs.Words.{Complete};
+ghost use Rattle.renaming.specs.Places.{numbered-at, among-places};
+ghost use Rattle.switchplaces.specs.Switches.{switch-places, new-switch, holds-switch};
+ghost use Rattle.switches.specs.Listing.{switch-word, Inside, Outsides, Listed, listing};
+use tokens::Equality;
+use tokens::Trees;
+use tokens::count_trees;
+use tokens::same;
+use uses::mark_outside;
+
+// A word is kind + KINDS * operands.
+const KINDS: u64 = 64;
+
+// The least kind with arms: Branch, Select and Select with a default come last.
+const BRANCH: u64 = 26;
+
+// So many words at most, which the array of marks holds.
+const MOST_WORDS: usize = 1024;
+
+pub enum SwitchList {
+    // How many places were written.
+    Count(usize),
+    // A word lacks operands.
+    Broken,
+    // Too many words, or fewer places than words.
+    NoRoom,
+}
+
+// Whether a word is a switch's. One without operands has no key and no arms.
+pub fn is_switch(w: u64) -> bool
+    ensures { λ r. ⌜ r ≡ switch-word w ⌝ }
+{
+    if w % KINDS < BRANCH {
+        return false;
+    }
+    w / KINDS >= 1
+}
+
+// Whether there is a switch outside arms. The first of all is outside arms, so any will do.
+pub fn holds_switch(tokens: &[u64]) -> bool
+    ensures { λ r. ⌜ r ≡ holds-switch (now (tokens .entry)) ⌝ }
+{
+    let mut i = 0;
+    while i < tokens.len() {
+        if is_switch(tokens[i]) {
+            return true;
+        }
+        i += 1;
+    }
+    false
+}
+
+// Whether the trees at two places are equal.
+fn equal_trees(tokens: &[u64], i: usize, j: usize) -> bool
+    requires { ⌜ Complete (now tokens) ⌝ }
+    requires { ⌜ (i < length (now tokens)) × (j < length (now tokens)) ⌝ }
+    ensures { λ r. ⌜ r ≡ eq-tree (numbered-at (now (tokens .entry)) i) (numbered-at (now (tokens .entry)) j) ⌝ }
+{
+    let equality = same(tokens, i, j);
+    match equality {
+        Equality::Equal => true,
+        Equality::Different => false,
+        Equality::Broken => false,
+    }
+}
+
+// Whether one of the places has the tree at q.
+fn is_among(tokens: &[u64], list: &[u64], q: usize) -> bool
+    requires { ⌜ Complete (now tokens) × (q < length (now tokens)) ⌝ }
+    requires { ⌜ Inside (length (now tokens)) (now list) ⌝ }
+    ensures { λ r. ⌜ r ≡ among-places (now (tokens .entry)) q (now (list .entry)) ⌝ }
+{
+    let mut k = 0;
+    while k < list.len() {
+        if equal_trees(tokens, list[k] as usize, q) {
+            return true;
+        }
+        k += 1;
+    }
+    false
+}
+
+// Whether a switch outside arms stands at p, and none of the places met has its tree.
+fn is_new(tokens: &[u64], marks: &[u64], met: &[u64], p: usize) -> bool
+    requires { ⌜ Complete (now tokens) × (p < length (now tokens)) ⌝ }
+    requires { ⌜ Outsides (now tokens) (now marks) × Inside (length (now tokens)) (now met) ⌝ }
+    ensures { λ r. ⌜ r ≡ new-switch (now (tokens .entry)) (now (met .entry)) p ⌝ }
+{
+    if marks[p] == 0 {
+        return false;
+    }
+    if !is_switch(tokens[p]) {
+        return false;
+    }
+    !is_among(tokens, met, p)
+}
+
+// Lists the switches at marked places, each once, and returns how many there are.
+fn list(tokens: &[u64], marks: &[u64], places: &mut [u64]) -> usize
+    requires { ⌜ Complete (now tokens) × (length (now tokens) ≤ length (now places)) ⌝ }
+    requires { ⌜ Outsides (now tokens) (now marks) ⌝ }
+    ensures { λ r. ⌜ Listed (switch-places (now (tokens .entry))) (now (places .entry)) r (now (places .exit)) ⌝ }
+{
+    let mut n = 0;
+    let mut p = 0;
+    while p < tokens.len() {
+        if is_new(tokens, marks, &places[..n], p) {
+            places[n] = p as u64;
+            n += 1;
+            p += 1;
+        } else {
+            p += 1;
+        }
+    }
+    n
+}
+
+// The same from the words alone.
+fn gather(tokens: &[u64], places: &mut [u64]) -> usize
+    requires { ⌜ Complete (now tokens) ⌝ }
+    requires { ⌜ (length (now tokens) ≤ 1024) × (length (now tokens) ≤ length (now places)) ⌝ }
+    ensures { λ r. ⌜ Listed (switch-places (now (tokens .entry))) (now (places .entry)) r (now (places .exit)) ⌝ }
+{
+    let mut marks = [0u64; 1024];
+    mark_outside(tokens, true, &mut marks);
+    list(tokens, &marks, places)
+}
+
+// The places of the switches outside arms, in front of what stood after as many.
+pub fn list_switches(tokens: &[u64], places: &mut [u64]) -> SwitchList
+    ensures { λ r. ⌜ (r ≡ listing (now (tokens .entry)) (now (places .entry)) .answer)
+        × (now (places .exit) ≡ listing (now (tokens .entry)) (now (places .entry)) .out) ⌝ }
+{
+    let Trees::Count(_) = count_trees(tokens) else {
+        return SwitchList::Broken;
+    };
+    if tokens.len() > MOST_WORDS {
+        return SwitchList::NoRoom;
+    }
+    if places.len() < tokens.len() {
+        return SwitchList::NoRoom;
+    }
+    let n = gather(tokens, places);
+    SwitchList::Count(n)
+}
