@@ -1,0 +1,201 @@
+-- What a scope holds, read back: results and lets are its first trees, each of them and each reciprocal is the settled tree of its number, and with the members replaced
+-- it is the final one (01, "Reciprocals", "Scoped fusion"). Assumes nothing.
+use Prim.Native.Nat.{ℕ, zero, suc, _+_, _-_, _≤_, _<_}
+use native.Mathlib.Omega.{arith}
+use mathlib.Core.Path.{_≡_, refl, sym, _∙_, ap, subst}
+use mathlib.Core.Bool.{Bool, true, false}
+use mathlib.Core.Option.{some}
+use mathlib.Core.List.{List, [], _∷_, _++_, append-nil, map}
+use lib.Dec.{T}
+use lib.ListN.{length, getD, length-append, length-drop, length-map, List·getD-append}
+use lib.Seq.{getD-append-add}
+use Rattle.tree.specs.Tree.{Tree, Op, nil}
+use Rattle.tree.specs.Tokens.{tokens, all-tokens, read, numbered, trees-in}
+use Rattle.tree.proofs.TokenLaws.{complete-length, complete-within}
+use Rattle.tree.proofs.TokenCode.{coded, all-coded, unnumbered, tokens-complete}
+use Rattle.words.specs.Words.{number, rewritten-words, Complete}
+use Rattle.renaming.specs.Places.{numbered-at}
+use Rattle.renaming.specs.Rounds.{next-number, bind-each-on}
+use Rattle.renaming.proofs.Coded.{is-alone, none-fit, one-fits, first-fits, rest-fits, read-fits, read-again, bind-on-fits}
+use Rattle.reciprocals.proofs.Parts.{settle-tree, settled-reciprocals, bound-are-settled, All-there}
+use Rattle.reciprocal.proofs.There.{tested-there}
+use Rattle.reciprocal.proofs.Made.{settled-long}
+use Rattle.finishlaws.proofs.Trees.{divisors-fit}
+use Rattle.fusion.specs.Settled.{fused-tree}
+use Rattle.fusion.specs.Whole.{settled-roots}
+use Rattle.fusion.specs.Switchless.{switchless, with-switches}
+use Rattle.fusion.specs.Words.{steps-at}
+use Rattle.scopeplaces.specs.Parts.{place-groups, joined-groups, trees-held, words-held, reciprocals-first, lets-count, held-words, settled-trees, steps-from, fused-run}
+use Rattle.scopeplaces.specs.Whole.{stmts-count, tree-run}
+use Rattle.scopeparts.specs.Prepared.{Prepared, run-number, reciprocal-run, settled-run, fused-by}
+
+-- ---- within the code
+
+abbrev Fits : List Tree → Type 0
+Fits l = T (all-coded is-alone l)
+
+bind-each-fits : (l : List Tree) (n : ℕ) (ts : List Tree) → Fits l → Fits ts → Fits (bind-each-on l n ts)
+unfolding bind-each-on
+bind-each-fits [] n ts g h = h
+bind-each-fits (d ∷ l) n ts g h = bind-each-fits l (suc n) _ (rest-fits is-alone d l g) (bind-on-fits is-alone d n ts (first-fits is-alone d l g) h)
+
+front-fits : (a b : List Tree) → Fits (a ++ b) → Fits a
+front-fits [] b h = none-fit is-alone
+front-fits (t ∷ a) b h = one-fits is-alone t a (first-fits is-alone t (a ++ b) h) (front-fits a b (rest-fits is-alone t (a ++ b) h))
+
+with-fits : (a l : List Tree) → Fits (a ++ l) → Fits (a ++ with-switches l)
+unfolding with-switches
+with-fits (t ∷ a) l h = one-fits is-alone t (a ++ with-switches l) (first-fits is-alone t (a ++ l) h) (with-fits a l (rest-fits is-alone t (a ++ l) h))
+with-fits [] [] h = h
+with-fits [] (t ∷ l) h = go (switchless t) (with-fits [] l (rest-fits is-alone t l h))
+  where
+    go : (b : Bool) → Fits (with-switches l) → Fits (elim b as (λ _. List Tree) [ true ↦ with-switches l | false ↦ t ∷ with-switches l ])
+    go true f = f
+    go false f = one-fits is-alone t (with-switches l) (first-fits is-alone t l h) f
+
+fits-at : (l : List Tree) → Fits l → (i : ℕ) → i < length l → T (coded is-alone (getD l i (Op 0 nil)))
+fits-at [] h i g = absurd (omega arith)
+fits-at (t ∷ l) h zero g = first-fits is-alone t l h
+fits-at (t ∷ l) h (suc i) g = fits-at l (rest-fits is-alone t l h) i (omega arith)
+
+-- ---- one tree's words
+
+one-run : (t : Tree) → all-tokens number (t ∷ []) ≡ tokens number t
+unfolding all-tokens
+one-run t = append-nil (tokens number t)
+
+-- words that are one tree, each rewritten
+pub rewritten-one : (f : Tree → Tree) (t : Tree) (ws : List ℕ) → read numbered ws ≡ t ∷ [] → rewritten-words f ws ≡ tokens number (f t)
+unfolding rewritten-words
+rewritten-one f t ws e = ap (λ (l : List Tree). all-tokens number (map f l)) e ∙ one-run (f t)
+
+module _ (t : Tree) (h : T (coded is-alone t)) where
+  alone : Fits (t ∷ [])
+  alone = one-fits is-alone t [] h (none-fit is-alone)
+
+  run-whole : trees-in (tokens number t) ≡ some 1
+  run-whole = sym (ap trees-in (one-run t)) ∙ tokens-complete unnumbered is-alone (t ∷ []) alone
+
+  run-read : read numbered (tokens number t) ≡ t ∷ []
+  run-read = sym (ap (read numbered) (one-run t)) ∙ read-again (t ∷ []) alone
+
+-- ---- what is held
+
+module _ {ws : List ℕ} {k first : ℕ} {places held starts members ends numbers : List ℕ} (p : Prepared ws k first places held starts members ends numbers) where
+  pub places-there : All-there ws places
+  places-there = tested-there ws places (p .there)
+
+  abbrev m : ℕ
+  m = length starts
+
+  abbrev n : ℕ
+  n = reciprocals-first ws k first places
+
+  abbrev ds : List Tree
+  ds = map (numbered-at ws) places
+
+  abbrev S : List Tree
+  S = map (settle-tree ds n) (read numbered ws)
+
+  abbrev R : List Tree
+  R = settled-reciprocals ds n
+
+  read-count : length (read numbered ws) ≡ m
+  read-count = complete-length numbered ws m (p .complete)
+
+  pub first-number : reciprocals-first ws k first places ≡ first + (length starts - k)
+  unfolding reciprocals-first next-number
+  first-number = omega (arith, length-drop k (read numbered ws), read-count)
+
+  pub lets-are : lets-count ws k first places ≡ (length starts - k) + length places
+  unfolding lets-count
+  lets-are = omega (arith, length-drop k (read numbered ws), read-count)
+
+  all-fit : Fits (S ++ R)
+  all-fit = subst Fits (bound-are-settled ds n (read numbered ws)) (bind-each-fits ds n (read numbered ws) (divisors-fit ws places places-there) (read-fits ws))
+
+  held-fit : Fits (S ++ with-switches R)
+  held-fit = with-fits S R all-fit
+
+  held-written : held ≡ all-tokens unnumbered (S ++ with-switches R)
+  unfolding held-words words-held trees-held
+  held-written = p .held-is
+
+  held-read : read numbered held ≡ S ++ with-switches R
+  held-read = ap (read numbered) held-written ∙ read-again (S ++ with-switches R) held-fit
+
+  pub held-complete : Complete held
+  held-complete = (length (S ++ with-switches R), ap trees-in held-written ∙ tokens-complete unnumbered is-alone (S ++ with-switches R) held-fit)
+
+  settled-count : length S ≡ m
+  settled-count = length-map (read numbered ws) (settle-tree ds n) ∙ read-count
+
+  last-count : length R ≡ length places
+  last-count = settled-long ds n ∙ length-map places (numbered-at ws)
+
+  settled-are : settled-trees ws k first places ≡ S ++ R
+  unfolding settled-trees settled-roots
+  settled-are = refl
+
+  -- ---- a tree from before
+
+  pub trees-few : length starts ≤ 1024
+  trees-few = omega (arith, complete-within ws m (p .complete), p .few)
+
+  pub count-is : stmts-count ws k first places numbers ≡ ((length starts - k) + length places) + length (place-groups held)
+  unfolding stmts-count
+  count-is = omega (arith, lets-are, ap (λ (hs : List ℕ). length (place-groups hs)) (p .held-is))
+
+  pub places-few : length places ≤ 1024
+  places-few = omega (arith, count-is, p .statements)
+
+  settled-before : (i : ℕ) → i < m → getD (settled-trees ws k first places) i (Op 0 nil) ≡ getD S i (Op 0 nil)
+  settled-before i h = ap (λ (l : List Tree). getD l i (Op 0 nil)) settled-are ∙ List·getD-append S R (Op 0 nil) i (omega (arith, settled-count))
+
+  pub held-run-is : (i : ℕ) → i < length starts → run-number held i ≡ settled-run ws k first places i
+  unfolding run-number settled-run
+  held-run-is i h =
+      ap (tokens number)
+      (ap (λ (l : List Tree). getD l i (Op 0 nil)) held-read ∙ (List·getD-append S (with-switches R) (Op 0 nil) i (omega (arith, settled-count)) ∙ sym (settled-before i h)))
+
+  pub held-many : length starts ≤ length (read numbered held)
+  held-many = omega (arith, ap length held-read, length-append S (with-switches R), settled-count)
+
+  -- ---- a reciprocal
+
+  settled-after : (j : ℕ) → getD (settled-trees ws k first places) (m + j) (Op 0 nil) ≡ getD R j (Op 0 nil)
+  settled-after j =
+      ap (λ (l : List Tree). getD l (m + j) (Op 0 nil)) settled-are
+      ∙ (ap (λ (i : ℕ). getD (S ++ R) (i + j) (Op 0 nil)) (sym settled-count) ∙ getD-append-add S R j (Op 0 nil))
+
+  pub reciprocal-run-is : (j : ℕ) → reciprocal-run ws places (first + (length starts - k)) j ≡ settled-run ws k first places (length starts + j)
+  unfolding reciprocal-run settled-run
+  reciprocal-run-is j =
+      ap (λ (x : ℕ). tokens number (getD (settled-reciprocals ds x) j (Op 0 nil))) (sym first-number) ∙ ap (tokens number) (sym (settled-after j))
+
+  -- ---- any of them
+
+  module _ (i : ℕ) (h : i < length starts + length places) where
+    abbrev t : Tree
+    t = getD (settled-trees ws k first places) i (Op 0 nil)
+
+    in-code : T (coded is-alone t)
+    in-code =
+        let l = length-append S R in
+        subst (λ (l : List Tree). T (coded is-alone (getD l i (Op 0 nil)))) (sym settled-are)
+        (fits-at (S ++ R) all-fit i (omega (arith, l, settled-count, last-count, h)))
+
+    pub settled-whole : trees-in (settled-run ws k first places i) ≡ some 1
+    unfolding settled-run
+    settled-whole = run-whole t in-code
+
+    final-is : tokens number (fused-tree (steps-at held members numbers) t) ≡ tree-run ws k first places numbers i
+    unfolding tree-run fused-run steps-from
+    final-is =
+        ap (λ (l : List ℕ). tokens number (fused-tree (steps-at held l numbers) t)) (p .members-are)
+        ∙ ap (λ (hs : List ℕ). tokens number (fused-tree (steps-at hs (joined-groups (place-groups hs)) numbers) t)) (p .held-is)
+
+    -- with the members replaced it is final
+    pub fused-final : fused-by held members numbers (settled-run ws k first places i) ≡ tree-run ws k first places numbers i
+    unfolding fused-by settled-run
+    fused-final = rewritten-one (fused-tree (steps-at held members numbers)) t (tokens number t) (run-read t in-code) ∙ final-is
