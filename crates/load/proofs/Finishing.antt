@@ -20,11 +20,11 @@ use Rattle.sheet.specs.Call.{load-call, rows-after, roots-after}
 use Rattle.sheet.proofs.Loaded.{Good, records-good}
 use Rattle.rows.specs.declared.Checked.the-variants as checks
 use Rattle.rows.specs.Check.{laid-in-domain, check-domain, checked}
+use Rattle.recordlist.specs.Steps.{Holds, empty, Outcomes, All-read}
+use Rattle.recordlist.specs.declared.Records.{Records}
+use Rattle.recordlist.specs.declared.Records.the-variants as records
 use Rattle.load.specs.declared.Loaded.{Loaded}
 use Rattle.load.specs.declared.Loaded.the-variants as loaded
-use Rattle.load.specs.declared.Records.{Records}
-use Rattle.load.specs.declared.Records.the-variants as records
-use Rattle.load.specs.Steps.{Holds, empty, Outcomes, All-read}
 use Rattle.load.specs.Loads.{answered, Loads, Finished, Finished-by}
 
 -- ---- finish
@@ -141,9 +141,17 @@ module _ (sheet rows roots : List ℕ) where
               done t e (z .1) G (within-limits (trees t)) refl (subst (λ (b : Bool). Finished-by b (table-words (t .rows)) (t .roots) i rows roots answer new-rows new-roots) (laid-is t G) F3)
 
 -- what the counts of all records are good for
-pub read-bounds : (s : List ℕ) (r : Records) (n m i : ℕ) (words list : List ℕ) → r ≡ records.All n m i → All-read s r words list → (n ≤ 1024) × (m ≤ 64) × (length words ≡ 35875) × (length list ≡ 64)
+pub read-bounds : (s : List ℕ) (r : Records) (n m i : ℕ) (words list : List ℕ) → r ≡ records.All n m i → All-read s r words list → (n ≤ 1024) × (m ≤ 64) × (35875 ≤ length words) × (64 ≤ length list)
 read-bounds s r n m i words list e R = go (load-records 0 (records-from [] s) empty) (subst (λ (q : Records). All-read s q words list) e R)
   where
-    go : (o : Outcome Table) → Outcomes s o (records.All n m i) words list → (n ≤ 1024) × (m ≤ 64) × (length words ≡ 35875) × (length list ≡ 64)
+    go : (o : Outcome Table) → Outcomes s o (records.All n m i) words list → (n ≤ 1024) × (m ≤ 64) × (35875 ≤ length words) × (64 ≤ length list)
     go (refused x) z = absurd z
     go (ok t) z = let H = z .0 in (H .rows-few, H .roots-few, H .words-long, H .list-long)
+
+-- the answers of reading are those two alone
+pub never-full : (s : List ℕ) (r : Records) (words list : List ℕ) → r ≡ records.NoRoom → All-read s r words list → ⊥
+never-full s r words list e R = go (load-records 0 (records-from [] s) empty) (subst (λ (q : Records). All-read s q words list) e R)
+  where
+    go : (o : Outcome Table) → Outcomes s o records.NoRoom words list → ⊥
+    go (refused x) z = z
+    go (ok t) z = z

@@ -1,5 +1,2 @@
 pub mod Ends
-pub mod Limits
-pub mod Stepping
-pub mod Reading
 pub mod Finishing

@@ -4,12 +4,9 @@ ghost use mathlib.Core.List.{List, _++_};
 ghost use Prim.Native.Nat.{_+_, _*_, _/_, _≤_, _<_};
 ghost use lib.ListN.{length, drop};
 ghost use Rattle.sheet.specs.Call.{load-call};
-ghost use Rattle.record.specs.Item.{record-item};
-ghost use Rattle.load.specs.Steps.{Stepped, All-read};
 ghost use Rattle.load.specs.Loads.{Loads, Finished};
-use record::Read;
-use record::read_record;
-use recordend::record_end;
+use recordlist::Records;
+use recordlist::read_records;
 use rows::Checked;
 use rows::check_domain;
 
@@ -18,62 +15,6 @@ pub enum Loaded {
     Table(usize, usize),
     // 01's number and the record.
     Refused(u64, u64),
-}
-
-// How many rows and roots there are after a record, or the number of its refusal.
-enum Step {
-    Next(usize, usize),
-    Refused(u64),
-}
-
-// How many rows, roots and records a sheet has, or the number and the record of its first refusal.
-enum Records {
-    All(usize, usize, usize),
-    Refused(u64, usize),
-}
-
-// One record more. The table has a row more than a list may have, so that there is always room to read one.
-fn read_one(s: &[u8], n: usize, m: usize, table: &mut [u64], list: &mut [u64]) -> Step
-    requires { ⌜ (length (now table) ≡ 35875) × (length (now list) ≡ 64) × (n ≤ 1024) × (m ≤ 64) ⌝ }
-    ensures { λ r. ⌜ Stepped n m (record-item 0 n m (now (s .entry))) (now (table .entry)) (now (list .entry)) r (now (table .exit)) (now (list .exit)) ⌝ }
-{
-    let row = 35 * n;
-    let read = read_record(s, n as u64, m as u64, &mut table[row..]);
-    match read {
-        Read::Row => Step::Next(n + 1, m),
-        Read::Root(k) => {
-            list[m] = k;
-            Step::Next(n, m + 1)
-        }
-        Read::Refused(q) => Step::Refused(q),
-        Read::NoRoom => Step::Refused(0),
-    }
-}
-
-// All records, one after another.
-fn read_records(sheet: &[u8], table: &mut [u64], list: &mut [u64]) -> Records
-    requires { ⌜ (length (now table) ≡ 35875) × (length (now list) ≡ 64) × (length (now sheet) ≤ 65535) ⌝ }
-    ensures { λ r. ⌜ All-read (now (sheet .entry)) r (now (table .exit)) (now (list .exit)) ⌝ }
-{
-    let mut at = 0;
-    let mut i = 0;
-    let mut n = 0;
-    let mut m = 0;
-    while at < sheet.len() {
-        let e = record_end(sheet, at);
-        match read_one(&sheet[at..e], n, m, table, list) {
-            Step::Next(rows, roots) => {
-                n = rows;
-                m = roots;
-                i += 1;
-                at = e + 2;
-            }
-            Step::Refused(q) => {
-                return Records::Refused(q, i);
-            }
-        }
-    }
-    Records::All(n, m, i)
 }
 
 // Copies s to the front of out.
@@ -119,6 +60,8 @@ fn load_into(
             finish(&table[..end], &list[..m], count, rows, roots)
         }
         Records::Refused(q, i) => Loaded::Refused(q, i as u64),
+        // Not met: the table and the list are our own.
+        Records::NoRoom => Loaded::Refused(7, 0),
     }
 }
 

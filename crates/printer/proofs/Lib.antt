@@ -1,4 +1,1 @@
-pub mod TreeText
-pub mod BindingLaws
-pub mod StatementLaws
 pub mod PrintLaws

@@ -1,0 +1,4 @@
+pub mod Limits
+pub mod Stepping
+pub mod Reading
+pub mod Rooms
