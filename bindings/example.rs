@@ -1,9 +1,11 @@
 //! Extracts the common subexpressions of the paper's sheet and of a list that is made node by node, and shows a refusal.
 mod paddlecrook;
 
-use paddlecrook::{Extractor, Kind, List, Tree};
+use paddlecrook::{Extractor, Kind, List, Statement, Tree};
 
 const SHEET: &str = "Sym,a\r\nSym,b\r\nAdd,0,1\r\nSym,c\r\nMul,2,3\r\nSin,2\r\nRoot,4\r\nRoot,5\r\n";
+
+const SWITCHES: &str = "Sym,i\r\nSym,a\r\nSym,b\r\nAdd,1,2\r\nSin,3\r\nCos,3\r\nMul,4,5\r\nSelect,0,6,1\r\nSelect,0,2,1\r\nRoot,7\r\nRoot,8\r\n";
 
 fn main() -> Result<(), Box<dyn std::error::Error>> {
     let mut extractor = Extractor::new();
@@ -24,10 +26,14 @@ fn main() -> Result<(), Box<dyn std::error::Error>> {
     }
     let code = extractor.extract(&list)?.code();
     let divided = vec![Tree::Symbol("x".to_string()), Tree::Symbol("n".to_string())];
-    assert_eq!(code.lets, [("__x0".to_string(), Tree::Operation(Kind::Div, divided))]);
+    assert_eq!(code.statements, [Statement::Let("__x0".to_string(), Tree::Operation(Kind::Div, divided))]);
     for result in &code.results {
         println!("{result:?}");
     }
+
+    // two switches on one key are one match in the scoped form, and what only an arm needs is computed there
+    let sheet = List::from_sheet(SWITCHES.as_bytes())?;
+    print!("{}", extractor.extract_scoped(&sheet)?.print()?);
 
     // refused: a node that isn't there yet, a constant that is too large, and a name that is too long
     println!("{}", List::from_sheet(b"Sym,a\r\nSin,1\r\n").unwrap_err());

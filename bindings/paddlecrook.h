@@ -36,18 +36,21 @@ extern "C" {
 #define CSE_WORK_WORDS 65536
 #define CSE_WORK_BYTES 131072
 
-/* No flat answer has more rows. */
+/* No flat answer has more rows; a scoped one may. */
 #define CSE_ANSWER_ROWS 67328
 
 /* Kinds of node rows and of words. A word is kind + 64 * below. Below is, for a symbol, 3 * number + class (class 0: the number of the first row with its
- * name; 1: __xN; 2: __mN); for a constant 0, 1, 2, 3, 4 .. for 0, -1, 1, -2, 2 ..; otherwise how many operands follow. An answer is words: a let
- * (below is its symbol's) and its tree, for each binding, then a result (below is 0) and its tree, for each root. */
+ * name; 1: __xN; 2: __mN); for a constant 0, 1, 2, 3, 4 .. for 0, -1, 1, -2, 2 ..; otherwise how many parts follow. An answer is words: its statements, then a
+ * result (below is 0) and its tree, for each root. A statement is a let (below is its symbol's) and its tree; or, in the scoped form, a match by its kind of
+ * switch, its key's tree, a name (below is its symbol's) for each name that it binds, and its arms, the default last. An arm is its statements, and then a
+ * value (below is 0) and its tree for each name. */
 enum {
     CSE_SYM, CSE_CONST, CSE_NEG, CSE_ADD, CSE_SUB, CSE_MUL, CSE_DIV, CSE_POW, CSE_SIN, CSE_COS, CSE_TAN, CSE_ASIN, CSE_ACOS, CSE_ATAN, CSE_ATAN2, CSE_SINH,
     CSE_COSH, CSE_TANH, CSE_EXP, CSE_LN, CSE_LOG2, CSE_LOG10, CSE_SQRT, CSE_ABS, CSE_HEAVISIDE, CSE_CLAMP, CSE_BRANCH, CSE_SELECT,
     CSE_SELECT_OR, /* in words only: a Select with a default */
     CSE_LET,
-    CSE_RESULT = 36
+    CSE_MATCH_BRANCH, CSE_MATCH_SELECT, CSE_MATCH_SELECT_OR, CSE_NAME, CSE_ARM, CSE_VALUE,
+    CSE_RESULT
 };
 
 /* Reads a sheet into node rows and roots. rows: CSE_ROWS_WORDS words or more; roots: CSE_ROOTS or more; answer: 2 or more.
@@ -62,6 +65,11 @@ uint64_t cse_load(const uint8_t *sheet, size_t sheet_len, uint64_t *rows, size_t
  * 8, 9, 10, 12. 255: answer has fewer than two words. What is left in work and text is free, refused or not. */
 uint64_t cse_extract(const uint64_t *rows, size_t rows_len, const uint64_t *roots, size_t roots_len, uint64_t *work, size_t work_len, uint8_t *text,
                      size_t text_len, uint64_t *table, size_t table_len, uint64_t *answer, size_t answer_len);
+
+/* The same in the scoped form: what only an arm of a switch uses is bound in that arm, and switches on one key are one match. Lent alike; a table may have to be
+ * longer than CSE_ANSWER_ROWS. 8, 9, 10, 11, 12, 23. */
+uint64_t cse_extract_scoped(const uint64_t *rows, size_t rows_len, const uint64_t *roots, size_t roots_len, uint64_t *work, size_t work_len, uint8_t *text,
+                            size_t text_len, uint64_t *table, size_t table_len, uint64_t *answer, size_t answer_len);
 
 /* Writes the text of an answer: a line for each binding and each result. rows: the list's; answer: exactly the answer's words; out: as many bytes as the
  * text may have; said: 1 or more.

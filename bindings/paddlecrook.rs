@@ -37,6 +37,21 @@ mod c {
             answer_len: usize,
         ) -> u64;
 
+        pub fn cse_extract_scoped(
+            rows: *const u64,
+            rows_len: usize,
+            roots: *const u64,
+            roots_len: usize,
+            work: *mut u64,
+            work_len: usize,
+            text: *mut u8,
+            text_len: usize,
+            table: *mut u64,
+            table_len: usize,
+            answer: *mut u64,
+            answer_len: usize,
+        ) -> u64;
+
         pub fn cse_print(
             rows: *const u64,
             rows_len: usize,
@@ -55,7 +70,7 @@ pub const NODES: usize = 1024;
 pub const ROOTS: usize = 64;
 const WIDTH: usize = 35;
 
-/// The work area of extract, and the most rows of a flat answer.
+/// The work area of extract, and the most rows of a flat answer; a scoped answer may have more.
 const WORK_WORDS: usize = 65_536;
 const WORK_BYTES: usize = 131_072;
 const ANSWER_ROWS: usize = 67_328;
@@ -82,12 +97,14 @@ pub enum Refusal {
     FewRows = 12,
     BadAnswer = 13,
     LongText = 14,
+    LargeScope = 23,
 }
 
 use Refusal::*;
 
-const REFUSALS: [Refusal; 14] = [
+const REFUSALS: [Refusal; 15] = [
     EmptySheet, BadRecord, BadName, BadConstant, NoSuchNode, TooLarge, FewPlaces, ShortWork, BadRows, BadCoefficient, Cycle, FewRows, BadAnswer, LongText,
+    LargeScope,
 ];
 
 impl Refusal {
@@ -116,6 +133,7 @@ impl Refusal {
             FewRows => "the answer has more rows than are lent",
             BadAnswer => "the rows are not those of an answer",
             LongText => "the text is longer than the buffer",
+            LargeScope => "a scope would hold more than the work area has rows for",
         }
     }
 }
@@ -287,12 +305,28 @@ impl Extractor {
         }
     }
 
-    /// The flat answer to a list.
+    /// The flat answer to a list: lets alone.
     pub fn extract<'a>(&mut self, list: &'a List) -> Result<Answer<'a>, Refused> {
+        self.answer(list, false)
+    }
+
+    /// The scoped answer to a list: what only an arm uses is computed in the arm, and switches on one key are one match. More rows are lent
+    /// until they are enough.
+    pub fn extract_scoped<'a>(&mut self, list: &'a List) -> Result<Answer<'a>, Refused> {
+        loop {
+            match self.answer(list, true) {
+                Err(Refused { refusal: FewRows, .. }) => self.table.resize(2 * self.table.len(), 0),
+                told => return told,
+            }
+        }
+    }
+
+    fn answer<'a>(&mut self, list: &'a List, scoped: bool) -> Result<Answer<'a>, Refused> {
+        let extract = if scoped { c::cse_extract_scoped } else { c::cse_extract };
         let mut answer = [0; 2];
         // the parts lent are apart, and as long as is said
         let number = unsafe {
-            c::cse_extract(
+            extract(
                 list.rows.as_ptr(),
                 list.rows.len(),
                 list.roots.as_ptr(),
@@ -329,16 +363,42 @@ pub enum Tree {
     Operation(Kind, Vec<Tree>),
 }
 
-/// Bindings in the order in which they are to be computed, and the results.
+/// What binds names: one to an expression, or several to the values of the arm that a key picks.
+#[derive(Clone, Debug, PartialEq, Eq)]
+pub enum Statement {
+    Let(String, Tree),
+    Match(Match),
+}
+
+/// The switches on one key: `kind` is theirs. Of a Branch there are two arms, the second for a negative key; of a SelectOr the last is the
+/// default.
+#[derive(Clone, Debug, PartialEq, Eq)]
+pub struct Match {
+    pub kind: Kind,
+    pub key: Tree,
+    pub names: Vec<String>,
+    pub arms: Vec<Arm>,
+}
+
+/// Statements that only this arm needs, and a value for each name of the match.
+#[derive(Clone, Debug, PartialEq, Eq)]
+pub struct Arm {
+    pub statements: Vec<Statement>,
+    pub values: Vec<Tree>,
+}
+
+/// Statements in the order in which they are to be done, and the results.
 #[derive(Clone, Debug, PartialEq, Eq)]
 pub struct Code {
-    pub lets: Vec<(String, Tree)>,
+    pub statements: Vec<Statement>,
     pub results: Vec<Tree>,
 }
 
-/// Words: a word is kind + 64 * what is below it, and these are the kinds beside those of expressions.
+/// Words: a word is kind + 64 * what is below it, and these are the kinds beside those of expressions. A match's is 30 to 32 by its kind of switch.
 const BELOW: u64 = 64;
 const LET: u64 = 29;
+const MATCH_LESS_SWITCH: u64 = 4;
+const NAME: u64 = 33;
 
 #[derive(Clone, Debug)]
 pub struct Answer<'a> {
@@ -394,18 +454,16 @@ impl Answer<'_> {
 
     /// The answer taken apart.
     pub fn code(&self) -> Code {
+        let mut words = Words {
+            answer: self,
+            left: &self.words,
+        };
         let mut code = Code {
-            lets: Vec::new(),
+            statements: Vec::new(),
             results: Vec::new(),
         };
-        let mut words = self.words.iter().copied();
-        while let Some(word) = words.next() {
-            let tree = self.tree(&mut words);
-            if word % BELOW == LET {
-                code.lets.push((self.symbol(word / BELOW), tree));
-            } else {
-                code.results.push(tree);
-            }
+        while !words.left.is_empty() {
+            words.part(&mut code.statements, &mut code.results);
         }
         code
     }
@@ -418,18 +476,63 @@ impl Answer<'_> {
             _ => format!("__m{number}"),
         }
     }
+}
 
-    fn tree(&self, words: &mut impl Iterator<Item = u64>) -> Tree {
-        let word = words.next().expect("an answer's trees are whole");
+/// The words of an answer that are still to be read. An answer's rows are whole, so that there is always a next one.
+struct Words<'a> {
+    answer: &'a Answer<'a>,
+    left: &'a [u64],
+}
+
+impl Words<'_> {
+    fn next(&mut self) -> u64 {
+        let word = self.left[0];
+        self.left = &self.left[1..];
+        word
+    }
+
+    /// A statement, or a value.
+    fn part(&mut self, statements: &mut Vec<Statement>, values: &mut Vec<Tree>) {
+        let word = self.next();
+        match word % BELOW {
+            LET => statements.push(Statement::Let(self.answer.symbol(word / BELOW), self.tree())),
+            kind if kind > LET && kind < NAME => statements.push(Statement::Match(self.joined(kind - MATCH_LESS_SWITCH, word / BELOW))),
+            _ => values.push(self.tree()),
+        }
+    }
+
+    /// A match: so many parts are below it, its key, its names and its arms.
+    fn joined(&mut self, kind: u64, below: u64) -> Match {
+        let key = self.tree();
+        let names: Vec<String> = std::iter::from_fn(|| (self.left[0] % BELOW == NAME).then(|| self.next() / BELOW).map(|code| self.answer.symbol(code))).collect();
+        let arms = (1 + names.len() as u64..below).map(|_| self.arm()).collect();
+        Match {
+            kind: Kind::ALL[kind as usize - 2],
+            key,
+            names,
+            arms,
+        }
+    }
+
+    fn arm(&mut self) -> Arm {
+        let mut arm = Arm {
+            statements: Vec::new(),
+            values: Vec::new(),
+        };
+        for _ in 0..self.next() / BELOW {
+            self.part(&mut arm.statements, &mut arm.values);
+        }
+        arm
+    }
+
+    fn tree(&mut self) -> Tree {
+        let word = self.next();
         let below = word / BELOW;
         match word % BELOW {
-            0 => Tree::Symbol(self.symbol(below)),
+            0 => Tree::Symbol(self.answer.symbol(below)),
             1 if below % 2 == 1 => Tree::Constant(-(below.div_ceil(2) as i64)),
             1 => Tree::Constant((below / 2) as i64),
-            kind => {
-                let operands = (0..below).map(|_| self.tree(words)).collect();
-                Tree::Operation(Kind::ALL[kind as usize - 2], operands)
-            }
+            kind => Tree::Operation(Kind::ALL[kind as usize - 2], (0..below).map(|_| self.tree()).collect()),
         }
     }
 }

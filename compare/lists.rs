@@ -32,6 +32,25 @@ pub fn list(r: &mut Random) -> Vec<T> {
     }
 }
 
+/// A list within the limits that is dense in switches: on equal keys, in keys, arms and divisors, and nested as deep as may be.
+pub fn switching(r: &mut Random) -> Vec<T> {
+    loop {
+        let (most, es) = match r.below(100) {
+            0..=19 => (MOST, grown(r, &SWITCHES)),
+            20..=29 => (MOST, grown(r, &MIXED)),
+            30..=59 => (MOST, tangled(r)),
+            60..=69 => (MOST, divided(r)),
+            70..=79 => (MOST, rivals(r)),
+            80..=96 => (MOST_HUGE, nested(r)),
+            _ => (MOST_HUGE, clashing(r)),
+        };
+        let total: usize = es.iter().map(size).sum();
+        if (3..=most).contains(&total) && es.iter().all(|t| nesting(t) <= DEEPEST) {
+            return es;
+        }
+    }
+}
+
 // ---- growing: operations over earlier trees, then some of these as roots
 
 /// The leaves and the kinds to grow from; a kind listed twice comes twice as often.
@@ -295,6 +314,36 @@ fn switch(r: &mut Random, kind: usize, key: &T, pool: &[T]) -> T {
     let mut parts = vec![key.clone()];
     parts.extend((0..if kind == SELECT { 1 } else { 2 }).map(|_| one(r, pool)));
     op(kind, parts)
+}
+
+// ---- nests: switches in arms of switches, up to the limit, on a few keys, with parts that several levels share
+
+pub fn nested(r: &mut Random) -> Vec<T> {
+    let keys = [sym("i"), sym("j"), op(8, vec![sym("i")]), op(BRANCH, vec![sym("j"), sym("a"), sym("b")])];
+    let parts = [op(ADD, vec![sym("a"), sym("b")]), op(MUL, vec![sym("a"), sym("c")]), op(DIV, vec![sym("b"), num(2)]), sym("a"), num(1)];
+    let mut pool: Vec<T> = parts.to_vec();
+    let mut t = one(r, &pool);
+    for _ in 0..2 + r.below(DEEPEST - 1) {
+        let kind = *r.pick(&SWITCH_KINDS);
+        let plain = r.chance(80);
+        let key = r.pick(if plain { &keys[..2] } else { &keys }).clone();
+        let mut arms = vec![t, one(r, &pool)];
+        if r.chance(50) {
+            arms.reverse();
+        }
+        arms.truncate(if kind == SELECT && r.chance(30) { 1 } else { 2 });
+        arms.insert(0, key);
+        t = op(kind, arms);
+        match r.below(10) {
+            0 => t = op(8, vec![t]),
+            1..=3 => t = op(*r.pick(&[ADD, MUL, DIV]), vec![t, r.pick(&parts).clone()]),
+            _ => {}
+        }
+        pool.push(t.clone());
+    }
+    let mut es = vec![t];
+    es.extend((0..r.below(3)).map(|_| one(r, &pool)));
+    es
 }
 
 // ---- clashes: something for refusal 10 and something for 11 in one list, to tell which comes first

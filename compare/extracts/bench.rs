@@ -25,7 +25,7 @@ struct Row {
     rounds: f64,
 }
 
-pub fn run() {
+pub fn run(scoped: bool) {
     println!(
         "{:11} {:>11} {:>6} {:>12} {:>12} {:>6} {:>14} {:>16}",
         "family", "occurrences", "rounds", "port, us", "source, us", "ratio", "port, us/round", "source, us/round"
@@ -33,7 +33,7 @@ pub fn run() {
     let mut all = Vec::new();
     for family in FAMILIES {
         let mut r = Random(SEED);
-        let rows: Vec<Row> = SIZES.iter().map(|most| measured(&mut r, family, *most)).collect();
+        let rows: Vec<Row> = SIZES.iter().map(|most| measured(&mut r, family, *most, scoped)).collect();
         let (port, source) = (power(&rows, |w| w.port), power(&rows, |w| w.source));
         println!("  a round's time grows as occurrences to the power {port:.2} in the port, {source:.2} in the source");
         all.extend(rows);
@@ -52,7 +52,7 @@ pub fn run() {
 }
 
 /// A list of about so many occurrences that extraction takes some rounds for and whose answer is settled.
-fn chosen(r: &mut Random, family: Family, most: usize) -> (List, Vec<E>, Given) {
+fn chosen(r: &mut Random, family: Family, most: usize, scoped: bool) -> (List, Vec<E>, Given) {
     loop {
         let trees: Vec<T> = large::of_family(r, family, most);
         if trees.iter().map(size).sum::<usize>() * 100 < most * 93 {
@@ -60,16 +60,16 @@ fn chosen(r: &mut Random, family: Family, most: usize) -> (List, Vec<E>, Given) 
         }
         let list = laid::lay_out(r, &trees);
         let es = laid::expressions(&list, true);
-        let given = given(&list, &es);
+        let given = given(&list, &es, scoped);
         if given.number == 0 && given.extracted > 2 && crate::agree(&list, &es, &given, 10) {
             return (list, es, given);
         }
     }
 }
 
-fn measured(r: &mut Random, family: Family, most: usize) -> Row {
-    let (list, es, given) = chosen(r, family, most);
-    let mut port = Port::new();
+fn measured(r: &mut Random, family: Family, most: usize, scoped: bool) -> Row {
+    let (list, es, given) = chosen(r, family, most, scoped);
+    let mut port = Port::new(scoped);
     let call = plain_call(r, &list, &given);
     let difference = port.difference(&call, &expected(&call, true, &given));
     assert_eq!(difference, None, "the answers are the same");
@@ -81,7 +81,11 @@ fn measured(r: &mut Random, family: Family, most: usize) -> Row {
         },
         || {
             let began = Instant::now();
-            std::hint::black_box(cse::cse(&es));
+            if scoped {
+                std::hint::black_box(cse::cse_scoped(&es));
+            } else {
+                std::hint::black_box(cse::cse(&es));
+            }
             began.elapsed()
         },
     );

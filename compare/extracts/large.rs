@@ -20,12 +20,17 @@ pub enum Family {
     Stairs,
     Doubled,
     Derivatives,
+    Nested,
 }
 
 use Family::*;
 
-/// A list of at most so many occurrences, and mostly not many fewer.
-pub fn list(r: &mut Random, most: usize) -> Vec<T> {
+/// A list of at most so many occurrences, and mostly not many fewer; one dense in switches, or any.
+pub fn list(r: &mut Random, most: usize, switches: bool) -> Vec<T> {
+    if switches && r.chance(75) {
+        let family = *r.pick(&[Switches, Switches, Nested, Nested, Nested]);
+        return of_family(r, family, most);
+    }
     let family = *r.pick(&[
         Small, Small, Small, Products, Products, Switches, Switches, Divisions, Divisions, Regrouped, Grown, Grown, Grown, Grown, Grown, Chains,
         Stairs, Doubled, Derivatives, Derivatives,
@@ -58,6 +63,7 @@ pub fn of_family(r: &mut Random, family: Family, most: usize) -> Vec<T> {
         }
         Doubled => doubled(r, most),
         Derivatives => filled(r, most, derivatives),
+        Nested => filled(r, most, lists::nested),
     };
     joined(r, es, most)
 }

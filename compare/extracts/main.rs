@@ -1,8 +1,8 @@
-//! Holds the port's extract, called through its static library, against the source's own `cse`, on random
-//! lists laid out as node rows; and measures both.
+//! Holds the port's extract, called through its static library, against the source's own `cse` or
+//! `cse_scoped`, on random lists laid out as node rows; and measures both.
 //!
-//! Arguments: the number of small and of large lists; or `--self-test`, to see that wrong expectations are
-//! noticed; or `--bench`, for the times of both.
+//! Arguments: `flat` or `scoped`; then the number of small and of large lists; or `--self-test`, to see that
+//! wrong expectations are noticed; or `--bench`, for the times of both.
 #![allow(dead_code)]
 
 mod answers;
@@ -32,7 +32,7 @@ pub(crate) use arael::{as_exact_int, expand_func};
 use answers::{EVENTS, Event, Events};
 use laid::List;
 use paddlecrook::Extractor;
-use port::{BAD_COEFFICIENT, BAD_ROWS, Call, Expected, FEW_ROWS, NO_ANSWER, Port, SHORT_WORK, TEXT, WORK, nothing};
+use port::{BAD_COEFFICIENT, BAD_ROWS, Call, Expected, FEW_ROWS, NO_ANSWER, Port, RING, SHORT_WORK, TEXT, WORK, nothing};
 use random::Random;
 use rows::{Rows, WIDTH};
 use std::time::{Duration, Instant};
@@ -55,18 +55,20 @@ fn main() {
     let words: Vec<String> = std::env::args().skip(1).collect();
     asked::hush();
     let count = |i: usize| words[i].parse().expect("a number of lists");
-    match words[0].as_str() {
-        "--self-test" => self_test(),
-        "--bench" => bench::run(),
-        _ => compare(count(0), count(1)),
+    let scoped = words[0] == "scoped";
+    match words[1].as_str() {
+        "--self-test" => self_test(scoped),
+        "--bench" => bench::run(scoped),
+        _ => compare(scoped, count(1), count(2)),
     }
 }
 
 // ---- what the source gives
 
-/// The source's answer as answer rows, the extraction count, the text; or 10.
+/// The source's answer in one form as answer rows, the extraction count, the text; or 10 or 11.
 #[derive(Clone)]
 pub struct Given {
+    pub scoped: bool,
     pub number: u64,
     pub words: Vec<u64>,
     pub extracted: usize,
@@ -74,17 +76,20 @@ pub struct Given {
     pub events: Events,
 }
 
-/// Answer rows, or none where the source refuses.
-fn words_of_run(list: &List, es: &[E]) -> Option<Vec<u64>> {
-    let answer = asked::asked(es, false).ok()?;
-    Some(rows::laid_out(&list.rows, &answer))
+/// Answer rows, or the number where the source refuses.
+fn words_of_run(list: &List, es: &[E], scoped: bool) -> Result<Vec<u64>, u64> {
+    match asked::asked(es, scoped) {
+        Ok(answer) => Ok(rows::laid_out(&list.rows, &answer)),
+        Err(number) => Err(number as u64),
+    }
 }
 
-pub fn given(list: &List, es: &[E]) -> Given {
-    match asked::asked(es, false) {
+pub fn given(list: &List, es: &[E], scoped: bool) -> Given {
+    match asked::asked(es, scoped) {
         Ok(answer) => {
-            let (extracted, events) = answers::met(false, &answer);
+            let (extracted, events) = answers::met(scoped, &answer);
             Given {
+                scoped,
                 number: 0,
                 words: rows::laid_out(&list.rows, &answer),
                 extracted,
@@ -93,6 +98,7 @@ pub fn given(list: &List, es: &[E]) -> Given {
             }
         }
         Err(number) => Given {
+            scoped,
             number: number as u64,
             words: Vec::new(),
             extracted: 0,
@@ -104,9 +110,9 @@ pub fn given(list: &List, es: &[E]) -> Given {
 
 /// Whether so many runs give what the first gave.
 fn agree(list: &List, es: &[E], first: &Given, runs: usize) -> bool {
-    (0..runs).all(|_| match words_of_run(list, es) {
-        Some(words) => first.number == 0 && words == first.words,
-        None => first.number != 0,
+    (0..runs).all(|_| match words_of_run(list, es, first.scoped) {
+        Ok(words) => first.number == 0 && words == first.words,
+        Err(number) => first.number == number,
     })
 }
 
@@ -168,6 +174,7 @@ fn shorten(r: &mut Random, c: &mut Call) {
 // ---- what was met
 
 struct Tally {
+    scoped: bool,
     small: usize,
     large: usize,
     /// lists of at least 900 occurrences
@@ -191,12 +198,24 @@ struct Tally {
 /// What is counted of the largest lists and answers.
 const MOST: [&str; 7] = ["occurrences", "roots", "node rows", "answer rows", "extractions", "bytes", "bytes of a name"];
 
-/// Events of a flat answer.
+/// Events of a flat answer, and those that a scoped answer has beside them.
 const FLAT: [Event; 5] = [Event::Extraction, Event::SecondExtraction, Event::Reciprocal, Event::FactorMatch, Event::Coefficient];
+const SCOPED: [Event; 5] = [Event::Match, Event::MatchInArm, Event::Fusion, Event::KeyOfMatch, Event::SwitchLeft];
+
+fn events(scoped: bool) -> Vec<Event> {
+    FLAT.into_iter().chain(SCOPED.into_iter().filter(|_| scoped)).collect()
+}
+
+/// The numbers that a form returns.
+fn numbers(scoped: bool) -> Vec<u64> {
+    let all = [0, SHORT_WORK, BAD_ROWS, BAD_COEFFICIENT, RING, FEW_ROWS, NO_ANSWER];
+    all.into_iter().filter(|n| scoped || *n != RING).collect()
+}
 
 impl Tally {
-    fn new() -> Tally {
+    fn new(scoped: bool) -> Tally {
         Tally {
+            scoped,
             small: 0,
             large: 0,
             near: 0,
@@ -219,7 +238,7 @@ impl Tally {
     /// The source's answer, or none where hash order decides.
     fn settled(&mut self, list: &List, es: &[E], runs: usize) -> Option<Given> {
         let began = Instant::now();
-        let first = given(list, es);
+        let first = given(list, es, self.scoped);
         let settled = agree(list, es, &first, runs - 1);
         self.source += began.elapsed();
         self.runs += runs;
@@ -278,10 +297,10 @@ impl Tally {
             "{} small lists and {} large, {} of them of 900 occurrences or more, {} differ; {} left out because hash order decides",
             self.small, self.large, self.near, self.differ, self.tied
         );
-        let numbers = [0, SHORT_WORK, BAD_ROWS, BAD_COEFFICIENT, FEW_ROWS, NO_ANSWER];
+        let (numbers, expected) = (numbers(self.scoped), events(self.scoped));
         let called: Vec<String> = numbers.iter().map(|n| format!("{n}: {}", self.numbers[*n as usize])).collect();
         println!("  calls by the number returned: {}; with damaged rows {}; lists by the wrapper too {}", called.join(", "), self.damaged, self.wrapped);
-        let events: Vec<String> = FLAT.iter().map(|e| format!("{} {}", EVENTS[*e as usize], self.events[*e as usize])).collect();
+        let events: Vec<String> = expected.iter().map(|e| format!("{} {}", EVENTS[*e as usize], self.events[*e as usize])).collect();
         let kinds = self.kinds.iter().filter(|met| **met).count();
         println!(
             "  lists with {}, shared rows {}, rows that no root reaches {}, no roots {}; kinds met {kinds} of {}",
@@ -299,7 +318,7 @@ impl Tally {
             port.time.as_secs_f64() * 1e6 / port.calls as f64,
             self.source.as_secs_f64() * 1e6 / self.runs as f64
         );
-        let met = numbers.iter().all(|n| self.numbers[*n as usize] > 0) && FLAT.iter().all(|e| self.events[*e as usize] > 0);
+        let met = numbers.iter().all(|n| self.numbers[*n as usize] > 0) && expected.iter().all(|e| self.events[*e as usize] > 0);
         let rare = [self.shared, self.unreached, self.rootless, self.damaged, self.wrapped];
         self.differ == 0 && met && kinds == words::KINDS && !rare.contains(&0)
     }
@@ -328,10 +347,11 @@ fn reached(list: &List) -> (usize, bool) {
 
 // ---- runs
 
-/// A small list: one of those that the definitions are held against, or some together.
-fn small(r: &mut Random) -> Vec<T> {
+/// A small list: one of those that the definitions are held against, or some together. For the scoped form most are dense in switches.
+fn small(r: &mut Random, scoped: bool) -> Vec<T> {
     let count = if r.chance(75) { 1 } else { 2 + r.below(4) };
-    (0..count).flat_map(|_| lists::list(r)).collect()
+    let one: fn(&mut Random) -> Vec<T> = if scoped && r.chance(75) { lists::switching } else { lists::list };
+    (0..count).flat_map(|_| one(r)).collect()
 }
 
 /// Of a thousand lists this many have no roots.
@@ -345,19 +365,19 @@ fn laid(r: &mut Random, trees: &[T]) -> List {
     list
 }
 
-fn compare(small_lists: usize, large_lists: usize) {
+fn compare(scoped: bool, small_lists: usize, large_lists: usize) {
     let began = Instant::now();
     let mut r = Random(SEED);
-    let mut port = Port::new();
+    let mut port = Port::new(scoped);
     let mut extractor = Extractor::new();
-    let mut tally = Tally::new();
+    let mut tally = Tally::new(scoped);
     while tally.small < small_lists {
-        let trees = small(&mut r);
+        let trees = small(&mut r, scoped);
         tally.small += usize::from(hold_one(&mut r, &mut port, &mut extractor, &mut tally, &trees, RUNS));
     }
     while tally.large < large_lists {
         let most = large::MOST - if r.chance(60) { r.below(8) } else { r.below(400) };
-        let trees = large::list(&mut r, most);
+        let trees = large::list(&mut r, most, scoped);
         tally.large += usize::from(hold_one(&mut r, &mut port, &mut extractor, &mut tally, &trees, RUNS_OF_LARGE));
     }
     if !tally.say(&port, began) {
@@ -419,14 +439,14 @@ fn hold_refused(r: &mut Random, port: &mut Port, tally: &mut Tally, list: &List,
 }
 
 /// Expectations that are each wrong in one thing: all have to be noticed.
-fn self_test() {
+fn self_test(scoped: bool) {
     let mut r = Random(SEED);
-    let mut port = Port::new();
+    let mut port = Port::new(scoped);
     let mut extractor = Extractor::new();
-    let mut tally = Tally::new();
+    let mut tally = Tally::new(scoped);
     let (mut tried, mut noticed) = (0, 0);
     while tried < WRONG {
-        let trees = small(&mut r);
+        let trees = small(&mut r, scoped);
         let list = laid(&mut r, &trees);
         let es = laid::expressions(&list, true);
         let Some(given) = tally.settled(&list, &es, 20) else {

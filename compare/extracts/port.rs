@@ -3,23 +3,21 @@ use crate::area::Area;
 use crate::exported::cse_print;
 use std::time::{Duration, Instant};
 
-unsafe extern "C" {
-    // crates/cextract: a slice is a pointer and a length
-    fn cse_extract(
-        rows: *const u64,
-        rows_len: usize,
-        roots: *const u64,
-        roots_len: usize,
-        work: *mut u64,
-        work_len: usize,
-        text: *mut u8,
-        text_len: usize,
-        table: *mut u64,
-        table_len: usize,
-        answer: *mut u64,
-        answer_len: usize,
-    ) -> u64;
+/// crates/cextract and crates/cscoped: a slice is a pointer and a length.
+type Extract = unsafe extern "C" fn(*const u64, usize, *const u64, usize, *mut u64, usize, *mut u8, usize, *mut u64, usize, *mut u64, usize) -> u64;
+
+macro_rules! extracts {
+    ($($name:ident)*) => {
+        unsafe extern "C" {
+            $(fn $name(
+                rows: *const u64, rows_len: usize, roots: *const u64, roots_len: usize, work: *mut u64, work_len: usize, text: *mut u8, text_len: usize,
+                table: *mut u64, table_len: usize, answer: *mut u64, answer_len: usize,
+            ) -> u64;)*
+        }
+    };
 }
+
+extracts!(cse_extract cse_extract_scoped);
 
 /// The work area's fixed length: words, and bytes of text.
 pub const WORK: usize = 65_536;
@@ -29,6 +27,7 @@ pub const TEXT: usize = 131_072;
 pub const SHORT_WORK: u64 = 8;
 pub const BAD_ROWS: u64 = 9;
 pub const BAD_COEFFICIENT: u64 = 10;
+pub const RING: u64 = 11;
 pub const FEW_ROWS: u64 = 12;
 pub const NO_ANSWER: u64 = 255;
 
@@ -62,8 +61,10 @@ pub fn nothing(number: u64) -> Expected {
     }
 }
 
-/// Memory for calls, used again and again.
+/// One form's extract, and memory for its calls, used again and again.
 pub struct Port {
+    pub scoped: bool,
+    call: Extract,
     rows: Area<u64>,
     roots: Area<u64>,
     work: Area<u64>,
@@ -77,8 +78,10 @@ pub struct Port {
 }
 
 impl Port {
-    pub fn new() -> Port {
+    pub fn new(scoped: bool) -> Port {
         Port {
+            scoped,
+            call: if scoped { cse_extract_scoped } else { cse_extract },
             rows: Area::new(),
             roots: Area::new(),
             work: Area::new(),
@@ -103,7 +106,7 @@ impl Port {
         let began = Instant::now();
         // all areas are apart, and as long as is said
         let number = unsafe {
-            cse_extract(
+            (self.call)(
                 rows, rows_len, roots, roots_len, work, work_len, text, text_len, table, table_len,
                 answer, answer_len,
             )

@@ -2,8 +2,9 @@
 //! as text and as trees, against the source's.
 use crate::Given;
 use crate::arael::{E, Expr};
+use crate::cse::{Arm, Intermediate, Switch};
 use crate::laid::{self, List};
-use crate::paddlecrook::{self, Answer, Extractor, Kind, Node, Tree};
+use crate::paddlecrook::{self, Answer, Extractor, Kind, Node, Statement, Tree};
 use crate::rows::WIDTH;
 use crate::tree::{SELECT_OR, expr};
 
@@ -17,7 +18,8 @@ pub fn difference(extractor: &mut Extractor, list: &List, given: &Given) -> Opti
     if loaded != by_nodes(list) {
         return Some("wrapper: the sheet and the nodes give different lists".to_string());
     }
-    match extractor.extract(&loaded) {
+    let told_by = if given.scoped { extractor.extract_scoped(&loaded) } else { extractor.extract(&loaded) };
+    match told_by {
         Ok(answer) => told(&answer, given),
         Err(refused) => (refused.refusal.number() != given.number).then(|| format!("wrapper: extract {refused}")),
     }
@@ -34,8 +36,8 @@ fn told(answer: &Answer, given: &Given) -> Option<String> {
         return Some("wrapper: another text".to_string());
     }
     let code = answer.code();
-    let lets = code.lets.iter().map(|(name, t)| format!("let {name} = {};\n", source(t)));
-    let text: String = lets.chain(code.results.iter().map(|t| format!("{}\n", source(t)))).collect();
+    let statements = code.statements.iter().map(|s| format!("{}\n", intermediate(s)));
+    let text: String = statements.chain(code.results.iter().map(|t| format!("{}\n", source(t)))).collect();
     (text != given.printed).then(|| "wrapper: other trees".to_string())
 }
 
@@ -46,6 +48,34 @@ fn source(t: &Tree) -> E {
         Tree::Constant(n) => Expr::Const(*n as f64),
         Tree::Operation(kind, parts) => expr(*kind as usize, parts.iter().map(source).collect()),
     })
+}
+
+/// The source's statement.
+fn intermediate(s: &Statement) -> Intermediate {
+    match s {
+        Statement::Let(name, t) => Intermediate::Let {
+            name: name.clone(),
+            expr: source(t),
+        },
+        Statement::Match(m) => {
+            let mut arms: Vec<Arm> = m.arms.iter().map(arm).collect();
+            let default = if m.kind == Kind::Select { None } else { arms.pop() };
+            let key = source(&m.key);
+            Intermediate::Match {
+                switch: if m.kind == Kind::Branch { Switch::Sign(key) } else { Switch::Index(key) },
+                names: m.names.clone(),
+                arms,
+                default,
+            }
+        }
+    }
+}
+
+fn arm(a: &paddlecrook::Arm) -> Arm {
+    Arm {
+        inters: a.statements.iter().map(intermediate).collect(),
+        values: a.values.iter().map(source).collect(),
+    }
 }
 
 /// The list made again, a node for each row.
