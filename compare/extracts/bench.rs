@@ -16,6 +16,8 @@ const FAMILIES: [Family; 3] = [Family::Derivatives, Family::Grown, Family::Switc
 /// A list is run until so much time has passed, and at least so often; the fastest run counts.
 const TIME: Duration = Duration::from_millis(300);
 const LEAST: usize = 5;
+/// So many random lists are looked at for one to be timed.
+const TRIES: usize = 3000;
 
 /// Times of one list, in microseconds.
 struct Row {
@@ -33,7 +35,7 @@ pub fn run(scoped: bool) {
     let mut all = Vec::new();
     for family in FAMILIES {
         let mut r = Random(SEED);
-        let rows: Vec<Row> = SIZES.iter().map(|most| measured(&mut r, family, *most, scoped)).collect();
+        let rows: Vec<Row> = SIZES.iter().filter_map(|most| measured(&mut r, family, *most, scoped)).collect();
         let (port, source) = (power(&rows, |w| w.port), power(&rows, |w| w.source));
         println!("  a round's time grows as occurrences to the power {port:.2} in the port, {source:.2} in the source");
         all.extend(rows);
@@ -51,9 +53,10 @@ pub fn run(scoped: bool) {
     );
 }
 
-/// A list of about so many occurrences that extraction takes some rounds for and whose answer is settled.
-fn chosen(r: &mut Random, family: Family, most: usize, scoped: bool) -> (List, Vec<E>, Given) {
-    loop {
+/// A list of about so many occurrences that extraction takes some rounds for and whose answer is settled. None where many tries find none: large
+/// tangles are nearly all refused in the scoped form.
+fn chosen(r: &mut Random, family: Family, most: usize, scoped: bool) -> Option<(List, Vec<E>, Given)> {
+    for _ in 0..TRIES {
         let trees: Vec<T> = large::of_family(r, family, most);
         if trees.iter().map(size).sum::<usize>() * 100 < most * 93 {
             continue;
@@ -62,13 +65,14 @@ fn chosen(r: &mut Random, family: Family, most: usize, scoped: bool) -> (List, V
         let es = laid::expressions(&list, true);
         let given = given(&list, &es, scoped);
         if given.number == 0 && given.extracted > 2 && crate::agree(&list, &es, &given, 10) {
-            return (list, es, given);
+            return Some((list, es, given));
         }
     }
+    None
 }
 
-fn measured(r: &mut Random, family: Family, most: usize, scoped: bool) -> Row {
-    let (list, es, given) = chosen(r, family, most, scoped);
+fn measured(r: &mut Random, family: Family, most: usize, scoped: bool) -> Option<Row> {
+    let (list, es, given) = chosen(r, family, most, scoped)?;
     let mut port = Port::new(scoped);
     let call = plain_call(r, &list, &given);
     let difference = port.difference(&call, &expected(&call, true, &given));
@@ -106,7 +110,7 @@ fn measured(r: &mut Random, family: Family, most: usize, scoped: bool) -> Row {
         row.port / row.rounds,
         row.source / row.rounds
     );
-    row
+    Some(row)
 }
 
 /// Microseconds of the fastest run of each, the two in turn.
