@@ -1,11 +1,11 @@
 //! Paddlecrook for Rust: a list of formulas in, straight code out in which each repeated subexpression is
-//! computed once. The work is done by proved functions; this file lends them memory of the right length and
-//! takes their answers apart.
+//! computed once. The work is done by proved functions; this file lends them memory of the right length, and
+//! stack on a thread of its own, and takes their answers apart.
 //!
 //! For a program or a generator as it stands: `mod paddlecrook;`, and `rustc -L` with the folder of
 //! libpaddlecrook.a, which bindings/build makes.
 #![allow(dead_code)]
-use std::fmt;
+use std::{fmt, thread};
 
 mod c {
     //! A slice passes as a pointer and a length. paddlecrook.h says what each function does.
@@ -74,6 +74,17 @@ const WIDTH: usize = 35;
 const WORK_WORDS: usize = 65_536;
 const WORK_BYTES: usize = 131_072;
 const ANSWER_ROWS: usize = 67_328;
+
+/// The stack that a call gets, several times what any was measured to need (README.md); only what is used of it takes memory.
+const STACK: usize = 16 << 20;
+
+/// Runs a call on a thread of its own, since a caller's stack may be too small for it.
+fn on_own_stack<A: Send>(call: impl FnOnce() -> A + Send) -> A {
+    thread::scope(|scope| {
+        let made = thread::Builder::new().stack_size(STACK).spawn_scoped(scope, call);
+        made.expect("a thread can be made").join().expect("no call panics")
+    })
+}
 
 /// Most texts have no more bytes for each row of their answer.
 const ROW_BYTES: usize = 34;
@@ -220,7 +231,7 @@ impl List {
         let mut roots = vec![0; ROOTS];
         let mut answer = [0; 2];
         // the parts lent are apart, and as long as is said
-        let number = unsafe {
+        let number = on_own_stack(|| unsafe {
             c::cse_load(
                 sheet.as_ptr(),
                 sheet.len(),
@@ -231,7 +242,7 @@ impl List {
                 answer.as_mut_ptr(),
                 answer.len(),
             )
-        };
+        });
         if number != 0 {
             return Err(Refused {
                 refusal: Refusal::of(number),
@@ -325,7 +336,7 @@ impl Extractor {
         let extract = if scoped { c::cse_extract_scoped } else { c::cse_extract };
         let mut answer = [0; 2];
         // the parts lent are apart, and as long as is said
-        let number = unsafe {
+        let number = on_own_stack(|| unsafe {
             extract(
                 list.rows.as_ptr(),
                 list.rows.len(),
@@ -340,7 +351,7 @@ impl Extractor {
                 answer.as_mut_ptr(),
                 answer.len(),
             )
-        };
+        });
         if number != 0 {
             return Err(Refused {
                 refusal: Refusal::of(number),
@@ -424,7 +435,7 @@ impl Answer<'_> {
         loop {
             let mut said = [0];
             // the parts lent are apart, and as long as is said
-            let number = unsafe {
+            let number = on_own_stack(|| unsafe {
                 c::cse_print(
                     self.list.rows.as_ptr(),
                     self.list.rows.len(),
@@ -435,7 +446,7 @@ impl Answer<'_> {
                     said.as_mut_ptr(),
                     said.len(),
                 )
-            };
+            });
             match number {
                 0 => {
                     out.truncate(said[0] as usize);

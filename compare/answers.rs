@@ -2,7 +2,7 @@
 //! many bindings extraction made, or the number of the refusal; and what came about on the way.
 use crate::arael::{E, Expr};
 use crate::asked::{Answer, asked, text};
-use crate::cse::{Arm, Intermediate, children};
+use crate::cse::{Arm, Intermediate, Switch, children};
 use std::collections::HashMap;
 
 /// How often a list is run. Hash order is new in each run, so a tie that it decides stays hidden
@@ -32,9 +32,15 @@ pub enum Event {
     Fusion,
     KeyOfMatch,
     SwitchLeft,
+    DefaultApart,
+    DivisorSwitch,
+    Deepest,
 }
 
-pub const EVENTS: [&str; 10] = [
+/// Arms nest so deep at most.
+const DEEPEST: usize = 8;
+
+pub const EVENTS: [&str; 13] = [
     "extractions",
     "two or more",
     "reciprocals",
@@ -45,6 +51,9 @@ pub const EVENTS: [&str; 10] = [
     "matches of several switches",
     "keys that read a match",
     "switches left in a scoped answer",
+    "matches on one key with and without a default",
+    "reciprocals of a divisor with a switch",
+    "arms nested 8 deep",
 ];
 
 pub type Events = [bool; EVENTS.len()];
@@ -87,6 +96,7 @@ pub fn met(scoped: bool, a: &Answer) -> (usize, Events) {
     look.see(Event::Extraction, extracted > 0);
     look.see(Event::SecondExtraction, extracted > 1);
     look.see(Event::Reciprocal, a.reciprocals > 0);
+    look.see(Event::DivisorSwitch, look.switched && look.ones_over == a.reciprocals);
     (extracted, look.events)
 }
 
@@ -126,6 +136,29 @@ struct Look {
     events: Events,
     /// for each name of a let whether it is bound to a product of coefficient 1
     products: HashMap<String, bool>,
+    /// how many lets are `1 / d`, which a reciprocal is and an extraction may be, and whether a switch was or is in such a divisor
+    ones_over: usize,
+    switched: bool,
+}
+
+/// Whether the name is one that a match binds.
+fn of_match(name: &str) -> bool {
+    name.strip_prefix("__m").is_some_and(|n| !n.is_empty() && n.bytes().all(|b| b.is_ascii_digit()))
+}
+
+fn has_switch(e: &E) -> bool {
+    matches!(e.as_ref(), Expr::Select { .. } | Expr::Branch(..)) || children(e).into_iter().any(has_switch)
+}
+
+/// Whether two matches on one index and of as many arms are apart because one alone has a default.
+fn default_apart(inters: &[Intermediate]) -> bool {
+    let found = |with: bool| {
+        inters.iter().filter_map(move |it| match it {
+            Intermediate::Match { switch: Switch::Index(key), arms, default, .. } if default.is_some() == with => Some((key, arms.len())),
+            _ => None,
+        })
+    };
+    found(true).any(|a| found(false).any(|b| a == b))
 }
 
 impl Look {
@@ -133,12 +166,24 @@ impl Look {
         self.events[event as usize] |= seen;
     }
 
+    fn bound(&mut self, name: &str, expr: &E) {
+        self.lets += 1;
+        let product = matches!(expr.as_ref(), Expr::Mul(..)) && coefficient(expr) == 1.0;
+        self.products.insert(name.to_string(), product);
+        if let Expr::Div(a, d) = expr.as_ref()
+            && let Expr::Const(1.0) = a.as_ref()
+        {
+            self.ones_over += 1;
+            self.switched |= has_switch(d) || d.free_vars().iter().any(|v| of_match(v));
+        }
+    }
+
     fn block(&mut self, inters: &[Intermediate], values: &[E], depth: usize) {
+        self.see(Event::Deepest, depth == DEEPEST);
+        self.see(Event::DefaultApart, default_apart(inters));
         for it in inters {
             if let Intermediate::Let { name, expr } = it {
-                self.lets += 1;
-                let product = matches!(expr.as_ref(), Expr::Mul(..)) && coefficient(expr) == 1.0;
-                self.products.insert(name.clone(), product);
+                self.bound(name, expr);
             }
         }
         for it in inters {
@@ -153,14 +198,7 @@ impl Look {
                     self.see(Event::Match, true);
                     self.see(Event::MatchInArm, depth > 0);
                     self.see(Event::Fusion, names.len() > 1);
-                    self.see(
-                        Event::KeyOfMatch,
-                        switch
-                            .expr()
-                            .free_vars()
-                            .iter()
-                            .any(|v| v.starts_with("__m")),
-                    );
+                    self.see(Event::KeyOfMatch, switch.expr().free_vars().iter().any(|v| of_match(v)));
                     self.tree(switch.expr());
                     for arm in arms.iter().chain(default) {
                         self.block(&arm.inters, &arm.values, depth + 1);

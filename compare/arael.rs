@@ -93,6 +93,9 @@ impl FuncKind {
     }
 }
 
+/// What a comparison throws that counts what a scope holds, where it is too much: refusal 23.
+pub struct LargeScope;
+
 /// What `E::new` throws when a rebuilt coefficient is none of the constants: refusal 10.
 pub struct OutsideConstants;
 

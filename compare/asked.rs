@@ -1,6 +1,6 @@
 //! What the source answers to a list: its bindings and results, or the number of the refusal that stands
 //! for its panic.
-use crate::arael::{E, OutsideConstants, take_ones};
+use crate::arael::{E, LargeScope, OutsideConstants, take_ones};
 use crate::cse::{Intermediate, cse, cse_scoped};
 use std::any::Any;
 use std::panic::{AssertUnwindSafe, catch_unwind, resume_unwind, set_hook, take_hook};
@@ -42,11 +42,14 @@ pub fn text(a: &Answer) -> String {
     inters.chain(a.results.iter().map(|e| format!("{e}\n"))).collect()
 }
 
-/// 10 is thrown by the stand-in as the coefficient is rebuilt, 11 by the source's sort: the first
-/// of them that the source reaches ends it. Any other panic is a fault.
+/// 10 is thrown by the stand-in as the coefficient is rebuilt, 11 by the source's sort, 23 by what counts
+/// a scope's occurrences: the first of them that the source reaches ends it. Any other panic is a fault.
 fn refusal(payload: &(dyn Any + Send)) -> Option<usize> {
     if payload.is::<OutsideConstants>() {
         return Some(10);
+    }
+    if payload.is::<LargeScope>() {
+        return Some(23);
     }
     let said = payload.downcast_ref::<String>()?;
     said.contains("dependency cycle among intermediates")

@@ -323,16 +323,16 @@ pub fn nested(r: &mut Random) -> Vec<T> {
     let parts = [op(ADD, vec![sym("a"), sym("b")]), op(MUL, vec![sym("a"), sym("c")]), op(DIV, vec![sym("b"), num(2)]), sym("a"), num(1)];
     let mut pool: Vec<T> = parts.to_vec();
     let mut t = one(r, &pool);
-    for _ in 0..2 + r.below(DEEPEST - 1) {
+    let deepest = r.chance(30);
+    for _ in 0..if deepest { DEEPEST } else { 2 + r.below(DEEPEST - 1) } {
         let kind = *r.pick(&SWITCH_KINDS);
         let plain = r.chance(80);
         let key = r.pick(if plain { &keys[..2] } else { &keys }).clone();
-        let mut arms = vec![t, one(r, &pool)];
-        if r.chance(50) {
-            arms.reverse();
+        let mut arms = vec![key, t];
+        if kind != SELECT || r.chance(70) {
+            let other = if deepest { r.pick(&parts).clone() } else { one(r, &pool) };
+            arms.insert(1 + r.below(2), other);
         }
-        arms.truncate(if kind == SELECT && r.chance(30) { 1 } else { 2 });
-        arms.insert(0, key);
         t = op(kind, arms);
         match r.below(10) {
             0 => t = op(8, vec![t]),

@@ -99,18 +99,24 @@ fn measured(r: &mut Random, family: Family, most: usize, scoped: bool) -> Option
         source: source_time,
         rounds: (given.extracted + 1) as f64,
     };
-    println!(
-        "{:11} {:>11} {:>6} {:>12.1} {:>12.1} {:>6.2} {:>14.2} {:>16.2}",
-        format!("{family:?}"),
-        row.occurrences,
-        row.rounds,
-        row.port,
-        row.source,
-        row.port / row.source,
-        row.port / row.rounds,
-        row.source / row.rounds
-    );
+    row.say(family);
     Some(row)
+}
+
+impl Row {
+    fn say(&self, family: Family) {
+        println!(
+            "{:11} {:>11} {:>6} {:>12.1} {:>12.1} {:>6.2} {:>14.2} {:>16.2}",
+            format!("{family:?}"),
+            self.occurrences,
+            self.rounds,
+            self.port,
+            self.source,
+            self.port / self.source,
+            self.port / self.rounds,
+            self.source / self.rounds
+        );
+    }
 }
 
 /// Microseconds of the fastest run of each, the two in turn.

@@ -189,7 +189,6 @@ fn record(row: &[u64]) -> Option<Vec<u8>> {
 pub fn damage(r: &mut Random, rows: &mut Vec<u64>, roots: &mut Vec<u64>) {
     let count = rows.len() / WIDTH;
     let row = r.below(count) * WIDTH;
-    let kind = rows[row] as usize;
     match r.below(22) {
         // any word of a row
         0 => rows[row + r.below(WIDTH)] = r.below(40) as u64,
@@ -213,6 +212,15 @@ pub fn damage(r: &mut Random, rows: &mut Vec<u64>, roots: &mut Vec<u64>) {
             let more = roots.repeat(8);
             roots.extend(more);
         }
+        way => damage_of_kind(r, way, row, rows, roots),
+    }
+}
+
+/// The rest of these, most of them for rows of one kind.
+fn damage_of_kind(r: &mut Random, way: usize, row: usize, rows: &mut Vec<u64>, roots: &mut [u64]) {
+    let count = rows.len() / WIDTH;
+    let kind = rows[row] as usize;
+    match way {
         // a reference to a row that isn't earlier
         12 if kind > 1 => rows[row + 3] = (row / WIDTH) as u64 + r.below(2) as u64,
         // names

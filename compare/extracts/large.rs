@@ -1,7 +1,9 @@
 //! Random lists near the limit of 1,024 occurrences, each from parts that repeat.
+use crate::asked::asked;
 use crate::lists::{self, ANY, DEEPEST, DIVISIONS, MIXED, SWITCHES, Soil, TEXTS, arity, one};
 use crate::random::Random;
 use crate::tree::*;
+use std::collections::HashMap;
 
 pub const MOST: usize = 1024;
 pub const ROOTS: usize = 64;
@@ -20,7 +22,9 @@ pub enum Family {
     Stairs,
     Doubled,
     Derivatives,
+    Tangled,
     Nested,
+    Copies,
 }
 
 use Family::*;
@@ -28,7 +32,7 @@ use Family::*;
 /// A list of at most so many occurrences, and mostly not many fewer; one dense in switches, or any.
 pub fn list(r: &mut Random, most: usize, switches: bool) -> Vec<T> {
     if switches && r.chance(75) {
-        let family = *r.pick(&[Switches, Switches, Nested, Nested, Nested]);
+        let family = *r.pick(&[Switches, Tangled, Tangled, Tangled, Nested, Nested, Nested, Nested, Nested, Copies]);
         return of_family(r, family, most);
     }
     let family = *r.pick(&[
@@ -63,7 +67,15 @@ pub fn of_family(r: &mut Random, family: Family, most: usize) -> Vec<T> {
         }
         Doubled => doubled(r, most),
         Derivatives => filled(r, most, derivatives),
-        Nested => filled(r, most, lists::nested),
+        Tangled => {
+            let sets = 2 + r.below(ALPHABETS - 1);
+            filled(r, most, |r| answered(r, sets, lists::tangled))
+        }
+        Nested => {
+            let sets = 1 + r.below(ALPHABETS);
+            filled(r, most, |r| answered(r, sets, lists::nested))
+        }
+        Copies => filled(r, most, |r| if r.chance(20) { copies(r) } else { answered(r, ALPHABETS, lists::nested) }),
     };
     joined(r, es, most)
 }
@@ -77,13 +89,82 @@ fn filled(r: &mut Random, most: usize, mut more: impl FnMut(&mut Random) -> Vec<
     let mut missed = 0;
     while missed < 20 && total + 1 < room {
         for t in more(r) {
-            if total + size(&t) <= room && nesting(&t) < DEEPEST {
+            if total + size(&t) <= room && nesting(&t) <= DEEPEST {
                 total += size(&t);
                 es.push(t);
             } else {
                 missed += 1;
             }
         }
+    }
+    es
+}
+
+// ---- parts that are answered by themselves, over a few sets of symbols: parts that share a set can join and be tangled, and most lists are still answered
+
+const ALPHABETS: usize = 8;
+
+macro_rules! alphabets {
+    ($($name:literal)*) => {
+        [$([$name, concat!($name, "1"), concat!($name, "2"), concat!($name, "3"), concat!($name, "4"), concat!($name, "5"), concat!($name, "6"), concat!($name, "7")]),*]
+    };
+}
+
+/// Each symbol in each set.
+const SYMBOLS: [[&str; ALPHABETS]; 5] = alphabets!("a" "b" "c" "i" "j");
+
+/// The next of some trees that the source answers, with symbols of one of so many sets.
+fn answered(r: &mut Random, sets: usize, more: fn(&mut Random) -> Vec<T>) -> Vec<T> {
+    loop {
+        let es = more(r);
+        let mut maker = Maker::new(true);
+        let made: Vec<_> = es.iter().map(|t| maker.make(t)).collect();
+        if asked(&made, true).is_ok() {
+            let set = r.below(sets);
+            let mut renamed = HashMap::new();
+            return es.iter().map(|t| in_set(t, set, &mut renamed)).collect();
+        }
+    }
+}
+
+/// The tree with the symbols of a set; what is shared stays so.
+fn in_set(t: &T, set: usize, renamed: &mut HashMap<*const Tree, T>) -> T {
+    if let Some(made) = renamed.get(&std::rc::Rc::as_ptr(t)) {
+        return made.clone();
+    }
+    let made = match t.as_ref() {
+        Tree::Sym(name) => sym(SYMBOLS.iter().find(|names| names[0] == *name).expect("a symbol of these lists")[set]),
+        Tree::Const(n) => num(*n),
+        Tree::Op(kind, parts) => op(*kind, parts.iter().map(|p| in_set(p, set, renamed)).collect()),
+    };
+    renamed.insert(std::rc::Rc::as_ptr(t), made.clone());
+    made
+}
+
+/// Divisions by divisors in one another, without a symbol and with a switch inside: each reciprocal holds a copy of the switch, up to what a scope holds and
+/// past it.
+pub fn copies(r: &mut Random) -> Vec<T> {
+    let kind = *r.pick(&[BRANCH, SELECT, SELECT_OR]);
+    let mut parts = vec![num(1), op(DIV, vec![num(7), num(2)]), num(3)];
+    parts.truncate(if kind == SELECT && r.chance(50) { 2 } else { 3 });
+    let mut t = op(kind, parts);
+    // a text that comes after every number's, or before
+    t = match r.below(5) {
+        0 => t,
+        1 => op(ADD, vec![num(1), t]),
+        _ => op(NEG, vec![t]),
+    };
+    let height = if r.chance(50) { 20 + r.below(12) as i64 } else { 1 + r.below(12) as i64 };
+    // texts that come after the text they hold, or before it, and now and then a divisor fewer
+    let way = r.below(3);
+    for n in 0..height {
+        let c = num([10 + n, 10 + n, 3][way]);
+        t = op(if r.chance(98) { DIV } else { ADD }, vec![c, t]);
+    }
+    let mut es: Vec<T> = ["p", "q", "y"].map(|p| op(DIV, vec![sym(p), t.clone()])).to_vec();
+    es.truncate(2 + r.below(2));
+    if r.chance(30) {
+        es = es.into_iter().map(|e| op(SELECT_OR, vec![sym("i"), e, num(2)])).collect();
     }
     es
 }
@@ -113,7 +194,7 @@ fn grown(r: &mut Random, soil: &Soil) -> Vec<T> {
     for _ in 0..20 + r.below(60) {
         let kind = *r.pick(soil.kinds);
         let parts: Vec<T> = (0..arity(r, kind)).map(|_| one(r, &pool)).collect();
-        if parts.iter().map(size).sum::<usize>() < MOST_OF_A_PART && parts.iter().all(|t| nesting(t) + 1 < DEEPEST) {
+        if parts.iter().map(size).sum::<usize>() < MOST_OF_A_PART && parts.iter().all(|t| nesting(t) < DEEPEST) {
             pool.push(op(kind, parts));
         }
     }

@@ -13,6 +13,7 @@ mod bench;
 mod cse;
 mod exported;
 mod fmt;
+mod held;
 mod laid;
 mod large;
 mod lists;
@@ -32,7 +33,7 @@ pub(crate) use arael::{as_exact_int, expand_func};
 use answers::{EVENTS, Event, Events};
 use laid::List;
 use paddlecrook::Extractor;
-use port::{BAD_COEFFICIENT, BAD_ROWS, Call, Expected, FEW_ROWS, NO_ANSWER, Port, RING, SHORT_WORK, TEXT, WORK, nothing};
+use port::{BAD_COEFFICIENT, BAD_ROWS, Call, Expected, FEW_ROWS, LARGE_SCOPE, NO_ANSWER, Port, RING, SHORT_WORK, TEXT, WORK, nothing};
 use random::Random;
 use rows::{Rows, WIDTH};
 use std::time::{Duration, Instant};
@@ -44,6 +45,9 @@ const WRONG: usize = 5_000;
 /// for generators too.
 const REFUSED: usize = 12;
 const WRAPPED: usize = 5;
+
+/// Of a hundred large lists that the source's scoped form refuses, nearly all for a ring, so many are passed over.
+const PASSED_OVER: usize = 75;
 
 /// How often the source is run on a list. Hash order is new in each run. A tie that stays hidden in these
 /// runs does no harm where the port agrees; where it doesn't, many more runs tell.
@@ -65,7 +69,7 @@ fn main() {
 
 // ---- what the source gives
 
-/// The source's answer in one form as answer rows, the extraction count, the text; or 10 or 11.
+/// The source's answer in one form as answer rows, the extraction count, the text; or 10, 11 or 23.
 #[derive(Clone)]
 pub struct Given {
     pub scoped: bool,
@@ -173,24 +177,34 @@ fn shorten(r: &mut Random, c: &mut Call) {
 
 // ---- what was met
 
+/// The small lists or the large ones.
+struct Part {
+    lists: usize,
+    /// of at least 900 occurrences
+    near: usize,
+    /// by what the source gives
+    told: [usize; 256],
+    events: [usize; EVENTS.len()],
+    most: [usize; MOST.len()],
+}
+
+const SMALL: usize = 0;
+const LARGE: usize = 1;
+
 struct Tally {
     scoped: bool,
-    small: usize,
-    large: usize,
-    /// lists of at least 900 occurrences
-    near: usize,
+    parts: [Part; 2],
     tied: usize,
+    passed_over: usize,
     differ: usize,
     /// calls by the number that is expected
     numbers: [usize; 256],
     damaged: usize,
     wrapped: usize,
-    events: [usize; EVENTS.len()],
     kinds: [bool; words::KINDS],
     shared: usize,
     unreached: usize,
     rootless: usize,
-    most: [usize; MOST.len()],
     source: Duration,
     runs: usize,
 }
@@ -200,7 +214,16 @@ const MOST: [&str; 7] = ["occurrences", "roots", "node rows", "answer rows", "ex
 
 /// Events of a flat answer, and those that a scoped answer has beside them.
 const FLAT: [Event; 5] = [Event::Extraction, Event::SecondExtraction, Event::Reciprocal, Event::FactorMatch, Event::Coefficient];
-const SCOPED: [Event; 5] = [Event::Match, Event::MatchInArm, Event::Fusion, Event::KeyOfMatch, Event::SwitchLeft];
+const SCOPED: [Event; 8] = [
+    Event::Match,
+    Event::MatchInArm,
+    Event::Fusion,
+    Event::KeyOfMatch,
+    Event::SwitchLeft,
+    Event::DefaultApart,
+    Event::DivisorSwitch,
+    Event::Deepest,
+];
 
 fn events(scoped: bool) -> Vec<Event> {
     FLAT.into_iter().chain(SCOPED.into_iter().filter(|_| scoped)).collect()
@@ -208,28 +231,58 @@ fn events(scoped: bool) -> Vec<Event> {
 
 /// The numbers that a form returns.
 fn numbers(scoped: bool) -> Vec<u64> {
-    let all = [0, SHORT_WORK, BAD_ROWS, BAD_COEFFICIENT, RING, FEW_ROWS, NO_ANSWER];
-    all.into_iter().filter(|n| scoped || *n != RING).collect()
+    let all = [0, SHORT_WORK, BAD_ROWS, BAD_COEFFICIENT, RING, FEW_ROWS, LARGE_SCOPE, NO_ANSWER];
+    all.into_iter().filter(|n| scoped || ![RING, LARGE_SCOPE].contains(n)).collect()
+}
+
+impl Part {
+    fn new() -> Part {
+        Part {
+            lists: 0,
+            near: 0,
+            told: [0; 256],
+            events: [0; EVENTS.len()],
+            most: [0; MOST.len()],
+        }
+    }
+
+    fn mark(&mut self, given: &Given, here: [usize; MOST.len()]) {
+        self.lists += 1;
+        self.near += usize::from(here[0] >= 900);
+        self.told[given.number as usize] += 1;
+        for (count, met) in self.events.iter_mut().zip(given.events) {
+            *count += usize::from(met);
+        }
+        for (most, n) in self.most.iter_mut().zip(here) {
+            *most = (*most).max(n);
+        }
+    }
+
+    fn say(&self, name: &str, scoped: bool) {
+        let told: Vec<String> = numbers(scoped).iter().filter(|n| self.told[**n as usize] > 0).map(|n| format!("{n}: {}", self.told[*n as usize])).collect();
+        println!("  {} {name} lists, {} of them of 900 occurrences or more; by what the source gives {}", self.lists, self.near, told.join(", "));
+        let events: Vec<String> = events(scoped).iter().map(|e| format!("{} {}", EVENTS[*e as usize], self.events[*e as usize])).collect();
+        println!("    with {}", events.join(", "));
+        let most: Vec<String> = MOST.iter().zip(self.most).map(|(name, n)| format!("{name} {n}")).collect();
+        println!("    the most in a list or an answer: {}", most.join(", "));
+    }
 }
 
 impl Tally {
     fn new(scoped: bool) -> Tally {
         Tally {
             scoped,
-            small: 0,
-            large: 0,
-            near: 0,
+            parts: [Part::new(), Part::new()],
             tied: 0,
+            passed_over: 0,
             differ: 0,
             numbers: [0; 256],
             damaged: 0,
             wrapped: 0,
-            events: [0; EVENTS.len()],
             kinds: [false; words::KINDS],
             shared: 0,
             unreached: 0,
             rootless: 0,
-            most: [0; MOST.len()],
             source: Duration::ZERO,
             runs: 0,
         }
@@ -271,14 +324,10 @@ impl Tally {
         }
     }
 
-    fn mark(&mut self, list: &List, es: &[E], given: &Given) {
+    fn mark(&mut self, part: usize, list: &List, es: &[E], given: &Given) {
         let trees = words_of(list, es);
-        self.near += usize::from(trees.len() >= 900);
         for w in &trees {
             self.kinds[(w % words::BELOW) as usize] = true;
-        }
-        for (count, met) in self.events.iter_mut().zip(given.events) {
-            *count += usize::from(met);
         }
         let (reached, shared) = reached(list);
         let all = list.rows.words.len() / WIDTH;
@@ -286,41 +335,51 @@ impl Tally {
         self.unreached += usize::from(reached < all);
         self.rootless += usize::from(es.is_empty());
         let name = list.rows.symbols().iter().map(String::len).max().unwrap_or(0);
-        let here = [trees.len(), es.len(), all, given.words.len(), given.extracted, given.printed.len(), name];
-        for (most, n) in self.most.iter_mut().zip(here) {
-            *most = (*most).max(n);
-        }
+        self.parts[part].mark(given, [trees.len(), es.len(), all, given.words.len(), given.extracted, given.printed.len(), name]);
     }
 
     fn say(&self, port: &Port, began: Instant) -> bool {
+        let [small, large] = &self.parts;
         println!(
-            "{} small lists and {} large, {} of them of 900 occurrences or more, {} differ; {} left out because hash order decides",
-            self.small, self.large, self.near, self.differ, self.tied
+            "{} small lists and {} large, {} differ; {} left out because hash order decides, {} large ones that the source refuses passed over",
+            small.lists, large.lists, self.differ, self.tied, self.passed_over
         );
-        let (numbers, expected) = (numbers(self.scoped), events(self.scoped));
-        let called: Vec<String> = numbers.iter().map(|n| format!("{n}: {}", self.numbers[*n as usize])).collect();
+        small.say("small", self.scoped);
+        large.say("large", self.scoped);
+        let called: Vec<String> = numbers(self.scoped).iter().map(|n| format!("{n}: {}", self.numbers[*n as usize])).collect();
         println!("  calls by the number returned: {}; with damaged rows {}; lists by the wrapper too {}", called.join(", "), self.damaged, self.wrapped);
-        let events: Vec<String> = expected.iter().map(|e| format!("{} {}", EVENTS[*e as usize], self.events[*e as usize])).collect();
         let kinds = self.kinds.iter().filter(|met| **met).count();
         println!(
-            "  lists with {}, shared rows {}, rows that no root reaches {}, no roots {}; kinds met {kinds} of {}",
-            events.join(", "),
+            "  lists with shared rows {}, rows that no root reaches {}, no roots {}; kinds met {kinds} of {}",
             self.shared,
             self.unreached,
             self.rootless,
             words::KINDS
         );
-        let most: Vec<String> = MOST.iter().zip(self.most).map(|(name, n)| format!("{name} {n}")).collect();
-        println!("  the most in a list or an answer: {}", most.join(", "));
         println!(
             "  {:.0} s in all; {:.1} microseconds a call in the port, {:.1} a run in the source",
             began.elapsed().as_secs_f64(),
             port.time.as_secs_f64() * 1e6 / port.calls as f64,
             self.source.as_secs_f64() * 1e6 / self.runs as f64
         );
-        let met = numbers.iter().all(|n| self.numbers[*n as usize] > 0) && expected.iter().all(|e| self.events[*e as usize] > 0);
-        let rare = [self.shared, self.unreached, self.rootless, self.damaged, self.wrapped];
-        self.differ == 0 && met && kinds == words::KINDS && !rare.contains(&0)
+        self.differ == 0 && kinds == words::KINDS && self.all_met()
+    }
+
+    /// Whether every number, event and sort of list was met, and most large lists are answered; says what was not.
+    fn all_met(&self) -> bool {
+        let [small, large] = &self.parts;
+        let mut missing: Vec<String> = numbers(self.scoped).iter().filter(|n| self.numbers[**n as usize] == 0).map(u64::to_string).collect();
+        let met = |e: &Event| small.events[*e as usize] + large.events[*e as usize] > 0;
+        missing.extend(events(self.scoped).iter().filter(|e| !met(e)).map(|e| EVENTS[*e as usize].to_string()));
+        let rare = [("shared rows", self.shared), ("rows that no root reaches", self.unreached), ("no roots", self.rootless), ("damaged rows", self.damaged)];
+        missing.extend(rare.iter().chain(&[("lists by the wrapper", self.wrapped)]).filter(|(_, n)| *n == 0).map(|(name, _)| name.to_string()));
+        if large.told[0] * 2 < large.lists {
+            missing.push("answers to most large lists".to_string());
+        }
+        if !missing.is_empty() {
+            println!("NOT MET: {}", missing.join(", "));
+        }
+        missing.is_empty()
     }
 }
 
@@ -349,6 +408,9 @@ fn reached(list: &List) -> (usize, bool) {
 
 /// A small list: one of those that the definitions are held against, or some together. For the scoped form most are dense in switches.
 fn small(r: &mut Random, scoped: bool) -> Vec<T> {
+    if scoped && r.chance(2) {
+        return large::copies(r);
+    }
     let count = if r.chance(75) { 1 } else { 2 + r.below(4) };
     let one: fn(&mut Random) -> Vec<T> = if scoped && r.chance(75) { lists::switching } else { lists::list };
     (0..count).flat_map(|_| one(r)).collect()
@@ -371,33 +433,37 @@ fn compare(scoped: bool, small_lists: usize, large_lists: usize) {
     let mut port = Port::new(scoped);
     let mut extractor = Extractor::new();
     let mut tally = Tally::new(scoped);
-    while tally.small < small_lists {
+    while tally.parts[SMALL].lists < small_lists {
         let trees = small(&mut r, scoped);
-        tally.small += usize::from(hold_one(&mut r, &mut port, &mut extractor, &mut tally, &trees, RUNS));
+        hold_one(&mut r, &mut port, &mut extractor, &mut tally, &trees, SMALL);
     }
-    while tally.large < large_lists {
+    while tally.parts[LARGE].lists < large_lists {
         let most = large::MOST - if r.chance(60) { r.below(8) } else { r.below(400) };
         let trees = large::list(&mut r, most, scoped);
-        tally.large += usize::from(hold_one(&mut r, &mut port, &mut extractor, &mut tally, &trees, RUNS_OF_LARGE));
+        hold_one(&mut r, &mut port, &mut extractor, &mut tally, &trees, LARGE);
     }
     if !tally.say(&port, began) {
         std::process::exit(1);
     }
 }
 
-/// Whether the list was compared.
-fn hold_one(r: &mut Random, port: &mut Port, extractor: &mut Extractor, tally: &mut Tally, trees: &[T], runs: usize) -> bool {
+/// Compares a list, unless it is to be left out.
+fn hold_one(r: &mut Random, port: &mut Port, extractor: &mut Extractor, tally: &mut Tally, trees: &[T], part: usize) {
     let list = laid(r, trees);
     let es = laid::expressions(&list, r.chance(50));
-    let Some(given) = tally.settled(&list, &es, runs) else {
-        return false;
+    let Some(given) = tally.settled(&list, &es, [RUNS, RUNS_OF_LARGE][part]) else {
+        return;
     };
+    if part == LARGE && tally.scoped && given.number != 0 && r.chance(PASSED_OVER) {
+        tally.passed_over += 1;
+        return;
+    }
     let loadable = laid::could_be_loaded(&list.rows.words, &list.roots);
     let c = plain_call(r, &list, &given);
     if tally.hold(port, &c, &expected(&c, loadable, &given), &list, &es, &given) {
-        return false;
+        return;
     }
-    tally.mark(&list, &es, &given);
+    tally.mark(part, &list, &es, &given);
     if r.chance(REFUSED) {
         hold_refused(r, port, tally, &list, &es, &given);
     }
@@ -407,7 +473,6 @@ fn hold_one(r: &mut Random, port: &mut Port, extractor: &mut Extractor, tally: &
             tally.report(&difference, &es, &given);
         }
     }
-    true
 }
 
 /// The same list with too little lent, or damaged rows, or both.

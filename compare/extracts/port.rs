@@ -29,6 +29,7 @@ pub const BAD_ROWS: u64 = 9;
 pub const BAD_COEFFICIENT: u64 = 10;
 pub const RING: u64 = 11;
 pub const FEW_ROWS: u64 = 12;
+pub const LARGE_SCOPE: u64 = 23;
 pub const NO_ANSWER: u64 = 255;
 
 /// Node rows, roots, and how many words or bytes are lent.

@@ -7,12 +7,36 @@ need_source
 gather sheets extracts
 ln -s "$PWD/bindings/paddlecrook.rs" "$build"
 bindings/build
-rustc -O --edition 2024 -L target/bindings -o "$out/extracts" "$build/main.rs"
+
+# NAME: the driver, with the source as it is in the build's folder
+driver() {
+    rustc -O --edition 2024 -L target/bindings -o "$out/$1" "$build/main.rs"
+}
+
+# The source with two lines more, which count what a scope holds (extracts/held.rs). Times are measured without them.
+count_held() {
+    rm "$build/cse.rs"
+    sed -e 's|^    // Post-pass: extract common divisors as reciprocals\.$|    let rounds = lets.len();|' \
+        -e 's|^    let mut intermediates: Vec<Intermediate> = lets\.into_iter()$|    crate::held::test(scoped, \&results, \&lets, rounds);\n&|' \
+        "$source/cse.rs" >"$build/cse.rs"
+}
+
+compared() {
+    count_held
+    driver extracts
+    "$out/extracts" "$form" "$@"
+}
+
+measured() {
+    driver measures
+    "$out/measures" "$form" --bench
+}
 
 case ${1:-} in
---*) "$out/extracts" "$form" "$1" ;;
+--bench) measured ;;
+--*) compared "$1" ;;
 *)
-    "$out/extracts" "$form" "${1:-300000}" "${2:-5000}"
-    "$out/extracts" "$form" --bench
+    measured
+    compared "${1:-300000}" "${2:-5000}"
     ;;
 esac

@@ -1,20 +1,19 @@
--- A table of yes or no: a place made yes is yes and every other is as before; a cleared row is no throughout and the rows after it are as before. Assumes nothing.
-use Prim.Native.Nat.{ℕ, zero, suc, _+_, _-_, _*_, _/_, _%_, _^_, _≤_, _<_, min}
+-- A table of yes or no: a place made yes is yes and every other is as before. Assumes nothing.
+use Prim.Native.Nat.{ℕ, zero, suc, _+_, _-_, _*_, _/_, _%_, _^_, _≤_, _<_}
 use mathlib.Core.Path.{_≡_, refl, sym, _∙_, ap, subst}
 use mathlib.Core.Logic.{_⊎_, inl, inr, _≢_}
 use mathlib.Core.Bool.{Bool, true, false, _&&_, cond}
-use mathlib.Core.List.{List, _++_}
+use mathlib.Core.List.{List}
 use native.Mathlib.Omega.{arith}
 use native.Mathlib.Nat.{one-mul, div-eq-of-lt, pow-suc}
-use borrow.Author.Fill.{fill-more}
 use borrow.Author.Tests.{ltb-true, ltb-false, lt-ltb, le-ltb, eqb-true, eqb-false, eq-eqb}
 use lib.Dec.{T, eqb, ltb, ltb→lt, lit<}
 use lib.Bits.{bitOr, or-shr, or-mod, or-zero-r}
 use lib.Pow.{pow-pos, pow-lt, pow-add, shl-exact, shl-shr}
-use lib.ListN.{length, getD, set, drop, replicate, length-set, length-append, length-replicate, length-drop, getD-replicate, List·getD-append}
-use lib.Seq.{getD-set-same, getD-set-other, getD-append-add, getD-drop}
+use lib.ListN.{length, getD, set, length-set}
+use lib.Seq.{getD-set-same, getD-set-other}
 use Rattle.tree.proofs.Logic.{and-left, and-right}
-use Rattle.bits.specs.Bits.{bit, inside, yes, with-yes, cleared, word-of}
+use Rattle.bits.specs.Bits.{bit, inside, yes, with-yes, word-of}
 
 -- ---- two numbers
 
@@ -165,51 +164,3 @@ pub with-shifted :
     (table : List ℕ) (row column : ℕ) → inside (length table) row column ≡ true
     → set table (word-of row column) (bitOr (getD table (word-of row column) 0) ((1 * 2 ^ (column % 64)) % 2 ^ 64)) ≡ with-yes table row column
 with-shifted table row column e = rw (one-shifted (column % 64) (omega arith)) (with-inside table row column e)
-
--- ---- rows made no
-
-pub cleared-next : (old new : List ℕ) (i : ℕ) → i < length old → new ≡ replicate i 0 ++ drop i old → set new i 0 ≡ replicate (i + 1) 0 ++ drop (i + 1) old
-cleared-next old new i h e = rw e (fill-more i 0 old h)
-
-pub cleared-end : (old new : List ℕ) (rows i : ℕ) → i ≡ min (16 * rows) (length old) → new ≡ replicate i 0 ++ drop i old → new ≡ cleared old rows
-unfolding cleared
-cleared-end old new rows i e f = subst (λ (n : ℕ). new ≡ replicate n 0 ++ drop n old) e f
-
-front-no : (n j k : ℕ) (rest : List ℕ) → j < n → bit (getD (replicate n 0 ++ rest) j 0) k ≡ false
-front-no n j k rest h =
-    rw (List·getD-append (replicate n 0) rest 0 j (rw (length-replicate {A = ℕ} n 0) h), getD-replicate {A = ℕ} n j 0 0 h) (zero-bit k)
-
-back-kept : (n j : ℕ) (old : List ℕ) → n ≤ j → getD (replicate n 0 ++ drop n old) j 0 ≡ getD old j 0
-back-kept n j old h =
-    subst (λ (m : ℕ). getD (replicate n 0 ++ drop n old) m 0 ≡ getD old m 0) (let e : n + (j - n) ≡ j = omega arith in e)
-    (subst (λ (m : ℕ). getD (replicate n 0 ++ drop n old) (m + (j - n)) 0 ≡ getD old (n + (j - n)) 0) (length-replicate {A = ℕ} n 0)
-    (getD-append-add (replicate n 0) (drop n old) (j - n) 0 ∙ getD-drop n old (j - n) 0))
-
-pub cleared-length : (table : List ℕ) (rows : ℕ) → length (cleared table rows) ≡ length table
-unfolding cleared
-cleared-length table rows =
-    let n = min (16 * rows) (length table) in
-    length-append (replicate n 0) (drop n table) ∙ rw (length-replicate {A = ℕ} n 0, length-drop n table) (let e : n + (length table - n) ≡ length table = omega arith in e)
-
--- a cleared row is no throughout
-pub cleared-no : (table : List ℕ) (rows r c : ℕ) → r < rows → yes (cleared table rows) r c ≡ false
-unfolding cleared
-cleared-no table rows r c h = go (inside (length table) r c) refl
-  where
-    go : (b : Bool) → inside (length table) r c ≡ b → yes (cleared table rows) r c ≡ false
-    go true e =
-        let i = is-in (length table) r c e in
-        sym (yes-inside (cleared table rows) r c (rw (cleared-length table rows) e))
-        ∙ front-no (min (16 * rows) (length table)) (word-of r c) (c % 64) (drop (min (16 * rows) (length table)) table) (let a = i .0 in let b = i .1 in omega arith)
-    go false e = sym (no-outside (cleared table rows) r c (rw (cleared-length table rows) e))
-
--- the rows after are as before
-pub cleared-kept : (table : List ℕ) (rows r c : ℕ) → rows ≤ r → yes (cleared table rows) r c ≡ yes table r c
-unfolding cleared
-cleared-kept table rows r c h = go (inside (length table) r c) refl
-  where
-    go : (b : Bool) → inside (length table) r c ≡ b → yes (cleared table rows) r c ≡ yes table r c
-    go true e =
-        sym (yes-inside (cleared table rows) r c (rw (cleared-length table rows) e))
-        ∙ (ap (λ (w : ℕ). bit w (c % 64)) (back-kept (min (16 * rows) (length table)) (word-of r c) table (omega arith)) ∙ yes-inside table r c e)
-    go false e = sym (no-outside (cleared table rows) r c (rw (cleared-length table rows) e)) ∙ no-outside table r c e

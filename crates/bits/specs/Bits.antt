@@ -1,10 +1,10 @@
 -- A table of yes or no in words: 1,024 places a row, 16 words of 64 bits. Assumes nothing.
-use Prim.Native.Nat.{ℕ, _+_, _*_, _/_, _%_, _^_, min}
+use Prim.Native.Nat.{ℕ, _+_, _*_, _/_, _%_, _^_}
 use mathlib.Core.Bool.{Bool, _&&_, cond}
-use mathlib.Core.List.{List, _++_}
+use mathlib.Core.List.{List}
 use lib.Bits.{bitOr}
 use lib.Dec.{eqb, ltb}
-use lib.ListN.{length, getD, set, drop, replicate}
+use lib.ListN.{length, getD, set}
 
 -- whether bit k of a word is 1
 unfoldable pub bit : ℕ → ℕ → Bool
@@ -28,7 +28,3 @@ unfoldable pub with-yes : List ℕ → ℕ → ℕ → List ℕ
 unfolding inside
 with-yes table row column =
     cond (inside (length table) row column) (set table (word-of row column) (bitOr (getD table (word-of row column) 0) (2 ^ (column % 64)))) table
-
--- the table with every place of the first rows made no
-unfoldable pub cleared : List ℕ → ℕ → List ℕ
-cleared table rows = replicate (min (16 * rows) (length table)) 0 ++ drop (min (16 * rows) (length table)) table

@@ -1,9 +1,8 @@
 // A table of yes or no in lent words: a row has 1,024 places, 64 in each of its 16 words, the lowest bit of the first word first. Each function takes any words
 // and numbers at all; a place outside the table is no.
 ghost use mathlib.Core.Path.{_≡_};
-ghost use Prim.Native.Nat.{_*_, min};
 ghost use lib.ListN.{length};
-ghost use Rattle.bits.specs.Bits.{inside, yes, with-yes, cleared};
+ghost use Rattle.bits.specs.Bits.{inside, yes, with-yes};
 
 const COLUMNS: usize = 1024;
 
@@ -49,26 +48,4 @@ pub fn set(table: &mut [u64], row: usize, column: usize) -> bool
     let place = 1u64 << k;
     table[i] = table[i] | place;
     true
-}
-
-// How many words the first rows are, as far as there are words.
-fn words_of(words: usize, rows: usize) -> usize
-    ensures { λ r. ⌜ r ≡ min (16 * rows) words ⌝ }
-{
-    if rows > words / WORDS {
-        return words;
-    }
-    WORDS * rows
-}
-
-// Makes every place of the first rows no.
-pub fn clear(table: &mut [u64], rows: usize)
-    ensures { λ r. ⌜ now (table .exit) ≡ cleared (now (table .entry)) rows ⌝ }
-{
-    let end = words_of(table.len(), rows);
-    let mut i = 0;
-    while i < end {
-        table[i] = 0;
-        i += 1;
-    }
 }

@@ -1,26 +1,22 @@
 -- The first two clauses of demand 3, over the flat and the scoped answer together, in the form that `Demand3` has them, for any list of input symbols.
 -- Assumes nothing.
-use Prim.Native.Nat.{_+_, _≤_}
 use mathlib.Core.Path.{_≡_}
 use mathlib.Core.Bool.{Bool, false}
-use mathlib.Core.List.{List, _++_}
-use lib.ListN.{length}
+use mathlib.Core.List.{List}
 use lib.Dec.{T}
 use Rattle.tree.specs.Outcome.{ok}
-use Rattle.tree.specs.Facts.{all-operations}
 use Rattle.tree.specs.Tree.{Tree}
 use Rattle.cse.specs.Answer.{Answer}
 use Rattle.cse.specs.Scope.{answer}
-use Rattle.tree.specs.Value.{Reading, Env, values}
-use Rattle.cse.specs.Read.{answer-values}
-use Rattle.cse.specs.Demand.{well-scoped, no-repeats, extracted-exprs, Demand3}
+use Rattle.cse.specs.Demand.{well-scoped, values-kept, no-repeats, counted, count-bounded, Demand3}
 use Rattle.rewrite.proofs.Names.{holds-all}
 use Rattle.cse.proofs.ScopeValue.{under, answer-keeps-values}
 use Rattle.cse.proofs.ScopeNames.{answer-well-scoped}
+use Rattle.cse.proofs.ReciprocalBindings.{flat-reciprocals}
 
 pub record Names-and-values (es : List Tree) : Type 0 where
   pub names-once-and-later : (scoped : Bool) (a : Answer) → answer scoped es ≡ ok a → T (well-scoped es a)
-  pub same-values : (scoped : Bool) (a : Answer) → answer scoped es ≡ ok a → (R : Reading) (ρ : Env) → answer-values R ρ a ≡ values R ρ es
+  pub same-values : (scoped : Bool) (a : Answer) → answer scoped es ≡ ok a → values-kept es a
 
 -- for a list with no name of an answer among its symbols
 pub names-and-values : (es : List Tree) → T (holds-all (under 0) es) → Names-and-values es
@@ -33,15 +29,14 @@ names-and-values es h =
 -- the whole of demand 3, from its clauses on the flat answer alone
 pub demand3 :
     (es : List Tree) → T (holds-all (under 0) es) → ((a : Answer) → answer false es ≡ ok a → no-repeats es a)
-    → ((a : Answer) → answer false es ≡ ok a → length (extracted-exprs (a .extracted) (a .inters)) ≡ a .extracted)
-    → ((a : Answer) → answer false es ≡ ok a → a .extracted + all-operations (a .results ++ extracted-exprs (a .extracted) (a .inters)) ≤ all-operations es)
-    → Demand3 es
-demand3 es h repeats counted count =
+    → ((a : Answer) → answer false es ≡ ok a → counted a) → ((a : Answer) → answer false es ≡ ok a → count-bounded es a) → Demand3 es
+demand3 es h repeats count most =
     let both = names-and-values es h in
     record {
       names-once-and-later = both .names-once-and-later;
       same-values = both .same-values;
-      counted = counted;
+      only-lets = flat-reciprocals es h;
       none-twice = repeats;
-      count-bounded = count;
+      count-right = count;
+      count-at-most = most;
     }

@@ -1,18 +1,20 @@
 -- Where each divisor holds a symbol or no switch, no rewriting changes that, and no divisor that a scope binds holds a switch: those bound are leaves or hold no
 -- symbol. Assumes nothing.
-use Prim.Native.Nat.{ℕ, zero, suc, _*_, _≤_}
+use Prim.Native.Nat.{ℕ, zero, suc, _+_, _-_, _*_, _≤_}
 use mathlib.Core.Path.{_≡_, refl, sym, subst}
 use mathlib.Core.Bool.{Bool, true, false, not, _&&_, _||_, cond}
 use mathlib.Core.Option.{Option, none, some}
 use mathlib.Core.List.{List, [], _∷_, _++_}
 use native.Mathlib.Omega.{arith}
 use lib.IntN.{ℤ, pos, negsuc}
-use lib.Dec.{T, eqb, leb, eqb→eq, le→leb}
+use lib.Dec.{T, eqb, leb, eqb→eq, leb→le, le→leb}
 use Rattle.tree.specs.Outcome.{Outcome, ok, refused, _>>=_}
 use Rattle.tree.specs.Tree.{Name, xname, Tree, Forest, Sym, Const, Op, nil, _◂_, fold, folds, operands, eq-tree, eq-int}
-use Rattle.tree.specs.Kinds.{Neg, Mul, Div, is-switch}
+use Rattle.tree.specs.Kinds.{Neg, Mul, Div, is-switch, arity-ok}
 use Rattle.tree.specs.Facts.{size, cost, has-symbol, some-of, nodes, nodes-of, all-nodes, outer, outer-of, outer-first, all-outer, outside, count, uses, uses-outside}
 use Rattle.tree.proofs.Logic.{and-left, and-right, and-both}
+use Rattle.tree.proofs.KindLaws.{arity-kind}
+use Rattle.tree.proofs.Formed.{operand-count, well-formed, well-formed-each}
 use Rattle.rewrite.specs.Rewrite.{Factors, one, flatten-mul-factors, flatten-operands, flatten-after, times, negated, constant-of, nested-product, with-coefficient, built, build-mul-from-factors, remove-each, is-mul, match-factors, each-operand, replace-within, replace, divides-by, replace-divisor, replace-divisors, dividend}
 use Rattle.rewrite.proofs.Measure.{count-cons, one-self}
 use Rattle.cse.specs.Extract.{State, roots, is-candidate, best, extract, extract-all, divisor-of, divisors, replace-divisor-each, bind-reciprocal, bind-reciprocals, reciprocals}
@@ -689,3 +691,74 @@ mutual
 pub none-outside : (e : Tree) → T (no-switch e) → T (holds-switch e) → ⊥
 unfolding holds-switch
 none-outside e h t = among-none (outer e) (outer-none e h) t
+
+-- ---- and a well-formed tree without a switch outside arms has none at all
+
+-- a switch has operands
+no-operands : (k : ℕ) → T (arity-ok k 0) → T (is-switch k) → ⊥
+no-operands k h t =
+    let a = leb→le 26 k t in
+    let e : k ≡ 26 + (k - 26) = omega arith in
+    from (k - 26) (subst (λ (j : ℕ). T (arity-ok j 0)) e h)
+  where
+    from : (j : ℕ) → T (arity-ok (26 + j) 0) → ⊥
+    from zero h = (unfold arity-ok in h)
+    from (suc zero) h = (unfold arity-ok in h)
+    from (suc (suc zero)) h = (unfold arity-ok in h)
+    from (suc (suc (suc j))) h = (let a = arity-kind (26 + suc (suc (suc j))) 0 h in omega arith)
+
+none-split : (l r : List Tree) → T (not (some-switch (switches (l ++ r)))) → T (not (some-switch (switches l))) × T (not (some-switch (switches r)))
+unfolding switches some-switch
+none-split [] r h = (tt, h)
+none-split (Sym n ∷ l) r h = none-split l r h
+none-split (Const c ∷ l) r h = none-split l r h
+none-split (Op k nil ∷ l) r h = none-split l r h
+none-split (Op k (q ◂ f) ∷ l) r h = go (is-switch k) h (λ g. none-split l r g)
+  where
+    go : (b : Bool) → T (not (some-switch (elim b as (λ _. List Switch) [ true ↦ record { tree = Op k (q ◂ f); kind = k; key = q; arms = operands f } ∷ switches (l ++ r) | false ↦ switches (l ++ r) ])))
+        → (T (not (some-switch (switches (l ++ r)))) → T (not (some-switch (switches l))) × T (not (some-switch (switches r))))
+        → T (not (some-switch (elim b as (λ _. List Switch) [ true ↦ record { tree = Op k (q ◂ f); kind = k; key = q; arms = operands f } ∷ switches l | false ↦ switches l ])))
+        × T (not (some-switch (switches r)))
+    go true h f = absurd h
+    go false h f = f h
+
+none-op :
+    (k : ℕ) (f : Forest) → T (arity-ok k (operand-count f)) → T (not (some-switch (switches (Op k f ∷ elim (is-switch k) [ true ↦ outer-first f | false ↦ outer-of f ]))))
+    → (T (not (some-switch (switches (outer-of f)))) → T (all-ops-each (λ k f. not (is-switch k)) f)) → T (not (is-switch k) && all-ops-each (λ k f. not (is-switch k)) f)
+unfolding switches some-switch all-ops operand-count
+none-op k nil w h each = and-both (not (is-switch k)) true (go (is-switch k) (no-operands k w)) tt
+  where
+    go : (b : Bool) → (T b → ⊥) → T (not b)
+    go true f = f tt
+    go false f = tt
+none-op k (q ◂ f) w h each = go (is-switch k) h each
+  where
+    go : (b : Bool)
+        → T (not (some-switch (elim b as (λ _. List Switch) [
+          | true ↦ record { tree = Op k (q ◂ f); kind = k; key = q; arms = operands f } ∷ switches (elim b [ true ↦ outer-first (q ◂ f) | false ↦ outer-of (q ◂ f) ])
+          | false ↦ switches (elim b [ true ↦ outer-first (q ◂ f) | false ↦ outer-of (q ◂ f) ])
+        ])))
+        → (T (not (some-switch (switches (outer-of (q ◂ f))))) → T (all-ops-each (λ k f. not (is-switch k)) (q ◂ f)))
+        → T (not b && all-ops-each (λ k f. not (is-switch k)) (q ◂ f))
+    go true h g = absurd h
+    go false h g = g h
+
+mutual
+  unfolding outer switches some-switch no-switch all-ops well-formed
+
+  none-from : (t : Tree) → T (well-formed t) → T (not (some-switch (switches (outer t)))) → T (no-switch t)
+  none-from (Sym n) w h = tt
+  none-from (Const c) w h = tt
+  none-from (Op k f) w h =
+      none-op k f (and-left (arity-ok k (operand-count f)) (well-formed-each f) w) h (λ g. none-from-each f (and-right (arity-ok k (operand-count f)) (well-formed-each f) w) g)
+
+  none-from-each : (f : Forest) → T (well-formed-each f) → T (not (some-switch (switches (outer-of f)))) → T (all-ops-each (λ k f. not (is-switch k)) f)
+  none-from-each nil w h = tt
+  none-from-each (t ◂ f) w h =
+      let s = none-split (outer t) (outer-of f) h in
+      and-both (no-switch t) (all-ops-each (λ k f. not (is-switch k)) f) (none-from t (and-left (well-formed t) (well-formed-each f) w) (s .0))
+      (none-from-each f (and-right (well-formed t) (well-formed-each f) w) (s .1))
+
+pub none-inside : (e : Tree) → T (well-formed e) → T (not (holds-switch e)) → T (no-switch e)
+unfolding holds-switch
+none-inside e w h = none-from e w h

@@ -1,3 +1,4 @@
+pub mod AnswersRefused
 pub mod Outcomes
 pub mod RoundsCount
 pub mod RoundsGood
@@ -28,10 +29,12 @@ pub mod ScopedCount
 pub mod Levels
 pub mod NestingLevel
 pub mod CleanDivisors
+pub mod BoundSwitches
 pub mod ArmNodes
 pub mod SwitchArms
 pub mod HeldRows
 pub mod NumbersMost
 pub mod RoomEnough
+pub mod PlainBound
 pub mod RowCount
 pub mod AnyTable

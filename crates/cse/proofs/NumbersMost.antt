@@ -8,7 +8,7 @@ use native.Mathlib.Omega.{arith}
 use lib.ListN.{length}
 use lib.IntN.{ℤ}
 use lib.Dec.{T}
-use Rattle.tree.specs.Outcome.{ok}
+use Rattle.tree.specs.Outcome.{Outcome, ok}
 use Rattle.tree.specs.Tree.{Name, Tree, Forest, Sym, Const, Op, nil, _◂_, operands}
 use Rattle.tree.specs.Kinds.{is-switch}
 use Rattle.tree.specs.Facts.{operations, all-operations, size, outer, outer-of, outer-first, all-outer}
@@ -17,12 +17,16 @@ use Rattle.rewrite.proofs.Measure.{sum-of, sum-append, sum-each, sizes, size-op
 use Rattle.rewrite.proofs.Counts.{well-formed-all}
 use Rattle.rewrite.proofs.Names.{holds-all}
 use Rattle.cse.specs.Extract.{State, roots, distinct, extract-all, bind-reciprocal, bind-reciprocals, reciprocals}
-use Rattle.cse.specs.Scope.{Switch, Group, Work, switches, collect-switches, joins, place, groups-from, members, name-members, first-arms, rest-arms, columns, arms-of-members, some-switch, held}
-use Rattle.cse.proofs.RoundsCount.{made-before, extract-all-end}
+use Rattle.cse.specs.Order.{topo-sort-intermediates}
+use Rattle.cse.specs.Scope.{Switch, Group, Work, Scoped, Armed, switches, collect-switches, joins, place, groups-from, members, name-members, first-arms, rest-arms, columns, arms-of-members, scope-arms, fuse-group, fuse-groups, fuse-all, unfused, finish, some-switch, held, opens, cse-scope}
+use Rattle.cse.proofs.Outcomes.{Good, then-good, any-good, good-ok}
+use Rattle.cse.proofs.RoundsGood.{extract-all-good}
+use Rattle.cse.proofs.RoundsCount.{made-before, extracted, begin, extract-all-end}
 use Rattle.cse.proofs.ReciprocalsCount.{bound-divisors, reciprocals-are}
 use Rattle.cse.proofs.DivisorsMost.{bound-most}
 use Rattle.cse.proofs.ScopeValue.{one-named}
 use Rattle.cse.proofs.ArmNodes.{arms-total, lists-total, held-sum}
+use Rattle.cse.proofs.ScopeRoom.{or-no-room, or-not-held}
 
 -- ---- rounds and reciprocals
 
@@ -219,3 +223,56 @@ pub most-up : (D a b : ℕ) → a ≤ b → numbers-most D a ≤ numbers-most D 
 unfolding numbers-most
 most-up zero a b h = omega arith
 most-up (suc m) a b h = (let q = most-up m a b h in omega arith)
+
+-- ---- numbers never go down
+
+pub extract-all-later : (scoped : Bool) (next : ℕ) (es : List Tree) → Good (λ (s : State). next ≤ s .next) (extract-all scoped next es)
+extract-all-later scoped next es =
+    extract-all-good scoped (λ u. next ≤ u .next) (λ x s t c e h. (let q = extracted x s t e .next in omega arith)) next es (unfold begin in omega arith)
+
+abbrev pub Work-later : ℕ → Work → Type 0
+Work-later low w = low ≤ w .next
+
+abbrev pub Scope-later : ℕ → Scoped → Type 0
+Scope-later low a = low ≤ a .next
+
+abbrev Arms-later : ℕ → Armed → Type 0
+Arms-later low a = low ≤ a .next
+
+module _ (scope : ℕ → List Tree → Outcome Scoped) (later : (n : ℕ) (l : List Tree) → Good (Scope-later n) (scope n l)) where
+  arms-later : (low next : ℕ) → low ≤ next → (ls : List (List Tree)) → Good (Arms-later low) (scope-arms scope next ls)
+  unfolding scope-arms
+  arms-later low next h [] = good-ok (Arms-later low) _ h
+  arms-later low next h (es ∷ ls) =
+      then-good (Scope-later next) (Arms-later low) (scope next es) (later next es) _
+      (λ a g. then-good (Arms-later low) (Arms-later low) (scope-arms scope (a .next) ls) (arms-later low (a .next) (omega arith) ls) _ (λ r k. good-ok (Arms-later low) _ k))
+
+  pub group-later : (low : ℕ) (g : Group) (w : Work) → low ≤ w .next → Good (Work-later low) (fuse-group scope g w)
+  unfolding fuse-group
+  group-later low g w h =
+      let v = name-members (members g) w in
+      let q = name-members-next (members g) w in
+      then-good (Arms-later low) (Work-later low) (scope-arms scope (v .next) (columns (length (g .first .arms)) (arms-of-members (members g))))
+      (arms-later low (v .next) (omega arith) (columns (length (g .first .arms)) (arms-of-members (members g)))) _ (λ a k. good-ok (Work-later low) _ k)
+
+  groups-later : (low : ℕ) (gs : List Group) (w : Work) → low ≤ w .next → Good (Work-later low) (fuse-groups scope gs w)
+  unfolding fuse-groups
+  groups-later low [] w h = good-ok (Work-later low) w h
+  groups-later low (g ∷ gs) w h = then-good (Work-later low) (Work-later low) (fuse-group scope g w) (group-later low g w h) _ (λ v k. groups-later low gs v k)
+
+finish-later : (low : ℕ) (w : Work) → low ≤ w .next → Good (Scope-later low) (finish w)
+unfolding finish
+finish-later low w h = any-good (Scope-later low) (topo-sort-intermediates (w .inters)) _ (λ l. good-ok (Scope-later low) _ h)
+
+pub scope-later : (fuel next : ℕ) (es : List Tree) → Good (Scope-later next) (cse-scope fuel true next es)
+unfolding cse-scope
+scope-later zero next es = (unfold Good in tt)
+scope-later (suc fuel) next es =
+    let inner : ℕ → List Tree → Outcome Scoped = λ n l. cse-scope fuel true n l in
+    or-no-room (Good (Scope-later next)) (unfold Good in tt) (opens next es) _
+    (then-good (λ (s : State). next ≤ s .next) (Scope-later next) (extract-all true next es) (extract-all-later true next es) _
+    (λ s h. let q = reciprocals-next true s in
+    or-not-held (Good (Scope-later next)) (unfold Good in tt) inner (length (s .lets)) (reciprocals true s)
+    (then-good (Work-later next) (Scope-later next) (fuse-all inner (length (s .lets)) (reciprocals true s))
+    (unfold fuse-all unfused in groups-later inner (λ n l. scope-later fuel n l) next (groups-from [] (collect-switches (roots (reciprocals true s)))) (unfused (length (s .lets)) (reciprocals true s)) (omega arith)) _
+    (λ w k. finish-later next w k))))

@@ -20,18 +20,16 @@ use Rattle.rewrite.proofs.Names.{holds, holds-each, holds-all, below, weaken-al
 use Rattle.rewrite.proofs.Measure.{one-of, count-cons, one-self}
 use Rattle.rewrite.proofs.Counts.{counted-holds}
 use Rattle.cse.specs.Extract.{Binding, State, roots, divisors, replace-divisor-bound, bind-reciprocal, bind-reciprocals, reciprocals}
-use Rattle.cse.specs.Answer.{Intermediate, Intermediates, Answer, Let, Match, end, step, block}
+use Rattle.cse.specs.Answer.{Intermediate, Intermediates, Answer, Let, block}
 use Rattle.cse.specs.Scope.{binds, answer}
+pub use Rattle.cse.specs.Demand.{Inverse}
+use Rattle.cse.specs.Demand.{Flat, All-flat, flat-shaped}
 use Rattle.cse.proofs.RoundsCount.{made-before, below-made}
 use Rattle.cse.proofs.RoundsValue.{let-names, Numbered, reciprocals-keep, roots-known}
 use Rattle.cse.proofs.SortCount.{Every, sorted-every}
 use Rattle.cse.proofs.ReciprocalsCount.{AllTrees, all-map, divisors-all, bound-divisors, bound-twice, inverse, reciprocals-are}
 use Rattle.cse.proofs.DivisorsMost.{bound-once}
 use Rattle.cse.proofs.FlatCount.{parts, some-reading, rounds-model}
-
--- of the form 1 / d
-abbrev pub Inverse : Tree → Type 0
-Inverse e = (d : Tree) × (e ≡ Op Div (Const (pos 1) ◂ d ◂ nil))
 
 -- ---- what holds old names alone was not rewritten
 
@@ -158,17 +156,6 @@ reciprocals-past scoped s h =
 
 -- ---- the flat answer
 
--- a statement of a flat answer with x extractions
-abbrev pub Flat : ℕ → Intermediate → Type 0
-Flat x (Let (input s) e) = ⊥
-Flat x (Let (xname i) e) = x ≤ i → Inverse e
-Flat x (Let (mname i) e) = ⊥
-Flat x (Match k key ns arms) = ⊥
-
-abbrev pub All-flat : ℕ → Intermediates → Type 0
-All-flat x end = Unit {0}
-All-flat x (step s l) = Flat x s × All-flat x l
-
 numbered-flat : (x k top : ℕ) (l : List Binding) → Numbered k top (let-names l) → Past Inverse (x - k) l → Every (Flat x) (binds l)
 unfolding let-names binds
 numbered-flat x k top [] n h = tt
@@ -186,7 +173,7 @@ all-flat x [] h = tt
 all-flat x (s ∷ l) h = (h .0, all-flat x l (h .1))
 
 -- For a list that holds no name of an answer: each statement of its flat answer binds some `__xi`, and where i is not below the extraction count, to 1 / d.
-pub flat-reciprocals : (es : List Tree) → T (holds-all (below (λ s. true) 0 0) es) → (a : Answer) → answer false es ≡ ok a → All-flat (a .extracted) (a .inters)
+pub flat-reciprocals : (es : List Tree) → T (holds-all (below (λ s. true) 0 0) es) → (a : Answer) → answer false es ≡ ok a → flat-shaped a
 flat-reciprocals es h a e =
     let P = parts es a e in
     let s = P .state in

@@ -175,12 +175,12 @@ finish w = topo-sort-intermediates (w .inters) >>= λ l. ok (record { inters = l
 unfoldable pub scopes-open : ℕ
 scopes-open = 9
 
--- Each open scope has a part of the work area of its own, with a row of seven words of 64 bits for an occurrence: nine parts of 1,024 rows are 64,512 of the
--- area's 65,536 words (01's limit is 131,072 words of 32 bits).
+-- How many occurrences a scope works on. Each open scope has a part of the work area of its own, a word of 64 bits for an occurrence; and two texts of so many
+-- nodes fit the area's bytes, which candidates of a scope are ranked by.
 unfoldable pub scope-rows : ℕ
 scope-rows = 1024
 
--- The largest number that a scope may start with: 2^31, so that a word of 64 bits holds all its names.
+-- The largest number that a scope may start with, far below what a word of 64 bits holds as a name's number.
 abbrev pub most-number : ℕ
 most-number = 2147483648
 

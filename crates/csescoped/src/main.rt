@@ -1,18 +1,10 @@
 // The program `csescoped`, the twin of `csesheet` for the scoped answer (01, "Sheet and printing"): a sheet on standard input, its answer on standard output, or one
-// line for a refusal. It calls load, extract and print one after another, as program/specs/Calls `by-calls` has it, and lends 131,072 rows and 524,288 bytes.
-ghost use Prim.Native.Nat.{_≤_};
-ghost use lib.ListN.{length};
-use extract::Extraction;
+// line for a refusal. It lends 131,072 rows and 524,288 bytes, and an answer that is longer is refused by 12 or 14: program/specs/Program `csescoped`.
 use libc::STDIN_FILENO;
 use libc::STDOUT_FILENO;
 use lines::refusal_line;
-use load::Loaded;
-use load::load;
-use printer::Printed;
-use printer::print;
-
-// Words of a node row.
-const WIDTH: usize = 35;
+use scopedsheet::Said;
+use scopedsheet::scoped_sheet;
 
 fn say(out: &[u8], n: usize) {
     if n <= out.len() {
@@ -26,59 +18,6 @@ fn say_refused(number: u64, record: u64) {
     say(&out, n);
 }
 
-// The text of an answer.
-fn say_answer(rows: &[u64], answer: &[u64], out: &mut [u8]) {
-    let printed = print(rows, answer, out);
-    match printed {
-        Printed::Bytes(n) => say(out, n),
-        Printed::Refused(number) => say_refused(number, 0),
-    }
-}
-
-// The text of the answer in the first words of the table. That it has fewer never comes up.
-fn say_rows(rows: &[u64], table: &[u64], n: usize, out: &mut [u8]) {
-    if n <= table.len() {
-        say_answer(rows, &table[..n], out);
-    }
-}
-
-// What extract answers on node rows and roots.
-fn say_extracted(
-    rows: &[u64],
-    roots: &[u64],
-    work: &mut [u64],
-    text: &mut [u8],
-    table: &mut [u64],
-    out: &mut [u8],
-) {
-    let extraction = scoped::cse_scoped(rows, roots, work, text, table);
-    match extraction {
-        Extraction::Refused(number) => say_refused(number, 0),
-        Extraction::Rows(n, _) => say_rows(rows, table, n, out),
-    }
-}
-
-// The first n node rows and m roots. That there are fewer never comes up.
-fn say_loaded(
-    rows: &[u64],
-    n: usize,
-    roots: &[u64],
-    m: usize,
-    work: &mut [u64],
-    text: &mut [u8],
-    table: &mut [u64],
-    out: &mut [u8],
-) {
-    if n > rows.len() / WIDTH {
-        return;
-    }
-    if m > roots.len() {
-        return;
-    }
-    let end = WIDTH * n;
-    say_extracted(&rows[..end], &roots[..m], work, text, table, out);
-}
-
 // All that is printed for a sheet.
 fn say_sheet(
     sheet: &[u8],
@@ -89,10 +28,10 @@ fn say_sheet(
     table: &mut [u64],
     out: &mut [u8],
 ) {
-    let loaded = load(sheet, rows, roots);
-    match loaded {
-        Loaded::Refused(number, record) => say_refused(number, record),
-        Loaded::Table(n, m) => say_loaded(rows, n, roots, m, work, text, table, out),
+    let said = scoped_sheet(sheet, rows, roots, work, text, table, out);
+    match said {
+        Said::Refused(number, record) => say_refused(number, record),
+        Said::Bytes(n) => say(out, n),
     }
 }
 

@@ -18,7 +18,7 @@ use Rattle.cse.specs.Answer as answers
 use Rattle.cse.specs.Scope.{answer}
 use Rattle.cse.specs.Call.{work-words, work-bytes}
 use Rattle.cse.specs.Read.{answer-values}
-use Rattle.cse.specs.Demand.{bound-stmts, all-different, in-scope, well-scoped, bound-exprs, depends, dependent, no-repeats, extracted-exprs, Demand3}
+use Rattle.cse.specs.Demand.{bound-stmts, all-different, in-scope, well-scoped, flat-shaped, bound-exprs, depends, dependent, no-repeats, extracted-exprs, Demand3}
 use Rattle.program.proofs.Whole.{demand3}
 use Rattle.demand.proofs.Operation.{Call, Returns, list-of, returned-is}
 use Rattle.demand.proofs.Operation as operations
@@ -50,7 +50,9 @@ pub record Returned-as-demanded (rows roots : List ℕ) (calls : Calls rows root
   pub same-values :
       (scoped : Bool) (a : Answer) → Returns scoped rows roots (calls scoped) a
       → (R : Reading) (ρ : Env) → answer-values R ρ a ≡ values R ρ (list-of rows roots)
-  -- in the flat one no expression with an operation that depends on an input symbol stands twice
+  -- the flat one has lets of some `__xi` alone, and from the extraction count on each binds 1 / d
+  pub only-lets : (a : Answer) → Returns false rows roots (calls false) a → flat-shaped a
+  -- in it no expression with an operation that depends on an input symbol stands twice
   pub none-twice :
       (a : Answer) → Returns false rows roots (calls false) a → (e : Tree) → T (leb 1 (cost e))
       → T (depends (dependent (a .inters) (λ n. elem n (all-symbols (list-of rows roots)))) e)
@@ -88,9 +90,10 @@ returned-as-demanded rows roots calls =
       bound-once = λ scoped a r. once es a (holds scoped a r .names-once-and-later scoped a (given scoped a r));
       used-later-in-scope = λ scoped a r. later es a (holds scoped a r .names-once-and-later scoped a (given scoped a r));
       same-values = λ scoped a r. holds scoped a r .same-values scoped a (given scoped a r);
+      only-lets = λ a r. holds false a r .only-lets a (given false a r);
       none-twice = λ a r. single es a (holds false a r .none-twice a (given false a r));
-      counted = λ a r. holds false a r .counted a (given false a r);
-      count-bounded = λ a r. holds false a r .count-bounded a (given false a r);
+      counted = λ a r. holds false a r .count-right a (given false a r);
+      count-bounded = λ a r. holds false a r .count-at-most a (given false a r);
     }
   where
     given : (scoped : Bool) (a : Answer) → Returns scoped rows roots (calls scoped) a → answer scoped (list-of rows roots) ≡ ok a

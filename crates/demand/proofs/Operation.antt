@@ -22,7 +22,7 @@ use Rattle.cse.specs.Answer as answers
 use Rattle.cse.specs.AnswerRows.{answer-of, answer-words}
 use Rattle.cse.specs.Scope.{answer}
 use Rattle.cse.specs.Call.{Extracted, work-words, work-bytes, extract-call, table-after}
-use Rattle.cse.proofs.CleanDivisors.{Plain-divisors}
+use Rattle.cse.proofs.BoundSwitches.{no-switch-bound}
 use Rattle.answerlaws.proofs.LaidOut.{uncounted}
 use Rattle.passing.proofs.Printed.{answer-read-back}
 use Rattle.program.proofs.Operation.{Called, call-is, Answers-for, answered-call, flat-refused-by-8-9-10-or-12, scoped-refused-by-8-9-10-11-12-or-23, scoped-refused-by-8-9-10-11-or-12}
@@ -194,8 +194,9 @@ module _ (rows roots : List ℕ) where
         f .3,
       )
 
-  -- never 23 where each divisor of the list holds a symbol, or no Select or Branch
-  pub scoped-never-23 : Plain-divisors (list-of rows roots) → (c : Call true rows roots) → c .handed ≡ extraction.Refused 23 → ⊥
+  -- never 23 where no scope that is reached binds a divisor with a switch outside arms, as where each divisor holds a symbol, or no Select or Branch (Whole
+  -- `plain-none-bound`)
+  pub scoped-never-23 : T (no-switch-bound (list-of rows roots)) → (c : Call true rows roots) → c .handed ≡ extraction.Refused 23 → ⊥
   scoped-never-23 p c h =
       let f = turned-down true rows roots c 23 h in
       let is = number 23 (f .0) (f .2) in

@@ -21,7 +21,7 @@ use Rattle.cse.specs.Scope.{answer}
 use Rattle.cse.specs.Call.{Extracted, work-words, work-bytes, extract-call}
 use Rattle.program.proofs.Whole.{flat-refused-by-10}
 use Rattle.program.specs.Calls.{by-calls}
-use Rattle.program.specs.Program.{reply, written, csesheet}
+use Rattle.program.specs.Program.{reply, written, csesheet, csescoped}
 use Rattle.passing.proofs.FlatRows.{flat-rows-most}
 use Rattle.passing.proofs.FlatText.{flat-text-most}
 use Rattle.passing.proofs.Printed.{or-14}
@@ -58,6 +58,11 @@ module _ (scoped : Bool) (rows-lent bytes-lent : ℕ) where
 
   pub written-by-calls : (sheet : List ℕ) → Enough scoped rows-lent bytes-lent sheet → reply (by-calls scoped rows-lent bytes-lent sheet) ≡ written scoped sheet
   written-by-calls sheet f = ap reply (calls-enough sheet f) ∙ (unfold written in refl)
+
+-- so the scoped program writes the scoped answer wherever what it lends is enough
+pub csescoped-enough : (sheet : List ℕ) → Enough true 131072 524288 sheet → csescoped sheet ≡ written true sheet
+unfolding csescoped
+csescoped-enough sheet f = written-by-calls true 131072 524288 sheet f
 
 -- ---- the flat program by its three calls
 

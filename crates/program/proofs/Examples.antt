@@ -18,6 +18,7 @@ use Rattle.cse.specs.Extract.{extract-all, reciprocals}
 use Rattle.cse.specs.Scope.{held, fuse-held, cse-scope, answer}
 use Rattle.cse.specs.Demand.{well-scoped}
 use Rattle.cse.specs.Call.{extract-call}
+use Rattle.cse.proofs.BoundSwitches.{no-switch-bound}
 use Rattle.print.specs.Print.{print-call}
 use Rattle.program.specs.Program.{csesheet, csescoped}
 use Rattle.program.specs.Calls.{by-calls}
@@ -69,6 +70,10 @@ divided (suc n) = num (10 + n) ⊘ divided n
 abbrev twice-divided : ℕ → List Tree
 twice-divided n = v "p" ⊘ divided n ∷ v "q" ⊘ divided n ∷ []
 
+-- a switch in a divisor: 3 / select(1, 7 / 2)
+abbrev in-divisor : Tree
+in-divisor = num 3 ⊘ Op Select (num 1 ◂ (num 7 ⊘ num 2) ◂ nil)
+
 -- a list's occurrences, and how many its scope would hold
 abbrev rows-for : List Tree → Outcome (ℕ × ℕ)
 rows-for es = extract-all true 0 es >>= λ s. ok (occurrences es, occurrences (held (length (s .lets)) (reciprocals true s)))
@@ -92,6 +97,8 @@ pub record Examples : Type 0 where
   rows-for-many : rows-for (twice-divided 27) ≡ ok (120, 1038)
   many-divisors-flat : (answer false (twice-divided 27) >>= λ a. ok (a .extracted)) ≡ ok 0
   many-divisors : answer true (twice-divided 27) ≡ refused (by 23)
+  divided-once : no-switch-bound (v "p" ⊘ Op Select (num 1 ◂ num 2 ◂ num 3 ◂ nil) ∷ []) ≡ true
+  divided-twice : no-switch-bound (v "p" ⊘ in-divisor ∷ v "q" ⊘ in-divisor ∷ v "r" ⊘ num 2 ∷ []) ≡ false
   work-too-short : extract-call false 65535 131072 few (1 ∷ []) 9 ≡ refused (by 8)
   text-too-short : extract-call false 65536 131071 few (1 ∷ []) 9 ≡ refused (by 8)
   no-such-root : extract-call false 65536 131072 few (2 ∷ []) 9 ≡ refused (by 9)
@@ -111,7 +118,7 @@ pub record Examples : Type 0 where
   no-earlier-node : csesheet (bytes "Sym,a\r\nRoot,1") ≡ bytes "refused 5 1\n"
 
 pub examples : Examples
-unfolding cse-scope fuse-held answer well-scoped rows by-calls csesheet csescoped extract-call print-call
+unfolding cse-scope fuse-held answer no-switch-bound well-scoped rows by-calls csesheet csescoped extract-call print-call
 examples =
     record {
       mixed-scoped = refl;
@@ -132,6 +139,8 @@ examples =
       rows-for-many = refl;
       many-divisors-flat = refl;
       many-divisors = refl;
+      divided-once = refl;
+      divided-twice = refl;
       work-too-short = refl;
       text-too-short = refl;
       no-such-root = refl;

@@ -18,7 +18,7 @@ use Rattle.cse.specs.AnswerRows.{answer-words}
 use Rattle.cse.specs.Scope.{answer}
 use Rattle.cse.specs.Call.{Extracted, work-words, work-bytes, extract-call}
 use Rattle.cse.specs.Demand.{Demand3}
-use Rattle.cse.proofs.CleanDivisors.{Plain-divisors}
+use Rattle.cse.proofs.BoundSwitches.{no-switch-bound}
 use Rattle.program.proofs.Whole.{demand3, flat-refused-by-10, refused-by-10-11-or-23, scoped-refused-by-10-or-11}
 
 -- ---- a call by its refusals, in order
@@ -173,9 +173,9 @@ scoped-refused-by-8-9-10-11-12-or-23 words-lent bytes-lent node-rows roots lent 
     go (inr (inl f)) = inr (inl f)
     go (inr (inr f)) = inr (inr (in-order r f))
 
--- and never by 23 where each divisor of the list holds a symbol, or no Select or Branch
+-- and never by 23 where no scope that is reached binds a divisor with a switch outside arms
 pub scoped-refused-by-8-9-10-11-or-12 :
-    (words-lent bytes-lent : ℕ) (node-rows roots : List ℕ) (lent : ℕ) → Plain-divisors (trees (table-of node-rows roots))
+    (words-lent bytes-lent : ℕ) (node-rows roots : List ℕ) (lent : ℕ) → T (no-switch-bound (trees (table-of node-rows roots)))
     → (r : Refusal) → extract-call true words-lent bytes-lent node-rows roots lent ≡ refused r
     → (r ≡ by 8) ⊎ ((r ≡ by 9) ⊎ ((r ≡ by 10) ⊎ ((r ≡ by 11) ⊎ (r ≡ by 12))))
 scoped-refused-by-8-9-10-11-or-12 words-lent bytes-lent node-rows roots lent p r e =

@@ -12,7 +12,7 @@ use Rattle.cse.specs.Answer.{Answer}
 use Rattle.cse.specs.Scope.{scopes-open, cse-scope, as-answer, answer}
 use Rattle.tree.specs.Rows.{Table, trees, within-limits}
 use Rattle.sheet.specs.Sheet.{load}
-use Rattle.cse.specs.Demand.{Demand3}
+use Rattle.cse.specs.Demand.{flat-shaped, Demand3}
 use Rattle.tree.specs.Layout.{table-of, laid-out}
 use Rattle.tree.proofs.LayoutLaws.{laid-out-passes}
 use Rattle.tree.specs.Passes.{passes}
@@ -21,10 +21,11 @@ use Rattle.sheet.proofs.SheetPasses.{accepted-passes}
 use Rattle.cse.proofs.FlatCount.{flat-no-repeats, flat-counted, flat-count}
 use Rattle.cse.proofs.Refusals as refusals
 use Rattle.cse.proofs.ReciprocalBindings as bindings
-use Rattle.cse.proofs.ReciprocalBindings.{All-flat}
 use Rattle.cse.proofs.ScopedCount as counts
 use Rattle.cse.proofs.CleanDivisors.{Plain-divisors}
+use Rattle.cse.proofs.BoundSwitches.{no-switch-bound}
 use Rattle.cse.proofs.RoomEnough as room
+use Rattle.cse.proofs.PlainBound as plain
 use Rattle.cse.proofs.ScopeRoom as scopes
 use Rattle.cse.proofs.ScopeRoom.{by-held}
 use Rattle.tree.proofs.Logic.{and-left, and-right}
@@ -59,9 +60,16 @@ flat-never-11 es h e = refusals.flat-never-11 es (passes-unmade es h) e
 pub refused-by-10-11-or-23 : (scoped : Bool) (es : List Tree) (i : Refusal) → answer scoped es ≡ refused i → (i ≡ by 10) ⊎ ((i ≡ by 11) ⊎ (i ≡ by 23))
 refused-by-10-11-or-23 = refusals.refused-by-10-11-or-23
 
--- and by 10 or 11 alone, never by 23, where each divisor of the list holds a symbol, or no Select or Branch
-pub scoped-refused-by-10-or-11 : (es : List Tree) → T (passes es) → Plain-divisors es → (i : Refusal) → answer true es ≡ refused i → (i ≡ by 10) ⊎ (i ≡ by 11)
+-- and by 10 or 11 alone, never by 23, where no scope that is reached binds a divisor with a switch outside arms
+pub scoped-refused-by-10-or-11 : (es : List Tree) → T (passes es) → T (no-switch-bound es) → (i : Refusal) → answer true es ≡ refused i → (i ≡ by 10) ⊎ (i ≡ by 11)
 scoped-refused-by-10-or-11 es h p = room.refused-by-10-or-11 es (passes-formed es h) (passes-unmade es h) (passes-limits es h) p
+
+-- so where each divisor of the list holds a symbol, or no Select or Branch
+pub plain-none-bound : (es : List Tree) → T (passes es) → Plain-divisors es → T (no-switch-bound es)
+plain-none-bound es h p = plain.plain-none-bound es (passes-formed es h) (passes-unmade es h) (passes-limits es h) p
+
+pub plain-refused-by-10-or-11 : (es : List Tree) → T (passes es) → Plain-divisors es → (i : Refusal) → answer true es ≡ refused i → (i ≡ by 10) ⊎ (i ≡ by 11)
+plain-refused-by-10-or-11 es h p = scoped-refused-by-10-or-11 es h (plain-none-bound es h p)
 
 -- for a list that passes 9 more than nine open scopes would change nothing
 pub nine-scopes : (fuel : ℕ) → scopes-open ≤ fuel → (scoped : Bool) (es : List Tree) → T (passes es) → answer scoped es ≡ (cse-scope fuel scoped 0 es >>= λ a. ok (as-answer a))
@@ -73,7 +81,7 @@ pub scoped-by-held : (fuel : ℕ) → scopes-open ≤ fuel → (es : List Tree) 
 scoped-by-held fuel m es h = scopes.answer-by-held fuel m es (passes-limits es h)
 
 -- in a flat answer each statement binds some `__xi`, and where i is not below the extraction count, to 1 / d
-pub flat-reciprocals : (es : List Tree) → T (passes es) → (a : Answer) → answer false es ≡ ok a → All-flat (a .extracted) (a .inters)
+pub flat-reciprocals : (es : List Tree) → T (passes es) → (a : Answer) → answer false es ≡ ok a → flat-shaped a
 flat-reciprocals es h = bindings.flat-reciprocals es (passes-unmade es h)
 
 -- in each answer the Lets, arms included, are as many as the extraction count says and some more, and at least as many as these are of the form 1 / d

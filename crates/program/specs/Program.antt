@@ -1,5 +1,6 @@
--- What the programs write: `csesheet` for the flat answer, and its twin for the scoped one (01, "Sheet and printing"). No size of a table or buffer is in it, and so
--- no 7, 8, 12, 13 or 14: what a program lends has to be long enough for every answer. Assumes nothing.
+-- What the programs write (01, "Sheet and printing"): `csesheet` the flat answer, by `written`, in which no size of a table or buffer stands, and so no 7, 8, 12, 13 or
+-- 14: what it lends has to be long enough for every answer. Its twin `csescoped` writes the scoped one by the three calls with what it lends, 131,072 rows and 524,288
+-- bytes, and so refuses by 12 or 14 an answer that is longer; where they are enough it is `written true` (passing/proofs/Enough). Assumes nothing.
 use mathlib.Core.Bool.{Bool, true, false}
 use mathlib.Core.List.{List, _++_}
 use Prim.Native.Nat.{ℕ}
@@ -9,6 +10,7 @@ use Rattle.tree.specs.Rows.{trees}
 use Rattle.cse.specs.Answer.{answer-text}
 use Rattle.cse.specs.Scope.{answer}
 use Rattle.sheet.specs.Sheet.{load}
+use Rattle.program.specs.Calls.{by-calls}
 
 -- a text as it is, and a refusal as a line
 unfoldable pub reply : Outcome (List ℕ) → List ℕ
@@ -25,5 +27,5 @@ unfolding written
 csesheet sheet = written false sheet
 
 unfoldable pub csescoped : List ℕ → List ℕ
-unfolding written
-csescoped sheet = written true sheet
+unfolding by-calls reply
+csescoped sheet = reply (by-calls true 131072 524288 sheet)

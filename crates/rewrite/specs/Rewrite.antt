@@ -50,12 +50,13 @@ unfoldable mutual
   flatten-after nil p = p
   flatten-after (t ◂ f) p = flatten-after f (times p (flatten-mul-factors t))
 
--- The integer of a rebuilt coefficient, or refusal 10: minus zero, an infinity, NaN, a fraction, or 10^15 and more in magnitude.
+-- an integer by its sign and size; minus zero is none
 unfoldable pub whole-number : Bool → ℕ → Outcome ℤ
 whole-number false n = ok (pos n)
 whole-number true zero = refused (by 10)
 whole-number true (suc n) = ok (negsuc n)
 
+-- The integer of a rebuilt coefficient, or refusal 10: minus zero, an infinity, NaN, a fraction, or 10^15 and more in magnitude.
 unfoldable pub constant-of : Float → Outcome ℤ
 unfolding whole-number
 constant-of nan = refused (by 10)

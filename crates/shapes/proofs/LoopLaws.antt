@@ -1,5 +1,5 @@
 -- The expression writer's loop over an operation's operands: what is written since the loop began, and passed, after i of them. Assumes nothing.
-use Prim.Native.Nat.{ℕ, _+_, _*_, _-_, _≤_, _<_}
+use Prim.Native.Nat.{ℕ, zero, suc, _+_, _*_, _≤_, _<_}
 use native.Mathlib.Numerals.{add-one}
 use native.Mathlib.Omega.{arith}
 use mathlib.Core.Path.{_≡_, refl, sym, _∙_, ap, subst}
@@ -22,7 +22,7 @@ use Rattle.shapes.specs.Operands.{opening, closing, brackets, between, o
 use Rattle.shapes.specs.Places.{tree-here, Stands, Passes}
 use Rattle.shapes.proofs.PlaceLaws.{below-here, Operand, operand}
 use Rattle.shapes.proofs.OperandLaws.{operation-layout, operands-more, no-operands}
-use Rattle.shapes.proofs.NodeLaws.{names, stands-node, stands-inside, here-size, operation-is, display-operation, ok-operation, ok-at}
+use Rattle.shapes.proofs.NodeLaws.{names, stands-node, here-size, operation-is, display-operation, ok-operation, ok-at}
 
 -- the operands of the node at a place
 abbrev pub under : List ℕ → List ℕ → ℕ → List Tree
@@ -47,6 +47,12 @@ one-size t = omega arith
 display-is : (t : Tree) → display t ≡ part t .text
 unfolding display
 display-is t = refl
+
+operand-fits : (l : List Tree) (i : ℕ) (d : Tree) → i < length l → size (getD l i d) ≤ sizes l
+unfolding sizes total
+operand-fits [] i d h = absurd (omega arith)
+operand-fits (t ∷ l) zero d h = omega arith
+operand-fits (t ∷ l) (suc i) d h = omega (arith, operand-fits l i d (omega arith))
 
 -- operand i is written with what stands before it
 operand-written : {dry : Bool} {out mid new : List ℕ} {end start next e : ℕ} (k i p : ℕ) (t u : Tree) → t ≡ u
@@ -93,11 +99,8 @@ module _ {rows ws : List ℕ} {at : ℕ} (S : Stands rows ws at) (no-symbol : ki
       good = subst (λ (t : Tree). T (tree-ok t)) (sym is) (ok-at (under rows ws at) i (Op 0 nil) (and-right (operands-ok (kind-at ws at) (length (under rows ws at))) (trees-ok (under rows ws at)) tested) (omega (arith, many)));
     }
 
-    pub later : at < next
-    later = omega (arith, W .token)
-
-    pub less-left : (length ws - next) * 2 + 1 < (length ws - at) * 2
-    less-left = omega (arith, later, stands-inside stands)
+    pub smaller : size (tree-here rows ws next) * 2 + 1 < size (tree-here rows ws at) * 2
+    smaller = omega (arith, ap size is, operand-fits (under rows ws at) i (Op 0 nil) (omega (arith, many)), here-size S)
 
     taken : take (i + 1) (under rows ws at) ≡ take i (under rows ws at) ++ (getD (under rows ws at) i (Op 0 nil) ∷ [])
     taken = rw (add-one i) (take-suc (under rows ws at) i (Op 0 nil) (omega (arith, many)))

@@ -1,3 +1,4 @@
+pub mod Readings
 pub mod TreeLaws
 pub mod Logic
 pub mod Tests

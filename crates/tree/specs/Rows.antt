@@ -20,11 +20,12 @@ Table = record { rows : List Row; roots : List ℕ }
 
 -- ---- trees
 
--- each node's tree, from those before it
+-- the trees of some node numbers
 unfoldable pub at : List Tree → List ℕ → List Tree
 at ts [] = []
 at ts (n ∷ ns) = getD ts n (Op 0 nil) ∷ at ts ns
 
+-- a node's tree, from those of the nodes before it
 unfoldable pub tree-of-row : List Tree → Row → Tree
 unfolding at forest
 tree-of-row ts (row-sym s) = Sym (input s)

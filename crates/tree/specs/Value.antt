@@ -1,4 +1,4 @@
--- Readings of symbols and operations as residues, the value of a tree and of an answer (01, "Value, for demand 3"). Assumes nothing.
+-- Readings of symbols and operations as residues, and the value of a tree (01, "Value, for demand 3"). Assumes nothing.
 use Prim.Native.Nat.{ℕ, suc, _+_, _-_, _*_, _%_, _≤_, min}
 use mathlib.Core.Bool.{Bool, cond}
 use mathlib.Core.List.{List, [], _∷_}
@@ -39,7 +39,7 @@ unfoldable pub product : List ℕ → ℕ
 product [] = 1
 product (a ∷ l) = a * product l
 
--- the first two of a list
+-- a rule on the first two of a list, 0 where there are fewer
 unfoldable pub binary : (ℕ → ℕ → ℕ) → List ℕ → ℕ
 binary g [] = 0
 binary g (a ∷ []) = 0
@@ -57,8 +57,7 @@ module _ (R : Reading) where
   switched k [] = 0
   switched k (q ∷ arms) = getD arms (choice k (length arms) q) 0
 
-  -- An operation on its operands' residues, not yet reduced. A Mul multiplies all its operands, and a Neg negates their product:
-  -- 01 has two under a Mul and one under a Neg.
+  -- any operation but a Mul and a Neg on its operands' residues, not yet reduced
   unfoldable pub other : ℕ → List ℕ → ℕ
   unfolding binary switched
   other k vs =
@@ -68,6 +67,7 @@ module _ (R : Reading) where
       (cond (is-switch k) (switched k vs)
       (R .function k vs))))
 
+  -- an operation: a Mul multiplies all its operands, and a Neg negates their product; 01 has two under a Mul and one under a Neg
   unfoldable pub apply : ℕ → List ℕ → ℕ
   unfolding product other
   apply k vs = cond (eqb k Mul) (product vs) (cond (eqb k Neg) (R .modulus - product vs % R .modulus) (other k vs)) % R .modulus

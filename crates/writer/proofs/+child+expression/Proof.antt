@@ -1,11 +1,12 @@
--- The proof of the cycle {child, expression}. Each measure is twice the words that are left, one more for `child`. Assumes nothing.
+-- The proof of the cycle {child, expression}. Each measure is twice the size of the tree, one more for `child`. Assumes nothing.
 use mathlib.Core.Path.{_∙_}
 use mathlib.Core.Bool.{true, false}
-use lib.ListN.{length}
+use Rattle.tree.specs.Facts.{size}
+use Rattle.shapes.specs.Places.{tree-here}
 use native.Mathlib.Omega.{arith}
 use Rattle.emit.proofs.WriteLaws.{writes-length}
 use Rattle.shapes.proofs.NodeLaws.{stands-inside, child-test, symbol-done, constant-done, plain-done, bracket-done}
-use Rattle.shapes.proofs.LoopLaws.{Writing, begin, stands, less-left, turn, finish}
+use Rattle.shapes.proofs.LoopLaws.{Writing, begin, stands, smaller, turn, finish}
 use borrow.Author.Needs.{needs}
 use Prim.Native.Nat.{ℕ, _<_, _-_, _*_, _+_}
 use borrow.Fn.Kinds.{In}
@@ -28,10 +29,10 @@ use Rattle.writer.proofs.+child+expression.{statement}
 use Rattle.writer.proofs.+child+expression.Tie.{close}
 
 abbrev μ-child : Measures 3 child-kinds.ps ℕ
-μ-child κs a = (length (a .1 .0 .now) - a .1 .1 .0) * 2 + 1
+μ-child κs a = size (tree-here (a .0 .now) (a .1 .0 .now) (a .1 .1 .0)) * 2 + 1
 
 abbrev μ-expression : Measures 3 expression-kinds.ps ℕ
-μ-expression κs a = (length (a .1 .0 .now) - a .1 .1 .0) * 2
+μ-expression κs a = size (tree-here (a .0 .now) (a .1 .0 .now) (a .1 .1 .0)) * 2
 
 abbrev child-at : ℕ → In 3 child-kinds.ps
 child-at t = and 3 child-kinds.ps (is 3 child-kinds.ps μ-child t) child.Pre
@@ -99,7 +100,7 @@ pub +child+expression-spec : {M : Type 1} → statement M
     (λ c κs. search needs)
     (λ c. begin (c .before .before .before .before .before .before .before .before .before .before .pre .1) (c .before .before .before .before .before .if1 .left) (c .before .before .before .before .if2 .left) (c .before .before .put-opening .ensures))
     (λ c κs. search needs)
-    (λ c κs. (omega (arith, less-left (c .before .before .before .before .before .before .before .before .before .before .before .before .before .before .before .before .before .pre .1) (c .before .before .before .before .before .before .before .before .before .before .before .before .if1 .left) (c .before .before .before .before .before .before .before .before .before .before .before .if2 .left) (c .before .before .before .before .before .before .loop .inv) (c .before .before .before .before .before .loop-test .taken), c .before .before .before .before .before .before .before .before .before .before .before .before .before .before .before .before .before .pre .0), stands (c .before .before .before .before .before .before .before .before .before .before .before .before .before .before .before .before .before .pre .1) (c .before .before .before .before .before .before .before .before .before .before .before .before .if1 .left) (c .before .before .before .before .before .before .before .before .before .before .before .if2 .left) (c .before .before .before .before .before .before .loop .inv) (c .before .before .before .before .before .loop-test .taken)))
+    (λ c κs. (omega (arith, smaller (c .before .before .before .before .before .before .before .before .before .before .before .before .before .before .before .before .before .pre .1) (c .before .before .before .before .before .before .before .before .before .before .before .before .if1 .left) (c .before .before .before .before .before .before .before .before .before .before .before .if2 .left) (c .before .before .before .before .before .before .loop .inv) (c .before .before .before .before .before .loop-test .taken), c .before .before .before .before .before .before .before .before .before .before .before .before .before .before .before .before .before .pre .0), stands (c .before .before .before .before .before .before .before .before .before .before .before .before .before .before .before .before .before .pre .1) (c .before .before .before .before .before .before .before .before .before .before .before .before .if1 .left) (c .before .before .before .before .before .before .before .before .before .before .before .if2 .left) (c .before .before .before .before .before .before .loop .inv) (c .before .before .before .before .before .loop-test .taken)))
     (λ c. omega (arith, c .before .before .before .before .before .before .before .before .loop-test .taken, c .before .before .before .before .before .before .before .before .before .before .before .before .before .before .before .before .shared-slice-known3 .given (c .before .before .before .before .before .before .before .before .before .before .before .before .before .before .before .before .before .before .before .before .args .at)))
     (λ c. omega (arith, c .before .before .before .before .before .before .before .before .loop-test .taken))
     (λ c. turn (c .before .before .before .before .before .before .before .before .before .before .before .before .before .before .before .before .before .before .before .before .pre .1) (c .before .before .before .before .before .before .before .before .before .before .before .before .before .before .before .if1 .left) (c .before .before .before .before .before .before .before .before .before .before .before .before .before .before .if2 .left) (c .before .before .before .before .before .before .before .before .before .loop .inv) (c .before .before .before .before .before .before .before .before .loop-test .taken) (c .before .before .before .before .before .before .put-between .ensures) (c .before .before .child .ensures))

@@ -1,0 +1,2 @@
+pub mod ScopedSheet
+pub mod Prints
