@@ -17,8 +17,8 @@ use Rattle.cse.specs.Answer.{Intermediate, Intermediates, Arms, Answer, Let, Ma
 use Rattle.cse.specs.Scope.{answer}
 use Rattle.cse.specs.Demand.{bound-stmts, all-different, known, in-scope, stmt-in-scope, arms-in-scope, well-scoped}
 use Rattle.cse.specs.AnswerRows.{intermediates-ok, list-names, references-ok, answer-words, answer-laid-out}
-use Rattle.cse.proofs.Symbols.{or-left, or-right, or-cases, elem-here, elem-later, holds-all-at}
-use Rattle.cse.proofs.AnyTable.{table-names-and-values}
+use Rattle.cselaws.proofs.Symbols.{or-left, or-right, or-cases, elem-here, elem-later, holds-all-at}
+use Rattle.cselaws.proofs.AnyTable.{table-names-and-values}
 use Rattle.answerlaws.proofs.LaidOut.{rows-laid}
 
 -- ---- the symbols of a table's trees are its rows'

@@ -23,7 +23,7 @@ use Rattle.cse.specs.Answer.{Intermediate, Intermediates, Arms, Answer, Let, Ma
 use Rattle.cse.specs.Read.{arm-count}
 use Rattle.cse.specs.Demand.{bound-stmts, all-different, known, in-scope, stmt-in-scope, arms-in-scope}
 use Rattle.cse.specs.AnswerRows.{let-name, match-names, intermediate-ok, intermediates-ok, arms-ok, list-names, references-ok}
-use Rattle.cse.proofs.Symbols.{or-cases, elem-cases, holds-by, no-elem}
+use Rattle.cselaws.proofs.Symbols.{or-cases, elem-cases, holds-by, no-elem}
 use Rattle.answerlaws.specs.Fitting.{fitting, all-fitting, a-switch-kind, stmt-fitting, stmts-fitting, arms-fitting, numbered-in}
 use Rattle.answerlaws.proofs.SpanLaws.{ok-fitting}
 

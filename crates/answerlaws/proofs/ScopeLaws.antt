@@ -24,7 +24,7 @@ use Rattle.cse.specs.Answer.{Intermediate, Intermediates, Arms, Let, Match, end
 use Rattle.cse.specs.Read.{arm-count}
 use Rattle.cse.specs.Demand.{bound-stmt, bound-stmts, bound-arms, known, in-scope, stmt-in-scope, arms-in-scope}
 use Rattle.cse.specs.AnswerRows.{let-row, match-row, name-row, arm-row, value-row, step-count, names-words, each-words, intermediate-words, intermediates-words, arms-words, let-name, match-names, intermediate-ok, intermediates-ok, arms-ok, list-names}
-use Rattle.cse.proofs.Symbols.{elem-here, elem-later}
+use Rattle.cselaws.proofs.Symbols.{elem-here, elem-later}
 use Rattle.answerlaws.specs.Fitting.{an-operation-kind, fitting, fitting-each, all-fitting, a-switch-kind, stmt-fitting, stmts-fitting, arms-fitting, numbered-in}
 use Rattle.answerlaws.specs.Seen.{span-words, entered, names-bind, match-binds, binds, bound-by, is-use, use-ok, seen}
 use Rattle.answerlaws.proofs.ListNames.{numbered-back, made-names, made-append, made-no-input, let-made, match-made}

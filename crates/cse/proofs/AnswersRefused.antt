@@ -14,7 +14,10 @@ use Rattle.tree.specs.Kinds.{Add, Mul, Div, Sin, Cos, Select}
 use Rattle.tree.specs.Bytes.{bytes}
 use Rattle.tree.specs.Facts.{all-operations}
 use Rattle.tree.specs.Value.{Reading, Env, values}
-use Rattle.cse.specs.Answer.{Intermediates, Arms, Answer, Let, Match, end, step, no-arm, arm}
+use Rattle.tree.specs.Outcome.{ok}
+use Rattle.cse.specs.Answer.{Intermediate, Intermediates, Arms, Answer, Let, Match, end, step, no-arm, arm}
+use Rattle.cse.specs.Order.{topo-sort-intermediates}
+use Rattle.cse.specs.Scope.{Switch, member-names}
 use Rattle.cse.specs.Read.{set, answer-values}
 use Rattle.cse.specs.Demand.{well-scoped, values-kept, flat-shaped, bound-exprs, depends, no-repeats, extracted-exprs, counted, count-bounded}
 
@@ -72,6 +75,10 @@ right1 n = given n (lets 0 (v "a" ⊕ v "b") end) (x 0 ⊗ v "c" ∷ sin (x 0) �
 abbrev list2 : List Tree
 list2 = sin (v "a" ⊕ v "b") ∷ cos (v "a" ⊕ v "b") ∷ sin (v "c" ⊕ v "d") ∷ cos (v "c" ⊕ v "d") ∷ []
 
+-- a symbol twice
+abbrev twice-a : List Tree
+twice-a = v "a" ∷ v "a" ∷ []
+
 -- M5: a reciprocal, and no extraction
 abbrev list5 : List Tree
 list5 = v "p" ⊘ Const (pos 2) ∷ v "q" ⊘ Const (pos 2) ∷ []
@@ -88,6 +95,16 @@ right-i = given 0 (on-i (gives (v "a") (gives (v "b") no-arm))) (m 0 ∷ [])
 
 abbrev swapped-i : Answer
 swapped-i = given 0 (on-i (gives (v "b") (gives (v "a") no-arm))) (m 0 ∷ [])
+
+-- a match on `__x0`, the statement that binds it, and a switch as collected
+abbrev on-x0 : Intermediate
+on-x0 = Match Select (x 0) (mname 1 ∷ []) (gives (v "a") no-arm)
+
+abbrev let-x0 : Intermediate
+let-x0 = Let (xname 0) (v "b")
+
+abbrev switch-i : Switch
+switch-i = record { tree = Op Select (v "i" ◂ v "a" ◂ nil); kind = Select; key = v "i"; arms = v "a" ∷ [] }
 
 -- modulo 5; i picks the arm of its value, a is 1 and b is 2
 abbrev by-5 : Reading
@@ -171,12 +188,24 @@ pub record Right-answers : Type 0 where
   arm-with-let : answer-values by-5 (i-is 0) (given 0 (on-i (arm (lets 1 (v "a" ⊕ v "b") end) (x 1 ∷ []) no-arm)) (m 0 ∷ [])) ≡ values by-5 (i-is 0) (Op Select (v "i" ◂ (v "a" ⊕ v "b") ◂ nil) ∷ [])
   -- 1 + 2 may stand twice, as in M7
   constants-alone : T (not (depends (λ n. true) (Const (pos 1) ⊕ Const (pos 2))))
+  -- and a symbol too, which is no operation
+  leaves-alone : no-repeats twice-a (given 0 end twice-a)
   shapes : flat-shaped (right1 1) × flat-shaped right5
   counts : counted (right1 1) × counted right5
   operations : count-bounded list1 (right1 1) × count-bounded list5 right5
+  -- a match comes after what its key reads
+  match-after-its-key : topo-sort-intermediates (let-x0 ∷ on-x0 ∷ []) ≡ ok (let-x0 ∷ on-x0 ∷ [])
+  -- and each of its members has a name of its own
+  members-named : member-names 3 (switch-i ∷ switch-i ∷ []) ≡ mname 3 ∷ mname 4 ∷ []
+
+leaf-twice : no-repeats twice-a (given 0 end twice-a)
+unfolding no-repeats
+leaf-twice (Sym n) h d = absurd h
+leaf-twice (Const c) h d = absurd h
+leaf-twice (Op k f) h d = omega arith
 
 pub right-answers : Right-answers
-unfolding well-scoped answer-values values set depends bound-exprs extracted-exprs all-operations
+unfolding well-scoped answer-values values set depends bound-exprs extracted-exprs all-operations topo-sort-intermediates member-names
 right-answers =
     record {
       names = (tt, tt);
@@ -184,7 +213,10 @@ right-answers =
       no-arm-picked = refl;
       arm-with-let = refl;
       constants-alone = tt;
+      leaves-alone = leaf-twice;
       shapes = (((λ h. absurd (omega arith)), tt), ((λ h. (Const (pos 2), refl)), tt));
       counts = (refl, refl);
       operations = ((omega arith), (omega arith));
+      match-after-its-key = refl;
+      members-named = refl;
     }

@@ -22,7 +22,7 @@ use Rattle.cse.specs.Answer as answers
 use Rattle.cse.specs.AnswerRows.{answer-of, answer-words}
 use Rattle.cse.specs.Scope.{answer}
 use Rattle.cse.specs.Call.{Extracted, work-words, work-bytes, extract-call, table-after}
-use Rattle.cse.proofs.BoundSwitches.{no-switch-bound}
+use Rattle.cselaws.proofs.BoundSwitches.{no-switch-bound}
 use Rattle.answerlaws.proofs.LaidOut.{uncounted}
 use Rattle.passing.proofs.Printed.{answer-read-back}
 use Rattle.program.proofs.Operation.{Called, call-is, Answers-for, answered-call, flat-refused-by-8-9-10-or-12, scoped-refused-by-8-9-10-11-12-or-23, scoped-refused-by-8-9-10-11-or-12}

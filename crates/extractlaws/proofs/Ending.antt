@@ -15,7 +15,7 @@ use Rattle.cse.specs.AnswerRows.{answer-words}
 use Rattle.cse.specs.Order.{topo-sort-intermediates}
 use Rattle.cse.specs.Scope.{Scoped, Work, unfused, finish, as-answer, answer}
 use Rattle.cse.specs.Call.{Extracted, work-words, work-bytes, extract-call}
-use Rattle.cse.proofs.Outcomes.{Good, then-good, any-good, good-at}
+use Rattle.cselaws.proofs.Outcomes.{Good, then-good, any-good, good-at}
 use Rattle.renaming.specs.Places.{divisors-to-bind}
 use Rattle.renaming.specs.Rounds.{state-of}
 use Rattle.renaming.proofs.RowNames.{tree-words}

@@ -16,7 +16,7 @@ use Rattle.tree.specs.Rows.{Row}
 use Rattle.tree.specs.Tokens.{read, numbered, name-in, trees-in}
 use Rattle.tree.proofs.TokenLaws.{complete-length}
 use Rattle.cse.specs.Extract.{extract-all}
-use Rattle.cse.proofs.Refusals.{Ten, only-at, extract-all-ten}
+use Rattle.cselaws.proofs.Refusals.{Ten, only-at, extract-all-ten}
 use Rattle.checked.specs.Check.{word-ok}
 use Rattle.renaming.specs.Names.{is-number, symbols-pass}
 use Rattle.renaming.specs.Places.{numbered-at, best-place, divisors-to-bind}

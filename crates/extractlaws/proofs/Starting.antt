@@ -20,7 +20,7 @@ use Rattle.tree.proofs.LayoutLaws.{laid-out-passes}
 use Rattle.tree.proofs.TokenLaws.{complete-length}
 use Rattle.tree.proofs.TokenCode.{unnumbered, all-tokens-length, renamed-name, renamed as renamed-by}
 use Rattle.rewrite.proofs.Names.{holds-all}
-use Rattle.cse.proofs.RoundsCount.{made-before}
+use Rattle.cselaws.proofs.RoundsCount.{made-before}
 use Rattle.checked.specs.Check.{rows-in}
 use Rattle.renaming.specs.Names.{is-number, symbols-pass}
 use Rattle.renaming.specs.Rounds.{next-number}

@@ -17,7 +17,7 @@ use Rattle.cse.specs.AnswerRows.{answer-words}
 use Rattle.cse.specs.Order.{at-each, topo-sort-intermediates}
 use Rattle.cse.specs.Scope.{Scoped, binds, unfused, finish, as-answer}
 use Rattle.cse.specs.Call.{Extracted}
-use Rattle.cse.proofs.RowCount.{answer-long}
+use Rattle.cselaws.proofs.RowCount.{answer-long}
 use Rattle.words.specs.Words.{number}
 use Rattle.renaming.specs.Rounds.{by-number, next-number, state-of}
 use Rattle.reciprocals.proofs.Parts.{All-there}

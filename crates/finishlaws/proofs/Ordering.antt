@@ -12,7 +12,7 @@ use Rattle.tree.specs.Tokens.{trees-in}
 use Rattle.tree.proofs.TokenCode.{coded, all-coded}
 use Rattle.cse.specs.Answer.{Intermediate, names, free}
 use Rattle.cse.specs.Order.{meets, needs, nothing, at-each, positions-taken, topo-sort-intermediates}
-use Rattle.cse.proofs.OrderLaws.{All, taken-ok}
+use Rattle.cselaws.proofs.OrderLaws.{All, taken-ok}
 use Rattle.bits.specs.Bits.{yes}
 use Rattle.order.specs.Needs.{table-of, rows-from}
 use Rattle.order.proofs.Sorted.{table-needs, sorted-all, sorted-ring}

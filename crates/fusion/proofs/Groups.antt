@@ -7,8 +7,8 @@ use lib.ListN.{length}
 use Rattle.tree.specs.Outcome.{Outcome, ok, refused, _>>=_}
 use Rattle.tree.specs.Tree.{Tree}
 use Rattle.cse.specs.Scope.{Group, members, Scoped, Armed, scope-arms}
-use Rattle.cse.proofs.OrderLaws.{All, all-map}
-use Rattle.cse.proofs.Outcomes.{Good, good-ok, then-good, any-good}
+use Rattle.cselaws.proofs.OrderLaws.{All, all-map}
+use Rattle.cselaws.proofs.Outcomes.{Good, good-ok, then-good, any-good}
 use Rattle.fusion.specs.Settled.{Numbered, group-columns, Walked, numbered-groups}
 use Rattle.fusion.specs.Words.{numbers-from, all-numbers}
 

@@ -11,7 +11,7 @@ use lib.Dec.{T, eqb, eqb→eq, eqb-refl}
 use Rattle.tree.specs.Outcome.{Outcome, ok, refused, by}
 use Rattle.cse.specs.Answer.{Intermediate, block, stmt-rows, stmts-rows}
 use Rattle.cse.specs.Order.{needs, member, positions-taken, nothing, at-each, topo-sort-intermediates}
-use Rattle.cse.proofs.OrderLaws.{member-cases, member-later, member-here, All, Distinct, taken-ok, none-missing, remove}
+use Rattle.cselaws.proofs.OrderLaws.{member-cases, member-later, member-here, All, Distinct, taken-ok, none-missing, remove}
 
 -- ---- sums at positions
 

@@ -12,9 +12,9 @@ use Rattle.tree.proofs.Logic.{and-left, and-right}
 use Rattle.tree.proofs.TreeLaws.{eq-tree-sound}
 use Rattle.rewrite.specs.Rewrite.{replace-outside-arms, replace-operands, replace-key}
 use Rattle.cse.specs.Scope.{Switch, Group, collect-switches, groups-from, members, Scoped, scope-arms}
-use Rattle.cse.proofs.Outcomes.{Good, good-ok, then-good, any-good}
-use Rattle.cse.proofs.Symbols.{holds-all-by}
-use Rattle.cse.proofs.SwitchLaws.{Fair, Fair-groups, All-like, members-like, groups-fair}
+use Rattle.cselaws.proofs.Outcomes.{Good, good-ok, then-good, any-good}
+use Rattle.cselaws.proofs.Symbols.{holds-all-by}
+use Rattle.cselaws.proofs.SwitchLaws.{Fair, Fair-groups, All-like, members-like, groups-fair}
 use Rattle.fusion.specs.Settled.{Step, fused-tree, member-steps, group-columns, Walked, numbered-groups, group-steps, all-steps}
 use Rattle.fusion.specs.Whole.{settled-roots, scope-groups}
 use Rattle.fusion.specs.Switchless.{switch-node, switchless, switchless-each, all-switchless}

@@ -14,7 +14,7 @@ use Rattle.tree.proofs.FactLaws.{size-one}
 use Rattle.rewrite.proofs.Measure.{sum-each, size-op}
 use Rattle.cse.specs.Extract.{among, distinct}
 use Rattle.cse.specs.Scope.{Switch, Group, switches, collect-switches, joins, place, groups-from, members, Scoped}
-use Rattle.cse.proofs.Outcomes.{Good}
+use Rattle.cselaws.proofs.Outcomes.{Good}
 use Rattle.fusion.specs.Settled.{member-steps, Numbered, Walked, numbered-groups, group-steps, all-steps}
 use Rattle.fusion.specs.Whole.{settled-roots, scope-groups}
 use Rattle.fusion.proofs.Members.{steps-count}

@@ -17,7 +17,7 @@ use Rattle.tree.specs.Passes.{of-paper, operands-ok}
 use Rattle.tree.proofs.Formed.{operand-count}
 use Rattle.tree.proofs.Logic.{and-left, and-right, and-both}
 use Rattle.rewrite.specs.Rewrite.{Factors, one, negated, times, flatten-mul-factors, flatten-operands, flatten-after, whole-number, constant-of, nested-product, with-coefficient, built, build-mul-from-factors, remove-first, remove-each, is-mul, match-factors, each-operand, replace-within, replace}
-use Rattle.cse.proofs.Outcomes.{Good, then-good, good-ok}
+use Rattle.cselaws.proofs.Outcomes.{Good, then-good, good-ok}
 use Rattle.renaming.specs.Rounds.{extract-on}
 
 -- a rebuilt coefficient is a constant of 01

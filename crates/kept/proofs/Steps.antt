@@ -22,8 +22,8 @@ use Rattle.rewrite.specs.Rewrite.{replace}
 use Rattle.rewrite.proofs.Measure.{sum-of}
 use Rattle.rewrite.proofs.Names.{holds-all}
 use Rattle.cse.specs.Extract.{is-candidate}
-use Rattle.cse.proofs.Outcomes.{Good, then-good, good-ok, good-at}
-use Rattle.cse.proofs.RoundsCount.{made-before, candidate-facts}
+use Rattle.cselaws.proofs.Outcomes.{Good, then-good, good-ok, good-at}
+use Rattle.cselaws.proofs.RoundsCount.{made-before, candidate-facts}
 use Rattle.checked.specs.Check.{word-ok}
 use Rattle.words.specs.Words.{tree-of, name-of, some-trees, one-tree, sound}
 use Rattle.replacing.specs.Replacing.{replaced-words, formed-word, has-symbol-word, lacks, replaceable}

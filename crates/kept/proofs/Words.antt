@@ -27,7 +27,7 @@ use Rattle.tree.proofs.Tests.{eq→eqb}
 use Rattle.rewrite.proofs.DivisorCount.{or-cases}
 use Rattle.rewrite.proofs.Names.{holds, holds-each, holds-all}
 use Rattle.rewrite.proofs.Counts.{well-formed-all}
-use Rattle.cse.proofs.RoundsCount.{made-before}
+use Rattle.cselaws.proofs.RoundsCount.{made-before}
 use Rattle.words.specs.Words.{name-of}
 use Rattle.replacing.specs.Replacing.{formed-word, has-symbol-word, lacks}
 use Rattle.renaming.specs.Places.{numbered-at}

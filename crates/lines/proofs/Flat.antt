@@ -15,8 +15,8 @@ use Rattle.cse.specs.Extract.{Binding, reciprocals}
 use Rattle.cse.specs.Answer.{Intermediate, Intermediates, Answer, Let, Match, block, answer-text}
 use Rattle.cse.specs.AnswerRows.{answer-words, intermediates-ok}
 use Rattle.cse.specs.Scope.{binds, answer}
-use Rattle.cse.proofs.FlatCount.{parts}
-use Rattle.cse.proofs.SortCount.{Every, sorted-every}
+use Rattle.cselaws.proofs.FlatCount.{parts}
+use Rattle.cselaws.proofs.SortCount.{Every, sorted-every}
 use Rattle.answerlaws.proofs.ListNames.{answer-fits}
 use Rattle.answerlaws.proofs.ExtractRefs.{extract-references}
 use Rattle.checked.specs.Check.{rows-in}

@@ -7,7 +7,7 @@ use native.Mathlib.Omega.{arith}
 use lib.Dec.{T}
 use lib.ListN.{length}
 use Rattle.cse.specs.Order.{member, free-from, joining, push, take-all, positions-taken}
-use Rattle.cse.proofs.OrderLaws.{All, Distinct, taken-ok, taken-enough, at-most}
+use Rattle.cselaws.proofs.OrderLaws.{All, Distinct, taken-ok, taken-enough, at-most}
 use Rattle.order.proofs.Stacks.{push-length}
 
 -- what holds of the whole order holds of what was taken before

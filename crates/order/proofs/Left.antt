@@ -9,7 +9,7 @@ use lib.Dec.{T, eqb, eqb·suc-zero, eqb·suc-suc}
 use lib.ListN.{length, getD}
 use Rattle.bits.specs.Bits.{yes}
 use Rattle.cse.specs.Order.{member, within, joining}
-use Rattle.cse.proofs.OrderLaws.{Distinct}
+use Rattle.cselaws.proofs.OrderLaws.{Distinct}
 use Rattle.order.specs.Needs.{columns, rows-from, table-of}
 use Rattle.order.specs.Turns.{joined, lower, joins}
 

@@ -15,10 +15,10 @@ use Rattle.rewrite.proofs.Counts.{well-formed-all}
 use Rattle.rewrite.proofs.Names.{holds-all}
 use Rattle.cse.specs.Answer.{Arms, Match, no-arm, arm, block, symbols, all-symbols, free, free-stmts, free-arms, elem}
 use Rattle.cse.specs.Scope.{Group, Scoped, Armed, members, arms-of-members, scope-arms}
-use Rattle.cse.proofs.Outcomes.{Good, then-good, good-ok}
-use Rattle.cse.proofs.Symbols.{decide, or-left, or-right, or-cases, elem-left, elem-right, elem-append, holds-all-at, Sub, sub-left, sub-right, sub-append, no-elem, holds-all-by}
-use Rattle.cse.proofs.SwitchLaws.{Fair-group, All-hold}
-use Rattle.cse.proofs.ScopeValue.{under, under-le, hold-more}
+use Rattle.cselaws.proofs.Outcomes.{Good, then-good, good-ok}
+use Rattle.cselaws.proofs.Symbols.{decide, or-left, or-right, or-cases, elem-left, elem-right, elem-append, holds-all-at, Sub, sub-left, sub-right, sub-append, no-elem, holds-all-by}
+use Rattle.cselaws.proofs.SwitchLaws.{Fair-group, All-hold}
+use Rattle.cselaws.proofs.ScopeValue.{under, under-le, hold-more}
 use Rattle.outernames.proofs.Rounds.{New}
 use Rattle.outernames.proofs.Switches.{All-formed, columns-forth, group-columns, group-arms-back}
 

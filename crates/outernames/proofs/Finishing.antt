@@ -14,10 +14,10 @@ use Rattle.cse.specs.Extract.{State, extract-all, reciprocals}
 use Rattle.cse.specs.Answer.{Intermediate, block, all-symbols, free, free-stmts}
 use Rattle.cse.specs.Order.{topo-sort-intermediates}
 use Rattle.cse.specs.Scope.{Work, Scoped, fuse-all, unfused, finish}
-use Rattle.cse.proofs.Outcomes.{Good, then-good, good-ok}
-use Rattle.cse.proofs.SortCount.{summed, sorted-sum}
-use Rattle.cse.proofs.Symbols.{elem-cases, elem-here, elem-later, holds-all-at, Sub, sub-left, sub-right, sub-append, no-elem, holds-all-by}
-use Rattle.cse.proofs.ScopeValue.{under}
+use Rattle.cselaws.proofs.Outcomes.{Good, then-good, good-ok}
+use Rattle.cselaws.proofs.SortCount.{summed, sorted-sum}
+use Rattle.cselaws.proofs.Symbols.{elem-cases, elem-here, elem-later, holds-all-at, Sub, sub-left, sub-right, sub-append, no-elem, holds-all-by}
+use Rattle.cselaws.proofs.ScopeValue.{under}
 use Rattle.renaming.specs.Shown.{extract-all-by, reciprocals-by}
 use Rattle.outernames.proofs.Rounds.{Begun, begun, begun-by}
 use Rattle.outernames.proofs.Arms.{read-by, Same-names}

@@ -13,11 +13,11 @@ use Rattle.rewrite.proofs.Names.{holds, holds-all, holds-append, holds-left, ho
 use Rattle.cse.specs.Extract.{Binding, State, bound, roots}
 use Rattle.cse.specs.Answer.{Intermediate, Let, Match, symbols, free, free-arms}
 use Rattle.cse.specs.Scope.{Switch, Group, Work, Scoped, Armed, collect-switches, groups-from, members, replace-in-results, replace-in-stmts, name-members, member-names, scope-arms, fuse-group, fuse-groups, fuse-all, binds, unfused}
-use Rattle.cse.proofs.Outcomes.{Good, then-good, good-ok}
-use Rattle.cse.proofs.SortCount.{Every}
-use Rattle.cse.proofs.Symbols.{elem-here, elem-later, holds-by, holds-at, Sub, sub-left, sub-right, sub-append, holds-all-by}
-use Rattle.cse.proofs.SwitchLaws.{outside-holds, results-hold, Fair-group, Fair-groups, groups-fair, first-key-known, group-columns-known}
-use Rattle.cse.proofs.ScopeValue.{under, under-le, names-to-come, one-named, name-members-later, names-made, All-trees, hold-more}
+use Rattle.cselaws.proofs.Outcomes.{Good, then-good, good-ok}
+use Rattle.cselaws.proofs.SortCount.{Every}
+use Rattle.cselaws.proofs.Symbols.{elem-here, elem-later, holds-by, holds-at, Sub, sub-left, sub-right, sub-append, holds-all-by}
+use Rattle.cselaws.proofs.SwitchLaws.{outside-holds, results-hold, Fair-group, Fair-groups, groups-fair, first-key-known, group-columns-known}
+use Rattle.cselaws.proofs.ScopeValue.{under, under-le, names-to-come, one-named, name-members-later, names-made, All-trees, hold-more}
 use Rattle.outernames.proofs.Replacing.{outside-back}
 use Rattle.outernames.proofs.Rounds.{New, Begun}
 use Rattle.outernames.proofs.Switches.{group-columns, group-back, All-formed, Columns-formed, groups-columns}

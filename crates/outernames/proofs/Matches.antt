@@ -11,10 +11,10 @@ use Rattle.tree.specs.Tree.{Name, Tree}
 use Rattle.rewrite.proofs.Counts.{well-formed-all}
 use Rattle.cse.specs.Answer.{Match, symbols, free, free-arms, elem}
 use Rattle.cse.specs.Scope.{Group, Work, Scoped, Armed, members, collect-switches, groups-from, name-members, member-names, arms-of-members, scope-arms}
-use Rattle.cse.proofs.Outcomes.{Good, good-at}
-use Rattle.cse.proofs.Symbols.{holds-all-by}
-use Rattle.cse.proofs.SwitchLaws.{Fair-group, Fair-groups, groups-fair, All-hold}
-use Rattle.cse.proofs.ScopeValue.{under, under-le, name-members-later, hold-more}
+use Rattle.cselaws.proofs.Outcomes.{Good, good-at}
+use Rattle.cselaws.proofs.Symbols.{holds-all-by}
+use Rattle.cselaws.proofs.SwitchLaws.{Fair-group, Fair-groups, groups-fair, All-hold}
+use Rattle.cselaws.proofs.ScopeValue.{under, under-le, name-members-later, hold-more}
 use Rattle.outernames.proofs.Switches.{group-columns, All-formed, Columns-formed, groups-columns}
 use Rattle.outernames.proofs.Arms.{column-symbols, Same-names, Same-arms, arms-same, Outside, arms-elem, arms-elem-any, match-elem, columns-elem}
 

@@ -15,10 +15,10 @@ use Rattle.cse.specs.Extract.{Binding, State, roots}
 use Rattle.cse.specs.Answer.{Intermediate, Arms, Let, Match, names, symbols, free, free-arms, elem}
 use Rattle.cse.specs.Order.{meets, needs-from, needs}
 use Rattle.cse.specs.Scope.{Switch, Group, Work, Scoped, Armed, members, collect-switches, groups-from, replace-in-stmts, name-members, member-names, scope-arms, fuse-group, fuse-groups, fuse-all, binds, unfused}
-use Rattle.cse.proofs.Outcomes.{Good, then-good, good-ok, good-at}
-use Rattle.cse.proofs.Symbols.{elem-here, elem-later, elem-left, elem-right, elem-append, Sub, sub-append, all-names}
-use Rattle.cse.proofs.SwitchLaws.{Fair-groups, groups-fair, All-hold, group-columns-known}
-use Rattle.cse.proofs.ScopeValue.{under, under-le, names-to-come, all-names-append, one-named, names-kept, name-members-later, names-made, hold-more}
+use Rattle.cselaws.proofs.Outcomes.{Good, then-good, good-ok, good-at}
+use Rattle.cselaws.proofs.Symbols.{elem-here, elem-later, elem-left, elem-right, elem-append, Sub, sub-append, all-names}
+use Rattle.cselaws.proofs.SwitchLaws.{Fair-groups, groups-fair, All-hold, group-columns-known}
+use Rattle.cselaws.proofs.ScopeValue.{under, under-le, names-to-come, all-names-append, one-named, names-kept, name-members-later, names-made, hold-more}
 use Rattle.outernames.proofs.Rounds.{Begun}
 use Rattle.outernames.proofs.Switches.{group-columns}
 use Rattle.outernames.proofs.Arms.{elem-or, column-symbols, Same-names, Same-arms, Outside, arms-elem-any, free-match}

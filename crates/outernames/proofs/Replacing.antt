@@ -18,7 +18,7 @@ use Rattle.tree.proofs.Logic.{and-left, and-right, and-both}
 use Rattle.rewrite.specs.Rewrite.{Factors, flatten-mul-factors, flatten-operands, flatten-after, times, constant-of, nested-product, with-coefficient, built, build-mul-from-factors, match-factors, each-operand, replace-within, replace, divides-by, replace-divisor, replace-divisors, dividend, replace-outside-arms, replace-operands, replace-key}
 use Rattle.rewrite.proofs.Factors.{factors-of, factors-cases, Put, here, past, Puts, done, also, Matched, matched}
 use Rattle.rewrite.proofs.Names.{holds, holds-each, holds-all, holds-append, holds-left, holds-right}
-use Rattle.cse.proofs.Outcomes.{Good, then-good, good-ok}
+use Rattle.cselaws.proofs.Outcomes.{Good, then-good, good-ok}
 
 -- ---- factors and products
 

@@ -24,11 +24,11 @@ use Rattle.rewrite.proofs.Names.{holds, holds-all, holds-append, holds-left, ho
 use Rattle.cse.specs.Extract.{State, roots, is-candidate, Candidate, candidate, extract, extract-all, divisors, distinct, shared-divisors, replace-divisor-each, bind-reciprocal, bind-reciprocals, reciprocals}
 use Rattle.cse.specs.Answer.{names}
 use Rattle.cse.specs.Scope.{binds}
-use Rattle.cse.proofs.Outcomes.{Good, good-ok, good-at}
-use Rattle.cse.proofs.RoundsCount.{symbol-factor, candidate-facts, Replaced, extracted, begin, begin-roots}
-use Rattle.cse.proofs.ReciprocalsCount.{AllTrees, all-map, divisors-all, inverse, roots-reciprocal, divided-formed, inverse-formed}
-use Rattle.cse.proofs.Symbols.{elem-cases, no-elem, Sub, all-names}
-use Rattle.cse.proofs.ScopeValue.{under, under-le}
+use Rattle.cselaws.proofs.Outcomes.{Good, good-ok, good-at}
+use Rattle.cselaws.proofs.RoundsCount.{symbol-factor, candidate-facts, Replaced, extracted, begin, begin-roots}
+use Rattle.cselaws.proofs.ReciprocalsCount.{AllTrees, all-map, divisors-all, inverse, roots-reciprocal, divided-formed, inverse-formed}
+use Rattle.cselaws.proofs.Symbols.{elem-cases, no-elem, Sub, all-names}
+use Rattle.cselaws.proofs.ScopeValue.{under, under-le}
 use Rattle.renaming.specs.Shown.{beats-by, best-from-by, best-by, rounds-by, extract-all-by, insert-by, sort-by, reciprocals-by}
 use Rattle.renaming.specs.Rounds.{by-number, next-number, state-of, rounds-on, reciprocals-on}
 use Rattle.renaming.proofs.ByText.{extract-all-text, reciprocals-text}

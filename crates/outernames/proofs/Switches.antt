@@ -16,8 +16,8 @@ use Rattle.rewrite.proofs.Counts.{well-formed-all, all-append}
 use Rattle.rewrite.proofs.Names.{holds, holds-each, holds-all}
 use Rattle.cse.specs.Extract.{among, distinct}
 use Rattle.cse.specs.Scope.{Switch, Group, switches, collect-switches, joins, place, groups-from, members, first-arms, rest-arms, columns, arms-of-members}
-use Rattle.cse.proofs.SwitchLaws.{Fair, All-like, members-like, Fair-group, All-hold}
-use Rattle.cse.proofs.ScopeValue.{All-trees}
+use Rattle.cselaws.proofs.SwitchLaws.{Fair, All-like, members-like, Fair-group, All-hold}
+use Rattle.cselaws.proofs.ScopeValue.{All-trees}
 
 -- ---- columns hold all that the arms hold
 

@@ -14,9 +14,9 @@ use Rattle.cse.specs.Extract.{State, roots, extract-all, reciprocals}
 use Rattle.cse.specs.Answer.{block, all-symbols, free-stmts, elem}
 use Rattle.cse.specs.Order.{needs}
 use Rattle.cse.specs.Scope.{Work, Scoped, collect-switches, groups-from, fuse-all, opens, cse-scope}
-use Rattle.cse.proofs.Outcomes.{Good, good-at}
-use Rattle.cse.proofs.ScopeValue.{under}
-use Rattle.cse.proofs.ScopeRoom.{or-no-room, or-not-held}
+use Rattle.cselaws.proofs.Outcomes.{Good, good-at}
+use Rattle.cselaws.proofs.ScopeValue.{under}
+use Rattle.cselaws.proofs.ScopeRoom.{or-no-room, or-not-held}
 use Rattle.outernames.proofs.Arms.{Same-names, Outside, scope-elem, scope-elem-any}
 use Rattle.outernames.proofs.Finishing.{fused-finished, plain-finished, from-input}
 use Rattle.outernames.proofs.Ordering.{needs-of, read-before, fused-needs}

@@ -13,9 +13,9 @@ use Rattle.tree.specs.Facts.{size, nodes, nodes-of, all-nodes, count}
 use Rattle.rewrite.proofs.Measure.{sum-of, sum-each, sizes, size-op, size-up, one-of, one-self, count-cons}
 use Rattle.rewrite.proofs.Counts.{count-nil, one-le, one-equal}
 use Rattle.cse.specs.Extract.{State, roots, divisor-of, divisors}
-use Rattle.cse.proofs.ReciprocalsCount.{AllTrees, bound-divisors, bound-twice}
-use Rattle.cse.proofs.DivisorsMost.{bound-once}
-use Rattle.cse.proofs.SizeCount.{total-size}
+use Rattle.cselaws.proofs.ReciprocalsCount.{AllTrees, bound-divisors, bound-twice}
+use Rattle.cselaws.proofs.DivisorsMost.{bound-once}
+use Rattle.cselaws.proofs.SizeCount.{total-size}
 
 -- ---- divisions among the nodes
 

@@ -18,11 +18,11 @@ use Rattle.rewrite.proofs.Measure.{sum-of, sum-append}
 use Rattle.cse.specs.Extract.{Binding, State, bound, roots, extract-all, replace-divisor-each, bind-reciprocal, bind-reciprocals, reciprocals}
 use Rattle.cse.specs.Answer.{Intermediate, Answer, block, value-rows, stmt-rows, stmts-rows, rows}
 use Rattle.cse.specs.Scope.{binds, answer}
-use Rattle.cse.proofs.PassesLaws.{passes-formed, passes-unmade}
-use Rattle.cse.proofs.FlatCount.{Parts, parts, list-made}
-use Rattle.cse.proofs.SortCount.{summed, sorted-sum}
-use Rattle.cse.proofs.ReciprocalsCount.{inverse, roots-reciprocal, bound-divisors, reciprocals-are}
-use Rattle.cse.proofs.SizeCount.{total-size, extract-all-size, reciprocals-most, reciprocal-each-size}
+use Rattle.cselaws.proofs.PassesLaws.{passes-formed, passes-unmade}
+use Rattle.cselaws.proofs.FlatCount.{Parts, parts, list-made}
+use Rattle.cselaws.proofs.SortCount.{summed, sorted-sum}
+use Rattle.cselaws.proofs.ReciprocalsCount.{inverse, roots-reciprocal, bound-divisors, reciprocals-are}
+use Rattle.cselaws.proofs.SizeCount.{total-size, extract-all-size, reciprocals-most, reciprocal-each-size}
 use Rattle.passing.proofs.DivisionsMost.{bound-quarter}
 use Rattle.passing.proofs.Larger.{reciprocals-add}
 

@@ -20,13 +20,13 @@ use Rattle.cse.specs.Extract.{Binding, State, bound, roots, extract-all, recipr
 use Rattle.cse.specs.Answer.{Intermediate, Intermediates, Answer, Let, block, displays, stmt-text, stmts-texts, lines, answer-text}
 use Rattle.cse.specs.Scope.{binds, answer}
 use Rattle.tree.specs.Value.{values}
-use Rattle.cse.proofs.Outcomes.{good-at}
-use Rattle.cse.proofs.PassesLaws.{passes-unmade}
-use Rattle.cse.proofs.FlatCount.{Parts, parts, some-reading, rounds-model}
-use Rattle.cse.proofs.SortCount.{summed, sorted-sum}
-use Rattle.cse.proofs.RoundsValue.{let-names, Numbered, reciprocals-keep, roots-known}
-use Rattle.cse.proofs.ReciprocalsCount.{AllTrees}
-use Rattle.cse.proofs.SizeCount.{total-size}
+use Rattle.cselaws.proofs.Outcomes.{good-at}
+use Rattle.cselaws.proofs.PassesLaws.{passes-unmade}
+use Rattle.cselaws.proofs.FlatCount.{Parts, parts, some-reading, rounds-model}
+use Rattle.cselaws.proofs.SortCount.{summed, sorted-sum}
+use Rattle.cselaws.proofs.RoundsValue.{let-names, Numbered, reciprocals-keep, roots-known}
+use Rattle.cselaws.proofs.ReciprocalsCount.{AllTrees}
+use Rattle.cselaws.proofs.SizeCount.{total-size}
 use Rattle.lengths.specs.Room.{number-fits, numbers-fit}
 use Rattle.lengths.proofs.Leaves.{symbol-short}
 use Rattle.lengths.proofs.Whole.{text-fits}

@@ -17,11 +17,11 @@ use Rattle.rewrite.proofs.DivisorCount.{divisor-size}
 use Rattle.cse.specs.Extract.{Binding, State, bound, roots, replace-divisor-each, bind-reciprocal, bind-reciprocals, reciprocals}
 use Rattle.cse.specs.Answer.{Intermediate, Intermediates, Answer, Let, Match, end, step, block}
 use Rattle.cse.specs.Scope.{binds, answer}
-use Rattle.cse.proofs.PassesLaws.{passes-formed, passes-unmade}
-use Rattle.cse.proofs.FlatCount.{parts, list-made}
-use Rattle.cse.proofs.SortCount.{Every, sorted-every}
-use Rattle.cse.proofs.ReciprocalsCount.{AllTrees, all-map, inverse, roots-reciprocal, bound-divisors, reciprocals-are}
-use Rattle.cse.proofs.SizeCount.{total-size, extract-all-size, divisor-half}
+use Rattle.cselaws.proofs.PassesLaws.{passes-formed, passes-unmade}
+use Rattle.cselaws.proofs.FlatCount.{parts, list-made}
+use Rattle.cselaws.proofs.SortCount.{Every, sorted-every}
+use Rattle.cselaws.proofs.ReciprocalsCount.{AllTrees, all-map, inverse, roots-reciprocal, bound-divisors, reciprocals-are}
+use Rattle.cselaws.proofs.SizeCount.{total-size, extract-all-size, divisor-half}
 use Rattle.passing.proofs.FlatRows.{few-nodes}
 
 abbrev pub Small : Tree → Type 0

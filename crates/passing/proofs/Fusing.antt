@@ -20,10 +20,10 @@ use Rattle.cse.specs.Read.{arm-count}
 use Rattle.cse.specs.Order.{topo-sort-intermediates}
 use Rattle.cse.specs.AnswerRows.{let-name, match-names}
 use Rattle.cse.specs.Scope.{Switch, Group, Work, Scoped, Armed, switches, collect-switches, joins, place, groups-from, members, replace-in-results, replace-in-stmts, name-members, member-names, first-arms, rest-arms, columns, arms-of-members, scope-arms, fuse-group, fuse-groups, fuse-all, binds, unfused, finish, opens, scopes-open, cse-scope, as-answer, answer}
-use Rattle.cse.proofs.Outcomes.{Good, then-good, good-ok, good-at}
-use Rattle.cse.proofs.SortCount.{Every, sorted-every}
-use Rattle.cse.proofs.SwitchLaws.{length-columns}
-use Rattle.cse.proofs.ScopeRoom.{or-no-room, or-not-held}
+use Rattle.cselaws.proofs.Outcomes.{Good, then-good, good-ok, good-at}
+use Rattle.cselaws.proofs.SortCount.{Every, sorted-every}
+use Rattle.cselaws.proofs.SwitchLaws.{length-columns}
+use Rattle.cselaws.proofs.ScopeRoom.{or-no-room, or-not-held}
 use Rattle.kept.proofs.Passing.{none-fit, one-fits, first-fits, rest-fits}
 use Rattle.passing.proofs.Trees.{Fits, Fits-all, mname-ok, kind-fits, operands-fit, head-fits, tail-fits, list-fits, all-outer-fit, outside-fits}
 use Rattle.passing.proofs.Steps.{Ok-lets, Ok-state, roots-fit, extract-all-ok, reciprocals-ok}

@@ -17,9 +17,9 @@ use Rattle.tree.specs.Facts.{size, nodes, nodes-of, all-nodes, count}
 use Rattle.rewrite.proofs.Measure.{sum-of, sum-each, sizes, size-op, size-up, size-const, one-of, count-cons}
 use Rattle.rewrite.proofs.Counts.{count-nil, count-sym, count-const, count-none, count-operands, count-cases, all-nodes-cons, whole-count, one-equal}
 use Rattle.cse.specs.Extract.{State, roots, divisor-of, divisors}
-use Rattle.cse.proofs.ReciprocalsCount.{AllTrees, all-map, divisors-all, bound-divisors, bound-twice}
-use Rattle.cse.proofs.DivisorsMost.{bound-once}
-use Rattle.cse.proofs.SizeCount.{total-size, reciprocals-most}
+use Rattle.cselaws.proofs.ReciprocalsCount.{AllTrees, all-map, divisors-all, bound-divisors, bound-twice}
+use Rattle.cselaws.proofs.DivisorsMost.{bound-once}
+use Rattle.cselaws.proofs.SizeCount.{total-size, reciprocals-most}
 use Rattle.passing.proofs.DivisionsMost.{operands-count, counts-most, twice-each}
 
 -- ---- those of at least a size

@@ -17,9 +17,9 @@ use Rattle.cse.specs.Read.{arm-count}
 use Rattle.cse.specs.Scope.{answer}
 use Rattle.cse.specs.Demand.{well-scoped}
 use Rattle.cse.specs.AnswerRows.{answer-words, let-name, match-names, intermediate-ok, intermediates-ok, arms-ok, references-ok, answer-laid-out}
-use Rattle.cse.proofs.PassesLaws.{passes-unmade}
-use Rattle.cse.proofs.ScopeNames.{answer-well-scoped}
-use Rattle.cse.proofs.Widths.{even-stmt, even-stmts, even-arms, answer-even}
+use Rattle.cselaws.proofs.PassesLaws.{passes-unmade}
+use Rattle.cselaws.proofs.ScopeNames.{answer-well-scoped}
+use Rattle.cselaws.proofs.Widths.{even-stmt, even-stmts, even-arms, answer-even}
 use Rattle.answerlaws.proofs.ExtractRefs.{extract-references, extract-laid}
 use Rattle.passing.proofs.Trees.{Fits, Fits-all, tree-same, trees-same, expressions-fit}
 use Rattle.passing.proofs.Fusing.{Ok-stmt, Ok-stmts, Ok-arms, answer-ok}

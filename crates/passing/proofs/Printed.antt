@@ -17,7 +17,7 @@ use Rattle.cse.specs.Answer.{Answer, rows, answer-text}
 use Rattle.cse.specs.AnswerRows.{answer-words, answer-of, intermediates-ok, references-ok, answer-laid-out}
 use Rattle.cse.specs.Scope.{answer}
 use Rattle.cse.specs.Call.{Extracted, work-words, work-bytes, extract-call}
-use Rattle.cse.proofs.Outcomes.{Good, good-ok, good-at}
+use Rattle.cselaws.proofs.Outcomes.{Good, good-ok, good-at}
 use Rattle.print.specs.Print.{print-call}
 use Rattle.answerlaws.proofs.ListNames.{answer-fits}
 use Rattle.answerlaws.proofs.LaidOut.{uncounted, same-words, same-references, read-back}

@@ -14,10 +14,10 @@ use Rattle.tree.specs.Passes.{symbol-ok}
 use Rattle.rewrite.specs.Rewrite.{replace, replace-divisor}
 use Rattle.cse.specs.Extract.{Binding, State, bound, roots, is-candidate, replace-bound, extract, extract-all, divisors, replace-divisor-each, replace-divisor-bound, bind-reciprocal, bind-reciprocals, reciprocals}
 use Rattle.cse.specs.AnswerRows.{let-name}
-use Rattle.cse.proofs.Outcomes.{Good, then-good, good-ok, good-at}
-use Rattle.cse.proofs.RoundsCount.{candidate-facts, begin}
-use Rattle.cse.proofs.RoundsGood.{extract-all-good}
-use Rattle.cse.proofs.ReciprocalsCount.{AllTrees, all-map, inverse, bound-divisors, bound-twice, reciprocals-are}
+use Rattle.cselaws.proofs.Outcomes.{Good, then-good, good-ok, good-at}
+use Rattle.cselaws.proofs.RoundsCount.{candidate-facts, begin}
+use Rattle.cselaws.proofs.RoundsGood.{extract-all-good}
+use Rattle.cselaws.proofs.ReciprocalsCount.{AllTrees, all-map, inverse, bound-divisors, bound-twice, reciprocals-are}
 use Rattle.kept.proofs.Passing.{none-fit, one-fits, first-fits, rest-fits, append-fits, replace-fits, replace-each-fits}
 use Rattle.passing.proofs.Trees.{Fits, Fits-all, xname-ok, all-nodes-fit, counted-fits, divisors-fit, inverse-fits, divided-fits}
 

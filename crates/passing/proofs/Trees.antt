@@ -18,7 +18,7 @@ use Rattle.tree.proofs.Logic.{and-left, and-right, and-both}
 use Rattle.rewrite.specs.Rewrite.{divides-by, replace-divisor, replace-divisors, dividend, replace-outside-arms, replace-operands, replace-key}
 use Rattle.rewrite.proofs.Counts.{count-nil, counted-cases}
 use Rattle.cse.specs.Extract.{divisor-of, divisors}
-use Rattle.cse.proofs.ReciprocalsCount.{inverse}
+use Rattle.cselaws.proofs.ReciprocalsCount.{inverse}
 use Rattle.kept.proofs.Passing.{taken, taken-each, all-taken, none-fit, one-fits, first-fits, rest-fits, append-fits}
 
 abbrev pub Fits : Tree → Type 0

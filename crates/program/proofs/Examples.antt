@@ -18,7 +18,7 @@ use Rattle.cse.specs.Extract.{extract-all, reciprocals}
 use Rattle.cse.specs.Scope.{held, fuse-held, cse-scope, answer}
 use Rattle.cse.specs.Demand.{well-scoped}
 use Rattle.cse.specs.Call.{extract-call}
-use Rattle.cse.proofs.BoundSwitches.{no-switch-bound}
+use Rattle.cselaws.proofs.BoundSwitches.{no-switch-bound}
 use Rattle.print.specs.Print.{print-call}
 use Rattle.program.specs.Program.{csesheet, csescoped}
 use Rattle.program.specs.Calls.{by-calls}

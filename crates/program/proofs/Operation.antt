@@ -18,7 +18,7 @@ use Rattle.cse.specs.AnswerRows.{answer-words}
 use Rattle.cse.specs.Scope.{answer}
 use Rattle.cse.specs.Call.{Extracted, work-words, work-bytes, extract-call}
 use Rattle.cse.specs.Demand.{Demand3}
-use Rattle.cse.proofs.BoundSwitches.{no-switch-bound}
+use Rattle.cselaws.proofs.BoundSwitches.{no-switch-bound}
 use Rattle.program.proofs.Whole.{demand3, flat-refused-by-10, refused-by-10-11-or-23, scoped-refused-by-10-or-11}
 
 -- ---- a call by its refusals, in order

@@ -16,21 +16,21 @@ use Rattle.cse.specs.Demand.{flat-shaped, Demand3}
 use Rattle.tree.specs.Layout.{table-of, laid-out}
 use Rattle.tree.proofs.LayoutLaws.{laid-out-passes}
 use Rattle.tree.specs.Passes.{passes}
-use Rattle.cse.proofs.PassesLaws.{passes-formed, passes-unmade}
+use Rattle.cselaws.proofs.PassesLaws.{passes-formed, passes-unmade}
 use Rattle.sheet.proofs.SheetPasses.{accepted-passes}
-use Rattle.cse.proofs.FlatCount.{flat-no-repeats, flat-counted, flat-count}
-use Rattle.cse.proofs.Refusals as refusals
-use Rattle.cse.proofs.ReciprocalBindings as bindings
-use Rattle.cse.proofs.ScopedCount as counts
-use Rattle.cse.proofs.CleanDivisors.{Plain-divisors}
-use Rattle.cse.proofs.BoundSwitches.{no-switch-bound}
-use Rattle.cse.proofs.RoomEnough as room
-use Rattle.cse.proofs.PlainBound as plain
-use Rattle.cse.proofs.ScopeRoom as scopes
-use Rattle.cse.proofs.ScopeRoom.{by-held}
+use Rattle.cselaws.proofs.FlatCount.{flat-no-repeats, flat-counted, flat-count}
+use Rattle.cselaws.proofs.Refusals as refusals
+use Rattle.cselaws.proofs.ReciprocalBindings as bindings
+use Rattle.cselaws.proofs.ScopedCount as counts
+use Rattle.cselaws.proofs.CleanDivisors.{Plain-divisors}
+use Rattle.cselaws.proofs.BoundSwitches.{no-switch-bound}
+use Rattle.cselaws.proofs.RoomEnough as room
+use Rattle.cselaws.proofs.PlainBound as plain
+use Rattle.cselaws.proofs.ScopeRoom as scopes
+use Rattle.cselaws.proofs.ScopeRoom.{by-held}
 use Rattle.tree.proofs.Logic.{and-left, and-right}
-use Rattle.cse.proofs.ScopedCount.{Tally, over-lets, each-one, inverse-one}
-use Rattle.cse.proofs.Both as both
+use Rattle.cselaws.proofs.ScopedCount.{Tally, over-lets, each-one, inverse-one}
+use Rattle.cselaws.proofs.Both as both
 
 pub demand3 : (es : List Tree) → T (passes es) → Demand3 es
 demand3 es h =

@@ -19,7 +19,7 @@ use Rattle.cse.specs.Answer.{Answer, rows}
 use Rattle.cse.specs.AnswerRows.{answer-words}
 use Rattle.cse.specs.Scope.{answer}
 use Rattle.cse.specs.Call.{Extracted, work-words, work-bytes, extract-call}
-use Rattle.cse.proofs.Outcomes.{Good}
+use Rattle.cselaws.proofs.Outcomes.{Good}
 use Rattle.renaming.specs.Shown.{answer-by}
 use Rattle.renaming.proofs.Rewriting.{Agree}
 use Rattle.renaming.proofs.Extraction.{shown}

@@ -21,7 +21,7 @@ use Rattle.tree.proofs.Logic.{and-left, and-right, and-both}
 use Rattle.tree.proofs.TokenLaws.{Word, a-symbol, a-constant, an-operation, word-is, symbol-tree, constant-tree, operation-tree, made, read-cons}
 use Rattle.tree.proofs.TokenCode.{fits-word, known-name, coded, coded-each, all-coded, unnumbered, reads-back}
 use Rattle.rewrite.specs.Rewrite.{Factors, one, negated, times, flatten-mul-factors, flatten-operands, flatten-after, constant-of, nested-product, with-coefficient, built, build-mul-from-factors, remove-first, remove-each, is-mul, match-factors, each-operand, replace-within, replace, divides-by, replace-divisor, replace-divisors, dividend, replace-outside-arms, replace-operands, replace-key}
-use Rattle.cse.proofs.Outcomes.{Good, then-good, good-ok}
+use Rattle.cselaws.proofs.Outcomes.{Good, then-good, good-ok}
 use Rattle.renaming.specs.Rounds.{extract-on, bind-on}
 use Rattle.renaming.proofs.Renaming.{Renaming}
 

@@ -17,7 +17,7 @@ use Rattle.rewrite.proofs.Names.{holds, holds-each}
 use Rattle.cse.specs.Extract.{Binding, State, distinct}
 use Rattle.cse.specs.Answer.{Intermediate, Intermediates, Arms, Let, Match, no-arm, arm, block}
 use Rattle.cse.specs.Scope.{Switch, switches, collect-switches, Group, joins, place, groups-from, members, replace-in-results, replace-in-stmts, Work, name-members, member-names, first-arms, rest-arms, columns, arms-of-members, Scoped, Armed, scope-arms, fuse-group, fuse-groups, binds, unfused}
-use Rattle.cse.proofs.Outcomes.{Good}
+use Rattle.cselaws.proofs.Outcomes.{Good}
 use Rattle.renaming.proofs.Renaming.{Renaming, named, renamed, renamed-each, is-known, Known, Known-each, Known-all, first-known, rest-known, both-known, none-known, eq-tree-renamed, all-outer-renamed, all-outer-known}
 use Rattle.renaming.proofs.Choosing.{distinct-renamed, distinct-known}
 use Rattle.renaming.proofs.Rewriting.{Agree, agree-ok, then-agree, outside-arms-renamed, outside-arms-known}

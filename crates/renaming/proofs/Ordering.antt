@@ -11,7 +11,7 @@ use Rattle.tree.proofs.TokenCode.{known-name, renamed as renamed-by}
 use Rattle.rewrite.proofs.Names.{holds}
 use Rattle.cse.specs.Answer.{Intermediate, names, free, elem}
 use Rattle.cse.specs.Order.{meets, needs-from, needs, positions-taken, nothing, at-each, topo-sort-intermediates}
-use Rattle.cse.proofs.Outcomes.{Good}
+use Rattle.cselaws.proofs.Outcomes.{Good}
 use Rattle.renaming.proofs.Renaming.{Renaming, named, is-known, eq-name-renamed}
 use Rattle.renaming.proofs.Rewriting.{Agree}
 use Rattle.renaming.proofs.Extraction.{Every}

@@ -18,7 +18,7 @@ use Rattle.tree.proofs.TokenLaws.{map-append}
 use Rattle.tree.proofs.TokenCode.{renamed as renamed-by}
 use Rattle.rewrite.specs.Rewrite.{Factors, one, negated, times, flatten-mul-factors, flatten-operands, flatten-after, constant-of, nested-product, with-coefficient, built, build-mul-from-factors, remove-first, remove-each, is-mul, match-factors, each-operand, replace-within, replace, divides-by, replace-divisor, replace-divisors, dividend, replace-outside-arms, replace-operands, replace-key}
 use Rattle.rewrite.proofs.Names.{holds, holds-each, holds-append, divisor-holds}
-use Rattle.cse.proofs.Outcomes.{Good, then-good}
+use Rattle.cselaws.proofs.Outcomes.{Good, then-good}
 use Rattle.renaming.proofs.Renaming.{Renaming, named, renamed, renamed-each, is-known, Known, Known-each, Known-all, first-known, rest-known, both-known, none-known, size-renamed, eq-tree-renamed}
 
 -- ---- two steps agree: what the first gives has a property, and the second gives what it is sent to, or the same refusal

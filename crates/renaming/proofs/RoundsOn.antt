@@ -16,7 +16,7 @@ use Rattle.tree.proofs.TokenLaws.{map-append}
 use Rattle.rewrite.specs.Rewrite.{replace, replace-divisor}
 use Rattle.cse.specs.Extract.{Binding, State, bound, roots, Candidate, replace-bound, extract, divisors, distinct, shared-divisors, replace-divisor-each, replace-divisor-bound, bind-reciprocal, bind-reciprocals}
 use Rattle.cse.specs.Scope.{Scoped, unfused, finish, fuse-held, opens}
-use Rattle.cse.proofs.Outcomes.{Good, then-good, good-ok}
+use Rattle.cselaws.proofs.Outcomes.{Good, then-good, good-ok}
 use Rattle.renaming.specs.Shown.{best-by, rounds-by, extract-all-by, sort-by, reciprocals-by, cse-scope-by}
 use Rattle.renaming.specs.Rounds.{by-number, next-number, state-of, extract-on, bind-on, bind-each-on, rounds-on, reciprocals-on}
 

@@ -15,8 +15,8 @@ use Rattle.cse.specs.Extract.{Binding, State, extract-all, reciprocals, roots}
 use Rattle.cse.specs.Answer.{Intermediate}
 use Rattle.cse.specs.Order.{topo-sort-intermediates}
 use Rattle.cse.specs.Scope.{Switch, Work, Scoped, switches, collect-switches, groups-from, fuse-groups, fuse-all, unfused, finish, some-switch, holds-switch, held-bindings, held, fuse-held, scope-rows, most-number, opens, scopes-open, cse-scope, as-answer, answer}
-use Rattle.cse.proofs.Outcomes.{Good}
-use Rattle.cse.proofs.ArmNodes.{occurrences-append}
+use Rattle.cselaws.proofs.Outcomes.{Good}
+use Rattle.cselaws.proofs.ArmNodes.{occurrences-append}
 use Rattle.renaming.specs.Shown.{extract-all-by, reciprocals-by, cse-scope-by, answer-by}
 use Rattle.renaming.proofs.Renaming.{Renaming, renamed, Known-all, occurrences-renamed, outer-renamed}
 use Rattle.renaming.proofs.Rewriting.{Agree, agree-ok, then-agree}

@@ -14,9 +14,9 @@ use Rattle.tree.specs.Tokens.{read, numbered, name-in, trees-in}
 use Rattle.tree.proofs.TokenLaws.{complete-length}
 use Rattle.rewrite.proofs.Measure.{sum-of}
 use Rattle.cse.specs.Extract.{State, roots, reciprocals, sort-by-text, divisors, distinct, shared-divisors}
-use Rattle.cse.proofs.SizeCount.{total-size}
-use Rattle.cse.proofs.ReciprocalsCount.{bound-divisors}
-use Rattle.cse.proofs.DivisorsMost.{bound-most, reciprocals-total}
+use Rattle.cselaws.proofs.SizeCount.{total-size}
+use Rattle.cselaws.proofs.ReciprocalsCount.{bound-divisors}
+use Rattle.cselaws.proofs.DivisorsMost.{bound-most, reciprocals-total}
 use Rattle.renaming.specs.Names.{is-number, symbols-pass}
 use Rattle.renaming.specs.Places.{numbered-at, divisors-to-bind}
 use Rattle.renaming.specs.Rounds.{by-number, state-of, reciprocals-on, reciprocals-words}

@@ -13,7 +13,7 @@ use Rattle.tree.specs.Tokens.{all-tokens, read, numbered, takes, trees-in}
 use Rattle.tree.proofs.TokenCode.{coded, all-coded, unnumbered, tokens-complete, writes-back}
 use Rattle.cse.specs.Extract.{State, Candidate, candidate}
 use Rattle.cse.specs.Scope.{Scoped, unfused, finish, fuse-held, opens}
-use Rattle.cse.proofs.Outcomes.{Good}
+use Rattle.cselaws.proofs.Outcomes.{Good}
 use Rattle.renaming.specs.Shown.{cse-scope-by}
 use Rattle.renaming.specs.Places.{numbered-at, best-place}
 use Rattle.renaming.specs.Rounds.{next-number, state-of, extract-on, rounds-on, reciprocals-on, extract-words, rounds-words, reciprocals-words}

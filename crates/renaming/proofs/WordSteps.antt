@@ -22,11 +22,11 @@ use Rattle.rewrite.proofs.Measure.{sum-of}
 use Rattle.rewrite.proofs.Names.{holds, holds-all, all-nodes-hold}
 use Rattle.rewrite.proofs.Counts.{well-formed-all, part-all-operations}
 use Rattle.cse.specs.Extract.{State, is-candidate, roots, extract}
-use Rattle.cse.proofs.Outcomes.{good-at, then-good, good-ok}
-use Rattle.cse.proofs.RoundsCount.{made-before, Sound, round, candidate-facts, costs-operation}
-use Rattle.cse.proofs.SizeCount.{round-size}
-use Rattle.cse.proofs.PassesLaws.{passes-formed, passes-unmade}
-use Rattle.cse.proofs.FlatCount.{list-made}
+use Rattle.cselaws.proofs.Outcomes.{good-at, then-good, good-ok}
+use Rattle.cselaws.proofs.RoundsCount.{made-before, Sound, round, candidate-facts, costs-operation}
+use Rattle.cselaws.proofs.SizeCount.{round-size}
+use Rattle.cselaws.proofs.PassesLaws.{passes-formed, passes-unmade}
+use Rattle.cselaws.proofs.FlatCount.{list-made}
 use Rattle.tree.proofs.TreeLaws.{eq-bytes-refl}
 use Rattle.renaming.proofs.Reading.{read-holds, all-tokens-pass}
 use Rattle.renaming.specs.Names.{symbols-pass}

@@ -14,7 +14,7 @@ use Rattle.tree.specs.Rows.{Row}
 use Rattle.tree.specs.Tokens.{read, numbered, trees-in}
 use Rattle.tree.proofs.TokenLaws.{complete-length}
 use Rattle.cse.specs.Order.{positions-taken}
-use Rattle.cse.proofs.OrderLaws.{All, taken-ok}
+use Rattle.cselaws.proofs.OrderLaws.{All, taken-ok}
 use Rattle.order.specs.Needs.{table-of, rows-from, all-or-ring}
 use Rattle.order.specs.declared.Ordered.{Ordered}
 use Rattle.order.specs.declared.Ordered.the-variants as ordered

@@ -17,8 +17,8 @@ use Rattle.tree.proofs.Logic.{and-left, and-right, and-both}
 use Rattle.tree.proofs.TokenLaws.{places-are-nodes, trees-length}
 use Rattle.rewrite.proofs.Counts.{well-formed-all}
 use Rattle.rewrite.proofs.Names.{holds, holds-all, weaken-all, all-nodes-hold}
-use Rattle.cse.proofs.Outcomes.{Good}
-use Rattle.cse.proofs.ScopeValue.{under, under-le}
+use Rattle.cselaws.proofs.Outcomes.{Good}
+use Rattle.cselaws.proofs.ScopeValue.{under, under-le}
 use Rattle.renaming.specs.Names.{symbols-pass}
 use Rattle.renaming.specs.Places.{numbered-at, divisors-to-bind}
 use Rattle.renaming.specs.Rounds.{next-number, rounds-on}

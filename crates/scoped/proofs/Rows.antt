@@ -8,7 +8,7 @@ use lib.Dec.{T}
 use Rattle.tree.specs.Outcome.{Outcome, ok, refused, by}
 use Rattle.tree.specs.Layout.{table-of, laid-out}
 use Rattle.cse.specs.AnswerRows.{result-row}
-use Rattle.cse.proofs.Outcomes.{Good}
+use Rattle.cselaws.proofs.Outcomes.{Good}
 use Rattle.checked.specs.Check.{rows-in}
 use Rattle.renaming.specs.Names.{is-number}
 use Rattle.renaming.proofs.RowNames.{tree-words}

@@ -14,8 +14,8 @@ use Rattle.tree.proofs.LayoutLaws.{laid-out-passes}
 use Rattle.rewrite.proofs.Names.{holds-all, below}
 use Rattle.cse.specs.AnswerRows.{result-row}
 use Rattle.cse.specs.Scope.{Scoped}
-use Rattle.cse.proofs.PassesLaws.{passes-unmade}
-use Rattle.cse.proofs.ScopeValue.{under}
+use Rattle.cselaws.proofs.PassesLaws.{passes-unmade}
+use Rattle.cselaws.proofs.ScopeValue.{under}
 use Rattle.renaming.specs.Names.{is-number}
 use Rattle.renaming.specs.Shown.{cse-scope-by}
 use Rattle.renaming.proofs.BestPlace.{text-of}

@@ -15,7 +15,7 @@ use Rattle.cse.specs.Answer.{rows}
 use Rattle.cse.specs.AnswerRows.{result-row, answer-words}
 use Rattle.cse.specs.Scope.{Scoped, scopes-open, as-answer}
 use Rattle.cse.specs.Call.{work-words, work-bytes}
-use Rattle.cse.proofs.RowCount.{answer-long}
+use Rattle.cselaws.proofs.RowCount.{answer-long}
 use Rattle.renaming.specs.Shown.{cse-scope-by, answer-by}
 use Rattle.renaming.proofs.Extraction.{shown}
 use Rattle.renaming.proofs.RowNames.{names-of, tree-words}

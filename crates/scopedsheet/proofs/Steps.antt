@@ -22,7 +22,7 @@ use Rattle.cse.specs.Answer.{Answer, rows, answer-text}
 use Rattle.cse.specs.AnswerRows.{answer-words, answer-of, answer-laid-out}
 use Rattle.cse.specs.Scope.{answer}
 use Rattle.cse.specs.Call.{Extracted, work-words, work-bytes, extract-call, table-after}
-use Rattle.cse.proofs.Refusals.{refused-by-10-11-or-23}
+use Rattle.cselaws.proofs.Refusals.{refused-by-10-11-or-23}
 use Rattle.print.specs.Print.{print-call, buffer-after}
 use Rattle.extract.specs.Answers.{extraction-answer}
 use Rattle.extract.specs.declared.Extraction.the-variants as extraction

@@ -15,7 +15,7 @@ use Rattle.tree.specs.Tokens.{read, numbered, trees-in, name-in}
 use Rattle.cse.specs.AnswerRows.{value-row}
 use Rattle.cse.specs.Order.{needs, positions-taken}
 use Rattle.cse.specs.Scope.{Scoped, fuse-held}
-use Rattle.cse.proofs.Outcomes.{Good, good-at}
+use Rattle.cselaws.proofs.Outcomes.{Good, good-at}
 use Rattle.renaming.specs.Shown.{extract-all-by, reciprocals-by}
 use Rattle.renaming.specs.Places.{numbered-at, divisors-to-bind}
 use Rattle.renaming.specs.Rounds.{next-number, state-of, bind-each-on, rounds-on, reciprocals-on}

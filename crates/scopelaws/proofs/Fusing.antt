@@ -15,7 +15,7 @@ use Rattle.cse.specs.AnswerRows.{value-row}
 use Rattle.cse.specs.Extract.{State}
 use Rattle.cse.specs.Order.{needs, positions-taken}
 use Rattle.cse.specs.Scope.{Group, Scoped, finish, fuse-all, fuse-held, held, scope-rows}
-use Rattle.cse.proofs.Outcomes.{Good, good-at}
+use Rattle.cselaws.proofs.Outcomes.{Good, good-at}
 use Rattle.renaming.specs.Places.{numbered-at}
 use Rattle.renaming.specs.Rounds.{next-number, state-of, bind-each-on}
 use Rattle.renaming.proofs.Extraction.{Every}

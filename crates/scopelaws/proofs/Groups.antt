@@ -9,7 +9,7 @@ use Rattle.tree.specs.Tree.{Tree}
 use Rattle.tree.specs.Tokens.{read, numbered, trees-in}
 use Rattle.tree.proofs.TokenLaws.{complete-length}
 use Rattle.cse.specs.Scope.{Group, members, collect-switches, groups-from, arms-of-members}
-use Rattle.cse.proofs.SwitchLaws.{length-columns}
+use Rattle.cselaws.proofs.SwitchLaws.{length-columns}
 use Rattle.renaming.specs.Places.{numbered-at}
 use Rattle.renaming.proofs.WordRounds.{In-code}
 use Rattle.switchplaces.specs.Switches.{arm-count, switch-places, switch-there}

@@ -12,7 +12,7 @@ use Rattle.words.specs.Words.{number}
 use Rattle.cse.specs.AnswerRows.{match-row, names-words, intermediate-words, arms-words}
 use Rattle.cse.specs.Scope.{Switch, Group, members, member-names, Scoped, Armed, scope-arms}
 use Rattle.cse.specs.Read.{arm-count as arms-in}
-use Rattle.cse.proofs.Outcomes.{Good, then-good, any-good, good-ok}
+use Rattle.cselaws.proofs.Outcomes.{Good, then-good, any-good, good-ok}
 use Rattle.renaming.specs.Places.{numbered-at}
 use Rattle.renaming.proofs.Extraction.{Every}
 use Rattle.switchplaces.specs.Switches.{key-place, arm-count, switch-places, switch-there}

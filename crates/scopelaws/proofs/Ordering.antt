@@ -16,7 +16,7 @@ use Rattle.cse.specs.Answer.{Intermediate, block}
 use Rattle.cse.specs.AnswerRows.{intermediate-words, intermediates-words, each-words}
 use Rattle.cse.specs.Order.{needs, nothing, at-each, positions-taken, topo-sort-intermediates}
 use Rattle.cse.specs.Scope.{Scoped, finish}
-use Rattle.cse.proofs.OrderLaws.{All, taken-ok}
+use Rattle.cselaws.proofs.OrderLaws.{All, taken-ok}
 use Rattle.renaming.specs.Places.{numbered-at}
 use Rattle.renaming.specs.Rounds.{next-number}
 use Rattle.renaming.proofs.Extraction.{Every}

@@ -13,7 +13,7 @@ use Rattle.tree.specs.Facts.{all-operations}
 use Rattle.tree.specs.Rows.{occurrences}
 use Rattle.cse.specs.Order.{topo-sort-intermediates}
 use Rattle.cse.specs.Scope.{Scoped, finish, fuse-all, fuse-held, held, scope-rows}
-use Rattle.cse.proofs.Outcomes.{Good, then-good, any-good, good-ok}
+use Rattle.cselaws.proofs.Outcomes.{Good, then-good, any-good, good-ok}
 use Rattle.renaming.specs.Shown.{extract-all-by, reciprocals-by}
 use Rattle.renaming.specs.Rounds.{next-number, state-of, bind-each-on, rounds-on}
 use Rattle.renaming.proofs.RoundsOn.{rounds-on-length}

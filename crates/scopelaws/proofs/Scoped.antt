@@ -10,7 +10,7 @@ use Rattle.tree.specs.Tree.{Tree}
 use Rattle.tree.specs.Rows.{Row, occurrences}
 use Rattle.tree.specs.Tokens.{read, numbered, trees-in, name-in}
 use Rattle.cse.specs.Scope.{Scoped, scope-rows, opens}
-use Rattle.cse.proofs.Outcomes.{Good}
+use Rattle.cselaws.proofs.Outcomes.{Good}
 use Rattle.renaming.specs.Shown.{cse-scope-by}
 use Rattle.renaming.proofs.BestPlace.{text-of}
 use Rattle.scopeplaces.specs.Whole.{scope-told}

@@ -14,7 +14,7 @@ use Rattle.words.specs.Words.{number}
 use Rattle.cse.specs.Answer.{Intermediate, Arms, no-arm, arm, block}
 use Rattle.cse.specs.AnswerRows.{arm-row, value-row, step-count, intermediates-words, each-words, arms-words}
 use Rattle.cse.specs.Scope.{Group, members, Scoped, Armed, scope-arms}
-use Rattle.cse.proofs.Outcomes.{Good}
+use Rattle.cselaws.proofs.Outcomes.{Good}
 use Rattle.renaming.proofs.RoundsOn.{then-same, then-then}
 use Rattle.switchplaces.specs.Switches.{arm-count}
 use Rattle.switchplaces.specs.Columns.{column-words}

@@ -15,7 +15,7 @@ use Rattle.tree.proofs.Logic.{and-left, and-right}
 use Rattle.tree.proofs.TokenCode.{unnumbered, all-tokens-length, writes-back}
 use Rattle.cse.specs.AnswerRows.{value-row}
 use Rattle.cse.specs.Scope.{Scoped, fuse-held}
-use Rattle.cse.proofs.Outcomes.{Good}
+use Rattle.cselaws.proofs.Outcomes.{Good}
 use Rattle.renaming.specs.Shown.{extract-all-by, reciprocals-by}
 use Rattle.renaming.specs.Places.{divisors-to-bind}
 use Rattle.renaming.proofs.BestPlace.{text-of}

@@ -15,7 +15,7 @@ use Rattle.tree.proofs.TokenCode.{known-name, coded, all-coded, unnumbered, tok
 use Rattle.rewrite.specs.Rewrite.{replace-outside-arms}
 use Rattle.rewrite.proofs.Counts.{well-formed-all}
 use Rattle.cse.specs.Scope.{Group, members, collect-switches, groups-from, Scoped, scope-arms}
-use Rattle.cse.proofs.Outcomes.{Good, then-good, good-ok}
+use Rattle.cselaws.proofs.Outcomes.{Good, then-good, good-ok}
 use Rattle.words.specs.Words.{number}
 use Rattle.renaming.specs.Places.{numbered-at}
 use Rattle.renaming.specs.Rounds.{bind-each-on}

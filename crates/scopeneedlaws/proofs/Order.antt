@@ -20,9 +20,9 @@ use Rattle.rewrite.proofs.Names.{holds-all}
 use Rattle.cse.specs.Answer.{Intermediate, names, symbols, elem}
 use Rattle.cse.specs.Order.{meets, needs, nothing, at-each, positions-taken, topo-sort-intermediates}
 use Rattle.cse.specs.Scope.{Scoped}
-use Rattle.cse.proofs.Outcomes.{Good, good-at}
-use Rattle.cse.proofs.OrderLaws.{All, taken-ok}
-use Rattle.cse.proofs.ScopeValue.{under}
+use Rattle.cselaws.proofs.Outcomes.{Good, good-at}
+use Rattle.cselaws.proofs.OrderLaws.{All, taken-ok}
+use Rattle.cselaws.proofs.ScopeValue.{under}
 use Rattle.renaming.specs.Places.{numbered-at}
 use Rattle.renaming.specs.Rounds.{next-number}
 use Rattle.reciprocals.proofs.Parts.{All-there}

@@ -14,9 +14,9 @@ use Rattle.rewrite.proofs.Counts.{well-formed-all}
 use Rattle.rewrite.proofs.Names.{holds-all}
 use Rattle.cse.specs.Extract.{roots}
 use Rattle.cse.specs.Scope.{opens}
-use Rattle.cse.proofs.Outcomes.{Good, good-at}
-use Rattle.cse.proofs.ScopeValue.{under}
-use Rattle.cse.proofs.ScopeRoom.{or-no-room, or-not-held}
+use Rattle.cselaws.proofs.Outcomes.{Good, good-at}
+use Rattle.cselaws.proofs.ScopeValue.{under}
+use Rattle.cselaws.proofs.ScopeRoom.{or-no-room, or-not-held}
 use Rattle.renaming.specs.Shown.{extract-all-by, reciprocals-by, cse-scope-by}
 use Rattle.renaming.specs.Rounds.{next-number, state-of, rounds-on, reciprocals-on}
 use Rattle.renaming.proofs.RoundsOn.{roots-of-state, extract-all-on, reciprocals-on-state, rounds-on-length}

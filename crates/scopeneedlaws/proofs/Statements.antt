@@ -15,8 +15,8 @@ use Rattle.cse.specs.Extract.{State, roots}
 use Rattle.cse.specs.Answer.{Intermediate, Let}
 use Rattle.cse.specs.Order.{needs}
 use Rattle.cse.specs.Scope.{Group, collect-switches, groups-from, Work, Scoped, binds, unfused, fuse-all, fuse-groups}
-use Rattle.cse.proofs.Outcomes.{Good}
-use Rattle.cse.proofs.ScopeValue.{under}
+use Rattle.cselaws.proofs.Outcomes.{Good}
+use Rattle.cselaws.proofs.ScopeValue.{under}
 use Rattle.renaming.specs.Rounds.{by-number, next-number, state-of}
 use Rattle.renaming.proofs.RoundsOn.{roots-of-state}
 use Rattle.reciprocals.proofs.Parts.{settle-tree, settled-reciprocals}

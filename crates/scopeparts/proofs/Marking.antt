@@ -9,7 +9,7 @@ use lib.Dec.{T, eqb}
 use lib.ListN.{length, getD, take, drop, replicate, length-replicate, length-reverse}
 use Rattle.words.specs.Words.{some-trees}
 use Rattle.cse.specs.Order.{positions-taken}
-use Rattle.cse.proofs.OrderLaws.{All, taken-ok}
+use Rattle.cselaws.proofs.OrderLaws.{All, taken-ok}
 use Rattle.order.specs.Needs.{table-of, rows-from, room, all-or-ring, order-answer, order-written, Orders}
 use Rattle.order.specs.declared.Ordered.{Ordered}
 use Rattle.renaming.proofs.Extraction.{Every}

@@ -17,7 +17,7 @@ use Rattle.tree.specs.Tokens.{word, read, numbered, name-in, trees-in}
 use Rattle.tree.proofs.Logic.{and-left, and-right}
 use Rattle.cse.specs.AnswerRows.{arm-row, value-row}
 use Rattle.cse.specs.Scope.{most-number}
-use Rattle.cse.proofs.Outcomes.{Good, then-good, good-ok, good-at}
+use Rattle.cselaws.proofs.Outcomes.{Good, then-good, good-ok, good-at}
 use Rattle.renaming.specs.Names.{symbols-pass}
 use Rattle.renaming.specs.Places.{divisors-to-bind}
 use Rattle.renaming.specs.Rounds.{next-number}

@@ -20,7 +20,7 @@ use Rattle.tree.proofs.TokenLaws.{places-are-nodes, trees-length}
 use Rattle.tree.proofs.TokenCode.{known-name, coded, all-coded, unnumbered}
 use Rattle.rewrite.specs.Rewrite.{divides-by, replace-divisor, replace-divisors, dividend}
 use Rattle.rewrite.proofs.Names.{holds, holds-all, weaken, all-nodes-hold, divisor-holds}
-use Rattle.cse.proofs.RoundsCount.{made-before, made-le}
+use Rattle.cselaws.proofs.RoundsCount.{made-before, made-le}
 use Rattle.renaming.specs.Names.{symbols-pass}
 use Rattle.renaming.specs.Places.{numbered-at}
 use Rattle.renaming.proofs.Extraction.{Every, every-append}

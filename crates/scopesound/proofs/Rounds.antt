@@ -14,8 +14,8 @@ use Rattle.tree.specs.Facts.{all-operations}
 use Rattle.tree.specs.Tokens.{read, numbered, name-in}
 use Rattle.tree.proofs.TokenLaws.{complete-length}
 use Rattle.cse.specs.Extract.{extract-all}
-use Rattle.cse.proofs.Refusals.{Ten, only-at, extract-all-ten}
-use Rattle.cse.proofs.Outcomes.{Good, good-ok, good-at}
+use Rattle.cselaws.proofs.Refusals.{Ten, only-at, extract-all-ten}
+use Rattle.cselaws.proofs.Outcomes.{Good, good-ok, good-at}
 use Rattle.renaming.specs.Names.{is-number, symbols-pass}
 use Rattle.renaming.specs.Places.{numbered-at, best-place}
 use Rattle.renaming.specs.Rounds.{next-number, state-of, extract-words, rounds-words}

@@ -15,7 +15,7 @@ use Rattle.tree.specs.Tokens.{read, numbered, trees-at, trees-in}
 use Rattle.tree.proofs.TokenLaws.{sizes, read-size, trees-length}
 use Rattle.tree.proofs.TokenCode.{unnumbered, tokens-length}
 use Rattle.cse.specs.Order.{positions-taken}
-use Rattle.cse.proofs.OrderLaws.{taken-ok}
+use Rattle.cselaws.proofs.OrderLaws.{taken-ok}
 use Rattle.order.specs.Needs.{rows-from, table-of}
 use Rattle.renaming.specs.Places.{numbered-at}
 use Rattle.renaming.proofs.Extraction.{Every, every-append}

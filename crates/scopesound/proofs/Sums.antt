@@ -8,7 +8,7 @@ use borrow.Author.Tests.{eqb-true, eqb-false, eq-eqb, ne-eqb}
 use lib.ListN.{length, getD, length-append}
 use lib.Dec.{T, eqb}
 use Rattle.cse.specs.Order.{member}
-use Rattle.cse.proofs.OrderLaws.{member-here, member-later, All, Distinct}
+use Rattle.cselaws.proofs.OrderLaws.{member-here, member-later, All, Distinct}
 use Rattle.finishlaws.specs.Entries.{runs}
 
 -- of the first n numbers

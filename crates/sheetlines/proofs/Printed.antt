@@ -31,7 +31,7 @@ use Rattle.program.specs.Program.{reply, written, csesheet}
 use Rattle.passing.proofs.Passed.{table-answer-passes}
 use Rattle.passing.proofs.Enough.{flat-call, flat-call-rows}
 use Rattle.passing.proofs.FlatTrees.{Small, Small-lets, flat-trees-small}
-use Rattle.cse.proofs.ReciprocalsCount.{AllTrees}
+use Rattle.cselaws.proofs.ReciprocalsCount.{AllTrees}
 use Rattle.lines.specs.Line.{lines-from, Few-lets, Few}
 use Rattle.lines.specs.Refusal.{refusal-text}
 use Rattle.lines.proofs.Flat.{flat-lines}

@@ -17,7 +17,7 @@ use Rattle.tree.proofs.TreeLaws.{eq-tree-sound}
 use Rattle.tree.proofs.TokenLaws.{map-append, trees-length}
 use Rattle.cse.specs.Extract.{among, distinct}
 use Rattle.cse.specs.Scope.{Switch, switches, collect-switches}
-use Rattle.cse.proofs.RoundsValue.{off}
+use Rattle.cselaws.proofs.RoundsValue.{off}
 use Rattle.renaming.specs.Places.{numbered-at, outside-at, among-places, distinct-places}
 use Rattle.renaming.proofs.Arms.{those-passing, outer-passing}
 use Rattle.renaming.proofs.UsesAt.{passing-append}

@@ -18,9 +18,9 @@ use Rattle.tree.proofs.TokenLaws.{sizes, map-append, read-size}
 use Rattle.tree.proofs.TokenCode.{unnumbered, all-tokens-length}
 use Rattle.rewrite.proofs.Measure.{sum-of}
 use Rattle.cse.specs.Scope.{Switch, Group, members, columns, arms-of-members}
-use Rattle.cse.proofs.ReciprocalsCount.{AllTrees}
-use Rattle.cse.proofs.ArmNodes.{arm-nodes, arm-nodes-size, arms-total, All-arms, Small-groups, collected-small, Columns, group-columns}
-use Rattle.cse.proofs.SwitchLaws.{length-columns}
+use Rattle.cselaws.proofs.ReciprocalsCount.{AllTrees}
+use Rattle.cselaws.proofs.ArmNodes.{arm-nodes, arm-nodes-size, arms-total, All-arms, Small-groups, collected-small, Columns, group-columns}
+use Rattle.cselaws.proofs.SwitchLaws.{length-columns}
 use Rattle.renaming.proofs.Extraction.{Every, every-append}
 use Rattle.switchplaces.specs.Switches.{arm-count, switch-places, switch-there}
 use Rattle.switchplaces.specs.Groups.{joins-at, member, group-first, firsts-within, group-numbers, members-within, members-of, member-places, member-switch, group-there}

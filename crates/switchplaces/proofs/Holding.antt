@@ -14,7 +14,7 @@ use Rattle.tree.specs.Tokens.{read, numbered, kind-of, takes, trees-in}
 use Rattle.tree.proofs.Logic.{and-left, and-right, and-both}
 use Rattle.tree.proofs.TokenLaws.{sizes, size-made}
 use Rattle.cse.specs.Scope.{Switch, collect-switches}
-use Rattle.cse.proofs.RoundsValue.{off}
+use Rattle.cselaws.proofs.RoundsValue.{off}
 use Rattle.renaming.specs.Places.{numbered-at, in-arm-of, in-arm, outside-at, among-places, distinct-places}
 use Rattle.renaming.proofs.DivisorPlaces.{here-is}
 use Rattle.switchplaces.specs.Switches.{switch-at, switches-passing, places-within, switch-places, switch-among, holds-switch, switch-there}

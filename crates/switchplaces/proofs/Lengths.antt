@@ -12,7 +12,7 @@ use Rattle.tree.specs.Facts.{size}
 use Rattle.tree.specs.Rows.{occurrences}
 use Rattle.tree.specs.Tokens.{read, numbered, trees-in}
 use Rattle.tree.proofs.TokenLaws.{map-append, read-size}
-use Rattle.cse.proofs.ArmNodes.{arms-total, collected-total}
+use Rattle.cselaws.proofs.ArmNodes.{arms-total, collected-total}
 use Rattle.renaming.specs.Places.{numbered-at}
 use Rattle.renaming.proofs.Extraction.{Every}
 use Rattle.switchplaces.specs.Switches.{arm-count, arm-place, arms-within, arm-places, switch-places, switch-there}

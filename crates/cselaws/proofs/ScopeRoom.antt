@@ -1,0 +1,270 @@
+-- The rows and the number of open scopes. Fusion depends on the arms' scopes only by what it gives them; these inputs are no larger than what the scope holds,
+-- and nest one level less. So refusal 23 arises, in a list of at most 1,024 occurrences, only where a scope would hold too much for fusion, or begin at a number
+-- past 2^31; and that nine scopes can be open decides nothing where arms nest at most 8 deep. Assumes nothing.
+use Prim.Native.Nat.{ℕ, zero, suc, _+_, _≤_}
+use mathlib.Core.Path.{_≡_, refl, sym, _∙_, ap, fun-ext}
+use mathlib.Core.Bool.{Bool, true, false, _&&_, cond}
+use mathlib.Core.List.{List, [], _∷_, _++_}
+use native.Mathlib.Omega.{arith}
+use lib.ListN.{length}
+use lib.Dec.{T, leb, leb→le, le→leb}
+use Rattle.tree.specs.Outcome.{Outcome, ok, refused, by, _>>=_}
+use Rattle.tree.specs.Tree.{Tree, Forest, Op, nil, _◂_, fold, folds, operands}
+use Rattle.tree.specs.Kinds.{is-switch}
+use Rattle.tree.specs.Facts.{size, greatest, first-or-deeper, nesting, all-nodes}
+use Rattle.tree.specs.Rows.{occurrences, within-limits}
+use Rattle.tree.proofs.Logic.{and-left, and-right, and-both}
+use Rattle.cse.specs.Extract.{State, roots, extract-all, reciprocals}
+use Rattle.cse.specs.Answer.{Match, arm, block}
+use Rattle.cse.specs.Scope.{Group, Work, Scoped, Armed, members, member-names, collect-switches, groups-from, name-members, columns, arms-of-members, scope-arms, fuse-group, fuse-groups, fuse-all, finish, unfused, held, fuse-held, scope-rows, most-number, opens, scopes-open, cse-scope, as-answer, answer}
+use Rattle.cselaws.proofs.Outcomes.{Good}
+use Rattle.cselaws.proofs.ReciprocalsCount.{AllTrees, all-map, divisors-all, inverse}
+use Rattle.cselaws.proofs.Levels.{trees-at, Most, μ, all-nodes-most, extract-all-within, reciprocals-within}
+use Rattle.cselaws.proofs.NestingLevel.{nesting-op, nesting-level, nesting-is, arms-deeper}
+use Rattle.cselaws.proofs.ArmNodes.{arms-total, All-arms, Groups, Small-groups, held-small, some-small, Given, Columns, group-columns}
+use Rattle.cselaws.proofs.SwitchArms.{All-operands, as-list, groups-all}
+
+-- a fact of what a scope gives, where that it does not fit has it too
+pub or-no-room : {A : Type 0} (P : Outcome A → Type 0) → P (refused (by 23)) → (fits : Bool) (o : Outcome A) → P o → P (elim fits [ true ↦ o | false ↦ refused (by 23) ])
+or-no-room P h true o g = g
+or-no-room P h false o g = h
+
+-- the same for what a scope holds for fusion
+pub or-not-held :
+    (P : Outcome Scoped → Type 0) → P (refused (by 23)) → (scope : ℕ → List Tree → Outcome Scoped) (x : ℕ) (s : State) → P (fuse-all scope x s >>= λ w. finish w)
+    → P (fuse-held scope x s)
+unfolding fuse-held
+or-not-held P h scope x s g = or-no-room P h (leb (occurrences (held x s)) scope-rows) (fuse-all scope x s >>= λ w. finish w) g
+
+-- ---- fusion depends on the arms' scopes only by what it gives them
+
+then-ext : {A B : Type 0} (o : Outcome A) (f g : A → Outcome B) → ((a : A) → f a ≡ g a) → (o >>= f) ≡ (o >>= g)
+then-ext o f g h = ap (λ k. o >>= k) (fun-ext h)
+
+module _
+    (P : Tree → Type 0) (N : ℕ) (scope other : ℕ → List Tree → Outcome Scoped)
+    (same : (n : ℕ) (l : List Tree) → Given P N l → scope n l ≡ other n l)
+  where
+    arms-same : (next : ℕ) (ls : List (List Tree)) → Columns P N ls → scope-arms scope next ls ≡ scope-arms other next ls
+    unfolding scope-arms
+    arms-same next [] c = refl
+    arms-same next (es ∷ ls) c =
+        let put : Scoped → Armed → Outcome Armed = λ a r. ok (record { arms = arm (block (a .inters)) (a .results) (r .arms); next = r .next; extracted = a .extracted + r .extracted }) in
+        ap (λ (o : Outcome Scoped). o >>= λ a. scope-arms scope (a .next) ls >>= λ r. put a r) (same next es (c .0))
+        ∙ then-ext (other next es) (λ a. scope-arms scope (a .next) ls >>= λ r. put a r) (λ a. scope-arms other (a .next) ls >>= λ r. put a r)
+        (λ a. ap (λ (o : Outcome Armed). o >>= λ r. put a r) (arms-same (a .next) ls (c .1)))
+
+    group-same : (g : Group) (w : Work) → All-arms P (members g) → arms-total (members g) ≤ N → fuse-group scope g w ≡ fuse-group other g w
+    unfolding fuse-group
+    group-same g w h m =
+        let v = name-members (members g) w in
+        let l = columns (length (g .first .arms)) (arms-of-members (members g)) in
+        let put : Armed → Outcome Work = λ a.
+        ok (record {
+          results = v .results;
+          inters = v .inters ++ (Match (g .first .kind) (g .first .key) (member-names (w .next) (members g)) (a .arms) ∷ []);
+          next = a .next;
+          extracted = v .extracted + a .extracted;
+        }) in
+        ap (λ (o : Outcome Armed). o >>= λ a. put a) (arms-same (v .next) l (group-columns P N g h m))
+
+    groups-same : (gs : List Group) (w : Work) → Groups P gs → Small-groups N gs → fuse-groups scope gs w ≡ fuse-groups other gs w
+    unfolding fuse-groups
+    groups-same [] w h m = refl
+    groups-same (g ∷ gs) w h m =
+        ap (λ (o : Outcome Work). o >>= λ v. fuse-groups scope gs v) (group-same g w (h .0) (m .0))
+        ∙ then-ext (fuse-group other g w) (λ v. fuse-groups scope gs v) (λ v. fuse-groups other gs v) (λ v. groups-same gs v (h .1) (m .1))
+
+    pub fuse-same :
+        (x : ℕ) (s : State) → Groups P (groups-from [] (collect-switches (roots s))) → Small-groups N (groups-from [] (collect-switches (roots s))) → fuse-all scope x s ≡ fuse-all other x s
+    unfolding fuse-all
+    fuse-same x s h m = groups-same (groups-from [] (collect-switches (roots s))) (unfused x s) h m
+
+-- ---- what arms' scopes are given: no more than the scope holds
+
+-- A scope that is refused where it would begin at a number past 2^31 or hold too much for fusion, and for nothing else of its own.
+unfoldable pub by-held : ℕ → ℕ → List Tree → Outcome Scoped
+unfolding extract-all reciprocals fuse-held
+by-held zero next es = refused (by 23)
+by-held (suc fuel) next es =
+    elim (leb next most-number) [
+      | true ↦ (extract-all true next es >>= λ s. fuse-held (λ n l. by-held fuel n l) (length (s .lets)) (reciprocals true s))
+      | false ↦ refused (by 23)
+    ]
+
+module _ (scope other : ℕ → List Tree → Outcome Scoped) (same : (n : ℕ) (l : List Tree) → occurrences l ≤ scope-rows → scope n l ≡ other n l) where
+  held-same : (x : ℕ) (s : State) → fuse-held scope x s ≡ fuse-held other x s
+  unfolding fuse-held
+  held-same x s = go (leb (occurrences (held x s)) scope-rows) (leb→le (occurrences (held x s)) scope-rows)
+    where
+      anything : (rs : List Tree) → Groups (λ t. Unit {0}) (groups-from [] (collect-switches rs))
+      anything rs = groups-all (λ t. Unit {0}) (λ t. Unit {0}) (λ k f h. operands-any f) (λ k q f t h. trees-any (operands f)) rs (trees-any rs)
+        where
+          trees-any : (l : List Tree) → AllTrees (λ t. Unit {0}) l
+          trees-any [] = tt
+          trees-any (t ∷ l) = (tt, trees-any l)
+
+          operands-any : (f : Forest) → All-operands (λ t. Unit {0}) f
+          operands-any nil = tt
+          operands-any (t ◂ f) = (tt, operands-any f)
+
+      go : (b : Bool) → (T b → occurrences (held x s) ≤ scope-rows)
+          → _≡_ {A = Outcome Scoped} (elim b [ true ↦ (fuse-all scope x s >>= λ w. finish w) | false ↦ refused (by 23) ])
+          (elim b [ true ↦ (fuse-all other x s >>= λ w. finish w) | false ↦ refused (by 23) ])
+      go true h =
+          ap (λ (o : Outcome Work). o >>= λ w. finish w)
+          (fuse-same (λ t. Unit {0}) scope-rows scope other (λ n l g. same n l (g .1)) x s (anything (roots s)) (held-small scope-rows x s (h tt)))
+      go false h = refl
+
+-- For an input of at most 1,024 occurrences the test of occurrences never refuses, in it or in its arms' scopes.
+pub held-alone : (fuel next : ℕ) (es : List Tree) → occurrences es ≤ scope-rows → cse-scope fuel true next es ≡ by-held fuel next es
+unfolding cse-scope by-held opens
+held-alone zero next es h = refl
+held-alone (suc fuel) next es h =
+    go (leb (occurrences es) scope-rows) (le→leb (occurrences es) scope-rows h) (leb next most-number)
+    (then-ext (extract-all true next es) (λ s. fuse-held (λ n l. cse-scope fuel true n l) (length (s .lets)) (reciprocals true s))
+    (λ s. fuse-held (λ n l. by-held fuel n l) (length (s .lets)) (reciprocals true s))
+    (λ s. held-same (λ n l. cse-scope fuel true n l) (λ n l. by-held fuel n l) (λ n l k. held-alone fuel n l k) (length (s .lets)) (reciprocals true s)))
+  where
+    go : (b : Bool) → T b → (c : Bool) {o q : Outcome Scoped} → o ≡ q
+        → _≡_ {A = Outcome Scoped} (elim (b && c) [ true ↦ o | false ↦ refused (by 23) ]) (elim c [ true ↦ q | false ↦ refused (by 23) ])
+    go true t true e = e
+    go true t false e = refl
+    go false t c e = absurd t
+
+-- ---- and trees that nest a level less
+
+abbrev pub deep : Tree → ℕ
+deep t = μ nesting-op nesting-level t
+
+abbrev pub deeps : Forest → List ℕ
+deeps f = folds (λ n. 0) (λ c. 0) nesting-op f
+
+-- arms that nest less than D deep
+abbrev Shallow : ℕ → Tree → Type 0
+Shallow zero t = ⊥
+Shallow (suc m) t = deep t ≤ m
+
+pub most-down : (M N : ℕ) → M ≤ N → (ls : List ℕ) → Most M ls → Most N ls
+most-down M N h [] g = tt
+most-down M N h (l ∷ ls) g = ((let a = g .0 in omega arith), most-down M N h ls (g .1))
+
+-- a switch's arms
+pub deeper-op : (m n : ℕ) (ls : List ℕ) (b : Bool) → T b → cond b (first-or-deeper (n ∷ ls)) (greatest (n ∷ ls)) ≤ m → first-or-deeper (n ∷ ls) ≤ m
+deeper-op m n ls true t h = h
+deeper-op m n ls false t h = absurd t
+
+pub no-arms : (n l : ℕ) (ls : List ℕ) → first-or-deeper (n ∷ (l ∷ ls)) ≤ 0 → ⊥
+unfolding first-or-deeper
+no-arms n l ls h = omega arith
+
+each-shallow : (m : ℕ) (f : Forest) → Most m (deeps f) → All-operands (Shallow (suc m)) f
+unfolding fold
+each-shallow m nil d = tt
+each-shallow m (t ◂ f) d = (d .0, each-shallow m f (d .1))
+
+operands-shallow : (m k : ℕ) (f : Forest) → Shallow (suc m) (Op k f) → All-operands (Shallow (suc m)) f
+unfolding fold
+operands-shallow m k f d = each-shallow m f (most-down (nesting-op k (deeps f)) m d (deeps f) (nesting-level .parts k (deeps f)))
+
+arms-shallow : (m k : ℕ) (q : Tree) (f : Forest) → T (is-switch k) → Shallow (suc m) (Op k (q ◂ f)) → AllTrees (Shallow m) (operands f)
+unfolding fold
+arms-shallow zero k q nil t d = (unfold operands in tt)
+arms-shallow zero k q (a ◂ f) t d = absurd (no-arms (deep q) (deep a) (deeps f) (deeper-op 0 (deep q) (deep a ∷ deeps f) (is-switch k) t d))
+arms-shallow (suc m) k q f t d =
+    as-list (Shallow (suc m)) f (each-shallow m f (arms-deeper (suc m) (deep q) (deeps f) (deeper-op (suc m) (deep q) (deeps f) (is-switch k) t d) m refl))
+
+inverse-deep : (m : ℕ) (d : Tree) → deep d ≤ m → deep (inverse d) ≤ m
+unfolding inverse fold greatest
+inverse-deep m d h = omega arith
+
+-- neither rounds nor reciprocals deepen arms
+pub reciprocals-deep : (m : ℕ) (s : State) → AllTrees (λ t. deep t ≤ m) (roots s) → AllTrees (λ t. deep t ≤ m) (roots (reciprocals true s))
+reciprocals-deep m s h =
+    reciprocals-within nesting-op nesting-level m true s
+    (λ d c. inverse-deep m d (trees-at (λ t. deep t ≤ m) d (all-nodes (roots s)) (all-nodes-most nesting-op nesting-level m (roots s) h) (let q = divisors-all d (roots s) in omega arith))) h
+
+-- ---- the number of scopes
+
+module _
+    (m : ℕ) (scope other : ℕ → List Tree → Outcome Scoped)
+    (same : (n : ℕ) (l : List Tree) → AllTrees (Shallow m) l → 1 ≤ length l → scope n l ≡ other n l)
+  where
+    fused-same : (x : ℕ) (s : State) → AllTrees (λ t. deep t ≤ m) (roots s) → fuse-held scope x s ≡ fuse-held other x s
+    unfolding fuse-held
+    fused-same x s d =
+        ap (λ (o : Outcome Work). elim (leb (occurrences (held x s)) scope-rows) as (λ _. Outcome Scoped) [ true ↦ (o >>= λ w. finish w) | false ↦ refused (by 23) ])
+        (fuse-same (Shallow m) (arms-total (collect-switches (roots s))) scope other (λ n l G. same n l (G .0) (G .2)) x s
+        (groups-all (Shallow (suc m)) (Shallow m) (operands-shallow m) (arms-shallow m) (roots s) d) (some-small (roots s)))
+
+    opened-same :
+        (o : Outcome State) → Good (λ u. AllTrees (λ t. deep t ≤ m) (roots u)) o
+        → (o >>= λ s. fuse-held scope (length (s .lets)) (reciprocals true s)) ≡ (o >>= λ s. fuse-held other (length (s .lets)) (reciprocals true s))
+    unfolding Good
+    opened-same (ok s) d = fused-same (length (s .lets)) (reciprocals true s) (reciprocals-deep m s d)
+    opened-same (refused i) d = refl
+
+-- Any two numbers above how deep arms nest give the same.
+scopes-same :
+    (D f g : ℕ) → D ≤ f → D ≤ g → (next : ℕ) (es : List Tree) → AllTrees (Shallow D) es → 1 ≤ D + length es → cse-scope f true next es ≡ cse-scope g true next es
+unfolding cse-scope
+scopes-same zero f g p q next [] h n = absurd (omega arith)
+scopes-same zero f g p q next (e ∷ es) h n = absurd (h .0)
+scopes-same (suc m) zero g p q next es h n = absurd (omega arith)
+scopes-same (suc m) (suc f) zero p q next es h n = absurd (omega arith)
+scopes-same (suc m) (suc f) (suc g) p q next es h n =
+    ap (λ (o : Outcome Scoped). elim (opens next es) as (λ _. Outcome Scoped) [ true ↦ o | false ↦ refused (by 23) ])
+    (opened-same m (λ n l. cse-scope f true n l) (λ n l. cse-scope g true n l) (λ n l H z. scopes-same m f g (omega arith) (omega arith) n l H (omega arith))
+    (extract-all true next es) (extract-all-within nesting-op nesting-level m true next es h))
+
+pub nests-at-most : (m : ℕ) (l : List Tree) → AllTrees (λ t. nesting t ≤ m) l → AllTrees (λ t. deep t ≤ m) l
+nests-at-most m l h = all-map (λ t. nesting t ≤ m) (λ t. deep t ≤ m) (λ t g. (let e = nesting-is t in omega arith)) l h
+
+-- Where arms nest at most 8 deep, any number from nine on gives the same.
+pub scopes-enough :
+    (fuel : ℕ) → scopes-open ≤ fuel → (scoped : Bool) (next : ℕ) (es : List Tree) → AllTrees (λ t. nesting t ≤ 8) es
+    → cse-scope fuel scoped next es ≡ cse-scope scopes-open scoped next es
+unfolding scopes-open
+scopes-enough zero h scoped next es d = absurd (omega arith)
+scopes-enough (suc fuel) h false next es d = (unfold cse-scope in refl)
+scopes-enough (suc fuel) h true next es d = scopes-same 9 (suc fuel) 9 h (omega arith) next es (nests-at-most 8 es d) (omega arith)
+
+-- A scope, without that number: it is refused by 23 where its input has more occurrences than rows, where its numbers are past 2^31, or where it would hold more
+-- for fusion, and else its arms' scopes are scopes in the same way.
+abbrev pub scope-of : ℕ → List Tree → Outcome Scoped
+scope-of next es = cse-scope scopes-open true next es
+
+pub scope-opens :
+    (next : ℕ) (es : List Tree) → AllTrees (λ t. nesting t ≤ 8) es
+    → scope-of next es
+    ≡ elim (opens next es) as (λ _. Outcome Scoped) [
+      | true ↦ (extract-all true next es >>= λ s. fuse-held (λ n l. scope-of n l) (length (s .lets)) (reciprocals true s))
+      | false ↦ refused (by 23)
+    ]
+scope-opens next es h = sym (scopes-enough (suc scopes-open) (omega arith) true next es h) ∙ (unfold cse-scope in refl)
+
+-- ---- the limits of a list (01, "Expressions and facts")
+
+limits-step : (t : Tree) (l : List Tree) → T (within-limits (t ∷ l)) → (nesting t ≤ 8) × T (within-limits l)
+unfolding within-limits occurrences
+limits-step t l h =
+    let a = leb→le (size t + occurrences l) 1024 (and-left (leb (size t + occurrences l) 1024) _ h) in
+    let b = and-right (leb (size t + occurrences l) 1024) _ h in
+    (leb→le (nesting t) 8 (and-left (leb (nesting t) 8) _ b), and-both (leb (occurrences l) 1024) _ (le→leb (occurrences l) 1024 (omega arith)) (and-right (leb (nesting t) 8) _ b))
+
+pub limits-nesting : (l : List Tree) → T (within-limits l) → AllTrees (λ t. nesting t ≤ 8) l
+limits-nesting [] h = tt
+limits-nesting (t ∷ l) h = (let q = limits-step t l h in (q .0, limits-nesting l (q .1)))
+
+pub limits-rows : (l : List Tree) → T (within-limits l) → occurrences l ≤ scope-rows
+unfolding within-limits scope-rows
+limits-rows l h = leb→le (occurrences l) 1024 (and-left (leb (occurrences l) 1024) _ h)
+
+-- For a list within the limits more than nine open scopes would change nothing,
+pub answer-by-more : (fuel : ℕ) → scopes-open ≤ fuel → (scoped : Bool) (es : List Tree) → T (within-limits es) → answer scoped es ≡ (cse-scope fuel scoped 0 es >>= λ a. ok (as-answer a))
+unfolding answer
+answer-by-more fuel m scoped es h = ap (λ (o : Outcome Scoped). o >>= λ a. ok (as-answer a)) (sym (scopes-enough fuel m scoped 0 es (limits-nesting es h)))
+
+-- and however many can be open, 23 arises only where a scope would hold too much for fusion or begin at a number past 2^31.
+pub answer-by-held : (fuel : ℕ) → scopes-open ≤ fuel → (es : List Tree) → T (within-limits es) → answer true es ≡ (by-held fuel 0 es >>= λ a. ok (as-answer a))
+answer-by-held fuel m es h = answer-by-more fuel m true es h ∙ ap (λ (o : Outcome Scoped). o >>= λ a. ok (as-answer a)) (held-alone fuel 0 es (limits-rows es h))
