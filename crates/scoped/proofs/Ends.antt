@@ -4,8 +4,9 @@ use native.Mathlib.Nat.{zero-add}
 use native.Mathlib.Omega.{arith}
 use mathlib.Core.Path.{_≡_, refl, sym, _∙_, ap, subst}
 use mathlib.Core.Bool.{Bool, true, false, _||_, cond}
-use mathlib.Core.List.{List}
-use lib.ListN.{length}
+use mathlib.Core.List.{List, _++_}
+use lib.ListN.{length, take, drop}
+use lib.Seq.{length-sets, take-append-seam}
 use lib.Dec.{T, ltb}
 use Rattle.tree.specs.Outcome.{Outcome, ok, refused, by, _>>=_}
 use Rattle.tree.specs.Layout.{table-of, laid-out}
@@ -14,7 +15,9 @@ use Rattle.cse.specs.AnswerRows.{result-row}
 use Rattle.cse.specs.Call.{Extracted, work-words, work-bytes, extract-call, table-after}
 use Rattle.checked.specs.Check.{rows-in}
 use Rattle.renaming.proofs.RowNames.{tree-words}
+use Rattle.scopeplaces.specs.Overlay.{overlay}
 use Rattle.scopeplaces.specs.Whole.{Told, scope-told}
+use Rattle.tables.proofs.Laws.{overlay-none, overlay-sets}
 use Rattle.extractlaws.specs.Parts.{extract-from}
 use Rattle.extractlaws.proofs.Ending.{call-short, call-enough}
 use Rattle.extract.specs.Answers.{extraction-answer}
@@ -25,7 +28,8 @@ use Rattle.scope.specs.Answers.{scope-answer, scope-table, told-rows}
 use Rattle.scope.specs.declared.Scoped.{Scoped}
 use Rattle.scope.specs.declared.Scoped.the-variants as scoped
 use Rattle.scopedlaws.specs.Roots.{scopes, roots-told, told-or-12, roots-rows}
-use Rattle.scopedlaws.proofs.Measuring.{too-few, enough, table-told}
+use Rattle.scopedlaws.proofs.Measuring.{too-few, enough, laid-in-front, table-told}
+use Rattle.scoped.specs.Kept.{Keeps}
 
 -- what the scope of the roots answers and leaves in a table
 abbrev pub Scopes-by : Outcome Told → List ℕ → Scoped → List ℕ → Type 0
@@ -74,6 +78,32 @@ module _ (o : Outcome Told) (r : Scoped) (is : r ≡ scope-answer o 0) where
   pub counts-none : (q : ℕ) → r ≡ scoped.Refused q → 0 ≡ told-rows o
   unfolding told-end
   counts-none q e = ap told-end (sym e ∙ is) ∙ end-is o
+
+-- rows laid over words that they fit stand in front of them, and can be laid over any table from there
+module _ (o : Outcome Told) (r : Scoped) (is : r ≡ scope-answer o 0) where
+  pub keeps : (n s m x : ℕ) → r ≡ scoped.Told n s m x → (base kept : List ℕ) → kept ≡ scope-table o 0 base → Keeps o n kept
+  unfolding told-rows scope-table
+  keeps n s m x e base kept k h old = go o (counts-rows o r is n s m x e) k
+    where
+      go : (p : Outcome Told) → n ≡ told-rows p → kept ≡ scope-table p 0 base → overlay 0 (take n kept) old ≡ scope-table p 0 old
+      go (ok a) q f =
+          let long : length kept ≡ length base = ap length (f ∙ overlay-sets 0 (a .words) base) ∙ length-sets base 0 (a .words) in
+          let there : kept ≡ a .words ++ drop (length (a .words)) base = f ∙ laid-in-front (a .words) base (omega (arith, q, h, long)) in
+          ap (λ (l : List ℕ). overlay 0 l old) (ap (λ (k : ℕ). take k kept) q ∙ ap (λ (l : List ℕ). take (length (a .words)) l) there ∙ take-append-seam (a .words) (drop (length (a .words)) base))
+      go (refused i) q f = ap (λ (k : ℕ). overlay 0 (take k kept) old) q ∙ overlay-none 0 old
+
+  -- and a scope that is refused leaves any table as it was
+  pub leaves : (q : ℕ) → r ≡ scoped.Refused q → (old : List ℕ) → old ≡ scope-table o 0 old
+  unfolding scope-answer scope-table
+  leaves q e old = go o (sym e ∙ is)
+    where
+      told : Scoped → ℕ
+      told (scoped.Told n s m x) = 1
+      told (scoped.Refused q) = 0
+
+      go : (p : Outcome Told) → scoped.Refused q ≡ scope-answer p 0 → old ≡ scope-table p 0 old
+      go (ok a) c = (let z : _≡_ {A = ℕ} 0 1 = ap told c in absurd (omega arith))
+      go (refused i) c = refl
 
 -- ---- and written
 

@@ -1,5 +1,5 @@
 // The public operation Extract in the scoped form, `cse_scoped` of the source (01, "Turned down": Extract): node rows and roots in, rows of the answer out. The
-// scope of the roots is done twice: the first time to count its rows, which finds every refusal before anything is written, and the second time to write them.
+// scope of the roots is done first over rows of this crate's own, which finds every refusal before anything is written; an answer that has more is done once more.
 ghost use mathlib.Core.Path.{_≡_};
 ghost use mathlib.Core.Bool.{true};
 ghost use Prim.Native.Nat.{_≤_};
@@ -9,15 +9,20 @@ ghost use Rattle.extract.specs.Answers.{extraction-answer};
 ghost use Rattle.scope.specs.Answers.{scope-answer, scope-table, told-rows};
 ghost use Rattle.scope.specs.Frame.{most-rows};
 ghost use Rattle.scopedlaws.specs.Roots.{roots-told, roots-rows};
+ghost use Rattle.scoped.specs.Kept.{Keeps};
 use extract::Extraction;
 use scope::Scoped;
 use scope::scope;
+use tables::put;
 use unfold::Unfolded;
 use unfold::unfold;
 use workarea::is_short;
 
 // How many scopes may be open at once.
 const SCOPES: usize = 9;
+
+// How many rows are kept of the first time. Few answers have more; each is a word of the stack.
+const KEPT: usize = 4096;
 
 // The kind of a result's row.
 const RESULT: u64 = 36;
@@ -48,18 +53,26 @@ fn scope_roots(
     scope(rows, work, len, SCOPES, RESULT, 0, text, 0, table)
 }
 
-// How many rows that scope has, 0 where it is refused. A table of one word takes the first, and the rest are dropped.
-fn count_rows(rows: &[u64], roots: &[u64], work: &mut [u64], text: &mut [u8]) -> usize
+// That scope's rows over the table: from those that were kept, if all of them were, or else by the scope once more.
+fn lay_rows(
+    rows: &[u64],
+    roots: &[u64],
+    work: &mut [u64],
+    text: &mut [u8],
+    kept: &[u64],
+    end: usize,
+    table: &mut [u64],
+)
     requires { ⌜ (65536 ≤ length (now work)) × (131072 ≤ length (now text)) ⌝ }
     requires { ⌜ told-rows (roots-told (now rows) (now roots)) ≤ most-rows ⌝ }
-    ensures { λ r. ⌜ r ≡ told-rows (roots-told (now (rows .entry)) (now (roots .entry))) ⌝ }
+    requires { ⌜ Keeps (roots-told (now rows) (now roots)) end (now kept) ⌝ }
+    ensures { λ _. ⌜ now (table .exit) ≡ scope-table (roots-told (now (rows .entry)) (now (roots .entry))) 0 (now (table .entry)) ⌝ }
 {
-    let mut first = [0u64; 1];
-    let measured = scope_roots(rows, roots, work, text, &mut first);
-    match measured {
-        Scoped::Told(end, steps, next, extracted) => end,
-        Scoped::Refused(number) => 0,
+    if end <= kept.len() {
+        put(&kept[..end], 0, table);
+        return;
     }
+    scope_roots(rows, roots, work, text, table);
 }
 
 // The scoped form after 8: 12 where the table has too few rows, before any is written.
@@ -75,13 +88,16 @@ fn write_rows(
     ensures { λ r. ⌜ (r ≡ extraction-answer (roots-rows (now (rows .entry)) (now (roots .entry)) (length (now (table .entry)))))
         × (now (table .exit) ≡ table-after (roots-rows (now (rows .entry)) (now (roots .entry)) (length (now (table .entry)))) (now (table .entry))) ⌝ }
 {
-    let count = count_rows(rows, roots, work, text);
-    if table.len() < count {
-        return Extraction::Refused(FEW_ROWS);
-    }
-    let written = scope_roots(rows, roots, work, text, table);
-    match written {
-        Scoped::Told(end, steps, next, extracted) => Extraction::Rows(end, extracted),
+    let mut kept = [0u64; KEPT];
+    let told = scope_roots(rows, roots, work, text, &mut kept);
+    match told {
+        Scoped::Told(end, steps, next, extracted) => {
+            if table.len() < end {
+                return Extraction::Refused(FEW_ROWS);
+            }
+            lay_rows(rows, roots, work, text, &kept, end, table);
+            Extraction::Rows(end, extracted)
+        }
         Scoped::Refused(number) => Extraction::Refused(number),
     }
 }
