@@ -1,4 +1,3 @@
 pub mod Armed
 pub mod Arms
 pub mod Ends
-pub mod Whole

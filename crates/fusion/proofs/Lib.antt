@@ -6,11 +6,9 @@ pub mod Sizes
 pub mod Switchless
 pub mod Outer
 pub mod Held
-pub mod Untouched
 pub mod Sorting
 pub mod Rows
 pub mod Words
-pub mod Runs
 pub mod Members
 pub mod Walking
 pub mod Groups

@@ -2,4 +2,3 @@ pub mod Switch
 pub mod Taking
 pub mod Gathering
 pub mod Ends
-pub mod Always

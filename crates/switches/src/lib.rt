@@ -1,11 +1,11 @@
-// The switches outside arms (01, "Scoped fusion") as places among words of trees, each tree once, where it stands first; and whether there is a switch at all.
+// The switches outside arms (01, "Scoped fusion") as places among words of trees, each tree once, where it stands first.
 ghost use mathlib.Core.Path.{_≡_};
 ghost use Prim.Native.Nat.{_≤_, _<_};
 ghost use lib.ListN.{length};
 ghost use Rattle.tree.specs.Tree.{eq-tree};
 ghost use Rattle.words.specs.Words.{Complete};
 ghost use Rattle.renaming.specs.Places.{numbered-at, among-places};
-ghost use Rattle.switchplaces.specs.Switches.{switch-places, new-switch, holds-switch};
+ghost use Rattle.switchplaces.specs.Switches.{switch-places, new-switch};
 ghost use Rattle.switches.specs.Listing.{switch-word, Inside, Outsides, Listed, listing};
 use tokens::Equality;
 use tokens::Trees;
@@ -39,20 +39,6 @@ pub fn is_switch(w: u64) -> bool
         return false;
     }
     w / KINDS >= 1
-}
-
-// Whether there is a switch outside arms. The first of all is outside arms, so any will do.
-pub fn holds_switch(tokens: &[u64]) -> bool
-    ensures { λ r. ⌜ r ≡ holds-switch (now (tokens .entry)) ⌝ }
-{
-    let mut i = 0;
-    while i < tokens.len() {
-        if is_switch(tokens[i]) {
-            return true;
-        }
-        i += 1;
-    }
-    false
 }
 
 // Whether the trees at two places are equal.

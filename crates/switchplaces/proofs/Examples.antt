@@ -6,7 +6,7 @@ use mathlib.Core.Bool.{true, false}
 use mathlib.Core.Option.{some}
 use mathlib.Core.List.{List, [], _∷_}
 use Rattle.tree.specs.Tokens.{trees-in}
-use Rattle.switchplaces.specs.Switches.{switch-places, holds-switch, arm-places}
+use Rattle.switchplaces.specs.Switches.{switch-places, arm-places}
 use Rattle.switchplaces.specs.Groups.{joins-at, group-first, group-numbers, member-places}
 use Rattle.switchplaces.specs.Columns.{column-words, columns-length}
 
@@ -27,14 +27,6 @@ five-trees = refl
 their-places : switch-places words ≡ 0 ∷ 7 ∷ 11 ∷ 22 ∷ []
 unfolding switch-places words
 their-places = refl
-
-there-is-one : holds-switch words ≡ true
-unfolding holds-switch words
-there-is-one = refl
-
-none-there : holds-switch (131 ∷ 0 ∷ 192 ∷ []) ≡ false
-unfolding holds-switch
-none-there = refl
 
 first-arms : arm-places words 0 ≡ 2 ∷ 3 ∷ []
 unfolding arm-places words

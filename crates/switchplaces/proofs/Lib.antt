@@ -6,7 +6,6 @@ pub mod Remaining
 pub mod Words
 pub mod Turned
 pub mod GroupColumns
-pub mod Holding
 pub mod Stepping
 pub mod Lengths
 pub mod Examples

@@ -43,17 +43,6 @@ module _ (ws : List ℕ) where
   unfolding switch-at outside-at among-places
   new-switch met n = outside-at ws true n && (switch-at n && not (among-places ws n met))
 
-  -- whether one of the first n places is a switch
-  unfoldable pub switch-among : ℕ → Bool
-  unfolding switch-at
-  switch-among zero = false
-  switch-among (suc n) = switch-at n || switch-among n
-
-  -- Whether there is a switch outside arms. The first switch of all is outside arms, so any will do.
-  unfoldable pub holds-switch : Bool
-  unfolding switch-among
-  holds-switch = switch-among (length ws)
-
   -- ---- the parts of a switch
 
   -- every operand after the first is an arm, the default among them
