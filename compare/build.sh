@@ -26,13 +26,15 @@ gather() {
     done
 }
 
-# PROGRAM FUNCTION...: the crates that export the functions as static libraries, and the program, linked with them
-link() {
-    local program=$1 libraries=() crate
+# PROGRAM [OPTION...]: the program, with further options for rustc
+compile() {
+    local program=$1
     shift
-    for crate in $(for function; do grep -l "extern \"C\" fn $function(" crates/*/src/lib.rt; done | cut -d/ -f2 | sort -u); do
-        rt staticlib "$crate" >"$out/staticlib.log" 2>&1 || { cat "$out/staticlib.log"; exit 1; }
-        libraries+=(-l "static=$crate")
-    done
-    rustc -O --edition 2024 -L target/staticlib "${libraries[@]}" -o "$out/$program" "$build/main.rs"
+    rustc -O --edition 2024 "$@" -o "$out/$program" "$build/main.rs"
+}
+
+# PROGRAM: the functions that capi exports as a static library, and the program, linked with it
+link() {
+    rt staticlib capi >"$out/staticlib.log" 2>&1 || { cat "$out/staticlib.log"; exit 1; }
+    compile "$1" -L target/staticlib -l static=capi
 }

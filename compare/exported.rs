@@ -1,7 +1,7 @@
 //! What more than one driver calls of the port.
 
 unsafe extern "C" {
-    // crates/cprint: a slice is a pointer and a length
+    // crates/capi: a slice is a pointer and a length
     pub fn cse_print(
         rows: *const u64,
         rows_len: usize,

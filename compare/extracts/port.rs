@@ -3,7 +3,7 @@ use crate::area::Area;
 use crate::exported::cse_print;
 use std::time::{Duration, Instant};
 
-/// crates/cextract and crates/cscoped: a slice is a pointer and a length.
+/// crates/capi: a slice is a pointer and a length.
 type Extract = unsafe extern "C" fn(*const u64, usize, *const u64, usize, *mut u64, usize, *mut u8, usize, *mut u64, usize, *mut u64, usize) -> u64;
 
 macro_rules! extracts {

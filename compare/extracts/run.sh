@@ -10,7 +10,7 @@ bindings/build
 
 # NAME: the driver, with the source as it is in the build's folder
 driver() {
-    rustc -O --edition 2024 -L target/bindings -o "$out/$1" "$build/main.rs"
+    compile "$1" -L target/bindings
 }
 
 # The source with two lines more, which count what a scope holds (extracts/held.rs). Times are measured without them.

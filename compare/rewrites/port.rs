@@ -3,7 +3,7 @@ use crate::area::Area;
 use std::time::{Duration, Instant};
 
 unsafe extern "C" {
-    // crates/creplace and crates/crewrite: a slice is a pointer and a length
+    // crates/capi: a slice is a pointer and a length
     fn cse_replace(
         tokens: *const u64,
         tokens_len: usize,

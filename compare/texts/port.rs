@@ -4,7 +4,7 @@ use crate::exported::cse_print;
 use std::time::{Duration, Instant};
 
 unsafe extern "C" {
-    // crates/ctext: a slice is a pointer and a length
+    // crates/capi: a slice is a pointer and a length
     fn cse_text(
         rows: *const u64,
         rows_len: usize,

@@ -1,1 +1,7 @@
 pub mod Ends
+pub mod LoadEnds
+pub mod ExtractEnds
+pub mod PrintEnds
+pub mod TextEnds
+pub mod RewriteEnds
+pub mod ReplaceEnds
