@@ -113,10 +113,14 @@ fn put_sheet(line: &[u8], sheet: &mut [u8]) -> usize
     n
 }
 
-fn say_line(number: u64, line: &[u8]) {
+fn say_number(number: u64) {
     io::write_all(STDOUT_FILENO, b"# ");
     io::print_decimal(STDOUT_FILENO, number);
     io::write_all(STDOUT_FILENO, b"\n");
+}
+
+fn say_line(number: u64, line: &[u8]) {
+    say_number(number);
     let mut sheet = [0u8; 65536];
     let n = put_sheet(line, &mut sheet);
     say_sheet(&sheet[..n]);
