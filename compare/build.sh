@@ -38,3 +38,27 @@ link() {
     rt staticlib capi >"$out/staticlib.log" 2>&1 || { cat "$out/staticlib.log"; exit 1; }
     compile "$1" -L target/staticlib -l static=capi
 }
+
+# The programs of stored cases are crates that are run on a file stdin and have to write what their file stdout has.
+
+# CRATE COMMAND...: the command makes the two files anew, in the folder that it is given as its last word
+renew() {
+    local crate=$1
+    shift
+    rm -rf "${out:?}/$crate"
+    mkdir -p "$out/$crate"
+    "$@" "$out/$crate"
+}
+
+# CRATE: what was made anew becomes what is stored
+store() {
+    cp "$out/$1/stdin" "$out/$1/stdout" "crates/$1"
+}
+
+# CRATE WORDS: fails with the words unless what was made anew is what is stored
+hold() {
+    local file
+    for file in stdin stdout; do
+        cmp "$out/$1/$file" "crates/$1/$file" || { echo "crates/$1/$file $2" >&2; exit 1; }
+    done
+}

@@ -1,9 +1,10 @@
-//! Writes the list that the program `answerreplay` replays (crates/answerreplay/stdin): sheets with the
-//! flat answers that the source gives, or the refusal.
+//! Makes what the program `answerreplay` is run on and what it has to write (stdin and stdout in
+//! crates/answerreplay): sheets, and the flat answers that the source gives, or the refusals. The argument
+//! names the folder that the two files are written to.
 //!
-//! A line has a sheet, a bar, and what `csesheet` prints for it, with a slash for each CRLF of the sheet
-//! and a tilde for each line feed of the text. The lines are those of the paper's marked lists, of sheets
-//! that load refuses, whose numbers are the paper's, of small random lists, and of large ones. Lists where
+//! A line of stdin is a sheet, with a slash for each CRLF. In stdout a line `# N` stands before what
+//! `csesheet` prints for the sheet on line N. The sheets are those of the paper's marked lists, those that
+//! load refuses, whose numbers are the paper's, those of small random lists, and of large ones. Lists where
 //! hash order decides are left out.
 #![allow(dead_code)]
 
@@ -15,6 +16,7 @@ mod fmt;
 mod large;
 mod lists;
 mod marked;
+mod pair;
 mod random;
 mod records;
 mod tree;
@@ -25,6 +27,7 @@ pub(crate) use arael::{as_exact_int, expand_func};
 
 use answers::{Event, Events, Outcome, settled};
 use large::Family;
+use pair::Pair;
 use random::Random;
 use std::collections::HashSet;
 use tree::{Maker, T};
@@ -33,31 +36,59 @@ const SEED: u64 = 20_261_115;
 /// Small lists are taken until there are so many, and until each thing that `Met` counts was met so often.
 const SMALL: usize = 320;
 const OF_EACH: usize = 25;
-/// Lists with longer lines are left out.
-const SHORT: usize = 700;
-const SHORT_LARGE: usize = 12_000;
+/// Lists with more bytes in sheet and answer are left out.
+const SHORT: usize = 699;
+const SHORT_LARGE: usize = 11_999;
 /// Large lists have at least so many occurrences.
 const NEAR_THE_LIMIT: usize = 900;
 
 fn main() {
+    let folder = std::env::args().nth(1).expect("a folder");
     asked::hush();
     let mut seen = HashSet::new();
-    for line in marked::lines().into_iter().chain(small()).chain(large()) {
-        if seen.insert(line.clone()) {
-            println!("{line}");
+    let mut pair = Pair::default();
+    for case in marked::cases().into_iter().chain(small()).chain(large()) {
+        if seen.insert(case.clone()) {
+            pair.stdin += &format!("{}\n", case.sheet);
+            pair.stdout += &format!("# {}\n{}", seen.len(), case.said);
         }
+    }
+    pair.write(&folder);
+}
+
+/// A sheet, a slash for each CRLF, and what `csesheet` prints for it.
+#[derive(Clone, PartialEq, Eq, Hash)]
+struct Case {
+    sheet: String,
+    said: String,
+}
+
+impl Case {
+    fn new(sheet: &str, said: &str) -> Case {
+        Case {
+            sheet: sheet.to_string(),
+            said: said.to_string(),
+        }
+    }
+
+    fn refused(sheet: &str, number: usize, record: usize) -> Case {
+        Case::new(sheet, &format!("refused {number} {record}\n"))
+    }
+
+    fn size(&self) -> usize {
+        self.sheet.len() + self.said.len()
     }
 }
 
 /// The list's sheet and its answer, or none where hash order decides.
-fn line(es: &[T], share: bool) -> Option<(String, Option<Events>)> {
+fn case(es: &[T], share: bool) -> Option<(Case, Option<Events>)> {
     let mut maker = Maker::new(share);
     let given: Vec<E> = es.iter().map(|t| maker.make(t)).collect();
     let (outcome, events) = settled(false, &given)?;
     let sheet = records::sheet(es, share);
     Some(match outcome {
-        Outcome::Given { text, .. } => (format!("{sheet}|{}", text.replace('\n', "~")), Some(events)),
-        Outcome::Refused(n) => (format!("{sheet}|refused {n} 0~"), None),
+        Outcome::Given { text, .. } => (Case::new(&sheet, &text), Some(events)),
+        Outcome::Refused(n) => (Case::refused(&sheet, n, 0), None),
     })
 }
 
@@ -86,38 +117,36 @@ impl Met {
 
 /// Whether a binding stands before one with a lower number.
 fn out_of_order(text: &str) -> bool {
-    let numbers: Vec<usize> = text
-        .split('~')
-        .filter_map(|l| l.rsplit('|').next()?.strip_prefix("let __x")?.split(' ').next()?.parse().ok())
-        .collect();
+    let numbers: Vec<usize> =
+        text.lines().filter_map(|l| l.strip_prefix("let __x")?.split(' ').next()?.parse().ok()).collect();
     numbers.windows(2).any(|w| w[0] > w[1])
 }
 
-fn small() -> Vec<String> {
+fn small() -> Vec<Case> {
     let mut r = Random(SEED);
     let mut met = Met::default();
-    let mut lines = Vec::new();
-    while lines.len() < SMALL || met.0.iter().any(|n| *n < OF_EACH) {
+    let mut cases = Vec::new();
+    while cases.len() < SMALL || met.0.iter().any(|n| *n < OF_EACH) {
         let es = lists::list(&mut r);
         let share = r.chance(50);
         let picky = r.chance(95);
-        let Some((line, events)) = line(&es, share) else {
+        let Some((case, events)) = case(&es, share) else {
             continue;
         };
-        let marks = Met::marks(&line, &events);
+        let marks = Met::marks(&case.said, &events);
         let wanted = marks.iter().zip(met.0).any(|(here, n)| *here && n < OF_EACH);
         let any = marks.iter().any(|here| *here);
-        if line.len() > SHORT || (picky && !any) || (lines.len() >= SMALL && !wanted) {
+        if case.size() > SHORT || (picky && !any) || (cases.len() >= SMALL && !wanted) {
             continue;
         }
         met.0.iter_mut().zip(marks).for_each(|(n, here)| *n += usize::from(here));
-        lines.push(line);
+        cases.push(case);
     }
-    lines
+    cases
 }
 
 /// A list of each family that has one near the limit of 1,024 occurrences.
-fn large() -> Vec<String> {
+fn large() -> Vec<Case> {
     let families = [
         Family::Products,
         Family::Divisions,
@@ -129,7 +158,7 @@ fn large() -> Vec<String> {
     families.into_iter().filter_map(large_of).collect()
 }
 
-fn large_of(family: Family) -> Option<String> {
+fn large_of(family: Family) -> Option<Case> {
     let mut r = Random(SEED);
     for _ in 0..200 {
         let es = large::of_family(&mut r, family, large::MOST);
@@ -137,8 +166,8 @@ fn large_of(family: Family) -> Option<String> {
         if total < NEAR_THE_LIMIT || total > large::MOST || es.len() > large::ROOTS {
             continue;
         }
-        match line(&es, true) {
-            Some((line, Some(_))) if line.len() <= SHORT_LARGE => return Some(line),
+        match case(&es, true) {
+            Some((case, Some(_))) if case.size() <= SHORT_LARGE => return Some(case),
             _ => continue,
         }
     }

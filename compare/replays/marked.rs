@@ -1,6 +1,6 @@
 //! The paper's marked lists, M1 to M11, and sheets that load refuses.
-use crate::line;
 use crate::tree::*;
+use crate::{Case, case};
 
 const SUB: usize = 4;
 const SIN: usize = 8;
@@ -8,11 +8,13 @@ const COS: usize = 9;
 
 /// M9, whose two sums have one text: the source's answer hangs on hash order, and the paper's takes the
 /// one met first.
-const M9: &str = "Sym,a/Sym,b/Sym,c/Add,1,2/Add,0,3/Sin,4/Cos,4/Add,0,1/Add,7,2/Sin,8/Cos,8/Root,5/Root,6/Root,9/Root,10/\
-    |let __x1 = a + b + c;~let __x0 = a + b + c;~sin(__x0)~cos(__x0)~sin(__x1)~cos(__x1)~";
+const M9: [&str; 2] = [
+    "Sym,a/Sym,b/Sym,c/Add,1,2/Add,0,3/Sin,4/Cos,4/Add,0,1/Add,7,2/Sin,8/Cos,8/Root,5/Root,6/Root,9/Root,10/",
+    "let __x1 = a + b + c;\nlet __x0 = a + b + c;\nsin(__x0)\ncos(__x0)\nsin(__x1)\ncos(__x1)\n",
+];
 
 /// M11 has no roots.
-const M11: &str = "Sym,a|";
+const M11: [&str; 2] = ["Sym,a", ""];
 
 /// The paper's own numbers, for the sheet and the refusal's number and record.
 const REFUSED: [(&str, usize, usize); 9] = [
@@ -27,10 +29,10 @@ const REFUSED: [(&str, usize, usize); 9] = [
     ("Sym,a/Root,1/", 5, 1),
 ];
 
-pub fn lines() -> Vec<String> {
-    let asked = marked().into_iter().map(|es| line(&es, true).expect("hash order decides no marked list").0);
-    let refused = REFUSED.iter().map(|(sheet, n, record)| format!("{sheet}|refused {n} {record}~"));
-    asked.chain([M9, M11].map(str::to_string)).chain(refused).collect()
+pub fn cases() -> Vec<Case> {
+    let asked = marked().into_iter().map(|es| case(&es, true).expect("hash order decides no marked list").0);
+    let refused = REFUSED.iter().map(|(sheet, n, record)| Case::refused(sheet, *n, *record));
+    asked.chain([M9, M11].map(|[sheet, said]| Case::new(sheet, said))).chain(refused).collect()
 }
 
 fn two(kind: usize, a: &T, b: &T) -> T {

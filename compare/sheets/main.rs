@@ -2,14 +2,15 @@
 //! Rust, on good sheets and many damaged copies of them.
 //!
 //! Arguments: the number of damaged copies; or `--self-test`, to see that wrong expectations are
-//! noticed; or `--stored FILE`, which prints the stored list in FILE with its answers worked out by
-//! the reading.
+//! noticed; or `--stored LIST FOLDER`, which writes the sheets of LIST to FOLDER/stdin, and the answers
+//! that the reading works out for them to FOLDER/stdout.
 
 #![allow(dead_code)]
 
 mod area;
 mod damage;
 mod good;
+mod pair;
 mod port;
 mod random;
 mod reading;
@@ -31,7 +32,7 @@ fn main() {
         "--self-test" => self_test(),
         "--stored" => {
             let list = std::fs::read_to_string(&words[1]).expect("the stored list");
-            print!("{}", stored::renewed(&list));
+            stored::renewed(&list).write(&words[2]);
         }
         copies => compare(copies.parse().expect("a number of copies")),
     }

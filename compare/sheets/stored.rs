@@ -1,14 +1,16 @@
-//! The stored list that the program `loadreplay` replays (crates/loadreplay/stdin): its lines, with
-//! the answers that the reading gives.
+//! What the program `loadreplay` is run on and what it has to print (stdin and stdout in
+//! crates/loadreplay): sheets, and the answers that the reading gives.
 //!
-//! A line has columns of fixed width: words lent, places lent, 01's number or 0, the record or the
-//! count of rows, the count of roots, a digest of all words lent as the call leaves them, and the
-//! sheet. In the sheet `/` is a CRLF and `\HH` the byte of that number; `|` parts it, and a part
-//! `*NNNNN:piece` is the piece so many times, with `#` for the number of the turn. A line that
-//! begins with `#` says what follows it.
+//! A line of stdin has five digits for the words lent, three for the places lent, and the sheet, a
+//! space between them. In the sheet `/` is a CRLF and `\HH` the byte of that number; `|` parts it, and
+//! a part `*NNNNN:piece` is the piece so many times, with `#` for the number of the turn. The same line
+//! of stdout has 01's number or 0, the record or the count of rows, the count of roots, and a digest of
+//! all words lent as the call leaves them. A line that begins with `#` says what follows it, and is the
+//! same in both.
 use crate::damage;
 use crate::area::Filler;
 use crate::good;
+use crate::pair::Pair;
 use crate::port::{ENOUGH, Lent};
 use crate::random::Random;
 use crate::reading;
@@ -24,22 +26,22 @@ const SHORT: usize = 150;
 const PRIME: u64 = 4_294_967_311;
 const FACTOR: u64 = 1_000_003;
 
-/// The list with the answers of all its lines worked out again.
-pub fn renewed(list: &str) -> String {
-    let mut text = String::new();
+/// The sheets of the list, the random ones made anew, and their answers.
+pub fn renewed(list: &str) -> Pair {
+    let mut pair = Pair::default();
     for line in list.lines().take_while(|line| *line != RANDOM) {
         if line.starts_with('#') {
-            text += &format!("{line}\n");
+            remark(&mut pair, line);
         } else {
             let lent = Lent {
                 words: line[0..5].parse().expect("words lent"),
                 places: line[6..9].parse().expect("places lent"),
                 ..ENOUGH
             };
-            text += &answered(lent, &line[31..]);
+            put_case(&mut pair, lent, &line[10..]);
         }
     }
-    text += &format!("{RANDOM}\n");
+    remark(&mut pair, RANDOM);
     let mut r = Random(SEED);
     let mut count = 0;
     while count < RANDOM_SHEETS {
@@ -50,17 +52,27 @@ pub fn renewed(list: &str) -> String {
             damage::copy(&mut r, &good)
         };
         if bytes.len() <= SHORT {
-            text += &answered(lent, &recipe(&bytes));
+            put_case(&mut pair, lent, &recipe(&bytes));
             count += 1;
         }
     }
-    text
+    pair
 }
 
-fn answered(lent: Lent, recipe: &str) -> String {
+fn remark(pair: &mut Pair, line: &str) {
+    pair.stdin += &format!("{line}\n");
+    pair.stdout += &format!("{line}\n");
+}
+
+fn put_case(pair: &mut Pair, lent: Lent, recipe: &str) {
+    pair.stdin += &format!("{:05} {:03} {recipe}\n", lent.words, lent.places);
+    pair.stdout += &answered(lent, &expanded(recipe));
+}
+
+fn answered(lent: Lent, sheet: &[u8]) -> String {
     let mut rows: Vec<u64> = (0..lent.words).map(u64::filler).collect();
     let mut roots: Vec<u64> = (0..lent.places).map(u64::filler).collect();
-    let (number, count, more) = match reading::load(lent.words, lent.places, &expanded(recipe)) {
+    let (number, count, more) = match reading::load(lent.words, lent.places, sheet) {
         Ok(table) => {
             let words = table.words();
             rows[..words.len()].copy_from_slice(&words);
@@ -70,10 +82,7 @@ fn answered(lent: Lent, recipe: &str) -> String {
         Err(refused) => (refused.number, refused.record, 0),
     };
     let digest = digest(digest(0, &rows), &roots);
-    format!(
-        "{:05} {:03} {number} {count:04} {more:02} {digest:010} {recipe}\n",
-        lent.words, lent.places
-    )
+    format!("{number} {count} {more} {digest}\n")
 }
 
 /// The digest goes on with both halves of each word.

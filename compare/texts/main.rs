@@ -2,7 +2,8 @@
 //! `Display`, on random trees and on the source's answers to random lists.
 //!
 //! Arguments: the number of trees and of answers; or `--self-test`, to see that wrong expectations are noticed; or
-//! `--stored`, which prints the list that the program `textreplay` replays.
+//! `--stored FOLDER`, which writes what the program `textreplay` is run on to FOLDER/stdin, and what it has to print to
+//! FOLDER/stdout.
 #![allow(dead_code)]
 
 mod arael;
@@ -12,6 +13,7 @@ mod cse;
 mod exported;
 mod fmt;
 mod lists;
+mod pair;
 mod port;
 mod printed;
 mod random;
@@ -41,7 +43,7 @@ fn main() {
     asked::hush();
     match words[0].as_str() {
         "--self-test" => self_test(),
-        "--stored" => print!("{}", stored::list()),
+        "--stored" => stored::pair().write(&words[1]),
         trees => compare(trees.parse().expect("a number of trees")),
     }
 }

@@ -1,12 +1,15 @@
-//! The list that the program `textreplay` replays (crates/textreplay/stdin): words of trees with the
-//! texts that the source gives.
+//! What the program `textreplay` is run on and what it has to print (stdin and stdout in
+//! crates/textreplay): words of trees and rows of answers, and the texts that the source gives.
 //!
-//! The first line has the node rows that name the symbols, and each other line the words of a tree, a
-//! bar, and its text; after each word there is a space. A line that begins with an exclamation mark
-//! has an answer's rows, and a tilde for each line feed of its text.
+//! The first line of stdin has the node rows that name the symbols. Each other line has the words of a
+//! tree, or an exclamation mark and an answer's rows, and then how many bytes are lent, one more than the
+//! text has. In stdout a tree has two lines, for a call that only measures and one that writes: the places
+//! after its words and after its text, and all bytes lent, which were filled with `#`. An answer has the
+//! count of its bytes, and all bytes lent.
 use crate::arael::E;
 use crate::asked::{self, asked};
 use crate::lists;
+use crate::pair::Pair;
 use crate::random::Random;
 use crate::printed::{self, FORMS};
 use crate::tree::Maker;
@@ -21,36 +24,39 @@ const SHORT: usize = 200;
 /// Answers are stored until each form was met so often; those with longer texts are left out.
 const OF_EACH_FORM: usize = 4;
 const SHORT_ANSWER: usize = 300;
+/// The bytes lent are filled with this, which no text has.
+const FILLED: &str = "#";
 const SYMBOLS: [&str; 13] = [
     "a", "b", "_c9", "a_name_of_32_bytes_ABCDEFGHIJKL_", "c", "d", "i", "j", "k", "p", "q", "y", "z",
 ];
 
-pub fn list() -> String {
+pub fn pair() -> Pair {
     let mut rows = Rows::new();
     for name in SYMBOLS {
         rows.put_symbol(name);
     }
-    let mut text = format!("{}\n", spaced(&rows.words));
+    let mut pair = Pair::default();
+    pair.stdin += &format!("{}\n", spaced(&rows.words));
     for e in seats().into_iter().chain(nests()) {
-        text += &line(&rows, &e);
+        put_tree(&mut pair, &rows, &e);
     }
     let mut r = Random(SEED);
     let mut count = 0;
     while count < RANDOM_TREES {
         let e = trees::tree(&mut r, &rows);
         if e.to_string().len() <= SHORT {
-            text += &line(&rows, &e);
+            put_tree(&mut pair, &rows, &e);
             count += 1;
         }
     }
-    text + &answers(&rows)
+    put_answers(&mut pair, &rows);
+    pair
 }
 
 /// The source's own answers to random lists.
-fn answers(rows: &Rows) -> String {
+fn put_answers(pair: &mut Pair, rows: &Rows) {
     let mut r = Random(SEED);
     let mut met = [0; FORMS.len()];
-    let mut text = String::new();
     while met.iter().any(|n| *n < OF_EACH_FORM) {
         let trees = lists::list(&mut r);
         let mut maker = Maker::new(false);
@@ -64,21 +70,25 @@ fn answers(rows: &Rows) -> String {
         let said = asked::text(&answer);
         if wanted && said.len() <= SHORT_ANSWER {
             met.iter_mut().zip(forms).for_each(|(n, here)| *n += usize::from(here));
-            let words = spaced(&laid_out(rows, &answer));
-            text += &format!("!{words}|{}\n", said.replace('\n', "~"));
+            pair.stdin += &format!("!{} {}\n", spaced(&laid_out(rows, &answer)), said.len() + 1);
+            pair.stdout += &format!("{} {said}{FILLED}\n", said.len());
         }
     }
-    text
 }
 
-fn line(rows: &Rows, e: &E) -> String {
+fn put_tree(pair: &mut Pair, rows: &Rows, e: &E) {
     let mut tokens = Vec::new();
     words::put(e, &|name| rows.number(name), &mut tokens);
-    format!("{}|{e}\n", spaced(&tokens))
+    let text = e.to_string();
+    let (next, end) = (tokens.len(), text.len());
+    let untouched = FILLED.repeat(end + 1);
+    pair.stdin += &format!("{} {}\n", spaced(&tokens), end + 1);
+    pair.stdout += &format!("{next} {end} {untouched}\n{next} {end} {text}{FILLED}\n");
 }
 
 fn spaced(words: &[u64]) -> String {
-    words.iter().map(|w| format!("{w} ")).collect()
+    let words: Vec<String> = words.iter().map(u64::to_string).collect();
+    words.join(" ")
 }
 
 /// How many operands are tried; a Select has two arms here.

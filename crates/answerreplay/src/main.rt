@@ -1,7 +1,8 @@
-// Replays stored answers. Standard input has sheets with what `csesheet` prints for them: the flat answers that the source gives, or the refusal
-// (compare/replays/main.rs says how a line is laid out). Each sheet is loaded and extracted, and each line of its answer must be as stored.
+// Prints what `csesheet` prints for stored sheets. Standard input has a sheet on each line, a slash for each CRLF, and a line `# N` stands before what is printed for
+// the sheet on line N: its flat answer, or the refusal. The file `stdout` has what the source gives for these sheets (compare/replays/main.rs).
 ghost use Prim.Native.Nat.{_≤_};
 ghost use lib.ListN.{length};
+ghost use Rattle.io.specs.Counts.{Counts};
 use flatsheet::Flat;
 use flatsheet::flat_sheet;
 use libc::STDIN_FILENO;
@@ -10,29 +11,77 @@ use lines::Line;
 use lines::line_at;
 use lines::refusal_line;
 
-// Bytes that mean something in the list.
 const LF: u8 = 10;
 
 const CR: u8 = 13;
 
-const BAR: u8 = 124;
-
 // Stands for a CRLF in a sheet.
 const SLASH: u8 = 47;
 
-// Stands for a line feed in an answer's text.
-const TILDE: u8 = 126;
+// ---- what is printed for a sheet
 
-// ---- the parts of a line
+fn say(out: &[u8], n: usize) {
+    if n <= out.len() {
+        io::write_all(STDOUT_FILENO, &out[..n]);
+    }
+}
 
-// Where b stands first from `at` on, or the end.
-fn find(s: &[u8], at: usize, b: u8) -> usize
-    requires { ⌜ at ≤ length (now s) ⌝ }
-    ensures { λ r. ⌜ (at ≤ r) × (r ≤ length (now (s .entry))) ⌝ }
+fn say_refused(number: u64, record: u64) {
+    let mut out = [0u8; 128];
+    let n = refusal_line(number, record, &mut out);
+    say(&out, n);
+}
+
+// The lines of an answer, one after another.
+fn say_lines(rows: &[u64], answer: &[u64]) {
+    let mut out = [0u8; 65536];
+    let mut at = 0;
+    while at < answer.len() {
+        let Line::Text(n, next) = line_at(rows, answer, at, &mut out) else {
+            return;
+        };
+        say(&out, n);
+        at = next;
+    }
+}
+
+// The lines of the answer in the first words of the table.
+fn say_answer(rows: &[u64], end: usize, table: &[u64], count: usize)
+    requires { ⌜ (end ≤ length (now rows)) × (count ≤ length (now table)) ⌝ }
+{
+    say_lines(&rows[..end], &table[..count]);
+}
+
+fn say_sheet(sheet: &[u8]) {
+    let mut rows = [0u64; 35840];
+    let mut roots = [0u64; 64];
+    let mut work = [0u64; 65536];
+    let mut text = [0u8; 131072];
+    let mut table = [0u64; 67328];
+    let answer = flat_sheet(
+        sheet,
+        &mut rows,
+        &mut roots,
+        &mut work,
+        &mut text,
+        &mut table,
+    );
+    match answer {
+        Flat::Refused(number, record) => say_refused(number, record),
+        Flat::Rows(end, count) => say_answer(&rows, end, &table, count),
+    }
+}
+
+// ---- lines of the list
+
+// Where the line ends that `at` is in.
+fn line_end(list: &[u8], at: usize) -> usize
+    requires { ⌜ at ≤ length (now list) ⌝ }
+    ensures { λ r. ⌜ (at ≤ r) × (r ≤ length (now (list .entry))) ⌝ }
 {
     let mut i = at;
-    while i < s.len() {
-        if s[i] == b {
+    while i < list.len() {
+        if list[i] == LF {
             return i;
         }
         i += 1;
@@ -40,219 +89,59 @@ fn find(s: &[u8], at: usize, b: u8) -> usize
     i
 }
 
-// A byte where there is room for it.
-fn put(b: u8, out: &mut [u8], n: usize) -> usize {
-    if n < out.len() {
-        out[n] = b;
-        return n + 1;
-    }
-    n
-}
-
-fn put_sign(b: u8, out: &mut [u8], n: usize) -> usize {
-    if b == SLASH {
-        let m = put(CR, out, n);
-        return put(LF, out, m);
-    }
-    put(b, out, n)
-}
-
-// The bytes of a sheet: how many there are.
-fn put_sheet(s: &[u8], out: &mut [u8]) -> usize {
+// The bytes of a line's sheet: how many there are. Those past the room for them are left out.
+fn put_sheet(line: &[u8], sheet: &mut [u8]) -> usize
+    ensures { λ r. ⌜ Counts r (now (sheet .exit)) ⌝ }
+{
     let mut n = 0;
     let mut i = 0;
-    while i < s.len() {
-        n = put_sign(s[i], out, n);
-        i += 1;
+    while i < line.len() {
+        if sheet.len() - n < 2 {
+            return n;
+        }
+        if line[i] == SLASH {
+            sheet[n] = CR;
+            sheet[n + 1] = LF;
+            n += 2;
+            i += 1;
+        } else {
+            sheet[n] = line[i];
+            n += 1;
+            i += 1;
+        }
     }
     n
 }
 
-fn stands_for(b: u8) -> u8 {
-    if b == TILDE { LF } else { b }
-}
-
-// ---- what is printed
-
-// The place after the first n bytes of `out` in the text where they stand from `at` on, or one past its end.
-fn passed(out: &[u8], n: usize, text: &[u8], at: usize) -> usize {
-    let missed = text.len() + 1;
-    if n > out.len() {
-        return missed;
-    }
-    if at > text.len() {
-        return missed;
-    }
-    if n > text.len() - at {
-        return missed;
-    }
-    let mut i = 0;
-    while i < n {
-        if out[i] != stands_for(text[at + i]) {
-            return missed;
-        }
-        i += 1;
-    }
-    at + n
-}
-
-fn refusal_is(number: u64, record: u64, said: &[u8], out: &mut [u8]) -> bool {
-    let n = refusal_line(number, record, out);
-    passed(out, n, said, 0) == said.len()
-}
-
-// Whether the lines of an answer, one after another, are the text.
-fn lines_are(rows: &[u64], answer: &[u64], said: &[u8], out: &mut [u8]) -> bool {
-    let mut at = 0;
-    let mut to = 0;
-    while at < answer.len() {
-        let Line::Text(n, next) = line_at(rows, answer, at, out) else {
-            return false;
-        };
-        to = passed(out, n, said, to);
-        at = next;
-    }
-    to == said.len()
-}
-
-// The lines of the answer in the first words of the table.
-fn answer_is(
-    rows: &[u64],
-    end: usize,
-    table: &[u64],
-    count: usize,
-    said: &[u8],
-    out: &mut [u8],
-) -> bool
-    requires { ⌜ (end ≤ length (now rows)) × (count ≤ length (now table)) ⌝ }
-{
-    lines_are(&rows[..end], &table[..count], said, out)
-}
-
-fn is_said(
-    sheet: &[u8],
-    said: &[u8],
-    rows: &mut [u64],
-    roots: &mut [u64],
-    work: &mut [u64],
-    text: &mut [u8],
-    table: &mut [u64],
-    out: &mut [u8],
-) -> bool {
-    let answer = flat_sheet(sheet, rows, roots, work, text, table);
-    match answer {
-        Flat::Refused(number, record) => refusal_is(number, record, said, out),
-        Flat::Rows(end, count) => answer_is(rows, end, table, count, said, out),
-    }
-}
-
-// ---- lines of the list
-
-fn is_stored(
-    line: &[u8],
-    sheet: &mut [u8],
-    rows: &mut [u64],
-    roots: &mut [u64],
-    work: &mut [u64],
-    text: &mut [u8],
-    table: &mut [u64],
-    out: &mut [u8],
-) -> bool {
-    let bar = find(line, 0, BAR);
-    if bar == line.len() {
-        return false;
-    }
-    let n = put_sheet(&line[..bar], sheet);
-    if n > sheet.len() {
-        return false;
-    }
-    let first = bar + 1;
-    is_said(
-        &sheet[..n],
-        &line[first..],
-        rows,
-        roots,
-        work,
-        text,
-        table,
-        out,
-    )
-}
-
-// 1 where what is printed is other than stored, which is printed then, or 0.
-fn differs(
-    line: &[u8],
-    sheet: &mut [u8],
-    rows: &mut [u64],
-    roots: &mut [u64],
-    work: &mut [u64],
-    text: &mut [u8],
-    table: &mut [u64],
-    out: &mut [u8],
-) -> u64
-    ensures { λ r. ⌜ r ≤ 1 ⌝ }
-{
-    if is_stored(line, sheet, rows, roots, work, text, table, out) {
-        return 0;
-    }
-    io::write_all(STDOUT_FILENO, b"differs: ");
-    io::write_all(STDOUT_FILENO, line);
+fn say_number(number: u64) {
+    io::write_all(STDOUT_FILENO, b"# ");
+    io::print_decimal(STDOUT_FILENO, number);
     io::write_all(STDOUT_FILENO, b"\n");
-    1
 }
 
-fn say_all(answers: u64, differ: u64) {
-    io::print_decimal(STDOUT_FILENO, answers);
-    io::write_all(STDOUT_FILENO, b" answers, ");
-    io::print_decimal(STDOUT_FILENO, differ);
-    io::write_all(STDOUT_FILENO, b" differ\n");
+fn say_line(number: u64, line: &[u8]) {
+    say_number(number);
+    let mut sheet = [0u8; 65536];
+    let n = put_sheet(line, &mut sheet);
+    say_sheet(&sheet[..n]);
 }
 
-fn replay(
-    list: &[u8],
-    sheet: &mut [u8],
-    rows: &mut [u64],
-    roots: &mut [u64],
-    work: &mut [u64],
-    text: &mut [u8],
-    table: &mut [u64],
-    out: &mut [u8],
-) {
+fn replay(list: &[u8]) {
     let mut at = 0;
-    let mut answers: u64 = 0;
-    let mut differ: u64 = 0;
+    let mut number: u64 = 0;
     while at < list.len() {
-        let end = find(list, at, LF);
-        let d = differs(&list[at..end], sheet, rows, roots, work, text, table, out);
-        answers += 1;
-        differ += d;
+        let end = line_end(list, at);
+        number += 1;
+        say_line(number, &list[at..end]);
         if end == list.len() {
-            say_all(answers, differ);
             return;
         }
         at = end + 1;
     }
-    say_all(answers, differ);
 }
 
 fn main() {
-    let mut list = [0u8; 131072];
+    let mut list = [0u8; 65536];
     let n = io::read_full(STDIN_FILENO, &mut list);
-    let mut sheet = [0u8; 65536];
-    let mut rows = [0u64; 35840];
-    let mut roots = [0u64; 64];
-    let mut work = [0u64; 65536];
-    let mut text = [0u8; 131072];
-    let mut table = [0u64; 67328];
-    let mut out = [0u8; 65536];
-    replay(
-        &list[..n],
-        &mut sheet,
-        &mut rows,
-        &mut roots,
-        &mut work,
-        &mut text,
-        &mut table,
-        &mut out,
-    );
+    replay(&list[..n]);
 }

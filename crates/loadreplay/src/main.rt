@@ -1,5 +1,5 @@
-// Replays stored sheets. Standard input has them with the answers that a reading of the paper in Rust gives (compare/sheets/stored.rs says how a line is
-// laid out). Load is called on each, and what it returns and all that it leaves in memory must be as stored.
+// Prints what load gives for stored sheets. Standard input has a sheet on each line (compare/sheets/stored.rs says how it is laid out). Load is called on each, and
+// a line says what it returns, and a digest of all that it leaves in memory. The file `stdout` has what a reading of the paper in Rust gives for these sheets.
 ghost use Prim.Native.Nat.{_≤_};
 ghost use lib.ListN.{length};
 use libc::STDIN_FILENO;
@@ -23,7 +23,7 @@ const TURN: u8 = 35;
 const ESCAPED: u8 = 92;
 
 // Where the sheet of a line begins.
-const COLUMNS: usize = 31;
+const COLUMNS: usize = 10;
 
 // Memory is filled with this and the number of the word: no row, root or count is as large.
 const FILLED: u64 = 9223372036854775808;
@@ -34,20 +34,6 @@ const PRIME: u64 = 4294967311;
 const FACTOR: u64 = 1000003;
 
 const HALF: u64 = 4294967296;
-
-// What a call gives: 01's number or 0, the record or how many rows, how many roots, and a digest of what was lent.
-struct Answer {
-    number: u64,
-    count: u64,
-    roots: u64,
-    digest: u64,
-}
-
-// How many sheets a line has, and how many of them differ: none in a remark.
-struct Count {
-    sheets: u64,
-    differ: u64,
-}
 
 // ---- bytes and numbers
 
@@ -228,28 +214,53 @@ fn digest(from: u64, words: &[u64]) -> u64 {
     d
 }
 
-fn called(sheet: &[u8], rows: &mut [u64], roots: &mut [u64]) -> Answer {
+fn say_number(n: u64) {
+    io::print_decimal(STDOUT_FILENO, n);
+    io::write_all(STDOUT_FILENO, b" ");
+}
+
+// 01's number or 0, the record or how many rows, how many roots, and the digest.
+fn say_answer(number: u64, count: u64, roots: u64, digest: u64) {
+    say_number(number);
+    say_number(count);
+    say_number(roots);
+    io::print_decimal(STDOUT_FILENO, digest);
+    io::write_all(STDOUT_FILENO, b"\n");
+}
+
+fn say_sheet(sheet: &[u8], rows: &mut [u64], roots: &mut [u64]) {
     fill(rows);
     fill(roots);
     let loaded = load(sheet, rows, roots);
     let d = digest(digest(0, rows), roots);
     match loaded {
-        Loaded::Table(n, m) => Answer {
-            number: 0,
-            count: n as u64,
-            roots: m as u64,
-            digest: d,
-        },
-        Loaded::Refused(q, i) => Answer {
-            number: q,
-            count: i,
-            roots: 0,
-            digest: d,
-        },
+        Loaded::Table(n, m) => say_answer(0, n as u64, m as u64, d),
+        Loaded::Refused(number, record) => say_answer(number, record, 0, d),
     }
 }
 
-// ---- a line
+// ---- lines of the list
+
+// The sheet has n bytes, and so many words and places are lent.
+fn say_lent(
+    sheet: &[u8],
+    n: usize,
+    rows: &mut [u64],
+    words: usize,
+    roots: &mut [u64],
+    places: usize,
+) {
+    if n > sheet.len() {
+        return;
+    }
+    if words > rows.len() {
+        return;
+    }
+    if places > roots.len() {
+        return;
+    }
+    say_sheet(&sheet[..n], &mut rows[..words], &mut roots[..places]);
+}
 
 fn is_remark(line: &[u8]) -> bool {
     if line.len() == 0 {
@@ -258,117 +269,43 @@ fn is_remark(line: &[u8]) -> bool {
     line[0] == REMARK
 }
 
-fn is_stored(line: &[u8], a: Answer) -> bool {
-    if line.len() < COLUMNS {
-        return false;
-    }
-    if number(&line[10..11]) != a.number {
-        return false;
-    }
-    if number(&line[12..16]) != a.count {
-        return false;
-    }
-    if number(&line[17..19]) != a.roots {
-        return false;
-    }
-    number(&line[20..30]) == a.digest
-}
-
-// Prints what a call gave, where it isn't what is stored.
-fn judged(line: &[u8], sheets: u64, a: Answer) -> Count
-    ensures { λ r. ⌜ (r .sheets ≤ 1) × (r .differ ≤ 1) ⌝ }
-{
-    if is_stored(line, a) {
-        return Count {
-            sheets: 1,
-            differ: 0,
-        };
-    }
-    io::write_all(STDOUT_FILENO, b"sheet ");
-    io::print_decimal(STDOUT_FILENO, sheets);
-    io::write_all(STDOUT_FILENO, b" differs: ");
+fn say_remark(line: &[u8]) {
     io::write_all(STDOUT_FILENO, line);
     io::write_all(STDOUT_FILENO, b"\n");
-    Count {
-        sheets: 1,
-        differ: 1,
-    }
 }
 
-fn replayed(
-    line: &[u8],
-    sheets: u64,
-    sheet: &mut [u8],
-    rows: &mut [u64],
-    roots: &mut [u64],
-) -> Count
-    ensures { λ r. ⌜ (r .sheets ≤ 1) × (r .differ ≤ 1) ⌝ }
-{
+// A remark is printed as it is.
+fn say_line(line: &[u8]) {
     if is_remark(line) {
-        return Count {
-            sheets: 0,
-            differ: 0,
-        };
+        say_remark(line);
+        return;
     }
     if line.len() < COLUMNS {
-        return Count {
-            sheets: 1,
-            differ: 1,
-        };
+        return;
     }
+    let mut sheet = [0u8; 65600];
+    let mut rows = [0u64; 36000];
+    let mut roots = [0u64; 80];
+    let n = put_sheet(&line[COLUMNS..], &mut sheet);
     let words = number(&line[0..5]) as usize;
     let places = number(&line[6..9]) as usize;
-    let n = put_sheet(&line[COLUMNS..], sheet);
-    if n > sheet.len() {
-        return Count {
-            sheets: 1,
-            differ: 1,
-        };
-    }
-    if words > rows.len() {
-        return Count {
-            sheets: 1,
-            differ: 1,
-        };
-    }
-    if places > roots.len() {
-        return Count {
-            sheets: 1,
-            differ: 1,
-        };
-    }
-    let a = called(&sheet[..n], &mut rows[..words], &mut roots[..places]);
-    judged(line, sheets, a)
+    say_lent(&sheet, n, &mut rows, words, &mut roots, places);
 }
 
-// ---- all lines
-
-fn replay(list: &[u8], sheet: &mut [u8], rows: &mut [u64], roots: &mut [u64]) -> Count {
+fn replay(list: &[u8]) {
     let mut at = 0;
-    let mut sheets: u64 = 0;
-    let mut differ: u64 = 0;
     while at < list.len() {
         let end = find(list, at, LF);
-        let count = replayed(&list[at..end], sheets, sheet, rows, roots);
-        sheets += count.sheets;
-        differ += count.differ;
+        say_line(&list[at..end]);
         if end == list.len() {
-            return Count { sheets, differ };
+            return;
         }
         at = end + 1;
     }
-    Count { sheets, differ }
 }
 
 fn main() {
     let mut list = [0u8; 65536];
     let n = io::read_full(STDIN_FILENO, &mut list);
-    let mut sheet = [0u8; 65600];
-    let mut rows = [0u64; 36000];
-    let mut roots = [0u64; 80];
-    let count = replay(&list[..n], &mut sheet, &mut rows, &mut roots);
-    io::print_decimal(STDOUT_FILENO, count.sheets);
-    io::write_all(STDOUT_FILENO, b" sheets, ");
-    io::print_decimal(STDOUT_FILENO, count.differ);
-    io::write_all(STDOUT_FILENO, b" differ\n");
+    replay(&list[..n]);
 }

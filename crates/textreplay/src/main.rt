@@ -1,5 +1,5 @@
-// Replays stored texts. Standard input has words of trees and rows of answers with the texts that the source's own `Display` gives (compare/texts/stored.rs says
-// how a line is laid out). Each text is written, a tree's also measured, and the places that are answered and all bytes lent must be as stored.
+// Prints stored trees and answers. Standard input has words of trees and rows of answers (compare/texts/stored.rs says how a line is laid out). Each tree is measured
+// and written, each answer printed, and what is answered and all bytes lent are written out. The file `stdout` has what the source's own `Display` gives for these.
 ghost use Prim.Native.Nat.{_≤_};
 ghost use lib.ListN.{length};
 use libc::STDIN_FILENO;
@@ -14,16 +14,11 @@ const LF: u8 = 10;
 
 const SPACE: u8 = 32;
 
-const BAR: u8 = 124;
-
 // A line with an answer begins with this.
 const ANSWER: u8 = 33;
 
-// Stands for a line feed in an answer's text.
-const TILDE: u8 = 126;
-
 // The bytes lent are filled with this, which no text has.
-const FILLED: u8 = 255;
+const FILLED: u8 = 35;
 
 // ---- the parts of a line
 
@@ -69,7 +64,7 @@ fn put(w: u64, words: &mut [u64], n: usize) -> usize {
     n
 }
 
-// The words of a text that has a space after each: how many there are.
+// The words of a line, a space between them: how many there are.
 fn read_words(s: &[u8], words: &mut [u64]) -> usize {
     let mut n = 0;
     let mut at = 0;
@@ -84,7 +79,7 @@ fn read_words(s: &[u8], words: &mut [u64]) -> usize {
     n
 }
 
-// ---- the bytes lent
+// ---- the calls
 
 fn fill(out: &mut [u8]) {
     let mut i = 0;
@@ -94,146 +89,101 @@ fn fill(out: &mut [u8]) {
     }
 }
 
-fn stands_for(b: u8) -> u8 {
-    if b == TILDE { LF } else { b }
+fn say_number(n: usize) {
+    io::print_decimal(STDOUT_FILENO, n as u64);
+    io::write_all(STDOUT_FILENO, b" ");
 }
 
-// Whether the bytes begin with those of a text, and all others are as they were filled.
-fn holds(out: &[u8], text: &[u8]) -> bool {
-    if out.len() < text.len() {
-        return false;
-    }
-    let mut i = 0;
-    while i < out.len() {
-        let b = if i < text.len() {
-            stands_for(text[i])
-        } else {
-            FILLED
-        };
-        if out[i] != b {
-            return false;
-        }
-        i += 1;
-    }
-    true
+fn say_bytes(out: &[u8]) {
+    io::write_all(STDOUT_FILENO, out);
+    io::write_all(STDOUT_FILENO, b"\n");
 }
 
-// ---- the calls
-
-// Whether the tree's words end after `next` and its text after `end`.
-fn ends_at(t: Text, next: usize, end: usize) -> bool {
-    match t {
-        Text::Ends(n, e) => {
-            if n != next {
-                return false;
-            }
-            e == end
+// The places after a tree's words and after its text, and the bytes lent.
+fn say_text(text: Text, out: &[u8]) {
+    match text {
+        Text::Ends(next, end) => {
+            say_number(next);
+            say_number(end);
+            say_bytes(out);
         }
-        Text::Broken => false,
+        Text::Broken => say_bytes(b"broken"),
     }
 }
 
 // Measures the text, which writes nothing, and then writes it.
-fn is_written(rows: &[u64], words: &[u64], text: &[u8], out: &mut [u8]) -> bool {
+fn say_tree(rows: &[u64], words: &[u64], out: &mut [u8]) {
     fill(out);
     let measured = write_tree(rows, words, 0, out, true, 0);
-    if !ends_at(measured, words.len(), text.len()) {
-        return false;
-    }
-    if !holds(out, &text[..0]) {
-        return false;
-    }
+    say_text(measured, out);
     let written = write_tree(rows, words, 0, out, false, 0);
-    if !ends_at(written, words.len(), text.len()) {
-        return false;
-    }
-    holds(out, text)
+    say_text(written, out);
 }
 
-fn is_printed(rows: &[u64], words: &[u64], text: &[u8], out: &mut [u8]) -> bool {
+// How many bytes an answer's text has, and the bytes lent.
+fn say_answer(rows: &[u64], words: &[u64], out: &mut [u8]) {
     fill(out);
     let Printed::Bytes(n) = print(rows, words, out) else {
-        return false;
+        say_bytes(b"broken");
+        return;
     };
-    if n != text.len() {
-        return false;
-    }
-    holds(out, text)
+    say_number(n);
+    say_bytes(out);
 }
 
-// A line's words are a tree's, or an answer's rows.
-fn is_said(line: &[u8], rows: &[u64], words: &[u64], text: &[u8], out: &mut [u8]) -> bool {
-    if line.len() > 0 {
-        if line[0] == ANSWER {
-            return is_printed(rows, words, text, out);
-        }
-    }
-    is_written(rows, words, text, out)
-}
+// ---- lines of the list
 
-// Whether the text of a line is written. One byte more is lent than the text has.
-fn is_stored(line: &[u8], rows: &[u64], words: &mut [u64], out: &mut [u8]) -> bool {
-    let bar = find(line, 0, BAR);
-    if bar == line.len() {
+fn is_answer(line: &[u8]) -> bool {
+    if line.len() == 0 {
         return false;
     }
-    let n = read_words(&line[..bar], words);
+    line[0] == ANSWER
+}
+
+// The first n words: those of a tree or an answer's rows, and how many bytes are lent.
+fn say_words(answer: bool, rows: &[u64], words: &[u64], n: usize, out: &mut [u8]) {
+    if n == 0 {
+        return;
+    }
     if n > words.len() {
-        return false;
+        return;
     }
-    let first = bar + 1;
-    let room = line.len() - bar;
+    let last = n - 1;
+    let room = words[last] as usize;
     if room > out.len() {
-        return false;
+        return;
     }
-    is_said(line, rows, &words[..n], &line[first..], &mut out[..room])
+    if answer {
+        say_answer(rows, &words[..last], &mut out[..room]);
+        return;
+    }
+    say_tree(rows, &words[..last], &mut out[..room]);
 }
 
-// ---- all lines
-
-// 1 where a line's text is another than stored, which is printed, or 0.
-fn differs(line: &[u8], rows: &[u64], words: &mut [u64], out: &mut [u8]) -> u64
-    ensures { λ r. ⌜ r ≤ 1 ⌝ }
-{
-    if is_stored(line, rows, words, out) {
-        return 0;
-    }
-    io::write_all(STDOUT_FILENO, b"differs: ");
-    io::write_all(STDOUT_FILENO, line);
-    io::write_all(STDOUT_FILENO, b"\n");
-    1
-}
-
-fn say(texts: u64, differ: u64) {
-    io::print_decimal(STDOUT_FILENO, texts);
-    io::write_all(STDOUT_FILENO, b" texts, ");
-    io::print_decimal(STDOUT_FILENO, differ);
-    io::write_all(STDOUT_FILENO, b" differ\n");
+fn say_line(line: &[u8], rows: &[u64]) {
+    let mut words = [0u64; 1024];
+    let mut out = [0u8; 4096];
+    let n = read_words(line, &mut words);
+    say_words(is_answer(line), rows, &words, n, &mut out);
 }
 
 // The lines from a place on.
-fn replay(list: &[u8], from: usize, rows: &[u64], words: &mut [u64], out: &mut [u8])
+fn replay(list: &[u8], from: usize, rows: &[u64])
     requires { ⌜ from ≤ length (now list) ⌝ }
 {
     let mut at = from;
-    let mut texts: u64 = 0;
-    let mut differ: u64 = 0;
     while at < list.len() {
         let end = find(list, at, LF);
-        let d = differs(&list[at..end], rows, words, out);
-        texts += 1;
-        differ += d;
+        say_line(&list[at..end], rows);
         if end == list.len() {
-            say(texts, differ);
             return;
         }
         at = end + 1;
     }
-    say(texts, differ);
 }
 
 // The first line has the node rows.
-fn start(list: &[u8], rows: &mut [u64], words: &mut [u64], out: &mut [u8]) {
+fn start(list: &[u8], rows: &mut [u64]) {
     let end = find(list, 0, LF);
     if end == list.len() {
         return;
@@ -242,14 +192,12 @@ fn start(list: &[u8], rows: &mut [u64], words: &mut [u64], out: &mut [u8]) {
     if n > rows.len() {
         return;
     }
-    replay(list, end + 1, &rows[..n], words, out);
+    replay(list, end + 1, &rows[..n]);
 }
 
 fn main() {
     let mut list = [0u8; 65536];
     let n = io::read_full(STDIN_FILENO, &mut list);
     let mut rows = [0u64; 700];
-    let mut words = [0u64; 1024];
-    let mut out = [0u8; 4096];
-    start(&list[..n], &mut rows, &mut words, &mut out);
+    start(&list[..n], &mut rows);
 }

@@ -1,16 +1,15 @@
 -- `textreplay::replay` is safe and ends. Assumes nothing.
 use Prim.Native.Nat.{_-_, _≤_}
-use mathlib.Core.Path.{_≡_}
 use lib.ListN.{length}
 use borrow.Author.Needs.{needs}
 use Rattle.textreplay.proofs.replay.Statement.{statement}
 use Rattle.textreplay.proofs.replay.Tie as tie
 
 abbrev Inv-loop : tie.InvT-loop
-Inv-loop list from rows words₀ out₀ at₀ texts₀ differ₀ words out at texts differ = (at ≤ length list) × (texts ≤ at) × (differ ≤ at) × (length words ≡ length words₀) × (length out ≡ length out₀)
+Inv-loop list from rows at₀ at = at ≤ length list
 
 abbrev μ-loop : tie.MeasureT-loop
-μ-loop list from rows words₀ out₀ at₀ texts₀ differ₀ words out at texts differ = length list - at
+μ-loop list from rows at₀ at = length list - at
 
 pub replay-spec : {M : Type 1} → statement M
 replay-spec =
@@ -26,14 +25,6 @@ replay-spec =
     (λ c κs. search needs)
     (λ c. search needs)
     (λ c. search needs)
-    (λ c κs. search needs)
-    (λ c. search needs)
-    (λ c. search needs)
-    (λ c. search needs)
-    (λ c. search needs)
-    (λ c. search needs)
-    (λ c. search needs)
-    (λ c κs. search needs)
     (λ c. search needs)
     (λ c. search needs)
     (λ c. search needs))

@@ -1,4 +1,4 @@
--- `textreplay::start` is safe and ends. Assumes nothing.
+-- `textreplay::start` is safe. Assumes nothing.
 use mathlib.Core.Path.{sym}
 use lib.Seq.{length-take-le}
 use borrow.Author.Needs.{needs}
@@ -19,7 +19,5 @@ start-spec =
     (λ c. search needs)
     (λ c. sym (length-take-le _ _ (c .before .if2 .left)))
     (λ c κs. search needs)
-    (λ c. search needs)
-    (λ c. search needs)
     (λ c. search needs)
     (λ c. search needs))

@@ -1,18 +1,18 @@
--- `answerreplay::find` is safe and ends. Assumes nothing.
+-- `answerreplay::line_end` is safe and ends. Assumes nothing.
 use Prim.Native.Nat.{_-_, _≤_}
 use lib.ListN.{length}
 use borrow.Author.Needs.{needs}
-use Rattle.answerreplay.proofs.find.Statement.{statement}
-use Rattle.answerreplay.proofs.find.Tie as tie
+use Rattle.answerreplay.proofs.line_end.Statement.{statement}
+use Rattle.answerreplay.proofs.line_end.Tie as tie
 
 abbrev Inv-loop : tie.InvT-loop
-Inv-loop s at b i₀ i = (at ≤ i) × (i ≤ length s)
+Inv-loop list at i₀ i = (at ≤ i) × (i ≤ length list)
 
 abbrev μ-loop : tie.MeasureT-loop
-μ-loop s at b i₀ i = length s - i
+μ-loop list at i₀ i = length list - i
 
-pub find-spec : {M : Type 1} → statement M
-find-spec =
+pub line-end-spec : {M : Type 1} → statement M
+line-end-spec =
     tie.close
     (tie.spec
     Inv-loop
