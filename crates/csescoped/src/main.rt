@@ -19,33 +19,15 @@ fn say_refused(number: u64, record: u64) {
 }
 
 // All that is printed for a sheet.
-fn say_sheet(
-    sheet: &[u8],
-    rows: &mut [u64],
-    roots: &mut [u64],
-    work: &mut [u64],
-    text: &mut [u8],
-    table: &mut [u64],
-    out: &mut [u8],
-) {
-    let said = scoped_sheet(sheet, rows, roots, work, text, table, out);
-    match said {
-        Said::Refused(number, record) => say_refused(number, record),
-        Said::Bytes(n) => say(out, n),
-    }
-}
-
-fn main() {
-    let mut sheet = [0u8; 65536];
-    let n = io::read_full(STDIN_FILENO, &mut sheet);
+fn say_sheet(sheet: &[u8]) {
     let mut rows = [0u64; 35840];
     let mut roots = [0u64; 64];
     let mut work = [0u64; 65536];
     let mut text = [0u8; 131072];
     let mut table = [0u64; 131072];
     let mut out = [0u8; 524288];
-    say_sheet(
-        &sheet[..n],
+    let said = scoped_sheet(
+        sheet,
         &mut rows,
         &mut roots,
         &mut work,
@@ -53,4 +35,14 @@ fn main() {
         &mut table,
         &mut out,
     );
+    match said {
+        Said::Refused(number, record) => say_refused(number, record),
+        Said::Bytes(n) => say(&out, n),
+    }
+}
+
+fn main() {
+    let mut sheet = [0u8; 65536];
+    let n = io::read_full(STDIN_FILENO, &mut sheet);
+    say_sheet(&sheet[..n]);
 }

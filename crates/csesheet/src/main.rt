@@ -23,57 +23,48 @@ fn say_refused(number: u64, record: u64) {
 }
 
 // The lines of an answer, one after another.
-fn say_lines(rows: &[u64], answer: &[u64], out: &mut [u8]) {
+fn say_lines(rows: &[u64], answer: &[u64]) {
+    let mut out = [0u8; 65536];
     let mut at = 0;
     while at < answer.len() {
-        let Line::Text(n, next) = line_at(rows, answer, at, out) else {
+        let Line::Text(n, next) = line_at(rows, answer, at, &mut out) else {
             return;
         };
-        say(out, n);
+        say(&out, n);
         at = next;
     }
 }
 
 // The lines of the answer in the first words of the table.
-fn say_answer(rows: &[u64], end: usize, table: &[u64], count: usize, out: &mut [u8])
+fn say_answer(rows: &[u64], end: usize, table: &[u64], count: usize)
     requires { ⌜ (end ≤ length (now rows)) × (count ≤ length (now table)) ⌝ }
 {
-    say_lines(&rows[..end], &table[..count], out);
+    say_lines(&rows[..end], &table[..count]);
 }
 
 // All that is printed for a sheet.
-fn say_sheet(
-    sheet: &[u8],
-    rows: &mut [u64],
-    roots: &mut [u64],
-    work: &mut [u64],
-    text: &mut [u8],
-    table: &mut [u64],
-    out: &mut [u8],
-) {
-    let answer = flat_sheet(sheet, rows, roots, work, text, table);
+fn say_sheet(sheet: &[u8]) {
+    let mut rows = [0u64; 35840];
+    let mut roots = [0u64; 64];
+    let mut work = [0u64; 65536];
+    let mut text = [0u8; 131072];
+    let mut table = [0u64; 67328];
+    let answer = flat_sheet(
+        sheet,
+        &mut rows,
+        &mut roots,
+        &mut work,
+        &mut text,
+        &mut table,
+    );
     match answer {
         Flat::Refused(number, record) => say_refused(number, record),
-        Flat::Rows(end, count) => say_answer(rows, end, table, count, out),
+        Flat::Rows(end, count) => say_answer(&rows, end, &table, count),
     }
 }
 
 fn main() {
     let mut sheet = [0u8; 65536];
     let n = io::read_full(STDIN_FILENO, &mut sheet);
-    let mut rows = [0u64; 35840];
-    let mut roots = [0u64; 64];
-    let mut work = [0u64; 65536];
-    let mut text = [0u8; 131072];
-    let mut table = [0u64; 67328];
-    let mut out = [0u8; 65536];
-    say_sheet(
-        &sheet[..n],
-        &mut rows,
-        &mut roots,
-        &mut work,
-        &mut text,
-        &mut table,
-        &mut out,
-    );
+    say_sheet(&sheet[..n]);
 }

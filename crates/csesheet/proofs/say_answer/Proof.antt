@@ -9,8 +9,7 @@ pub say-answer-spec : {M : Type 1} → statement M
 say-answer-spec =
     tie.close
     (tie.spec
-    (λ c. sym (length-take-le (c .before .before .before .before .args .end) (c .before .before .before .before .args .rows .now) (c .before .before .before .before .pre .0)))
-    (λ c. sym (length-take-le (c .before .before .before .before .before .args .count) (c .before .before .before .before .before .args .table .now) (c .before .before .before .before .before .pre .1)))
+    (λ c. sym (length-take-le _ _ (c .before .before .before .pre .0)))
+    (λ c. sym (length-take-le _ _ (c .before .before .before .before .pre .1)))
     (λ c κs. search needs)
-    (λ c. search needs)
     (λ c. search needs))

@@ -9,7 +9,7 @@ use Rattle.csesheet.proofs.say_lines.Statement.{statement}
 use Rattle.csesheet.proofs.say_lines.Tie as tie
 
 abbrev Inv-loop : tie.InvT-loop
-Inv-loop rows answer out₀ at₀ out at = length out ≡ length out₀
+Inv-loop rows answer out₀ at₀ out at = length out ≡ 65536
 
 abbrev μ-loop : tie.MeasureT-loop
 μ-loop rows answer out₀ at₀ out at = length answer - at
@@ -21,12 +21,12 @@ say-lines-spec =
     Inv-loop
     μ-loop
     (λ c. search needs)
-    (λ c κs. search needs)
-    (λ c. search needs)
-    (λ c. search needs)
     (λ c. search needs)
     (λ c κs. search needs)
-    (λ c. omega (arith, goes-on (c .before .before .before .before .before .before .before .before .before .before .before .before .before .before .args .rows .now) (c .before .before .before .before .before .before .before .before .before .before .before .before .before .before .args .answer .now) (c .before .before .before .before .before .before .before .before .before .before .loop .at) _ _ _ _ (sym (c .before .before .before .n .given .1) ∙ c .before .before .before .before .before .before .before .line-at .ensures .0) (c .before .before .before .before .before .before .before .line-at .ensures .1) .0, c .before .before .before .before .before .before .before .before .before .loop-test .taken))
     (λ c. search needs)
+    (λ c. search needs)
+    (λ c. search needs)
+    (λ c κs. search needs)
+    (λ c. omega (arith, goes-on (c .before .before .before .before .before .before .before .before .before .before .before .before .args .rows .now) (c .before .before .before .before .before .before .before .before .before .before .before .before .args .answer .now) (c .before .before .before .before .before .before .before .before .before .loop .at) _ _ _ _ (sym (c .before .before .before .n .given .1) ∙ c .before .before .before .before .before .before .line-at .ensures .0) (c .before .before .before .before .before .before .line-at .ensures .1) .0, c .before .before .before .before .before .before .before .before .loop-test .taken))
     (λ c. search needs)
     (λ c. search needs))
