@@ -1,7 +1,11 @@
 -- Chains of steps put together. Assumes nothing.
-use mathlib.Core.Path.{_≡_, refl, ap}
+use Prim.Native.Nat.{ℕ, suc}
+use mathlib.Core.Path.{_≡_, refl, sym, _∙_, ap}
 use mathlib.Core.List.{List, [], _∷_, _++_}
+use native.Mathlib.Omega.{arith}
+use lib.ListN.{length}
 use Rattle.tree.specs.Outcome.{Outcome, ok, refused, _>>=_, each}
+use Rattle.tree.specs.Tree.{Tree}
 
 pub chain : {A B C : Type 0} (o : Outcome A) (f : A → Outcome B) (g : B → Outcome C) → ((o >>= f) >>= g) ≡ (o >>= λ a. f a >>= g)
 chain (ok a) f g = refl
@@ -15,15 +19,31 @@ pub chain-same : {A B : Type 0} (o : Outcome A) (f g : A → Outcome B) → ((a 
 chain-same (ok a) f g h = h a refl
 chain-same (refused i) f g h = refl
 
--- a step at each element of a list that goes on, where the rest stays as it is
-pub each-append :
-    {A : Type 0} (g : A → Outcome A) (l m : List A) → each g m ≡ ok m → each g (l ++ m) ≡ (each g l >>= λ r. ok (r ++ m))
-unfolding each
-each-append g [] m e = e
-each-append {A} g (a ∷ l) m e = go (g a) (each g l) (each g (l ++ m)) (each-append g l m e)
-  where
-    go : (o : Outcome A) (p q : Outcome (List A)) → q ≡ (p >>= λ r. ok (r ++ m))
-        → (o >>= λ b. q >>= λ r. ok (b ∷ r)) ≡ ((o >>= λ b. p >>= λ r. ok (b ∷ r)) >>= λ r. ok (r ++ m))
-    go (ok b) (ok r) q h = ap (λ (x : Outcome (List A)). x >>= λ r. ok (b ∷ r)) h
-    go (ok b) (refused i) q h = ap (λ (x : Outcome (List A)). x >>= λ r. ok (b ∷ r)) h
-    go (refused i) p q h = refl
+-- ---- steps at each of some trees
+
+module _ (g : Tree → Outcome Tree) where
+  pub each-both : (l m : List Tree) → each g (l ++ m) ≡ (each g l >>= λ a. each g m >>= λ b. ok (a ++ b))
+  unfolding each
+  each-both [] m = go (each g m)
+    where
+      go : (o : Outcome (List Tree)) → o ≡ (o >>= λ b. ok b)
+      go (ok b) = refl
+      go (refused i) = refl
+  each-both (t ∷ l) m = go (g t) (each g l) (each g m) (each g (l ++ m)) (each-both l m)
+    where
+      go : (o : Outcome Tree) (p q r : Outcome (List Tree)) → r ≡ (p >>= λ a. q >>= λ b. ok (a ++ b))
+          → (o >>= λ u. r >>= λ s. ok (u ∷ s)) ≡ ((o >>= λ u. p >>= λ s. ok (u ∷ s)) >>= λ a. q >>= λ b. ok (a ++ b))
+      go (ok u) (ok a) (ok b) r e = ap (λ (x : Outcome (List Tree)). x >>= λ s. ok (u ∷ s)) e
+      go (ok u) (ok a) (refused i) r e = ap (λ (x : Outcome (List Tree)). x >>= λ s. ok (u ∷ s)) e
+      go (ok u) (refused i) q r e = ap (λ (x : Outcome (List Tree)). x >>= λ s. ok (u ∷ s)) e
+      go (refused i) p q r e = refl
+
+  pub each-long : (l m : List Tree) → each g l ≡ ok m → length m ≡ length l
+  unfolding each
+  each-long [] m e = (let q : [] ≡ m = cc in sym (ap length q))
+  each-long (t ∷ l) m e = go (g t) (each g l) (λ s. each-long l s) e
+    where
+      go : (o : Outcome Tree) (p : Outcome (List Tree)) → ((s : List Tree) → p ≡ ok s → length s ≡ length l) → (o >>= λ u. p >>= λ s. ok (u ∷ s)) ≡ ok m → length m ≡ suc (length l)
+      go (ok u) (ok s) h e = (let q : u ∷ s ≡ m = cc in sym (ap length q) ∙ ap suc (h s refl))
+      go (ok u) (refused i) h e = (let z : _≡_ {A = ℕ} 0 1 = cc in absurd (omega arith))
+      go (refused i) p h e = (let z : _≡_ {A = ℕ} 0 1 = cc in absurd (omega arith))

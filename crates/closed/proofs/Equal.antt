@@ -1,5 +1,5 @@
--- `replace` is the closed form, for trees with as many operands as their kinds have, a target with a symbol, and a name that it doesn't hold. Assumes nothing.
-use Prim.Native.Nat.{ℕ, zero, suc, _≤_}
+-- `replace` is the closed form, for trees with as many operands as their kinds have and any target but an endless one. Assumes nothing.
+use Prim.Native.Nat.{ℕ, zero, suc, _+_, _*_, _≤_}
 use mathlib.Core.Path.{_≡_, refl, sym, _∙_, ap, ap₂, subst}
 use mathlib.Core.Bool.{Bool, true, false, not, _&&_}
 use mathlib.Core.Logic.{_⊎_, inl, inr}
@@ -8,6 +8,7 @@ use mathlib.Core.List.{List, [], _∷_, _++_, append-assoc, append-nil}
 use native.Mathlib.Omega.{arith}
 use lib.Dec.{T, eqb, eqb→eq}
 use lib.ListN.{length}
+use lib.Ieee as Ieee
 use lib.Ieee.{Float}
 use Rattle.tree.specs.Outcome.{Outcome, ok, _>>=_, each}
 use Rattle.tree.specs.Tree.{Name, Tree, Forest, Sym, Const, Op, nil, _◂_, folds, eq-tree, eq-name}
@@ -16,29 +17,29 @@ use Rattle.tree.specs.Facts.{count, has-symbol, some-of}
 use Rattle.tree.proofs.Formed.{operand-count, well-formed, well-formed-each}
 use Rattle.tree.proofs.TreeLaws.{eq-tree-sound, eq-tree-refl, eq-name-refl}
 use Rattle.tree.proofs.Logic.{and-left, and-right}
-use Rattle.rewrite.specs.Rewrite.{Factors, one, flatten-mul-factors, flatten-operands, flatten-after, times, negated, constant-of, built, remove-each, match-factors, each-operand, replace}
-use Rattle.rewrite.proofs.Measure.{sum-of, sum-each, length-sum, count-sum, one-of}
-use Rattle.rewrite.proofs.Factors.{All, factors-of, factors-cases, sum-factors}
+use Rattle.rewrite.specs.Rewrite.{Factors, one, flatten-mul-factors, flatten-operands, flatten-after, times, negated, constant-of, built, remove-each, is-mul, match-factors, each-operand, replace}
+use Rattle.rewrite.proofs.Measure.{sum-of, sum-each, length-sum, count-sum, count-cons, one-of}
+use Rattle.rewrite.proofs.Factors.{All, Product, factors-of, factors-cases, sum-factors}
 use Rattle.rewrite.proofs.DivisorCount.{or-cases}
 use Rattle.rewrite.proofs.Names.{holds, holds-each}
-use Rattle.rewrite.proofs.Counts.{one-none}
-use Rattle.closed.specs.Closed.{Taken, once-more, take-out, taken, named, by-factors, rebuilt, Rewriting, becomes-in, closed, closed-each, rewritings, rewritings-of}
+use Rattle.rewrite.proofs.Counts.{one-none, one-cases, one-le}
+use Rattle.closed.specs.Closed.{Taken, once-more, take-out, taken, by-factors, lone, endless, rebuilt, Rewriting, becomes-in, closed, closed-each, rewritings, rewritings-of}
 use Rattle.closed.proofs.Taken.{rest-of}
-use Rattle.closed.proofs.Spine.{each-all}
+use Rattle.closed.proofs.Spine.{append-all, each-all}
 use Rattle.closed.proofs.Steps.{at-operation, at-op}
-use Rattle.closed.proofs.Products.{at-symbol, at-constant, at-other, at-unmatched, no-match, at-product}
+use Rattle.closed.proofs.Products.{count-most, at-symbol, at-constant, at-other, at-unmatched, no-match, name-stays, at-product}
 
--- ---- what is left was there
+-- ---- what is there was there, or is the name
 
-pub taken-all : (P : Tree → Type 0) (most : ℕ) (ts l : List Tree) → All P l → All P (take-out most ts l .rest)
+pub taken-all : (P : Tree → Type 0) (n : Name) → P (Sym n) → (most : ℕ) (ts l : List Tree) → All P l → All P (take-out most n ts l .factors)
 unfolding take-out once-more
-taken-all P zero ts l a = a
-taken-all P (suc most) ts l a = go (λ s. taken-all P most ts s) (remove-each ts l) refl
+taken-all P n h zero ts l a = a
+taken-all P n h (suc most) ts l a = go (λ s. taken-all P n h most ts (s ++ (Sym n ∷ []))) (remove-each ts l) refl
   where
-    go : ((s : List Tree) → All P s → All P (take-out most ts s .rest)) → (o : Option (List Tree)) → remove-each ts l ≡ o
-        → All P ((elim o as (λ _. Taken) [ none ↦ record { rest = l; copies = 0 } | some s ↦ once-more (take-out most ts s) ]) .rest)
+    go : ((s : List Tree) → All P (s ++ (Sym n ∷ [])) → All P (take-out most n ts (s ++ (Sym n ∷ [])) .factors)) → (o : Option (List Tree)) → remove-each ts l ≡ o
+        → All P ((elim o as (λ _. Taken) [ none ↦ record { factors = l; times = 0 } | some s ↦ once-more (take-out most n ts (s ++ (Sym n ∷ []))) ]) .factors)
     go i none q = a
-    go i (some s) q = i s (rest-of P ts l s q .0 a)
+    go i (some s) q = i s (append-all P s (Sym n ∷ []) (rest-of P ts l s q .0 a) (h, tt))
 
 -- ---- what a factor becomes
 
@@ -77,18 +78,26 @@ becomes-right g (p ∷ l) a t h = go (eq-tree (p .factor) t) refl h (becomes-rig
     go true q h i = a .0 ∙ ap g (eq-tree-sound (p .factor) t (subst T (sym q) tt))
     go false q h i = i (later h (λ e. subst T (ap (eq-tree (p .factor)) e ∙ q) (eq-tree-refl (p .factor))))
 
+-- whatever stays stays where it has no rewriting
+becomes-stays : (g : Tree → Outcome Tree) (l : List Rewriting) → Right g l → (t : Tree) → g t ≡ ok t → becomes-in l t ≡ g t
+unfolding becomes-in
+becomes-stays g [] a t h = sym h
+becomes-stays g (p ∷ l) a t h = go (eq-tree (p .factor) t) refl (becomes-stays g l (a .1) t h)
+  where
+    go : (b : Bool) → eq-tree (p .factor) t ≡ b → becomes-in l t ≡ g t → _≡_ {A = Outcome Tree} (elim b [ true ↦ p .becomes | false ↦ becomes-in l t ]) (g t)
+    go true q i = a .0 ∙ ap g (eq-tree-sound (p .factor) t (subst T (sym q) tt))
+    go false q i = i
+
 each-same : (g h : Tree → Outcome Tree) (l : List Tree) → All (λ t. g t ≡ h t) l → each g l ≡ each h l
 unfolding each
 each-same g h [] a = refl
 each-same g h (t ∷ l) a = ap₂ (λ (o : Outcome Tree) (p : Outcome (List Tree)). o >>= λ u. p >>= λ r. ok (u ∷ r)) (a .0) (each-same g h l (a .1))
 
 rebuilt-same :
-    (n : Name) (g h : Tree → Outcome Tree) (x : Float) (rest : List Tree) (copies : ℕ) (o p : Outcome Tree) → All (λ t. g t ≡ h t) rest → o ≡ p
-    → rebuilt n g x rest copies o ≡ rebuilt n h x rest copies p
+    (g h : Tree → Outcome Tree) (x : Float) (l : List Tree) (times : ℕ) (o p : Outcome Tree) → All (λ t. g t ≡ h t) l → o ≡ p → rebuilt g x l times o ≡ rebuilt h x l times p
 unfolding rebuilt
-rebuilt-same n g h x rest zero o p a e = e
-rebuilt-same n g h x rest (suc k) o p a e =
-    ap (λ (q : Outcome (List Tree)). constant-of x >>= λ c. q >>= λ l. ok (built c (l ++ named n (suc k)))) (each-same g h rest a)
+rebuilt-same g h x l zero o p a e = e
+rebuilt-same g h x l (suc k) o p a e = ap (λ (q : Outcome (List Tree)). constant-of x >>= λ c. q >>= λ m. ok (built c m)) (each-same g h l a)
 
 -- ---- the factors that the closed form lists
 
@@ -143,7 +152,7 @@ both-true true true e = (tt, tt)
 both-true true false e = (let z : _≡_ {A = ℕ} 0 1 = cc in absurd (omega arith))
 both-true false c e = (let z : _≡_ {A = ℕ} 0 1 = cc in absurd (omega arith))
 
-module _ (target : Tree) (n : Name) (some-factor : 1 ≤ length (factors-of target)) (new : count (Sym n) (factors-of target) ≡ 0) where
+module _ (target : Tree) (n : Name) (several : Product target → 2 + count (Sym n) (factors-of target) ≤ 2 * length (factors-of target)) where
   abbrev rep : Tree → Outcome Tree
   rep = replace target n
 
@@ -152,26 +161,28 @@ module _ (target : Tree) (n : Name) (some-factor : 1 ≤ length (factors-of targ
 
   node-target : (k : ℕ) (f : Forest) → T (well-formed (Op k f)) → eq-tree (Op k f) target ≡ true → rep (Op k f) ≡ ok (Sym n)
   node-target k f w e =
-      at-op target n some-factor new k f w ∙ ap (λ (b : Bool). at-operation target n rep k f b (eqb k Mul) (match-factors target n (Op k f))) e
+      at-op target n several k f w ∙ ap (λ (b : Bool). at-operation target n rep k f b (eqb k Mul) (match-factors target n (Op k f))) e
 
   abbrev product-form : Forest → Outcome Tree → Outcome Tree
   product-form f o =
-      (let q = taken ts (flatten-operands f .factors) in
-      rebuilt n (becomes-in (rs-of target n f)) (flatten-operands f .coefficient) (q .rest) (q .copies) o)
+      (let q = taken n ts (flatten-operands f .factors) in
+      rebuilt (becomes-in (rs-of target n f)) (flatten-operands f .coefficient) (q .factors) (q .times) o)
 
   product-is :
       (f : Forest) → T (well-formed (Op Mul f)) → eq-tree (Op Mul f) target ≡ false → T (by-factors target) → Right rep (rs-of target n f)
       → rep (Op Mul f) ≡ product-form f (each-operand rep f >>= λ g. ok (Op Mul g))
   unfolding flatten-mul-factors taken
   product-is f w e p r =
-      at-product target n some-factor new p f w e
-      ∙ rebuilt-same n rep (becomes-in (rs-of target n f)) (flatten-operands f .coefficient) (taken ts (flatten-operands f .factors) .rest) (taken ts (flatten-operands f .factors) .copies)
+      at-product target n several p f w e
+      ∙ rebuilt-same rep (becomes-in (rs-of target n f)) (flatten-operands f .coefficient) (taken n ts (flatten-operands f .factors) .factors) (taken n ts (flatten-operands f .factors) .times)
       (each-operand rep f >>= λ g. ok (Op Mul g)) (each-operand rep f >>= λ g. ok (Op Mul g))
-      (taken-all (λ t. rep t ≡ becomes-in (rs-of target n f) t) (length (flatten-operands f .factors)) ts (flatten-operands f .factors)
-      (subst (All (λ t. rep t ≡ becomes-in (rs-of target n f) t)) (names-operands target n f)
-      (each-all (λ t. In t (rs-of target n f)) (λ t. rep t ≡ becomes-in (rs-of target n f) t) (λ t h. sym (becomes-right rep (rs-of target n f) r t h)) (names-of (rs-of target n f))
-      (all-in (rs-of target n f)))))
+      (taken-all same n (sym (becomes-stays rep (rs-of target n f) r (Sym n) (name-stays target n several p))) (2 * length (flatten-operands f .factors)) ts (flatten-operands f .factors)
+      (subst (All same) (names-operands target n f)
+      (each-all (λ t. In t (rs-of target n f)) same (λ t h. sym (becomes-right rep (rs-of target n f) r t h)) (names-of (rs-of target n f)) (all-in (rs-of target n f)))))
       refl
+    where
+      same : Tree → Type 0
+      same t = rep t ≡ becomes-in (rs-of target n f) t
 
   node-is :
       (k : ℕ) (f : Forest) → T (well-formed (Op k f)) → each-operand rep f ≡ closed-each target n f → Right rep (rs-of target n f) → rep (Op k f) ≡ closed target n (Op k f)
@@ -182,8 +193,8 @@ module _ (target : Tree) (n : Name) (some-factor : 1 ≤ length (factors-of targ
       below = ap (λ (o : Outcome Forest). o >>= λ g. ok (Op k g)) i
 
       plain : eq-tree (Op k f) target ≡ false → (eqb k Mul ≡ false) ⊎ (by-factors target ≡ false) → rep (Op k f) ≡ (closed-each target n f >>= λ g. ok (Op k g))
-      plain e (inl q) = at-other target n some-factor new k f w e q ∙ below
-      plain e (inr q) = at-unmatched target n some-factor new k f w e (no-match target n some-factor new q (Op k f)) ∙ below
+      plain e (inl q) = at-other target n several k f w e q ∙ below
+      plain e (inr q) = at-unmatched target n several k f w e (no-match target n several q (Op k f)) ∙ below
 
       go : (b : Bool) → eq-tree (Op k f) target ≡ b → (d : Bool) → (eqb k Mul && by-factors target) ≡ d
           → _≡_ {A = Outcome Tree} (rep (Op k f))
@@ -212,7 +223,7 @@ module _ (target : Tree) (n : Name) (some-factor : 1 ≤ length (factors-of targ
       go : (b : Bool) → eq-tree (Op k f) target ≡ b
           → _≡_ {A = Outcome Tree} (elim b [ true ↦ ok (Sym n) | false ↦ (closed-each target n f >>= λ g. ok (Op k g)) ]) (rep (Op k f))
       go true e = sym (node-target k f w e)
-      go false e = sym (at-other target n some-factor new k f w e q ∙ ap (λ (o : Outcome Forest). o >>= λ g. ok (Op k g)) i)
+      go false e = sym (at-other target n several k f w e q ∙ ap (λ (o : Outcome Forest). o >>= λ g. ok (Op k g)) i)
 
   right-node :
       (k : ℕ) (f : Forest) → T (well-formed (Op k f)) → each-operand rep f ≡ closed-each target n f → Right rep (rs-of target n f) → Right rep (rs target n (Op k f))
@@ -318,6 +329,41 @@ factor-there target h = (let a = symbol-factor target h in let b = length-sum (f
 pub factor-new : (target : Tree) (n : Name) → T (holds (other-than n) target) → count (Sym n) (factors-of target) ≡ 0
 factor-new target n h = count-sum (Sym n) (factors-of target) ∙ new-factor n target h
 
+-- ---- targets that are not endless
+
+lone-or-several : (n : Name) (l : List Tree) → lone n l ≡ false → 2 + count (Sym n) l ≤ 2 * length l
+unfolding lone count
+lone-or-several n [] e = (let z : _≡_ {A = ℕ} 0 1 = cc in absurd (omega arith))
+lone-or-several n (t ∷ []) e = (let a = count-cons (Sym n) t [] in let b = one-cases t (Sym n) false e in let c : count (Sym n) [] ≡ 0 = refl in omega arith)
+lone-or-several n (t ∷ (u ∷ l)) e =
+    (let a = count-cons (Sym n) t (u ∷ l) in let b = one-le t (Sym n) in let c = count-cons (Sym n) u l in let d = one-le u (Sym n) in let f = count-most (Sym n) l in omega arith)
+
+pub ends-several : (target : Tree) (n : Name) → endless target n ≡ false → Product target → 2 + count (Sym n) (factors-of target) ≤ 2 * length (factors-of target)
+unfolding endless by-factors
+ends-several target n e p = lone-or-several n (factors-of target) (go (is-mul target && Ieee.eq (flatten-mul-factors target .coefficient) one) p e)
+  where
+    go : (b : Bool) → T b → (b && lone n (factors-of target)) ≡ false → lone n (factors-of target) ≡ false
+    go true t q = q
+    go false t q = absurd t
+
+-- one with a symbol, and none of its is the name
+pub several-ends : (target : Tree) (n : Name) → T (has-symbol target) → T (holds (other-than n) target) → endless target n ≡ false
+unfolding endless
+several-ends target n h k = go (by-factors target) (lone n (factors-of target)) (not-lone n (factors-of target) (factor-there target h) (factor-new target n k))
+  where
+    go : (b c : Bool) → c ≡ false → (b && c) ≡ false
+    go true c e = e
+    go false c e = refl
+
+    not-lone : (n : Name) (l : List Tree) → 1 ≤ length l → count (Sym n) l ≡ 0 → lone n l ≡ false
+    not-lone n [] p z = absurd (omega arith)
+    not-lone n (t ∷ []) p z = (unfold lone in by (eq-tree t (Sym n)) refl)
+      where
+        by : (b : Bool) → eq-tree t (Sym n) ≡ b → b ≡ false
+        by true e = (let a = count-cons (Sym n) t [] in let b = one-cases t (Sym n) true e in absurd (omega arith))
+        by false e = refl
+    not-lone n (t ∷ (u ∷ l)) p z = (unfold lone in refl)
+
 -- the law
-pub replace-closed : (target : Tree) (n : Name) → T (has-symbol target) → T (holds (other-than n) target) → (e : Tree) → T (well-formed e) → replace target n e ≡ closed target n e
-replace-closed target n h k e w = tree-is target n (factor-there target h) (factor-new target n k) e w
+pub replace-closed : (target : Tree) (n : Name) → endless target n ≡ false → (e : Tree) → T (well-formed e) → replace target n e ≡ closed target n e
+replace-closed target n k e w = tree-is target n (ends-several target n k) e w

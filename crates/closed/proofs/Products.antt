@@ -1,15 +1,14 @@
--- A product with the target's factors in it, rewritten: what is left of the factors, each rewritten by itself, then the name as often as the target was
--- taken out. Assumes nothing.
-use Prim.Native.Nat.{ℕ, zero, suc, _+_, _≤_}
+-- A product with the target's factors in it, rewritten: they are taken out, and the name is put in, as often as they are there; then each factor is rewritten by
+-- itself. Assumes nothing.
+use Prim.Native.Nat.{ℕ, zero, suc, _+_, _*_, _≤_}
 use mathlib.Core.Path.{_≡_, refl, sym, _∙_, ap, ap₂, subst}
 use mathlib.Core.Bool.{Bool, true, false, _&&_}
 use mathlib.Core.Option.{Option, none, some}
 use mathlib.Core.List.{List, [], _∷_, _++_, append-assoc}
 use native.Mathlib.Omega.{arith}
-use native.Mathlib.Nat.{zero-add, add-zero}
 use lib.IntN.{ℤ, pos, negsuc}
 use lib.Dec.{T, eqb}
-use lib.ListN.{length}
+use lib.ListN.{length, length-append}
 use lib.Ieee as Ieee
 use lib.Ieee.{Float}
 use Rattle.tree.specs.Outcome.{Outcome, ok, refused, _>>=_, each}
@@ -18,18 +17,20 @@ use Rattle.tree.specs.Kinds.{Neg, Mul}
 use Rattle.tree.specs.Facts.{size, count}
 use Rattle.tree.proofs.Formed.{well-formed}
 use Rattle.tree.proofs.TreeLaws.{eq-tree-sound, eq-tree-refl, eq-int-sound}
-use Rattle.tree.proofs.Logic.{and-left, and-both}
+use Rattle.tree.proofs.Logic.{and-left, and-right, and-both}
 use Rattle.tree.proofs.Tests.{is-true}
 use Rattle.rewrite.specs.Rewrite.{Factors, one, flatten-mul-factors, times, constant-of, nested-product, with-coefficient, built, build-mul-from-factors, remove-first, remove-each, is-mul, match-factors, each-operand, replace-within, replace}
 use Rattle.rewrite.proofs.Measure.{count-cons, one-self}
-use Rattle.rewrite.proofs.Counts.{count-append}
-use Rattle.rewrite.proofs.Factors.{All, Factor, factors-of, built-factors}
-use Rattle.closed.specs.Closed.{Taken, once-more, take-out, taken, named, by-factors, rebuilt}
-use Rattle.closed.proofs.Chain.{chain, chain-end, chain-same, each-append}
+use Rattle.rewrite.proofs.Counts.{count-append, one-le}
+use Rattle.rewrite.proofs.ReplaceValue.{exact}
+use Rattle.rewrite.proofs.Coefficient.{exactly}
+use Rattle.rewrite.proofs.Factors.{All, Factor, Product, factors-of, built-factors}
+use Rattle.closed.specs.Closed.{Taken, once-more, take-out, taken, by-factors, rebuilt}
+use Rattle.closed.proofs.Chain.{chain, chain-end, chain-same, each-long}
 use Rattle.closed.proofs.Unit.{Small, one-small, accepted-small}
-use Rattle.closed.proofs.Taken.{joined, none-before, each-names, absent-all, rest-of}
+use Rattle.closed.proofs.Taken.{none-before, rest-of, count-of-rest}
 use Rattle.closed.proofs.Steps.{at-operation, at-op}
-use Rattle.closed.proofs.Spine.{append-all, each-all, Alone, alone-factor, names-alone, headed, built-coefficient, built-mul, factors-alone}
+use Rattle.closed.proofs.Spine.{append-all, each-all, Alone, alone-factor, name-alone, headed, built-coefficient, built-mul, factors-alone}
 
 -- ---- tests
 
@@ -68,16 +69,12 @@ pub empty-list : {A : Type 0} (l : List A) → length l ≤ 0 → l ≡ []
 empty-list [] h = refl
 empty-list (a ∷ l) h = absurd (omega arith)
 
--- ---- the name k times
+-- ---- no more equal than there are
 
-names-more : (n : Name) (k : ℕ) → named n k ++ (Sym n ∷ []) ≡ named n (suc k)
-unfolding named
-names-more n zero = refl
-names-more n (suc k) = ap (λ (l : List Tree). Sym n ∷ l) (names-more n k)
-
-names-count : (n : Name) (k : ℕ) → 1 ≤ count (Sym n) (named n (suc k))
-unfolding named
-names-count n k = (let a = count-cons (Sym n) (Sym n) (named n k) in let b = one-self (Sym n) in omega arith)
+pub count-most : (x : Tree) (l : List Tree) → count x l ≤ length l
+unfolding count
+count-most x [] = omega arith
+count-most x (y ∷ l) = (let a = count-cons x y l in let b = one-le y x in let c = count-most x l in omega arith)
 
 -- ---- leaves
 
@@ -89,7 +86,7 @@ pub at-constant : (target : Tree) (n : Name) (c : ℤ) → replace target n (Con
 unfolding replace replace-within size
 at-constant target n c = refl
 
-module _ (target : Tree) (n : Name) (some-factor : 1 ≤ length (factors-of target)) (new : count (Sym n) (factors-of target) ≡ 0) where
+module _ (target : Tree) (n : Name) (several : Product target → 2 + count (Sym n) (factors-of target) ≤ 2 * length (factors-of target)) where
   abbrev rep : Tree → Outcome Tree
   rep = replace target n
 
@@ -102,7 +99,7 @@ module _ (target : Tree) (n : Name) (some-factor : 1 ≤ length (factors-of targ
   pub at-other :
       (k : ℕ) (f : Forest) → T (well-formed (Op k f)) → eq-tree (Op k f) target ≡ false → eqb k Mul ≡ false → rep (Op k f) ≡ (each-operand rep f >>= λ h. ok (Op k h))
   at-other k f w e q =
-      at-op target n some-factor new k f w
+      at-op target n several k f w
       ∙ ap₂ (λ (b d : Bool). at-operation target n rep k f b d (match-factors target n (Op k f))) e q
 
   -- one where the target is not matched by its factors
@@ -110,7 +107,7 @@ module _ (target : Tree) (n : Name) (some-factor : 1 ≤ length (factors-of targ
       (k : ℕ) (f : Forest) → T (well-formed (Op k f)) → eq-tree (Op k f) target ≡ false → match-factors target n (Op k f) ≡ none
       → rep (Op k f) ≡ (each-operand rep f >>= λ h. ok (Op k h))
   at-unmatched k f w e q =
-      at-op target n some-factor new k f w
+      at-op target n several k f w
       ∙ ap₂ (λ (b : Bool) (o : Option Factors). at-operation target n rep k f b (eqb k Mul) o) e q
       ∙ go (eqb k Mul)
     where
@@ -136,6 +133,14 @@ module _ (target : Tree) (n : Name) (some-factor : 1 ≤ length (factors-of targ
     unfolding by-factors
     is-product = and-left (is-mul target) _ product
 
+    enough : 2 + count (Sym n) ts ≤ 2 * length ts
+    unfolding by-factors
+    enough = several product
+
+    unit-target : exact target ≡ pos 1
+    unfolding by-factors
+    unit-target = exactly .unit target (and-right (is-mul target) _ product)
+
     abbrev matched-by : Tree → Option (List Tree) → Option Factors
     matched-by e o = elim o [ none ↦ none | some r ↦ some (record { coefficient = flatten-mul-factors e .coefficient; factors = r ++ (Sym n ∷ []) }) ]
 
@@ -153,11 +158,6 @@ module _ (target : Tree) (n : Name) (some-factor : 1 ≤ length (factors-of targ
         let z : _≡_ {A = ℕ} 0 1 = cc in
         omega arith))
 
-    -- and holds no new name
-    other-than : (e : Tree) → 1 ≤ count (Sym n) (factors-of e) → eq-tree e target ≡ false
-    other-than e q =
-        not-true (eq-tree e target) (λ t. (let u = ap (λ (x : Tree). count (Sym n) (factors-of x)) (eq-tree-sound e target t) in omega arith))
-
     pub without-match : (k : ℕ) (f : Forest) → T (well-formed (Op k f)) → remove-each ts (factors-of (Op k f)) ≡ none → rep (Op k f) ≡ (each-operand rep f >>= λ h. ok (Op k h))
     without-match k f w q = at-unmatched k f w (not-target (Op k f) q) (match-is (Op k f) ∙ ap (matched-by (Op k f)) q)
 
@@ -167,18 +167,9 @@ module _ (target : Tree) (n : Name) (some-factor : 1 ≤ length (factors-of targ
         → rep (Op Mul f) ≡ (constant-of (flatten-mul-factors (Op Mul f) .coefficient) >>= λ c. rep (built c (r ++ (Sym n ∷ []))))
     unfolding build-mul-from-factors
     with-match f r w e q =
-        at-op target n some-factor new Mul f w
+        at-op target n several Mul f w
         ∙ ap₂ (λ (b : Bool) (o : Option Factors). at-operation target n rep Mul f b true o) e (match-is (Op Mul f) ∙ ap (matched-by (Op Mul f)) q)
         ∙ chain (constant-of (flatten-mul-factors (Op Mul f) .coefficient)) (λ c. ok (built c (r ++ (Sym n ∷ [])))) rep
-
-    again :
-        (e : Tree) (g : Forest) (r : List Tree) (c : ℤ) → e ≡ Op Mul g → T (well-formed e) → 1 ≤ count (Sym n) (factors-of e) → remove-each ts (factors-of e) ≡ some r
-        → constant-of (flatten-mul-factors e .coefficient) ≡ ok c → rep e ≡ rep (built c (r ++ (Sym n ∷ [])))
-    again e g r c q w h m z =
-        ap rep q
-        ∙ with-match g r (subst (λ (t : Tree). T (well-formed t)) q w) (ap (λ (t : Tree). eq-tree t target) (sym q) ∙ other-than e h)
-        (ap (λ (t : Tree). remove-each ts (factors-of t)) (sym q) ∙ m)
-        ∙ ap (λ (o : Outcome ℤ). o >>= λ c. rep (built c (r ++ (Sym n ∷ [])))) (ap (λ (t : Tree). constant-of (flatten-mul-factors t .coefficient)) (sym q) ∙ z)
 
     -- ---- a product without a match
 
@@ -230,7 +221,7 @@ module _ (target : Tree) (n : Name) (some-factor : 1 ≤ length (factors-of targ
     constant-stays c =
         at-constant target n c ∙ ap (λ (b : Bool). elim b as (λ _. Outcome Tree) [ true ↦ ok (Sym n) | false ↦ ok (Const c) ]) (leaf-const c target is-product)
 
-    name-stays : rep (Sym n) ≡ ok (Sym n)
+    pub name-stays : rep (Sym n) ≡ ok (Sym n)
     name-stays = at-symbol target n n ∙ ap (λ (b : Bool). elim b as (λ _. Outcome Tree) [ true ↦ ok (Sym n) | false ↦ ok (Sym n) ]) (leaf-sym n target is-product)
 
     headed-plain :
@@ -286,109 +277,130 @@ module _ (target : Tree) (n : Name) (some-factor : 1 ≤ length (factors-of targ
         closed-up : ((rep t >>= λ u. each rep l >>= λ r. ok (u ∷ r)) >>= λ r. ok (built c r)) ≡ (each rep (t ∷ l) >>= λ r. ok (built c r))
         closed-up = (unfold each in refl)
 
-    -- ---- a product with names at its end
+    -- ---- a product with a match
 
-    names-stay : (k : ℕ) → each rep (named n k) ≡ ok (named n k)
-    unfolding each named
-    names-stay zero = refl
-    names-stay (suc k) = ap₂ (λ (a : Outcome Tree) (o : Outcome (List Tree)). a >>= λ u. o >>= λ r. ok (u ∷ r)) name-stays (names-stay k)
+    -- it may be the target itself
+    same-target : (c : ℤ) (l r : List Tree) (g : Forest) → built c l ≡ Op Mul g → T (well-formed (Op Mul g)) → eq-tree (Op Mul g) target ≡ true → factors-of (built c l) ≡ l
+        → constant-of (flatten-mul-factors (built c l) .coefficient) ≡ ok c → remove-each ts l ≡ some r → rep (built c l) ≡ rep (built c (r ++ (Sym n ∷ [])))
+    same-target c l r g q w e b z m =
+        let u : built c l ≡ target = q ∙ eq-tree-sound (Op Mul g) target (subst T (sym e) tt) in
+        let s : some r ≡ some [] = sym m ∙ ap (remove-each ts) (sym b ∙ ap factors-of u) ∙ self-each ts in
+        let empty : r ≡ [] = cc in
+        let unit : c ≡ pos 1 = exactly .accepted (built c l) c z ∙ ap exact u ∙ unit-target in
+        ap rep q ∙ at-op target n several Mul g w ∙ ap (λ (b : Bool). at-operation target n rep Mul g b true (match-factors target n (Op Mul g))) e
+        ∙ sym (ap₂ (λ (k : ℤ) (m : List Tree). rep (built k (m ++ (Sym n ∷ [])))) unit empty ∙ ap rep name-built ∙ name-stays)
+      where
+        name-built : built (pos 1) (Sym n ∷ []) ≡ Sym n
+        name-built = (unfold built with-coefficient eq-int nested-product in refl)
 
-    longer : (r : List Tree) (k : ℕ) → 1 ≤ length (r ++ named n (suc k))
-    unfolding named
-    longer [] k = omega arith
-    longer (t ∷ r) k = omega arith
+    again :
+        (c : ℤ) (l r : List Tree) → Small c → eq-int c (negsuc 0) ≡ false → All Alone l → 2 ≤ length l → remove-each ts l ≡ some r
+        → rep (built c l) ≡ rep (built c (r ++ (Sym n ∷ [])))
+    again c [] r s d a h m = absurd (omega arith)
+    again c (t ∷ []) r s d a h m = absurd (omega arith)
+    again c (t ∷ (f ∷ l)) r s d a h m = go (eq-tree (Op Mul g) target) refl
+      where
+        g : Forest
+        g = built-mul c t f l d .0
 
-    plain-names :
-        (c : ℤ) (r : List Tree) (k : ℕ) → All Alone r → remove-each ts r ≡ none
-        → rep (built c (r ++ named n (suc k))) ≡ (each rep r >>= λ l. ok (built c (l ++ named n (suc k))))
-    plain-names c r k a q =
-        plain c (r ++ named n (suc k)) (append-all Alone r (named n (suc k)) a (names-alone n (suc k))) (longer r k)
-        (each-names ts r n (suc k) (absent-all n ts new) ∙ ap (λ (o : Option (List Tree)). joined o (named n (suc k))) q)
-        ∙ ap (λ (o : Outcome (List Tree)). o >>= λ l. ok (built c l)) (each-append rep r (named n (suc k)) (names-stay (suc k)))
-        ∙ chain (each rep r) (λ l. ok (l ++ named n (suc k))) (λ l. ok (built c l))
+        is : built c (t ∷ f ∷ l) ≡ Op Mul g
+        is = built-mul c t f l d .1
 
-    names-product : (c : ℤ) (r : List Tree) (k : ℕ) → 1 ≤ length r → eq-int c (negsuc 0) ≡ false → (g : Forest) × (built c (r ++ named n (suc k)) ≡ Op Mul g)
-    unfolding named
-    names-product c [] k h m = absurd (omega arith)
-    names-product c (t ∷ []) k h m = built-mul c t (Sym n) (named n k) m
-    names-product c (t ∷ (f ∷ r)) k h m = built-mul c t f (r ++ named n (suc k)) m
+        facts : (factors-of (built c (t ∷ f ∷ l)) ≡ t ∷ f ∷ l) × T (well-formed (built c (t ∷ f ∷ l)))
+        facts = built-factors c (t ∷ f ∷ l) (each-all Alone Factor alone-factor (t ∷ f ∷ l) a)
 
-    names-coefficient :
-        (c : ℤ) (l : List Tree) → 1 ≤ length l → Small c → eq-int c (negsuc 0) ≡ false → All Alone l → constant-of (flatten-mul-factors (built c l) .coefficient) ≡ ok c
-    names-coefficient c [] h s m a = absurd (omega arith)
-    names-coefficient c (t ∷ l) h s m a = built-coefficient c t l s m a
+        formed : T (well-formed (Op Mul g))
+        formed = subst (λ (x : Tree). T (well-formed x)) is (facts .1)
 
-    once :
-        (c : ℤ) (r s : List Tree) (k : ℕ) → Small c → eq-int c (negsuc 0) ≡ false → All Alone r → remove-each ts r ≡ some s
-        → rep (built c (r ++ named n (suc k))) ≡ rep (built c (s ++ named n (suc (suc k))))
-    once c r s k h m a q =
-        let l = r ++ named n (suc k) in
-        let al : All Alone l = append-all Alone r (named n (suc k)) a (names-alone n (suc k)) in
-        let bf = built-factors c l (each-all Alone Factor alone-factor l al) in
-        let p = names-product c r k (let x = rest-of Alone ts r s q .1 in omega arith) m in
-        again (built c l) (p .0) (s ++ named n (suc k)) c (p .1) (bf .1)
-        (let x = ap (count (Sym n)) (bf .0) in let y = count-append (Sym n) r (named n (suc k)) in let z = names-count n k in omega arith)
-        (ap (remove-each ts) (bf .0) ∙ each-names ts r n (suc k) (absent-all n ts new) ∙ ap (λ (o : Option (List Tree)). joined o (named n (suc k))) q)
-        (names-coefficient c l (longer r k) h m al)
-        ∙ ap (λ (x : List Tree). rep (built c x)) (append-assoc s (named n (suc k)) (Sym n ∷ []) ∙ ap (λ (x : List Tree). s ++ x) (names-more n (suc k)))
+        coefficient : constant-of (flatten-mul-factors (built c (t ∷ f ∷ l)) .coefficient) ≡ ok c
+        coefficient = built-coefficient c t (f ∷ l) s d a
 
-    plain-ends :
-        (c : ℤ) (r : List Tree) (k : ℕ) → All Alone r → remove-each ts r ≡ none
-        → rep (built c (r ++ named n (suc k))) ≡ (each rep r >>= λ l. ok (built c (l ++ named n (suc (0 + k)))))
-    plain-ends c r k a q =
-        plain-names c r k a q ∙ ap (λ (j : ℕ). each rep r >>= λ l. ok (built c (l ++ named n (suc j)))) (sym (zero-add k))
+        go : (b : Bool) → eq-tree (Op Mul g) target ≡ b → rep (built c (t ∷ f ∷ l)) ≡ rep (built c (r ++ (Sym n ∷ [])))
+        go true e = same-target c (t ∷ f ∷ l) r g is formed e (facts .0) coefficient m
+        go false e =
+            ap rep is
+            ∙ with-match g r formed e (ap (λ (x : Tree). remove-each ts (factors-of x)) (sym is) ∙ ap (remove-each ts) (facts .0) ∙ m)
+            ∙ ap (λ (o : Outcome ℤ). o >>= λ c. rep (built c (r ++ (Sym n ∷ [])))) (ap (λ (x : Tree). constant-of (flatten-mul-factors x .coefficient)) (sym is) ∙ coefficient)
+
+    -- the name at the end of some factors
+    abbrev with-name : List Tree → List Tree
+    with-name r = r ++ (Sym n ∷ [])
+
+    name-length : (r : List Tree) → length (with-name r) ≡ length r + 1
+    name-length r = length-append r (Sym n ∷ [])
+
+    name-count : (r : List Tree) → count (Sym n) (with-name r) ≡ count (Sym n) r + 1
+    name-count r = (let a = count-append (Sym n) r (Sym n ∷ []) in let b = count-cons (Sym n) (Sym n) [] in let c = one-self (Sym n) in let d : count (Sym n) [] ≡ 0 = (unfold count in refl) in omega arith)
 
     -- again and again, the coefficient not being -1
     ends :
-        (most : ℕ) (c : ℤ) (r : List Tree) (k : ℕ) → Small c → eq-int c (negsuc 0) ≡ false → All Alone r → length r ≤ most
-        → rep (built c (r ++ named n (suc k))) ≡ (each rep (take-out most ts r .rest) >>= λ l. ok (built c (l ++ named n (suc (take-out most ts r .copies + k)))))
+        (most : ℕ) (c : ℤ) (r : List Tree) → Small c → eq-int c (negsuc 0) ≡ false → All Alone r → 2 * length (with-name r) ≤ most + count (Sym n) (with-name r)
+        → rep (built c (with-name r)) ≡ (each rep (take-out most n ts (with-name r) .factors) >>= λ l. ok (built c l))
     unfolding take-out once-more
-    ends zero c r k h m a b = plain-ends c r k a (ap (remove-each ts) (empty-list r b) ∙ none-empty ts some-factor)
-    ends (suc most) c r k h m a b = go (λ s x y. ends most c s (suc k) h m x y) (remove-each ts r) refl
+    ends zero c r h d a b = (let x = name-length r in let y = count-most (Sym n) (with-name r) in absurd (omega arith))
+    ends (suc most) c r h d a b = go (λ s x y. ends most c s h d x y) (remove-each ts (with-name r)) refl
       where
-        go : ((s : List Tree) → All Alone s → length s ≤ most
-            → rep (built c (s ++ named n (suc (suc k)))) ≡ (each rep (take-out most ts s .rest) >>= λ l. ok (built c (l ++ named n (suc (take-out most ts s .copies + suc k))))))
-            → (o : Option (List Tree)) → remove-each ts r ≡ o
-            → let q : Taken = elim o [ none ↦ record { rest = r; copies = 0 } | some s ↦ once-more (take-out most ts s) ] in
-            rep (built c (r ++ named n (suc k))) ≡ (each rep (q .rest) >>= λ l. ok (built c (l ++ named n (suc (q .copies + k)))))
-        go i none q = plain-ends c r k a q
+        all : All Alone (with-name r)
+        all = append-all Alone r (Sym n ∷ []) a (name-alone n, tt)
+
+        go : ((s : List Tree) → All Alone s → 2 * length (with-name s) ≤ most + count (Sym n) (with-name s)
+            → rep (built c (with-name s)) ≡ (each rep (take-out most n ts (with-name s) .factors) >>= λ l. ok (built c l)))
+            → (o : Option (List Tree)) → remove-each ts (with-name r) ≡ o
+            → let q : Taken = elim o [ none ↦ record { factors = with-name r; times = 0 } | some s ↦ once-more (take-out most n ts (with-name s)) ] in
+            rep (built c (with-name r)) ≡ (each rep (q .factors) >>= λ l. ok (built c l))
+        go i none q = plain c (with-name r) all (let x = name-length r in omega arith) q
         go i (some s) q =
-            let x = rest-of Alone ts r s q in
-            once c r s k h m a q ∙ i s (x .0 a) (let y = x .1 in omega arith)
-            ∙ ap (λ (j : ℕ). each rep (take-out most ts s .rest) >>= λ l. ok (built c (l ++ named n (suc j)))) (omega arith)
+            (let x = rest-of Alone ts (with-name r) s q in
+            let len = x .1 in
+            let cnt = count-of-rest (Sym n) ts (with-name r) s q in
+            let en = enough in
+            let l1 = name-length r in
+            let c1 = name-count r in
+            let l2 = name-length s in
+            let c2 = name-count s in
+            let u = count-most (Sym n) s in
+            again c (with-name r) s h d all (omega arith) q ∙ i s (x .0 all) (omega arith))
 
     minus-built : (l : List Tree) → 1 ≤ length l → built (negsuc 0) l ≡ Op Neg (built (pos 1) l ◂ nil)
     unfolding built with-coefficient eq-int
     minus-built [] h = absurd (omega arith)
     minus-built (t ∷ l) h = refl
 
+    -- there is a factor however often the target is taken out
+    taken-some : (most : ℕ) (l : List Tree) → 1 ≤ length l → 1 ≤ length (take-out most n ts l .factors)
+    unfolding take-out once-more
+    taken-some zero l h = h
+    taken-some (suc most) l h = go (λ s. taken-some most (with-name s) (let x = name-length s in omega arith)) (remove-each ts l)
+      where
+        go : ((s : List Tree) → 1 ≤ length (take-out most n ts (with-name s) .factors)) → (o : Option (List Tree))
+            → 1 ≤ length ((elim o as (λ _. Taken) [ none ↦ record { factors = l; times = 0 } | some s ↦ once-more (take-out most n ts (with-name s)) ]) .factors)
+        go i none = h
+        go i (some s) = i s
+
     minus-ends :
-        (most : ℕ) (r : List Tree) (k : ℕ) → All Alone r → length r ≤ most
-        → rep (built (negsuc 0) (r ++ named n (suc k)))
-        ≡ (each rep (take-out most ts r .rest) >>= λ l. ok (built (negsuc 0) (l ++ named n (suc (take-out most ts r .copies + k)))))
-    minus-ends most r k a b =
-        let l = r ++ named n (suc k) in
-        let j = take-out most ts r .copies + k in
-        ap rep (minus-built l (longer r k))
-        ∙ minus-plain (built (pos 1) l)
-        (built-factors (pos 1) l (each-all Alone Factor alone-factor l (append-all Alone r (named n (suc k)) a (names-alone n (suc k)))) .1)
-        ∙ ap (λ (o : Outcome Tree). o >>= λ u. ok (Op Neg (u ◂ nil))) (ends most (pos 1) r k one-small (unfold eq-int in refl) a b)
-        ∙ chain (each rep (take-out most ts r .rest)) (λ l. ok (built (pos 1) (l ++ named n (suc j)))) (λ u. ok (Op Neg (u ◂ nil)))
-        ∙ chain-same (each rep (take-out most ts r .rest)) (λ l. ok (Op Neg (built (pos 1) (l ++ named n (suc j)) ◂ nil))) (λ l. ok (built (negsuc 0) (l ++ named n (suc j))))
-        (λ l e. ap ok (sym (minus-built (l ++ named n (suc j)) (longer l j))))
+        (most : ℕ) (r : List Tree) → All Alone r → 2 * length (with-name r) ≤ most + count (Sym n) (with-name r)
+        → rep (built (negsuc 0) (with-name r)) ≡ (each rep (take-out most n ts (with-name r) .factors) >>= λ l. ok (built (negsuc 0) l))
+    minus-ends most r a b =
+        let l = with-name r in
+        let q = take-out most n ts l .factors in
+        let some-there : 1 ≤ length l = (let x = name-length r in omega arith) in
+        ap rep (minus-built l some-there)
+        ∙ minus-plain (built (pos 1) l) (built-factors (pos 1) l (each-all Alone Factor alone-factor l (append-all Alone r (Sym n ∷ []) a (name-alone n, tt))) .1)
+        ∙ ap (λ (o : Outcome Tree). o >>= λ u. ok (Op Neg (u ◂ nil))) (ends most (pos 1) r one-small (unfold eq-int in refl) a b)
+        ∙ chain (each rep q) (λ l. ok (built (pos 1) l)) (λ u. ok (Op Neg (u ◂ nil)))
+        ∙ chain-same (each rep q) (λ l. ok (Op Neg (built (pos 1) l ◂ nil))) (λ l. ok (built (negsuc 0) l))
+        (λ m e. ap ok (sym (minus-built m (let x = each-long rep q m e in let y = taken-some most l some-there in omega arith))))
 
     all-ends :
-        (most : ℕ) (c : ℤ) (r : List Tree) (k : ℕ) → Small c → All Alone r → length r ≤ most
-        → rep (built c (r ++ named n (suc k))) ≡ (each rep (take-out most ts r .rest) >>= λ l. ok (built c (l ++ named n (suc (take-out most ts r .copies + k)))))
-    all-ends most c r k h a b = go (eq-int c (negsuc 0)) refl
+        (most : ℕ) (c : ℤ) (r : List Tree) → Small c → All Alone r → 2 * length (with-name r) ≤ most + count (Sym n) (with-name r)
+        → rep (built c (with-name r)) ≡ (each rep (take-out most n ts (with-name r) .factors) >>= λ l. ok (built c l))
+    all-ends most c r h a b = go (eq-int c (negsuc 0)) refl
       where
-        go : (d : Bool) → eq-int c (negsuc 0) ≡ d
-            → rep (built c (r ++ named n (suc k))) ≡ (each rep (take-out most ts r .rest) >>= λ l. ok (built c (l ++ named n (suc (take-out most ts r .copies + k)))))
+        go : (d : Bool) → eq-int c (negsuc 0) ≡ d → rep (built c (with-name r)) ≡ (each rep (take-out most n ts (with-name r) .factors) >>= λ l. ok (built c l))
         go true q =
-            subst
-            (λ (z : ℤ). rep (built z (r ++ named n (suc k))) ≡ (each rep (take-out most ts r .rest) >>= λ l. ok (built z (l ++ named n (suc (take-out most ts r .copies + k))))))
-            (sym (eq-int-sound c (negsuc 0) (subst T (sym q) tt))) (minus-ends most r k a b)
-        go false q = ends most c r k h q a b
+            subst (λ (z : ℤ). rep (built z (with-name r)) ≡ (each rep (take-out most n ts (with-name r) .factors) >>= λ l. ok (built z l)))
+            (sym (eq-int-sound c (negsuc 0) (subst T (sym q) tt))) (minus-ends most r a b)
+        go false q = ends most c r h q a b
 
     -- ---- a product, whichever it is
 
@@ -400,28 +412,24 @@ module _ (target : Tree) (n : Name) (some-factor : 1 ≤ length (factors-of targ
       coefficient = flatten-mul-factors (Op Mul f) .coefficient
 
       abbrev rebuilt-from : Taken → Outcome Tree
-      rebuilt-from q = rebuilt n rep coefficient (q .rest) (q .copies) otherwise
+      rebuilt-from q = rebuilt rep coefficient (q .factors) (q .times) otherwise
 
-      at-most : (most : ℕ) → length (factors-of (Op Mul f)) ≤ most → rep (Op Mul f) ≡ rebuilt-from (take-out most ts (factors-of (Op Mul f)))
+      at-most : (most : ℕ) → 2 * length (factors-of (Op Mul f)) ≤ most → rep (Op Mul f) ≡ rebuilt-from (take-out most n ts (factors-of (Op Mul f)))
       unfolding take-out once-more rebuilt
-      at-most zero b = without-match Mul f w (ap (remove-each ts) (empty-list (factors-of (Op Mul f)) b) ∙ none-empty ts some-factor)
+      at-most zero b = without-match Mul f w (ap (remove-each ts) (empty-list (factors-of (Op Mul f)) (omega arith)) ∙ none-empty ts (let h = enough in omega arith))
       at-most (suc most) b = go (remove-each ts (factors-of (Op Mul f))) refl
         where
           go : (o : Option (List Tree)) → remove-each ts (factors-of (Op Mul f)) ≡ o
-              → rep (Op Mul f) ≡ rebuilt-from (elim o [ none ↦ record { rest = factors-of (Op Mul f); copies = 0 } | some s ↦ once-more (take-out most ts s) ])
+              → rep (Op Mul f) ≡ rebuilt-from (elim o [ none ↦ record { factors = factors-of (Op Mul f); times = 0 } | some s ↦ once-more (take-out most n ts (with-name s)) ])
           go none q = without-match Mul f w q
           go (some s) q =
               let x = rest-of Alone ts (factors-of (Op Mul f)) s q in
               with-match f s w e q
-              ∙ chain-same (constant-of coefficient) (λ c. rep (built c (s ++ (Sym n ∷ []))))
-              (λ c. each rep (take-out most ts s .rest) >>= λ l. ok (built c (l ++ named n (suc (take-out most ts s .copies)))))
-              (λ c z. ap (λ (m : List Tree). rep (built c (s ++ m))) (one-name) ∙ all-ends most c s 0 (accepted-small coefficient c z) (x .0 (factors-alone (Op Mul f) w)) (let y = x .1 in omega arith)
-              ∙ ap (λ (j : ℕ). each rep (take-out most ts s .rest) >>= λ l. ok (built c (l ++ named n (suc j)))) (add-zero (take-out most ts s .copies)))
-            where
-              one-name : Sym n ∷ [] ≡ named n 1
-              one-name = (unfold named in refl)
+              ∙ chain-same (constant-of coefficient) (λ c. rep (built c (with-name s))) (λ c. each rep (take-out most n ts (with-name s) .factors) >>= λ l. ok (built c l))
+              (λ c z. all-ends most c s (accepted-small coefficient c z) (x .0 (factors-alone (Op Mul f) w))
+              (let y = x .1 in let h = enough in let l = name-length s in let k = name-count s in omega arith))
 
       -- rebuilt once
-      pub at-product : rep (Op Mul f) ≡ rebuilt-from (taken ts (factors-of (Op Mul f)))
+      pub at-product : rep (Op Mul f) ≡ rebuilt-from (taken n ts (factors-of (Op Mul f)))
       unfolding taken
-      at-product = at-most (length (factors-of (Op Mul f))) (omega arith)
+      at-product = at-most (2 * length (factors-of (Op Mul f))) (omega arith)

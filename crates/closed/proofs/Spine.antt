@@ -1,5 +1,5 @@
 -- The factors of a well-formed tree are each their own only factor, with coefficient 1; a product built from such has its coefficient exactly. Assumes nothing.
-use Prim.Native.Nat.{ℕ, zero, suc}
+use Prim.Native.Nat.{ℕ}
 use mathlib.Core.Path.{_≡_, refl, sym, _∙_, ap, ap₂, subst}
 use mathlib.Core.Bool.{Bool, true, false}
 use mathlib.Core.List.{List, [], _∷_, _++_}
@@ -17,7 +17,6 @@ use Rattle.tree.proofs.Logic.{and-left, and-right}
 use Rattle.rewrite.specs.Rewrite.{Factors, one, flatten-mul-factors, flatten-operands, flatten-after, times, negated, nested-product, with-coefficient, built, constant-of}
 use Rattle.rewrite.proofs.Factors.{All, Factor, factors-of}
 use Rattle.closed.proofs.Unit.{Small, small-accepted, times-one, one-times-one, one-accepted}
-use Rattle.closed.specs.Closed.{named}
 
 pub append-all : (P : Tree → Type 0) (s t : List Tree) → All P s → All P t → All P (s ++ t)
 append-all P [] t g h = h
@@ -39,11 +38,6 @@ alone-factor t h = (h .0, ap (λ (p : Factors). p .factors) (h .1))
 pub name-alone : (n : Name) → Alone (Sym n)
 unfolding flatten-mul-factors well-formed
 name-alone n = (tt, refl)
-
-pub names-alone : (n : Name) (k : ℕ) → All Alone (named n k)
-unfolding named
-names-alone n zero = tt
-names-alone n (suc k) = (name-alone n, names-alone n k)
 
 node-alone : (k : ℕ) (f : Forest) → T (well-formed (Op k f)) → All Alone (flatten-operands f .factors) → All Alone (factors-of (Op k f))
 unfolding flatten-mul-factors negated

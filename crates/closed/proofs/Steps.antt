@@ -1,5 +1,5 @@
 -- What `replace` does at a node, in terms of `replace` itself: the bound on its calls is out of sight. Assumes nothing.
-use Prim.Native.Nat.{ℕ, suc, _*_, _≤_}
+use Prim.Native.Nat.{ℕ, suc, _+_, _*_, _≤_}
 use mathlib.Core.Path.{_≡_, refl, sym, _∙_, ap, ap₂, subst}
 use mathlib.Core.Bool.{Bool, true, false}
 use mathlib.Core.Option.{Option, none, some}
@@ -16,7 +16,7 @@ use Rattle.tree.proofs.Formed.{operand-count, well-formed, well-formed-each}
 use Rattle.tree.proofs.Logic.{and-left, and-right}
 use Rattle.rewrite.specs.Rewrite.{Factors, constant-of, built, build-mul-from-factors, match-factors, each-operand, replace-within, replace}
 use Rattle.rewrite.proofs.Measure.{sizes, sum-each, size-op, by-size, least-size}
-use Rattle.rewrite.proofs.Factors.{factors-of, built-factors, rest-all, Matched, matched}
+use Rattle.rewrite.proofs.Factors.{factors-of, built-factors, rest-all, Product, Matched, matched}
 use Rattle.rewrite.proofs.Coefficient.{exactly}
 use Rattle.rewrite.proofs.Products.{factors-bound, spread-up}
 use Rattle.rewrite.proofs.Shrinks.{rebuilt-of}
@@ -37,7 +37,7 @@ module _ (target : Tree) (n : Name) where
         ]
       ]
 
-  module _ (some-factor : 1 ≤ length (factors-of target)) (new : count (Sym n) (factors-of target) ≡ 0) where
+  module _ (several : Product target → 2 + count (Sym n) (factors-of target) ≤ 2 * length (factors-of target)) where
     -- a product rebuilt is no larger
     Smaller : Tree → Option Factors → Type 0
     Smaller e none = Unit {0}
@@ -50,7 +50,7 @@ module _ (target : Tree) (n : Name) where
         subst (λ (l : List Tree). (size (built c l) ≤ size e) × T (well-formed (built c l))) (sym (ap (λ (p : Factors). p .factors) q))
         (let x = exactly .accepted e c (ap (λ (p : Factors). constant-of (p .coefficient)) (sym q) ∙ z) in
         let b = rebuilt-of by-size target n e r c 0 (let f = factors-bound by-size e w in omega arith) h x in
-        let u = spread-up by-size n (least-size n) (factors-of target) some-factor in
+        let u = spread-up by-size n (least-size n) (factors-of target) (let v = several t in omega arith) in
         (omega arith, built-factors c (r ++ (Sym n ∷ [])) (rest-all n e w h) .1))
 
     smaller : (e : Tree) → T (well-formed e) → Smaller e (match-factors target n e)
@@ -92,10 +92,10 @@ module _ (target : Tree) (n : Name) where
         (k : ℕ) (f : Forest) → T (well-formed (Op k f))
         → replace target n (Op k f) ≡ at-operation (replace target n) k f (eq-tree (Op k f) target) (eqb k Mul) (match-factors target n (Op k f))
     at-op k f w =
-        sym (replace-enough target n some-factor new (suc (2 * size (Op k f))) (Op k f) (omega arith) w)
+        sym (replace-enough target n several (suc (2 * size (Op k f))) (Op k f) (omega arith) w)
         ∙ opened
         ∙ node-same (size (Op k f)) (λ t. replace-within (2 * size (Op k f)) target n t) (replace target n)
-        (λ t h v. replace-enough target n some-factor new (2 * size (Op k f)) t (omega arith) v) k f (omega arith) w (eq-tree (Op k f) target) (eqb k Mul)
+        (λ t h v. replace-enough target n several (2 * size (Op k f)) t (omega arith) v) k f (omega arith) w (eq-tree (Op k f) target) (eqb k Mul)
         (match-factors target n (Op k f)) (smaller (Op k f) w)
       where
         opened : replace-within (suc (2 * size (Op k f))) target n (Op k f)

@@ -1,6 +1,6 @@
--- `replace` in closed form: a product is rebuilt once, with its coefficient, the factors that are left, each rewritten by itself, and the name as often
--- as the target was taken out (01, "Rewriting"). By recursion on trees alone. Assumes nothing.
-use Prim.Native.Nat.{ℕ, zero, suc}
+-- `replace` in closed form: a product is rebuilt once, with its coefficient and the factors that there are after the target's were taken out, and the name put
+-- in, as often as they were there, each rewritten by itself (01, "Rewriting"). By recursion on trees alone. Assumes nothing.
+use Prim.Native.Nat.{ℕ, zero, suc, _*_}
 use mathlib.Core.Bool.{Bool, true, false, _&&_}
 use mathlib.Core.Option.{none, some}
 use mathlib.Core.List.{List, [], _∷_, _++_}
@@ -13,35 +13,43 @@ use Rattle.tree.specs.Tree.{Name, Tree, Forest, Sym, Const, Op, nil, _◂_, eq-
 use Rattle.tree.specs.Kinds.{Neg, Mul}
 use Rattle.rewrite.specs.Rewrite.{one, flatten-mul-factors, flatten-operands, constant-of, built, remove-each, is-mul}
 
--- ---- factors taken out again and again
+-- ---- factors taken out again and again, and the name put in at the end each time
 
--- what is left, and how often all were there
+-- the factors then, and how often all were there
 abbrev pub Taken : Type 0
-Taken = record { rest : List Tree; copies : ℕ }
+Taken = record { factors : List Tree; times : ℕ }
 
 unfoldable pub once-more : Taken → Taken
-once-more q = record { rest = q .rest; copies = suc (q .copies) }
+once-more q = record { factors = q .factors; times = suc (q .times) }
 
 -- at most so often
-unfoldable pub take-out : ℕ → List Tree → List Tree → Taken
+unfoldable pub take-out : ℕ → Name → List Tree → List Tree → Taken
 unfolding remove-each once-more
-take-out zero ts l = record { rest = l; copies = 0 }
-take-out (suc most) ts l = elim (remove-each ts l) [ none ↦ record { rest = l; copies = 0 } | some r ↦ once-more (take-out most ts r) ]
+take-out zero n ts l = record { factors = l; times = 0 }
+take-out (suc most) n ts l =
+    elim (remove-each ts l) [ none ↦ record { factors = l; times = 0 } | some r ↦ once-more (take-out most n ts (r ++ (Sym n ∷ []))) ]
 
--- as often as there are factors, which is more than enough for a target with a factor
-unfoldable pub taken : List Tree → List Tree → Taken
+-- Twice as often as there are factors, which is enough: each time there is a factor less, or one that isn't the name.
+unfoldable pub taken : Name → List Tree → List Tree → Taken
 unfolding take-out
-taken ts l = take-out (length l) ts l
-
--- the name k times
-unfoldable pub named : Name → ℕ → List Tree
-named n zero = []
-named n (suc k) = Sym n ∷ named n k
+taken n ts l = take-out (2 * length l) n ts l
 
 -- a target that is matched by its factors
 unfoldable pub by-factors : Tree → Bool
 unfolding flatten-mul-factors is-mul one Ieee.eq
 by-factors target = is-mul target && Ieee.eq (flatten-mul-factors target .coefficient) one
+
+-- no factor, or the name alone
+unfoldable pub lone : Name → List Tree → Bool
+unfolding eq-tree
+lone n [] = true
+lone n (t ∷ []) = eq-tree t (Sym n)
+lone n (t ∷ (u ∷ l)) = false
+
+-- a product of which nothing but the name would be taken out, and the name put in again, for ever
+unfoldable pub endless : Tree → Name → Bool
+unfolding by-factors lone flatten-mul-factors
+endless target n = by-factors target && lone n (flatten-mul-factors target .factors)
 
 -- ---- the closed form
 
@@ -49,18 +57,17 @@ by-factors target = is-mul target && Ieee.eq (flatten-mul-factors target .coeffi
 abbrev pub Rewriting : Type 0
 Rewriting = record { factor : Tree; becomes : Outcome Tree }
 
--- what a factor becomes
+-- what a factor becomes; the name, where it isn't among them, stays
 unfoldable pub becomes-in : List Rewriting → Tree → Outcome Tree
 unfolding eq-tree
 becomes-in [] t = ok t
 becomes-in (p ∷ l) t = elim (eq-tree (p .factor) t) [ true ↦ p .becomes | false ↦ becomes-in l t ]
 
--- A product by its coefficient, what is left of its factors, and the name as often as the target was taken out; what it is otherwise, if it never was.
--- g rewrites a factor.
-unfoldable pub rebuilt : Name → (Tree → Outcome Tree) → Float → List Tree → ℕ → Outcome Tree → Outcome Tree
-unfolding constant-of built each named
-rebuilt n g x rest zero otherwise = otherwise
-rebuilt n g x rest (suc k) otherwise = constant-of x >>= λ c. each g rest >>= λ l. ok (built c (l ++ named n (suc k)))
+-- A product by its coefficient and its factors after the target was taken out so often; what it is otherwise, if it never was. g rewrites a factor.
+unfoldable pub rebuilt : (Tree → Outcome Tree) → Float → List Tree → ℕ → Outcome Tree → Outcome Tree
+unfolding constant-of built each
+rebuilt g x factors zero otherwise = otherwise
+rebuilt g x factors (suc k) otherwise = constant-of x >>= λ c. each g factors >>= λ l. ok (built c l)
 
 module _ (target : Tree) (n : Name) where
   unfoldable mutual
@@ -73,8 +80,8 @@ module _ (target : Tree) (n : Name) where
         elim (eq-tree (Op k f) target) [
           | true ↦ ok (Sym n)
           | false ↦ elim (eqb k Mul && by-factors target) [
-            | true ↦ (let q = taken (flatten-mul-factors target .factors) (flatten-operands f .factors) in
-                rebuilt n (becomes-in (rewritings-of f)) (flatten-operands f .coefficient) (q .rest) (q .copies) (closed-each f >>= λ g. ok (Op k g)))
+            | true ↦ (let q = taken n (flatten-mul-factors target .factors) (flatten-operands f .factors) in
+                rebuilt (becomes-in (rewritings-of f)) (flatten-operands f .coefficient) (q .factors) (q .times) (closed-each f >>= λ g. ok (Op k g)))
             | false ↦ (closed-each f >>= λ g. ok (Op k g))
           ]
         ]

@@ -70,4 +70,5 @@ module _ (scoped : Bool) where
       let f = candidate-facts scoped (roots s) x c in
       let k = s .next in
       let held = counted-holds (made-before k) x (all-nodes (roots s)) (all-nodes-hold (made-before k) (roots s) (S .known)) (let q = f .2 in omega arith) in
-      replace-enough x (xname k) (symbol-factor x (f .1)) (let a = absent (made-before k) (xname k) (new-name k) x held in let b = factors-nodes (Sym (xname k)) x in omega arith)
+      replace-enough x (xname k)
+      (λ _. (let a = absent (made-before k) (xname k) (new-name k) x held in let b = factors-nodes (Sym (xname k)) x in let c = symbol-factor x (f .1) in omega arith))

@@ -5,9 +5,9 @@ use mathlib.Core.Path.{_≡_, refl, sym, _∙_, ap, ap₂}
 use mathlib.Core.Bool.{Bool, true, false}
 use mathlib.Core.Option.{Option, none, some}
 use mathlib.Core.List.{List, [], _∷_}
-use borrow.Author.Tests.{eq-eqb, ne-eqb}
+use borrow.Author.Tests.{eq-eqb, ne-eqb, lt-ltb, le-ltb}
 use lib.ListN.{length, getD, take, drop, length-drop, drop-of-length-le}
-use lib.Seq.{drop-cons, drop-drop, take-nil}
+use lib.Seq.{drop-cons, drop-drop}
 use lib.Dec.{eqb}
 use Rattle.tree.specs.Bytes.{eq-bytes}
 use Rattle.tree.specs.Tokens.{kind-of, words-of, run-at}
@@ -15,7 +15,7 @@ use Rattle.tree.proofs.TokenLaws.{words-tail, words-complete}
 use Rattle.tokens.specs.Answers.{end-answer}
 use Rattle.tokens.specs.declared.Run.the-variants as run
 use Rattle.words.specs.Words.{begins-with}
-use Rattle.matching.specs.Matching.{is-passed, first-run, run-end, runs-after, factor-runs}
+use Rattle.matching.specs.Matching.{is-passed, first-run, run-end, runs-after, factor-runs, words-at}
 
 -- ---- words passed through
 
@@ -104,14 +104,12 @@ pub no-more : (part : List ℕ) (q : ℕ) → length part ≤ q → factor-runs 
 unfolding factor-runs runs-after
 no-more part q h = ap (runs-after 0) (drop-of-length-le part h)
 
--- ---- a place past the end
+-- ---- the words at a place
 
-pub stands-past : (ws run : List ℕ) (p : ℕ) → length ws < p → eqb (length run) 0 ≡ begins-with (drop p ws) run
-unfolding begins-with
-stands-past ws run p h =
-    let past : length ws ≤ p = omega arith in
-    go run ∙ ap (λ (l : List ℕ). eq-bytes l run) (sym (take-nil (length run))) ∙ ap (λ (l : List ℕ). eq-bytes (take (length run) l) run) (sym (drop-of-length-le ws past))
-  where
-    go : (r : List ℕ) → eqb (length r) 0 ≡ eq-bytes [] r
-    go [] = (unfold eq-bytes in refl)
-    go (x ∷ r) = (unfold eq-bytes in ne-eqb (suc (length r)) 0 (λ e. omega arith))
+pub stands-within : (ws : List ℕ) (name p : ℕ) → p < length ws → words-at ws name p ≡ drop p ws
+unfolding words-at
+stands-within ws name p h = ap (λ (b : Bool). elim b as (λ _. List ℕ) [ true ↦ drop p ws | false ↦ name ∷ [] ]) (lt-ltb p (length ws) h)
+
+pub stands-past : (ws : List ℕ) (name p : ℕ) → length ws ≤ p → words-at ws name p ≡ name ∷ []
+unfolding words-at
+stands-past ws name p h = ap (λ (b : Bool). elim b as (λ _. List ℕ) [ true ↦ drop p ws | false ↦ name ∷ [] ]) (le-ltb p (length ws) h)

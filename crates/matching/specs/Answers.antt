@@ -5,7 +5,7 @@ use mathlib.Core.Bool.{false}
 use mathlib.Core.Option.{Option, none, some}
 use mathlib.Core.List.{List}
 use lib.ListN.{length, getD, take, drop}
-use Rattle.matching.specs.Matching.{is-passed, factor-runs, PlacesTaken, take-out-places}
+use Rattle.matching.specs.Matching.{is-passed, factor-runs, words-at, PlacesTaken, take-out-places}
 use Rattle.matching.specs.declared.Removed.{Removed}
 use Rattle.matching.specs.declared.Removed.the-variants as removed
 use Rattle.matching.specs.declared.Taken.{Taken}
@@ -23,10 +23,11 @@ abbrev pub Removes : Option (List ℕ) → List ℕ → Removed → Type 0
 Removes o new (removed.Left n) = (o ≡ some (take n new)) × (n ≤ length new)
 Removes o new removed.Missing = o ≡ none
 
--- the places left stand in front
+-- the places then stand in front
 abbrev pub TakenAs : PlacesTaken → List ℕ → ℕ → ℕ → Type 0
-TakenAs q new left copies = (take left new ≡ q .rest) × (left ≤ length new) × (copies ≡ q .copies)
+TakenAs q new left times = (take left new ≡ q .places) × (left ≤ length new) × (times ≡ q .times)
 
-abbrev pub Takes : List ℕ → List ℕ → List ℕ → ℕ → List ℕ → Taken → Type 0
-Takes ws part old count new (taken.Out left copies) = (2 * count ≤ length old) × TakenAs (take-out-places count ws (factor-runs part) (take count old)) new left copies
-Takes ws part old count new taken.NoRoom = (length old < 2 * count) × (new ≡ old)
+abbrev pub Takes : List ℕ → List ℕ → ℕ → List ℕ → ℕ → List ℕ → Taken → Type 0
+Takes ws part name old count new (taken.Out left times) =
+    (2 * count ≤ length old) × TakenAs (take-out-places (2 * count) (words-at ws name) (length ws) (factor-runs part) (take count old)) new left times
+Takes ws part name old count new taken.NoRoom = (length old < 2 * count) × (new ≡ old)

@@ -1,12 +1,12 @@
-// The factors of a product taken out of another's (01, "Rewriting": each target factor is found, the first equal remaining one is removed), again and again.
-// A factor of the product is a place among its words; the factors taken out are runs of other words.
+// The factors of a product taken out of another's (01, "Rewriting": each target factor is found, the first equal remaining one is removed, the symbol joins the
+// end), again and again. A factor of the product is a place among its words, and the symbol a place past their end; the factors taken out are runs of other words.
 ghost use mathlib.Core.Path.{_≡_};
 ghost use Prim.Native.Nat.{_+_, _-_, _≤_, _<_};
 ghost use mathlib.Core.List.{_++_};
 ghost use mathlib.Core.Logic.{_⊎_};
 ghost use lib.ListN.{length, getD, take, drop};
 ghost use Rattle.words.specs.Words.{begins-with};
-ghost use Rattle.matching.specs.Matching.{is-passed, factor-runs, run-end, remove-runs};
+ghost use Rattle.matching.specs.Matching.{is-passed, factor-runs, run-end, words-at, remove-runs, names-after};
 ghost use Rattle.matching.specs.Answers.{Seeks, Removes, Takes};
 use tokens::Run;
 use tokens::end_of;
@@ -30,7 +30,7 @@ enum Removed {
 }
 
 pub enum Taken {
-    // How many places are left, and how often all factors were there.
+    // How many places there are then, and how often all factors were there.
     Out(usize, usize),
     // Fewer than twice as many words as places.
     NoRoom,
@@ -77,15 +77,16 @@ fn end_from(part: &[u64], at: usize) -> usize
     end
 }
 
-// Whether the words from a place on begin with a run.
-fn stands_at(tokens: &[u64], place: u64, run: &[u64]) -> bool
-    ensures { λ r. ⌜ r ≡ begins-with (drop place (now (tokens .entry))) (now (run .entry)) ⌝ }
+// Whether the words from a place on begin with a run. A place past the end stands for the name.
+fn stands_at(tokens: &[u64], name: u64, place: u64, run: &[u64]) -> bool
+    ensures { λ r. ⌜ r ≡ begins-with (words-at (now (tokens .entry)) name place) (now (run .entry)) ⌝ }
 {
     let from = place as usize;
-    if tokens.len() < from {
-        return run.len() == 0;
+    if from < tokens.len() {
+        return starts_with(&tokens[from..], run);
     }
-    starts_with(&tokens[from..], run)
+    let alone = [name; 1];
+    starts_with(&alone, run)
 }
 
 // Moves the places from j + 1 up to n down by one.
@@ -101,9 +102,15 @@ fn close_gap(places: &mut [u64], j: usize, n: usize)
 }
 
 // Removes for each factor of `part`, in order, the first of the `count` places where an equal tree stands. The search is left where one is missing.
-fn remove_each(tokens: &[u64], part: &[u64], places: &mut [u64], count: usize) -> Removed
+fn remove_each(
+    tokens: &[u64],
+    part: &[u64],
+    name: u64,
+    places: &mut [u64],
+    count: usize,
+) -> Removed
     requires { ⌜ count ≤ length (now places) ⌝ }
-    ensures { λ r. ⌜ Removes (remove-runs (now (tokens .entry)) (factor-runs (now (part .entry))) (take count (now (places .entry)))) (now (places .exit)) r × (drop count (now (places .exit)) ≡ drop count (now (places .entry))) ⌝ }
+    ensures { λ r. ⌜ Removes (remove-runs (words-at (now (tokens .entry)) name) (factor-runs (now (part .entry))) (take count (now (places .entry)))) (now (places .exit)) r × (drop count (now (places .exit)) ≡ drop count (now (places .entry))) ⌝ }
 {
     let mut left = count;
     let mut q = next_factor(part, 0);
@@ -117,7 +124,7 @@ fn remove_each(tokens: &[u64], part: &[u64], places: &mut [u64], count: usize) -
             if left <= i {
                 break 'outer;
             }
-            if stands_at(tokens, places[i], &part[q..end]) {
+            if stands_at(tokens, name, places[i], &part[q..end]) {
                 break 'inner;
             }
             i += 1;
@@ -142,23 +149,48 @@ fn copy_places(places: &mut [u64], from: usize, to: usize, n: usize)
     }
 }
 
-// Takes the factors of `part` out of the first `count` places as often as all of them are there. The places are kept behind themselves until then.
-pub fn take_out(tokens: &[u64], part: &[u64], places: &mut [u64], count: usize) -> Taken
-    ensures { λ r. ⌜ Takes (now (tokens .entry)) (now (part .entry)) (now (places .entry)) count (now (places .exit)) r ⌝ }
+// Takes the factors of `part` out of the first `count` places as often as all of them are there, and puts the name's place at the end each time. The places are kept
+// behind themselves until then. Twice `count` times is enough: each time there is a factor less, or one that isn't the name.
+pub fn take_out(
+    tokens: &[u64],
+    part: &[u64],
+    name: u64,
+    places: &mut [u64],
+    count: usize,
+) -> Taken
+    ensures { λ r. ⌜ Takes (now (tokens .entry)) (now (part .entry)) name (now (places .entry)) count (now (places .exit)) r ⌝ }
 {
     if places.len() / 2 < count {
         return Taken::NoRoom;
     }
-    let mut left = count;
-    let mut copies: usize = 0;
-    while copies < count {
-        copy_places(places, 0, left, left);
-        let Removed::Left(n) = remove_each(tokens, part, places, left) else {
-            copy_places(places, left, 0, left);
-            return Taken::Out(left, copies);
-        };
-        left = n;
-        copies += 1;
+    if next_factor(part, 0) == part.len() {
+        return Taken::Out(count, 0);
     }
-    Taken::Out(left, copies)
+    let mut left = count;
+    let mut times: usize = 0;
+    while times < 2 * count {
+        copy_places(places, 0, left, left);
+        let Removed::Left(n) = remove_each(tokens, part, name, places, left) else {
+            copy_places(places, left, 0, left);
+            return Taken::Out(left, times);
+        };
+        places[n] = tokens.len() as u64;
+        left = n + 1;
+        times += 1;
+    }
+    Taken::Out(left, times)
+}
+
+// How many of the places at the end are the name's: those from `limit` on.
+pub fn names_at_end(limit: u64, places: &[u64]) -> usize
+    ensures { λ r. ⌜ r ≡ names-after limit (now (places .entry)) ⌝ }
+{
+    let mut k = places.len();
+    while k > 0 {
+        if places[k - 1] < limit {
+            return places.len() - k;
+        }
+        k -= 1;
+    }
+    places.len()
 }

@@ -4,15 +4,15 @@ use native.Mathlib.Omega.{arith}
 use mathlib.Core.Path.{_≡_, refl, sym, _∙_, ap, ap₂, subst}
 use mathlib.Core.Bool.{Bool, true, false}
 use mathlib.Core.Option.{some}
-use mathlib.Core.List.{List, [], _∷_, _++_}
+use mathlib.Core.List.{List, [], _∷_, _++_, append-nil}
 use borrow.Author.Tests.{eqb-true}
 use lib.ListN.{length, getD, take, drop, length-append}
-use lib.Seq.{length-take-le, getD-take}
+use lib.Seq.{length-take-le, getD-take, take-take, take-at}
 use lib.Dec.{T, eqb, lit≤}
 use lib.IntN.{ℤ, pos, negsuc}
 use lib.Ieee.{Float}
 use Rattle.tree.specs.Outcome.{Refusal, Outcome, ok, refused, _>>=_, each}
-use Rattle.tree.specs.Tree.{Tree, Forest, Sym, Const, Op, nil, forest, eq-tree}
+use Rattle.tree.specs.Tree.{Name, Tree, Forest, Sym, Const, Op, nil, forest, eq-tree}
 use Rattle.tree.specs.Kinds.{Mul}
 use Rattle.tree.specs.Facts.{size}
 use Rattle.tree.specs.Rows.{occurrences}
@@ -23,7 +23,7 @@ use Rattle.tree.proofs.TokenLaws.{Word, a-symbol, a-constant, an-operation, wor
 use Rattle.tree.proofs.TokenCode.{tokens-length, all-tokens-length}
 use Rattle.rewrite.specs.Rewrite.{flatten-mul-factors, constant-of, built, each-operand, replace, match-factors}
 use Rattle.rewrite.proofs.Counts.{well-formed-all}
-use Rattle.rewrite.proofs.Measure.{sum-of, size-up}
+use Rattle.rewrite.proofs.Measure.{sum-of, sum-append, size-up}
 use Rattle.rewrite.proofs.Factors.{factors-of}
 use Rattle.words.specs.Words.{number, tree-of, name-of, begins-with}
 use Rattle.words.proofs.Rewriting.{name-written, after-tree, begins-tree, first-tree}
@@ -33,18 +33,20 @@ use Rattle.factors.specs.Places.{tree, at-places}
 use Rattle.factors.specs.declared.Product.{Product}
 use Rattle.factors.proofs.PlaceLaws.{Each, Inside}
 use Rattle.factors.proofs.Products.{Product-of}
-use Rattle.closed.specs.Closed.{Taken, taken, take-out, named, by-factors, rebuilt}
-use Rattle.closed.proofs.Chain.{chain, chain-same}
+use Rattle.closed.specs.Closed.{Taken, taken, take-out, by-factors, rebuilt}
+use Rattle.closed.proofs.Chain.{chain, chain-same, each-both, each-long}
 use Rattle.closed.proofs.Unit.{Small, magnitude, accepted-small}
 use Rattle.closed.proofs.Steps.{at-operation, at-op}
-use Rattle.closed.proofs.Products.{at-symbol, at-constant, at-other, at-unmatched, no-match, at-product}
-use Rattle.matching.specs.Matching.{factor-runs, take-out-places}
+use Rattle.closed.proofs.Products.{at-symbol, at-constant, at-other, at-unmatched, no-match, name-stays, at-product}
+use Rattle.matching.specs.Matching.{factor-runs, words-at, PlacesTaken, take-out-places, names-after}
 use Rattle.matching.specs.Answers.{TakenAs}
-use Rattle.replacing.specs.Replacing.{repeated, head-words}
+use Rattle.matching.proofs.Removing.{after-more, after-other}
+use Rattle.replacing.specs.Replacing.{named, repeated, head-words}
 use Rattle.replacing.specs.Deciding.{Trees, Target, rewritten, rewritten-words, StaysAt, RefusedAt, Match}
-use Rattle.replacing.proofs.Turns.{words-formed, each-long, each-forest, target-out, Stays, word-out}
-use Rattle.replacing.proofs.Runs.{target-runs, Agree, taken-agree}
-use Rattle.replacing.proofs.Products.{product-words, repeated-long, rest-size, built-size}
+use Rattle.replacing.proofs.Turns.{words-formed, each-forest, target-out, Stays, word-out}
+use Rattle.replacing.proofs.Targets.{several, some-factor}
+use Rattle.replacing.proofs.Runs.{Runs, target-runs, factors-at, at-within, at-end, Apart, Agree, taken-agree}
+use Rattle.replacing.proofs.Products.{product-words, repeated-long, named-long, rest-size, built-size}
 
 module _ (part : List ℕ) (name : ℕ) (t : Target part name) where
   abbrev rep : Tree → Outcome Tree
@@ -79,7 +81,7 @@ module _ (part : List ℕ) (name : ℕ) (t : Target part name) where
   replaced-self (Const c) w q =
       at-constant (tree-of part) (name-of name) c ∙ ap (λ (b : Bool). elim b as (λ _. Outcome Tree) [ true ↦ ok (Sym (name-of name)) | false ↦ ok (Const c) ]) q
   replaced-self (Op k f) w q =
-      at-op (tree-of part) (name-of name) (t .some-factor) (t .new) k f w
+      at-op (tree-of part) (name-of name) (several t) k f w
       ∙ ap (λ (b : Bool). at-operation (tree-of part) (name-of name) rep k f b (eqb k Mul) (match-factors (tree-of part) (name-of name) (Op k f))) q
 
   pub equal-turn :
@@ -144,9 +146,9 @@ module _ (part : List ℕ) (name : ℕ) (t : Target part name) where
       by-kind : (g : Forest) → T (well-formed (Op (kind-of w) g)) → eq-tree (Op (kind-of w) g) (tree-of part) ≡ false → (b : Bool) → eqb (kind-of w) 5 ≡ b
           → rep (Op (kind-of w) g) ≡ (each-operand rep g >>= λ h. ok (Op (kind-of w) h))
       by-kind g v q true z =
-          at-unmatched (tree-of part) (name-of name) (t .some-factor) (t .new) (kind-of w) g v q
-          (no-match (tree-of part) (name-of name) (t .some-factor) (t .new) (f (eqb-true (kind-of w) 5 z)) (Op (kind-of w) g))
-      by-kind g v q false z = at-other (tree-of part) (name-of name) (t .some-factor) (t .new) (kind-of w) g v q z
+          at-unmatched (tree-of part) (name-of name) (several t) (kind-of w) g v q
+          (no-match (tree-of part) (name-of name) (several t) (f (eqb-true (kind-of w) 5 z)) (Op (kind-of w) g))
+      by-kind g v q false z = at-other (tree-of part) (name-of name) (several t) (kind-of w) g v q z
 
 -- ---- lists
 
@@ -164,6 +166,23 @@ each-at : (P : ℕ → Type 0) (ps : List ℕ) (j : ℕ) → Each P ps → j < l
 each-at P [] j h l = absurd (omega arith)
 each-at P (p ∷ ps) zero h l = h .0
 each-at P (p ∷ ps) (suc j) h l = each-at P ps j (h .1) (omega arith)
+
+-- ---- the name's places at the end
+
+all-names : (limit k : ℕ) → names-after limit (repeated k limit) ≡ k
+unfolding names-after repeated
+all-names limit zero = refl
+all-names limit (suc k) = (let i = all-names limit k in let l = repeated-long k limit in after-more limit limit (repeated k limit) (i ∙ sym l) (omega arith) ∙ ap suc l)
+
+names-apart : (P : ℕ → Type 0) (limit : ℕ) → ((p : ℕ) → P p → p < limit) → (front : List ℕ) (k : ℕ) → Each P front → names-after limit (front ++ repeated k limit) ≡ k
+names-apart P limit f [] k h = all-names limit k
+names-apart P limit f (p ∷ front) k h = after-other limit p (front ++ repeated k limit) (f p (h .0)) ∙ names-apart P limit f front k (h .1)
+
+runs-long : (runs : List (List ℕ)) (ts : List Tree) → Runs runs ts → length runs ≡ length ts
+runs-long [] [] m = refl
+runs-long [] (t ∷ ts) m = absurd m
+runs-long (r ∷ runs) [] m = absurd m
+runs-long (r ∷ runs) (t ∷ ts) m = ap suc (runs-long runs ts (m .2))
 
 accepted : (code : ℕ) (o : Outcome ℤ) → constant.Is code ≡ constant-answer o → (c : ℤ) × ((o ≡ ok c) × (code ≡ constant-code c))
 unfolding constant-answer
@@ -221,20 +240,47 @@ module _
   abbrev e : Tree
   e = Op Mul f
 
+  abbrev n : Name
+  n = name-of name
+
   abbrev q : Taken
-  q = taken (factors-of (tree-of part)) (factors-of e)
+  q = taken n (factors-of (tree-of part)) (factors-of e)
 
   tree-first : tree ws 0 ≡ e
   unfolding tree-of
   tree-first = tree-at numbered ws 0 ∙ is-product .is
 
+  one-factor : 1 ≤ length (factors-of (tree-of part))
+  unfolding by-factors
+  one-factor = some-factor t by
+
   -- how it is rewritten
-  rebuilt-is : rp e ≡ rebuilt (name-of name) rp (flatten-mul-factors e .coefficient) (q .rest) (q .copies) (each-operand rp f >>= λ g. ok (Op Mul g))
-  rebuilt-is = at-product (tree-of part) (name-of name) (t .some-factor) (t .new) by f (is-product .formed) (is-product .unequal)
+  rebuilt-is : rp e ≡ rebuilt rp (flatten-mul-factors e .coefficient) (q .factors) (q .times) (each-operand rp f >>= λ g. ok (Op Mul g))
+  rebuilt-is = at-product (tree-of part) n (several t) by f (is-product .formed) (is-product .unequal)
+
+  names-stay : (k : ℕ) → each rp (named n k) ≡ ok (named n k)
+  unfolding each named
+  names-stay zero = refl
+  names-stay (suc k) = ap₂ (λ (a : Outcome Tree) (o : Outcome (List Tree)). a >>= λ u. o >>= λ r. ok (u ∷ r)) (name-stays (tree-of part) n (several t) by) (names-stay k)
+
+  -- the factors at places of the words, and names
+  module _ (P : ℕ → Type 0) (below : (p : ℕ) → P p → p < length ws) where
+    abbrev fs : List ℕ → List Tree
+    fs = factors-at ws (h .count) (h .complete) name (t .symbol)
+
+    factors-names : (k : ℕ) → fs (repeated k (length ws)) ≡ named n k
+    unfolding factors-at named repeated
+    factors-names zero = refl
+    factors-names (suc k) = ap₂ (λ (x : Tree) (l : List Tree). x ∷ l) (at-end ws (h .count) (h .complete) name (t .symbol)) (factors-names k)
+
+    factors-split : (front : List ℕ) (k : ℕ) → Each P front → fs (front ++ repeated k (length ws)) ≡ at-places ws front ++ named n k
+    unfolding factors-at at-places
+    factors-split [] k g = factors-names k
+    factors-split (p ∷ front) k g = ap₂ (λ (x : Tree) (l : List Tree). x ∷ l) (at-within ws (h .count) (h .complete) name (t .symbol) p (below p (g .0))) (factors-split front k (g .1))
 
   module _
-      (old new places : List ℕ) (p : Product) (pr : Product-of ws 0 old p new) (left copies : ℕ)
-      (ta : TakenAs (take-out-places (p .count) ws (factor-runs part) (take (p .count) new)) places left copies) where
+      (old new places : List ℕ) (p : Product) (pr : Product-of ws 0 old p new) (all times : ℕ)
+      (ta : TakenAs (take-out-places (2 * p .count) (words-at ws name) (length ws) (factor-runs part) (take (p .count) new)) places all times) where
     abbrev inside : ℕ → Type 0
     inside = Inside ws 0 (0 + size (tree ws 0))
 
@@ -242,50 +288,100 @@ module _
     unfolding run-at
     below i x = (let a = x .high in let b = size-up (tree ws i) in let c = words-complete ws 1 (size (tree ws 0)) (pr .there) .0 in omega arith)
 
-    agree : Agree ws (h .count) (h .complete) inside (take-out-places (p .count) ws (factor-runs part) (take (p .count) new)) q
-    unfolding taken
+    abbrev out : PlacesTaken
+    out = take-out-places (2 * p .count) (words-at ws name) (length ws) (factor-runs part) (take (p .count) new)
+
+    first-apart : Apart ws (h .count) (h .complete) name (t .symbol) inside (take (p .count) new)
+    unfolding repeated
+    first-apart = record { front = take (p .count) new; names = 0; is = sym (append-nil (take (p .count) new)); inside = pr .inside }
+
+    first-factors : fs inside below (take (p .count) new) ≡ factors-of e
+    unfolding repeated named
+    first-factors =
+        ap (fs inside below) (sym (append-nil (take (p .count) new))) ∙ factors-split inside below (take (p .count) new) 0 (pr .inside) ∙ append-nil (at-places ws (take (p .count) new))
+        ∙ pr .factors-are ∙ ap factors-of tree-first
+
+    agree : Agree ws (h .count) (h .complete) name (t .symbol) inside 0 out q
+    unfolding taken first-apart
     agree =
-        let a = taken-agree ws (h .count) (h .complete) inside below (p .count) (factor-runs part) (factors-of (tree-of part)) (target-runs part (t .one)) (take (p .count) new) (pr .inside) in
-        let l : at-places ws (take (p .count) new) ≡ factors-of e = pr .factors-are ∙ ap factors-of tree-first in
-        let n : p .count ≡ length (factors-of e) = pr .count-is ∙ ap (λ (x : Tree). length (factors-of x)) tree-first in
-        subst (λ (k : ℕ). Agree ws (h .count) (h .complete) inside (take-out-places (p .count) ws (factor-runs part) (take (p .count) new)) (take-out k (factors-of (tree-of part)) (factors-of e))) n
-        (subst (λ (m : List Tree). Agree ws (h .count) (h .complete) inside (take-out-places (p .count) ws (factor-runs part) (take (p .count) new)) (take-out (p .count) (factors-of (tree-of part)) m)) l a)
+        let runs = target-runs part (t .one) in
+        let some-run : 1 ≤ length (factor-runs part) = (let x = runs-long (factor-runs part) (factors-of (tree-of part)) runs in let y = one-factor in omega arith) in
+        let a = taken-agree ws (h .count) (h .complete) name (t .symbol) inside (2 * p .count) (factor-runs part) (factors-of (tree-of part)) runs some-run (take (p .count) new) first-apart in
+        let c : 2 * p .count ≡ 2 * length (factors-of e) = ap (λ (k : ℕ). 2 * k) (pr .count-is ∙ ap (λ (x : Tree). length (factors-of x)) tree-first) in
+        subst (λ (k : ℕ). Agree ws (h .count) (h .complete) name (t .symbol) inside 0 out (take-out k n (factors-of (tree-of part)) (factors-of e))) c
+        (subst (λ (m : List Tree). Agree ws (h .count) (h .complete) name (t .symbol) inside 0 out (take-out (2 * p .count) n (factors-of (tree-of part)) m)) first-factors a)
 
-    rest-is : at-places ws (take left places) ≡ q .rest
-    rest-is = ap (at-places ws) (ta .0) ∙ agree .rest-is
-
-    copies-is : copies ≡ q .copies
-    copies-is = ta .2 ∙ agree .copies-is
+    times-is : times ≡ q .times
+    times-is = ta .2 ∙ agree .times-is
 
     coefficient-is : p .coefficient ≡ flatten-mul-factors e .coefficient
     coefficient-is = pr .coefficient-is ∙ ap (λ (x : Tree). flatten-mul-factors x .coefficient) tree-first
 
-    rest-long : length (q .rest) ≡ left
-    rest-long = ap length (sym rest-is) ∙ places-long ws (take left places) ∙ length-take-le left places (ta .1)
-
     -- nothing was taken out
-    pub none-taken : copies ≡ 0 → StaysAt part name ws
+    pub none-taken : times ≡ 0 → StaysAt part name ws
     unfolding rebuilt
     none-taken z =
         is-product .stays
         (rebuilt-is
-        ∙ ap (λ (k : ℕ). rebuilt (name-of name) rp (flatten-mul-factors e .coefficient) (q .rest) k (each-operand rp f >>= λ g. ok (Op Mul g))) (sym copies-is ∙ z))
+        ∙ ap (λ (k : ℕ). rebuilt rp (flatten-mul-factors e .coefficient) (q .factors) k (each-operand rp f >>= λ g. ok (Op Mul g))) (sym times-is ∙ z))
 
-    module _ (k : ℕ) (some-copy : copies ≡ suc k) where
-      opened : rp e ≡ (constant-of (p .coefficient) >>= λ c. each rp (q .rest) >>= λ l. ok (built c (l ++ named (name-of name) (suc k))))
+    module _ (k : ℕ) (some-time : times ≡ suc k) where
+      opened : rp e ≡ (constant-of (p .coefficient) >>= λ c. each rp (q .factors) >>= λ l. ok (built c l))
       unfolding rebuilt
       opened =
           rebuilt-is
-          ∙ ap (λ (k : ℕ). rebuilt (name-of name) rp (flatten-mul-factors e .coefficient) (q .rest) k (each-operand rp f >>= λ g. ok (Op Mul g))) (sym copies-is ∙ some-copy)
-          ∙ ap (λ (x : Float). constant-of x >>= λ c. each rp (q .rest) >>= λ l. ok (built c (l ++ named (name-of name) (suc k)))) (sym coefficient-is)
+          ∙ ap (λ (k : ℕ). rebuilt rp (flatten-mul-factors e .coefficient) (q .factors) k (each-operand rp f >>= λ g. ok (Op Mul g))) (sym times-is ∙ some-time)
+          ∙ ap (λ (x : Float). constant-of x >>= λ c. each rp (q .factors) >>= λ l. ok (built c l)) (sym coefficient-is)
 
       -- its coefficient is no constant
       pub refused-there : constant.Not ≡ constant-answer (constant-of (p .coefficient)) → RefusedAt part name ws
       refused-there z =
           let u = unaccepted (constant-of (p .coefficient)) z in
-          (u .0, ap rp (is-product .is) ∙ opened ∙ ap (λ (o : Outcome ℤ). o >>= λ c. each rp (q .rest) >>= λ l. ok (built c (l ++ named (name-of name) (suc k)))) (u .1))
+          (u .0, ap rp (is-product .is) ∙ opened ∙ ap (λ (o : Outcome ℤ). o >>= λ c. each rp (q .factors) >>= λ l. ok (built c l)) (u .1))
 
-      module _ (code : ℕ) (z : constant.Is code ≡ constant-answer (constant-of (p .coefficient))) where
+      module _ (code : ℕ) (z : constant.Is code ≡ constant-answer (constant-of (p .coefficient))) (left copies : ℕ) (cp : copies ≡ names-after (length ws) (take all places)) (lf : left ≡ all - copies) where
+        abbrev front : List ℕ
+        front = agree .apart .front
+
+        places-are : take all places ≡ front ++ repeated (agree .apart .names) (length ws)
+        places-are = ta .0 ∙ agree .apart .is
+
+        copies-are : copies ≡ agree .apart .names
+        copies-are = cp ∙ ap (names-after (length ws)) places-are ∙ names-apart inside (length ws) below front (agree .apart .names) (agree .apart .inside)
+
+        all-long : all ≡ length front + copies
+        all-long =
+            (let a = length-take-le all places (ta .1) in
+            let b = ap length places-are ∙ length-append front (repeated (agree .apart .names) (length ws)) in
+            let c = repeated-long (agree .apart .names) (length ws) in
+            let d = copies-are in
+            omega arith)
+
+        left-long : left ≡ length front
+        left-long = (let a = all-long in omega arith)
+
+        left-there : left ≤ length places
+        left-there = (let a = ta .1 in omega arith)
+
+        front-is : take left places ≡ front
+        front-is =
+            let short : left ≤ all = omega arith in
+            sym (take-take left all places short) ∙ ap (take left) places-are ∙ take-at front (repeated (agree .apart .names) (length ws)) left (sym left-long)
+
+        abbrev X : List Tree
+        X = at-places ws (take left places)
+
+        factors-are : q .factors ≡ X ++ named n copies
+        factors-are =
+            sym (agree .factors-are) ∙ ap (fs inside below) (agree .apart .is) ∙ factors-split inside below front (agree .apart .names) (agree .apart .inside)
+            ∙ ap₂ (λ (l : List ℕ) (k : ℕ). at-places ws l ++ named n k) (sym front-is) (sym copies-are)
+
+        X-long : length X ≡ left
+        X-long = places-long ws (take left places) ∙ length-take-le left places left-there
+
+        some-copy : copies ≡ suc (copies - 1)
+        some-copy = (let a = agree .some-name (let b = ta .2 in omega arith) in let c = copies-are in omega arith)
+
         abbrev c : ℤ
         c = accepted code (constant-of (p .coefficient)) z .0
 
@@ -295,48 +391,60 @@ module _
         code-is : code ≡ constant-code c
         code-is = accepted code (constant-of (p .coefficient)) z .1 .1
 
-        signs-is : left + k ≡ left + copies - 1
+        signs-is : left + (copies - 1) ≡ left + copies - 1
         signs-is = omega (arith, some-copy)
 
         words-of : (l : List Tree) → length l ≡ left
-            → tokens number (built c (l ++ named (name-of name) (suc k))) ≡ head-words code (left + copies - 1) ++ (all-tokens number l ++ repeated copies name)
-        words-of l n =
-            product-words c (name-of name) name k l (name-written name (t .symbol))
-            ∙ ap₂ (λ (i j : ℕ). head-words i j ++ (all-tokens number l ++ repeated (suc k) name)) (sym code-is) (ap (λ (i : ℕ). i + k) n ∙ signs-is)
+            → tokens number (built c (l ++ named n copies)) ≡ head-words code (left + copies - 1) ++ (all-tokens number l ++ repeated copies name)
+        words-of l m =
+            ap (λ (k : ℕ). tokens number (built c (l ++ named n k))) some-copy
+            ∙ product-words c n name (copies - 1) l (name-written name (t .symbol))
+            ∙ ap₂ (λ (i j : ℕ). head-words i j ++ (all-tokens number l ++ repeated (suc (copies - 1)) name)) (sym code-is) (ap (λ (i : ℕ). i + (copies - 1)) m ∙ signs-is)
             ∙ ap (λ (i : ℕ). head-words code (left + copies - 1) ++ (all-tokens number l ++ repeated i name)) (sym some-copy)
+
+        split : (each rp (q .factors) >>= λ l. ok (built c l)) ≡ (each rp X >>= λ l. ok (built c (l ++ named n copies)))
+        split =
+            ap (λ (m : List Tree). each rp m >>= λ l. ok (built c l)) factors-are
+            ∙ ap (λ (o : Outcome (List Tree)). o >>= λ l. ok (built c l)) (each-both rp X (named n copies) ∙ ap (λ (o : Outcome (List Tree)). each rp X >>= λ a. o >>= λ b. ok (a ++ b)) (names-stay copies))
+            ∙ chain (each rp X) (λ a. ok (a ++ named n copies)) (λ l. ok (built c l))
 
         becomes :
             (rp (tree-of ws) >>= λ u. ok (tokens number u))
-            ≡ (each rp (at-places ws (take left places)) >>= λ l. ok (head-words code (left + copies - 1) ++ (all-tokens number l ++ repeated copies name)))
+            ≡ (each rp X >>= λ l. ok (head-words code (left + copies - 1) ++ (all-tokens number l ++ repeated copies name)))
         becomes =
             ap (λ (o : Outcome Tree). o >>= λ u. ok (tokens number u))
-            (ap rp (is-product .is) ∙ opened ∙ ap (λ (o : Outcome ℤ). o >>= λ c. each rp (q .rest) >>= λ l. ok (built c (l ++ named (name-of name) (suc k)))) c-is)
-            ∙ chain (each rp (q .rest)) (λ l. ok (built c (l ++ named (name-of name) (suc k)))) (λ u. ok (tokens number u))
-            ∙ chain-same (each rp (q .rest)) (λ l. ok (tokens number (built c (l ++ named (name-of name) (suc k)))))
-            (λ l. ok (head-words code (left + copies - 1) ++ (all-tokens number l ++ repeated copies name))) (λ l x. ap ok (words-of l (each-long rp (q .rest) l x ∙ rest-long)))
-            ∙ ap (λ (m : List Tree). each rp m >>= λ l. ok (head-words code (left + copies - 1) ++ (all-tokens number l ++ repeated copies name))) (sym rest-is)
+            (ap rp (is-product .is) ∙ opened ∙ ap (λ (o : Outcome ℤ). o >>= λ c. each rp (q .factors) >>= λ l. ok (built c l)) c-is ∙ split)
+            ∙ chain (each rp X) (λ l. ok (built c (l ++ named n copies))) (λ u. ok (tokens number u))
+            ∙ chain-same (each rp X) (λ l. ok (tokens number (built c (l ++ named n copies))))
+            (λ l. ok (head-words code (left + copies - 1) ++ (all-tokens number l ++ repeated copies name))) (λ l x. ap ok (words-of l (each-long rp X l x ∙ X-long)))
+
+        long-names : (k : ℕ) → length (named n k) ≡ k
+        long-names k = named-long n k
+
+        factors-long : length (q .factors) ≡ left + copies
+        factors-long = ap length factors-are ∙ length-append X (named n copies) ∙ (let a = X-long in let b = long-names copies in omega arith)
 
         pub match-there : Match part name ws places left copies code (size (tree ws 0))
         match-there =
             let sz : size (tree ws 0) ≡ size e = ap size tree-first in
-            let b = built-size (tree-of part) (name-of name) (t .some-factor) f (is-product .formed) c (ap constant-of (sym coefficient-is) ∙ c-is) (omega (arith, copies-is, some-copy)) in
-            let bk : size (built c (q .rest ++ named (name-of name) (suc k))) ≤ size e = subst (λ (i : ℕ). size (built c (q .rest ++ named (name-of name) i)) ≤ size e) (sym copies-is ∙ some-copy) b in
-            let len = sym (tokens-length number (built c (q .rest ++ named (name-of name) (suc k)))) ∙ ap length (words-of (q .rest) rest-long) in
-            let l1 = length-append (head-words code (left + copies - 1)) (all-tokens number (q .rest) ++ repeated copies name) in
-            let l2 = length-append (all-tokens number (q .rest)) (repeated copies name) in
-            let l3 = all-tokens-length number (q .rest) in
+            let b = built-size (tree-of part) n one-factor f (is-product .formed) c (ap constant-of (sym coefficient-is) ∙ c-is) (let x = factors-long in let y = some-copy in omega arith) in
+            let bk : size (built c (X ++ named n copies)) ≤ size e = subst (λ (m : List Tree). size (built c m) ≤ size e) factors-are b in
+            let len = sym (tokens-length number (built c (X ++ named n copies))) ∙ ap length (words-of X X-long) in
+            let l1 = length-append (head-words code (left + copies - 1)) (all-tokens number X ++ repeated copies name) in
+            let l2 = length-append (all-tokens number X) (repeated copies name) in
+            let l3 = all-tokens-length number X in
             let l4 = repeated-long copies name in
-            let oc : occurrences (at-places ws (take left places)) ≡ occurrences (q .rest) = ap occurrences rest-is in
-            let rs = rest-size (tree-of part) (name-of name) (t .some-factor) f (is-product .formed) in
-            let so = sum-occurrences (q .rest) in
+            let rs = rest-size (tree-of part) n one-factor f (is-product .formed) in
+            let so = ap (sum-of size) factors-are ∙ sum-append size X (named n copies) in
+            let sx = sum-occurrences X in
             record {
               size-is = ap size (tree-first ∙ sym (is-product .is));
               run-is = pr .there;
               some-copy = omega (arith, some-copy);
               small = subst (λ (i : ℕ). i < 2 ^ 51) (sym code-is) (small-code c (accepted-small (p .coefficient) c c-is));
-              there = ta .1;
+              there = left-there;
               within = λ j l.
-                  (let x = each-at inside (take left places) j (subst (Each inside) (sym (ta .0)) (agree .kept)) (omega (arith, length-take-le left places (ta .1))) in
+                  (let x = each-at inside (take left places) j (subst (Each inside) (sym front-is) (agree .apart .inside)) (omega (arith, length-take-le left places left-there)) in
                   let y : Inside ws 0 (0 + size (tree ws 0)) (getD places j 0) = subst (Inside ws 0 (0 + size (tree ws 0))) (getD-take left places j 0 l) x in
                   record { before = omega (arith, y .high); run = y .run });
               becomes = becomes;

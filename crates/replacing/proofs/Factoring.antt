@@ -21,7 +21,8 @@ use Rattle.words.proofs.Scanning.{put-lent}
 use Rattle.factors.specs.Places.{tree, at-places}
 use Rattle.replacing.specs.Replacing.{repeated, head-words}
 use Rattle.replacing.specs.Deciding.{Trees, Target, Within, rewritten, rewritten-words, Match, product-out, Wrote, Left}
-use Rattle.replacing.proofs.Turns.{each-both, replaced-read}
+use Rattle.closed.proofs.Chain.{each-both}
+use Rattle.replacing.proofs.Turns.{replaced-read}
 use Rattle.replacing.proofs.Targets.{fewer-words}
 use Rattle.replacing.proofs.Products.{repeated-long}
 use Rattle.replacing.proofs.Scanning.{trees-at}

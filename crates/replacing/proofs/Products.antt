@@ -1,7 +1,6 @@
 -- A rebuilt product as words, and the room that it takes. Assumes nothing.
 use Prim.Native.Nat.{ℕ, zero, suc, _+_, _*_, _≤_, _<_}
 use native.Mathlib.Omega.{arith}
-use native.Mathlib.Nat.{mul-zero, mul-suc}
 use mathlib.Core.Path.{_≡_, refl, sym, _∙_, ap, ap₂}
 use mathlib.Core.Bool.{Bool, true, false}
 use mathlib.Core.Option.{Option, none, some}
@@ -16,17 +15,17 @@ use Rattle.tree.specs.Kinds.{Neg, Mul}
 use Rattle.tree.specs.Facts.{size}
 use Rattle.tree.specs.Tokens.{constant-code, tokens, all-tokens}
 use Rattle.tree.proofs.Formed.{well-formed}
-use Rattle.tree.proofs.TreeLaws.{eq-tree-sound}
+use Rattle.tree.proofs.FactLaws.{size-one}
 use Rattle.tree.proofs.TokenCode.{all-tokens-append, all-tokens-cons}
-use Rattle.rewrite.specs.Rewrite.{flatten-mul-factors, constant-of, nested-product, with-coefficient, built, remove-first, remove-each}
+use Rattle.rewrite.specs.Rewrite.{flatten-mul-factors, constant-of, nested-product, with-coefficient, built, remove-each}
 use Rattle.rewrite.proofs.Measure.{sum-of, sum-each, sum-append, sizes, size-op, by-size, least-size}
-use Rattle.rewrite.proofs.Factors.{factors-of, factors-cases, sum-factors}
-use Rattle.rewrite.proofs.Products.{spread, spread-up, factors-bound, built-of}
+use Rattle.rewrite.proofs.Factors.{factors-of, factors-cases, sum-factors, puts-sum, puts-from}
+use Rattle.rewrite.proofs.Products.{with-sign, spread-up, extra, factors-bound, built-of}
 use Rattle.rewrite.proofs.Coefficient.{exactly}
 use Rattle.words.specs.Words.{number}
-use Rattle.closed.specs.Closed.{Taken, once-more, take-out, taken, named}
+use Rattle.closed.specs.Closed.{Taken, once-more, take-out, taken}
 use Rattle.closed.proofs.Spine.{headed}
-use Rattle.replacing.specs.Replacing.{repeated, coefficient-words, head-words}
+use Rattle.replacing.specs.Replacing.{named, repeated, coefficient-words, head-words}
 
 -- ---- words
 
@@ -133,38 +132,16 @@ product-words c n name k (t ∷ l) e =
 
 -- ---- room
 
-first-sum : (μ : Tree → ℕ) (t : Tree) (l r : List Tree) → remove-first t l ≡ some r → sum-of μ l ≡ μ t + sum-of μ r
-unfolding remove-first sum-of
-first-sum μ t [] r e = (let z : _≡_ {A = ℕ} 0 1 = cc in absurd (omega arith))
-first-sum μ t (f ∷ l) r e = go (eq-tree f t) (eq-tree-sound f t) (remove-first t l) (λ s. first-sum μ t l s) e
+-- taking out lets no sum grow that the name adds less to than the target's factors
+pub taken-sum : (μ : Tree → ℕ) (n : Name) (most : ℕ) (ts l : List Tree) → μ (Sym n) ≤ sum-of μ ts → sum-of μ (take-out most n ts l .factors) ≤ sum-of μ l
+unfolding take-out once-more sum-of
+taken-sum μ n zero ts l h = omega arith
+taken-sum μ n (suc most) ts l h = go (λ s. taken-sum μ n most ts (s ++ (Sym n ∷ [])) h) (remove-each ts l) refl
   where
-    go : (b : Bool) → (T b → f ≡ t) → (o : Option (List Tree)) → ((s : List Tree) → o ≡ some s → sum-of μ l ≡ μ t + sum-of μ s)
-        → elim b as (λ _. Option (List Tree)) [ true ↦ some l | false ↦ elim o [ none ↦ none | some r ↦ some (f ∷ r) ] ] ≡ some r → μ f + sum-of μ l ≡ μ t + sum-of μ r
-    go true q o h e = (let x : l ≡ r = cc in let y = ap (sum-of μ) x in let z = ap μ (q tt) in omega arith)
-    go false q none h e = (let z : _≡_ {A = ℕ} 0 1 = cc in absurd (omega arith))
-    go false q (some s) h e = (let x : f ∷ s ≡ r = cc in let y : μ f + sum-of μ s ≡ sum-of μ r = ap (sum-of μ) x in let z = h s refl in omega arith)
-
-each-sum : (μ : Tree → ℕ) (ts l r : List Tree) → remove-each ts l ≡ some r → sum-of μ l ≡ sum-of μ ts + sum-of μ r
-unfolding remove-each sum-of
-each-sum μ [] l r e = (let x : l ≡ r = cc in let y = ap (sum-of μ) x in omega arith)
-each-sum μ (t ∷ ts) l r e = go (λ s. each-sum μ ts s r) (remove-first t l) refl e
-  where
-    go : ((s : List Tree) → remove-each ts s ≡ some r → sum-of μ s ≡ sum-of μ ts + sum-of μ r) → (o : Option (List Tree)) → remove-first t l ≡ o
-        → elim o as (λ _. Option (List Tree)) [ none ↦ none | some r ↦ remove-each ts r ] ≡ some r → sum-of μ l ≡ μ t + sum-of μ ts + sum-of μ r
-    go i none q e = (let z : _≡_ {A = ℕ} 0 1 = cc in absurd (omega arith))
-    go i (some s) q e = (let a = first-sum μ t l s q in let b = i s e in omega arith)
-
--- taking out leaves no more than there was, each time less by at least m
-pub taken-sum : (μ : Tree → ℕ) (m most : ℕ) (ts l : List Tree) → m ≤ sum-of μ ts → sum-of μ (take-out most ts l .rest) + m * (take-out most ts l .copies) ≤ sum-of μ l
-unfolding take-out once-more
-taken-sum μ m zero ts l h = (let z = mul-zero m in omega arith)
-taken-sum μ m (suc most) ts l h = go (λ s. taken-sum μ m most ts s h) (remove-each ts l) refl
-  where
-    go : ((s : List Tree) → sum-of μ (take-out most ts s .rest) + m * (take-out most ts s .copies) ≤ sum-of μ s) → (o : Option (List Tree)) → remove-each ts l ≡ o
-        → let q : Taken = elim o [ none ↦ record { rest = l; copies = 0 } | some s ↦ once-more (take-out most ts s) ] in
-        sum-of μ (q .rest) + m * (q .copies) ≤ sum-of μ l
-    go i none e = (let z = mul-zero m in omega arith)
-    go i (some s) e = (let a = i s in let b = each-sum μ ts l s e in let z = mul-suc m (take-out most ts s .copies) in omega arith)
+    go : ((s : List Tree) → sum-of μ (take-out most n ts (s ++ (Sym n ∷ [])) .factors) ≤ sum-of μ (s ++ (Sym n ∷ []))) → (o : Option (List Tree)) → remove-each ts l ≡ o
+        → let q : Taken = elim o [ none ↦ record { factors = l; times = 0 } | some s ↦ once-more (take-out most n ts (s ++ (Sym n ∷ []))) ] in sum-of μ (q .factors) ≤ sum-of μ l
+    go i none e = omega arith
+    go i (some s) e = (let a = i s in let b = puts-sum μ (puts-from ts l s e) in let c = sum-append μ s (Sym n ∷ []) in omega arith)
 
 -- the factors are smaller than the product together
 mutual
@@ -185,39 +162,31 @@ unfolding flatten-mul-factors
 product-size f = (let a = sum-factors size f in let b = operands-size f in let c = size-op Mul f in omega arith)
 
 module _ (target : Tree) (n : Name) (some-factor : 1 ≤ length (factors-of target)) (f : Forest) (w : T (well-formed (Op Mul f))) where
-  abbrev q : Taken
-  q = taken (factors-of target) (factors-of (Op Mul f))
+  abbrev q : List Tree
+  q = taken n (factors-of target) (factors-of (Op Mul f)) .factors
 
-  -- the factors left are smaller than the product together
-  pub rest-size : sum-of size (q .rest) < size (Op Mul f)
-  unfolding taken
-  rest-size = (let a = taken-sum size 0 (length (factors-of (Op Mul f))) (factors-of target) (factors-of (Op Mul f)) (omega arith) in let b = product-size f in omega arith)
+  name-size : size (Sym n) ≡ 1
+  unfolding size
+  name-size = refl
 
-  spread-of : (l : List Tree) → spread by-size l ≡ length l + sum-of size l
+  factors-up : (l : List Tree) → 1 ≤ length l → size (Sym n) ≤ sum-of size l
   unfolding sum-of
-  spread-of [] = refl
-  spread-of (t ∷ l) = (let a = spread-of l in omega arith)
+  factors-up [] h = absurd (omega arith)
+  factors-up (t ∷ l) h = (let a = size-one t in let b = name-size in omega arith)
 
-  sum-named : (k : ℕ) → sum-of size (named n k) ≡ k
-  unfolding sum-of named
-  sum-named zero = refl
-  sum-named (suc k) = (let a = sum-named k in let b : size (Sym n) ≡ 1 = (unfold size in refl) in omega arith)
+  -- the factors then are smaller than the product together
+  pub rest-size : sum-of size q < size (Op Mul f)
+  unfolding taken
+  rest-size =
+      (let a = taken-sum size n (2 * length (factors-of (Op Mul f))) (factors-of target) (factors-of (Op Mul f)) (factors-up (factors-of target) some-factor) in let b = product-size f in omega arith)
 
   -- and so is the product rebuilt from them
-  pub built-size : (c : ℤ) → constant-of (flatten-mul-factors (Op Mul f) .coefficient) ≡ ok c → 1 ≤ q .copies → size (built c (q .rest ++ named n (q .copies))) ≤ size (Op Mul f)
+  pub built-size : (c : ℤ) → constant-of (flatten-mul-factors (Op Mul f) .coefficient) ≡ ok c → 1 ≤ length q → size (built c q) ≤ size (Op Mul f)
   unfolding taken
   built-size c z h =
-      (let l = q .rest ++ named n (q .copies) in
-      let u = spread-up by-size n (least-size n) (factors-of target) some-factor in
-      let a = taken-sum (λ t. 1 + size t) 2 (length (factors-of (Op Mul f))) (factors-of target) (factors-of (Op Mul f)) (let b : size (Sym n) ≡ 1 = (unfold size in refl) in omega arith) in
+      (let a = taken-sum (with-sign by-size) n (2 * length (factors-of (Op Mul f))) (factors-of target) (factors-of (Op Mul f)) (spread-up by-size n (least-size n) (factors-of target) some-factor) in
       let b = factors-bound by-size (Op Mul f) w in
       let e = exactly .accepted (Op Mul f) c z in
-      let len = length-append (q .rest) (named n (q .copies)) in
-      let nl = named-long n (q .copies) in
-      let d = built-of by-size c l (omega arith) in
-      let x = spread-of l in
-      let y = sum-append size (q .rest) (named n (q .copies)) in
-      let v = sum-named (q .copies) in
-      let r = spread-of (q .rest) in
-      let t = ap (Rattle.rewrite.proofs.Products.extra by-size) e in
+      let d = built-of by-size c q h in
+      let t = ap (extra by-size) e in
       omega arith)

@@ -1,28 +1,31 @@
 -- The runs that stand for a target's factors, and the places that stand for a product's: taking out runs is taking out factors. Assumes nothing.
-use Prim.Native.Nat.{ℕ, zero, suc, _-_, _/_, _%_, _≤_, _<_}
+use Prim.Native.Nat.{ℕ, zero, suc, _+_, _-_, _/_, _%_, _≤_, _<_}
 use native.Mathlib.Omega.{arith}
 use mathlib.Core.Path.{_≡_, refl, sym, _∙_, ap, ap₂, subst}
-use mathlib.Core.Bool.{Bool, true, false, _||_}
+use mathlib.Core.Bool.{Bool, true, false, not, _||_}
 use mathlib.Core.Option.{Option, none, some}
-use mathlib.Core.List.{List, [], _∷_, _++_, append-assoc, append-nil}
+use mathlib.Core.List.{List, [], _∷_, _++_, map, append-assoc, append-nil}
 use borrow.Author.Tests.{eqb-true}
 use lib.ListN.{length, getD, take, drop, take-append-drop, length-drop}
 use lib.Seq.{drop-cons}
-use lib.Dec.{eqb}
+use lib.Dec.{T, eqb, ltb, ltb→lt, nltb→le}
 use lib.IntN.{ℤ}
 use Rattle.tree.specs.Tree.{Name, Tree, Forest, Sym, Const, Op, nil, forest, eq-tree}
 use Rattle.tree.specs.Kinds.{Neg, Mul}
 use Rattle.tree.specs.Tokens.{kind-of, below-of, name-by, constant-at, takes, tree-of-word, numbered, read, trees-in, words-of}
-use Rattle.tree.proofs.TokenLaws.{Word, a-symbol, a-constant, an-operation, word-is, symbol-tree, constant-tree, operation-tree, made, read-cons, Takes, complete-tail, complete-end, complete-length, tree-at, leaf-takes, words-tail}
+use Rattle.tree.proofs.TokenLaws.{Word, a-symbol, a-constant, an-operation, word-is, symbol-tree, constant-tree, operation-tree, made, read-cons, Takes, complete-tail, complete-cons, complete-end, complete-length, tree-at, leaf-takes, words-tail}
 use Rattle.rewrite.specs.Rewrite.{Factors, one, flatten-mul-factors, flatten-operands, flatten-after, times, negated, remove-first, remove-each}
 use Rattle.rewrite.proofs.Factors.{factors-of}
-use Rattle.words.specs.Words.{tree-of, begins-with}
-use Rattle.words.proofs.Rewriting.{segment, begins-tree, whole-there}
-use Rattle.factors.specs.Places.{tree, at-places}
+use Rattle.words.specs.Words.{tree-of, name-of, begins-with}
+use Rattle.words.proofs.Rewriting.{segment, begins-tree, first-tree, whole-there}
+use Rattle.factors.specs.Places.{tree}
 use Rattle.factors.proofs.PlaceLaws.{Each}
 use Rattle.closed.specs.Closed.{Taken, take-out, once-more as tree-once-more}
-use Rattle.matching.specs.Matching.{is-passed, first-run, runs-after, factor-runs, remove-run, remove-runs, PlacesTaken, take-out-places, once-more}
-use Rattle.matching.proofs.Runs.{skipped}
+use Rattle.matching.specs.Matching.{is-passed, first-run, runs-after, factor-runs, words-at, remove-run, remove-runs, PlacesTaken, take-out-places, once-more}
+use Rattle.matching.proofs.Runs.{skipped, stands-within, stands-past}
+use Rattle.matching.proofs.Removing.{unrolled}
+use Rattle.replacing.specs.Replacing.{repeated}
+use Rattle.replacing.proofs.Products.{repeated-more}
 
 -- ---- the factors of several trees
 
@@ -195,23 +198,58 @@ target-runs part e =
 
 -- ---- places by runs are trees by factors
 
-abbrev mapped : List ℕ → Option (List ℕ) → Option (List Tree)
-mapped ws o = elim o [ none ↦ none | some ps ↦ some (at-places ws ps) ]
+-- the word of a symbol is a tree
+pub name-alone : (name : ℕ) → kind-of name ≡ 0 → trees-in (name ∷ []) ≡ some 1
+name-alone name e =
+    let z : kind-of name ≤ 1 = omega arith in
+    let t = leaf-takes name z in
+    complete-cons name [] 0 none-there (omega arith) ∙ ap (λ (k : ℕ). some (suc (0 - k))) t
+  where
+    none-there : trees-in [] ≡ some 0
+    none-there = (unfold trees-in in refl)
 
--- below the end
-abbrev pub Below : List ℕ → List ℕ → Type 0
-Below ws ps = Each (λ p. p < length ws) ps
+pub name-tree : (name : ℕ) → kind-of name ≡ 0 → tree-of (name ∷ []) ≡ Sym (name-of name)
+unfolding name-of
+name-tree name e = first-tree name [] ∙ symbol-tree numbered name (take (takes name) (read numbered [])) e
 
-module _ (ws : List ℕ) (n : ℕ) (all : trees-in ws ≡ some n) where
-  stands : (p : ℕ) (run : List ℕ) → p < length ws → One run → begins-with (drop p ws) run ≡ eq-tree (tree ws p) (tree-of run)
-  unfolding tree-of
-  stands p run h o =
-      let c = complete-end p ws n all in
-      let some-there : 1 ≤ c .0 = more-than-none p (c .0) h (c .1) in
-      sym (ap (λ (t : Tree). eq-tree t (tree-of run)) (tree-at numbered ws p) ∙ begins-tree (drop p ws) (c .0) (c .1) some-there run o (begins-with (drop p ws) run) refl)
+module _ (ws : List ℕ) (n : ℕ) (all : trees-in ws ≡ some n) (name : ℕ) (symbol : kind-of name ≡ 0) where
+  abbrev at : ℕ → List ℕ
+  at = words-at ws name
+
+  -- the factor at a place, or the name past the end
+  unfoldable pub factor-at : ℕ → Tree
+  unfolding words-at tree-of
+  factor-at p = tree-of (at p)
+
+  unfoldable pub factors-at : List ℕ → List Tree
+  unfolding factor-at
+  factors-at ps = map factor-at ps
+
+  pub at-within : (p : ℕ) → p < length ws → factor-at p ≡ tree ws p
+  unfolding factor-at tree-of
+  at-within p h = ap tree-of (stands-within ws name p h) ∙ sym (tree-at numbered ws p)
+
+  pub at-end : factor-at (length ws) ≡ Sym (name-of name)
+  unfolding factor-at
+  at-end = (let z : length ws ≤ length ws = omega arith in ap tree-of (stands-past ws name (length ws) z)) ∙ name-tree name symbol
+
+  -- at least a tree stands at a place
+  some-there : (p : ℕ) → (m : ℕ) × ((trees-in (at p) ≡ some m) × (1 ≤ m))
+  some-there p = go (ltb p (length ws)) (ltb→lt p (length ws)) (nltb→le p (length ws))
     where
       more-than-none : (p m : ℕ) → p < length ws → trees-in (drop p ws) ≡ some m → 1 ≤ m
       more-than-none p m h e = (let t = complete-tail (getD ws p 0) (drop (suc p) ws) m (ap trees-in (sym (drop-cons ws p 0 h)) ∙ e) in omega (arith, t .left))
+
+      go : (b : Bool) → (T b → p < length ws) → (T (not b) → length ws ≤ p) → (m : ℕ) × ((trees-in (at p) ≡ some m) × (1 ≤ m))
+      go true f g = (let c = complete-end p ws n all in (c .0, (ap trees-in (stands-within ws name p (f tt)) ∙ c .1, more-than-none p (c .0) (f tt) (c .1))))
+      go false f g = (1, (ap trees-in (stands-past ws name p (g tt)) ∙ name-alone name symbol, omega arith))
+
+  stands : (p : ℕ) (run : List ℕ) → One run → begins-with (at p) run ≡ eq-tree (factor-at p) (tree-of run)
+  unfolding factor-at
+  stands p run o = (let c = some-there p in sym (begins-tree (at p) (c .0) (c .1 .0) (c .1 .1) run o (begins-with (at p) run) refl))
+
+  abbrev mapped : Option (List ℕ) → Option (List Tree)
+  mapped o = elim o [ none ↦ none | some ps ↦ some (factors-at ps) ]
 
   abbrev picked : Bool → List ℕ → ℕ → Option (List ℕ) → Option (List ℕ)
   picked b l p o = elim b [ true ↦ some l | false ↦ elim o [ none ↦ none | some r ↦ some (p ∷ r) ] ]
@@ -219,85 +257,128 @@ module _ (ws : List ℕ) (n : ℕ) (all : trees-in ws ≡ some n) where
   abbrev picked-tree : Bool → List Tree → Tree → Option (List Tree) → Option (List Tree)
   picked-tree b l t o = elim b [ true ↦ some l | false ↦ elim o [ none ↦ none | some r ↦ some (t ∷ r) ] ]
 
-  pub run-removed : (run : List ℕ) → One run → (ps : List ℕ) → Below ws ps → mapped ws (remove-run ws run ps) ≡ remove-first (tree-of run) (at-places ws ps)
-  unfolding remove-run remove-first at-places
-  run-removed run o [] b = refl
-  run-removed run o (p ∷ ps) b =
-      ap (λ (x : Bool). mapped ws (picked x ps p (remove-run ws run ps))) (stands p run (b .0) o)
-      ∙ go (eq-tree (tree ws p) (tree-of run)) (remove-run ws run ps) (remove-first (tree-of run) (at-places ws ps)) (run-removed run o ps (b .1))
+  run-removed : (run : List ℕ) → One run → (ps : List ℕ) → mapped (remove-run at run ps) ≡ remove-first (tree-of run) (factors-at ps)
+  unfolding remove-run remove-first factors-at
+  run-removed run o [] = refl
+  run-removed run o (p ∷ ps) =
+      ap (λ (x : Bool). mapped (picked x ps p (remove-run at run ps))) (stands p run o)
+      ∙ go (eq-tree (factor-at p) (tree-of run)) (remove-run at run ps) (remove-first (tree-of run) (factors-at ps)) (run-removed run o ps)
     where
-      go : (x : Bool) (q : Option (List ℕ)) (r : Option (List Tree)) → mapped ws q ≡ r → mapped ws (picked x ps p q) ≡ picked-tree x (at-places ws ps) (tree ws p) r
+      go : (x : Bool) (q : Option (List ℕ)) (r : Option (List Tree)) → mapped q ≡ r → mapped (picked x ps p q) ≡ picked-tree x (factors-at ps) (factor-at p) r
       go true q r e = refl
-      go false none r e = ap (λ (z : Option (List Tree)). picked-tree false (at-places ws ps) (tree ws p) z) e
-      go false (some s) r e = ap (λ (z : Option (List Tree)). picked-tree false (at-places ws ps) (tree ws p) z) e
-
-  -- what is left was there
-  run-keeps : (P : ℕ → Type 0) (run ps r : List ℕ) → remove-run ws run ps ≡ some r → Each P ps → Each P r
-  unfolding remove-run
-  run-keeps P run [] r e h = (let z : _≡_ {A = ℕ} 0 1 = cc in absurd (omega arith))
-  run-keeps P run (p ∷ ps) r e h = go (begins-with (drop p ws) run) (remove-run ws run ps) (λ s q. run-keeps P run ps s q (h .1)) e
-    where
-      go : (b : Bool) (o : Option (List ℕ)) → ((s : List ℕ) → o ≡ some s → Each P s) → picked b ps p o ≡ some r → Each P r
-      go true o i e = (let q : ps ≡ r = cc in subst (Each P) q (h .1))
-      go false none i e = (let z : _≡_ {A = ℕ} 0 1 = cc in absurd (omega arith))
-      go false (some s) i e = (let q : p ∷ s ≡ r = cc in subst (Each P) q (h .0, i s refl))
+      go false none r e = ap (λ (z : Option (List Tree)). picked-tree false (factors-at ps) (factor-at p) z) e
+      go false (some s) r e = ap (λ (z : Option (List Tree)). picked-tree false (factors-at ps) (factor-at p) z) e
 
   abbrev then-runs : List (List ℕ) → Option (List ℕ) → Option (List ℕ)
-  then-runs runs o = elim o [ none ↦ none | some r ↦ remove-runs ws runs r ]
+  then-runs runs o = elim o [ none ↦ none | some r ↦ remove-runs at runs r ]
 
   abbrev then-each : List Tree → Option (List Tree) → Option (List Tree)
   then-each ts o = elim o [ none ↦ none | some r ↦ remove-each ts r ]
 
-  pub runs-keep : (P : ℕ → Type 0) (runs : List (List ℕ)) (ps r : List ℕ) → remove-runs ws runs ps ≡ some r → Each P ps → Each P r
-  unfolding remove-runs
-  runs-keep P [] ps r e h = (let q : ps ≡ r = cc in subst (Each P) q h)
-  runs-keep P (run ∷ runs) ps r e h = go (λ s q. runs-keep P runs s r q) (remove-run ws run ps) refl e
-    where
-      go : ((s : List ℕ) → remove-runs ws runs s ≡ some r → Each P s → Each P r) → (o : Option (List ℕ)) → remove-run ws run ps ≡ o → then-runs runs o ≡ some r → Each P r
-      go i none q e = (let z : _≡_ {A = ℕ} 0 1 = cc in absurd (omega arith))
-      go i (some s) q e = i s e (run-keeps P run ps s q h)
-
-  pub runs-removed :
-      (runs : List (List ℕ)) (ts : List Tree) → Runs runs ts → (ps : List ℕ) → Below ws ps → mapped ws (remove-runs ws runs ps) ≡ remove-each ts (at-places ws ps)
+  runs-removed : (runs : List (List ℕ)) (ts : List Tree) → Runs runs ts → (ps : List ℕ) → mapped (remove-runs at runs ps) ≡ remove-each ts (factors-at ps)
   unfolding remove-runs remove-each
-  runs-removed [] [] m ps b = refl
-  runs-removed [] (t ∷ ts) m ps b = absurd m
-  runs-removed (run ∷ runs) [] m ps b = absurd m
-  runs-removed (run ∷ runs) (t ∷ ts) m ps b =
-      go (λ s c. runs-removed runs ts (m .2) s c) (remove-run ws run ps) refl
-      ∙ ap (then-each ts) (run-removed run (m .0) ps b ∙ ap (λ (x : Tree). remove-first x (at-places ws ps)) (m .1))
+  runs-removed [] [] m ps = refl
+  runs-removed [] (t ∷ ts) m ps = absurd m
+  runs-removed (run ∷ runs) [] m ps = absurd m
+  runs-removed (run ∷ runs) (t ∷ ts) m ps =
+      go (λ s. runs-removed runs ts (m .2) s) (remove-run at run ps)
+      ∙ ap (then-each ts) (run-removed run (m .0) ps ∙ ap (λ (x : Tree). remove-first x (factors-at ps)) (m .1))
     where
-      go : ((s : List ℕ) → Below ws s → mapped ws (remove-runs ws runs s) ≡ remove-each ts (at-places ws s)) → (o : Option (List ℕ)) → remove-run ws run ps ≡ o
-          → mapped ws (then-runs runs o) ≡ then-each ts (mapped ws o)
-      go i none q = refl
-      go i (some s) q = i s (run-keeps (λ p. p < length ws) run ps s q b)
+      go : ((s : List ℕ) → mapped (remove-runs at runs s) ≡ remove-each ts (factors-at s)) → (o : Option (List ℕ)) → mapped (then-runs runs o) ≡ then-each ts (mapped o)
+      go i none = refl
+      go i (some s) = i s
 
-  -- again and again
-  abbrev next-time : ℕ → List (List ℕ) → List ℕ → Option (List ℕ) → PlacesTaken
-  next-time most runs ps o = elim o [ none ↦ record { rest = ps; copies = 0 } | some r ↦ once-more (take-out-places most ws runs r) ]
+  -- ---- places of the words, and then the name's
 
-  abbrev next-tree : ℕ → List Tree → List Tree → Option (List Tree) → Taken
-  next-tree most ts l o = elim o [ none ↦ record { rest = l; copies = 0 } | some r ↦ tree-once-more (take-out most ts r) ]
+  module _ (P : ℕ → Type 0) where
+    pub record Apart (ps : List ℕ) : Type 0 where
+      pub front : List ℕ
+      pub names : ℕ
+      pub is : ps ≡ front ++ repeated names (length ws)
+      pub inside : Each P front
 
-  pub record Agree (P : ℕ → Type 0) (q : PlacesTaken) (t : Taken) : Type 0 where
-    pub rest-is : at-places ws (q .rest) ≡ t .rest
-    pub copies-is : q .copies ≡ t .copies
-    pub kept : Each P (q .rest)
+    -- a name's place taken from the names
+    names-fewer : (run : List ℕ) (k : ℕ) (r : List ℕ) → remove-run at run (repeated k (length ws)) ≡ some r → (j : ℕ) × (r ≡ repeated j (length ws))
+    unfolding remove-run repeated
+    names-fewer run zero r e = (let z : _≡_ {A = ℕ} 0 1 = cc in absurd (omega arith))
+    names-fewer run (suc k) r e = go (begins-with (at (length ws)) run) (remove-run at run (repeated k (length ws))) (λ s. names-fewer run k s) e
+      where
+        go : (b : Bool) (o : Option (List ℕ)) → ((s : List ℕ) → o ≡ some s → (j : ℕ) × (s ≡ repeated j (length ws))) → picked b (repeated k (length ws)) (length ws) o ≡ some r
+            → (j : ℕ) × (r ≡ repeated j (length ws))
+        go true o i e = (k, let q : repeated k (length ws) ≡ r = cc in sym q)
+        go false none i e = (let z : _≡_ {A = ℕ} 0 1 = cc in absurd (omega arith))
+        go false (some s) i e = (let q : length ws ∷ s ≡ r = cc in let x = i s refl in (suc (x .0), sym q ∙ ap (λ (l : List ℕ). length ws ∷ l) (x .1)))
 
-  pub taken-agree :
-      (P : ℕ → Type 0) → ((p : ℕ) → P p → p < length ws) → (most : ℕ) (runs : List (List ℕ)) (ts : List Tree) → Runs runs ts → (ps : List ℕ) → Each P ps
-      → Agree P (take-out-places most ws runs ps) (take-out most ts (at-places ws ps))
-  unfolding take-out-places take-out once-more tree-once-more
-  taken-agree P f zero runs ts m ps h = record { rest-is = refl; copies-is = refl; kept = h }
-  taken-agree P f (suc most) runs ts m ps h =
-      subst (λ (o : Option (List Tree)). Agree P (next-time most runs ps (remove-runs ws runs ps)) (next-tree most ts (at-places ws ps) o)) (runs-removed runs ts m ps (each-below ps h))
-      (go (λ s g. taken-agree P f most runs ts m s g) (remove-runs ws runs ps) refl)
-    where
-      each-below : (l : List ℕ) → Each P l → Below ws l
-      each-below [] g = tt
-      each-below (p ∷ l) g = (f p (g .0), each-below l (g .1))
+    -- a place taken out
+    run-apart : (run front : List ℕ) (k : ℕ) (r : List ℕ) → Each P front → remove-run at run (front ++ repeated k (length ws)) ≡ some r → Apart r
+    unfolding remove-run
+    run-apart run [] k r h e = (let x = names-fewer run k r e in record { front = []; names = x .0; is = x .1; inside = tt })
+    run-apart run (p ∷ front) k r h e = go (begins-with (at p) run) (remove-run at run (front ++ repeated k (length ws))) (λ s. run-apart run front k s (h .1)) e
+      where
+        go : (b : Bool) (o : Option (List ℕ)) → ((s : List ℕ) → o ≡ some s → Apart s) → picked b (front ++ repeated k (length ws)) p o ≡ some r → Apart r
+        go true o i e = (let q : front ++ repeated k (length ws) ≡ r = cc in record { front = front; names = k; is = sym q; inside = h .1 })
+        go false none i e = (let z : _≡_ {A = ℕ} 0 1 = cc in absurd (omega arith))
+        go false (some s) i e =
+            (let q : p ∷ s ≡ r = cc in let x = i s refl in record { front = p ∷ x .front; names = x .names; is = sym q ∙ ap (λ (l : List ℕ). p ∷ l) (x .is); inside = (h .0, x .inside) })
 
-      go : ((s : List ℕ) → Each P s → Agree P (take-out-places most ws runs s) (take-out most ts (at-places ws s))) → (o : Option (List ℕ)) → remove-runs ws runs ps ≡ o
-          → Agree P (next-time most runs ps o) (next-tree most ts (at-places ws ps) (mapped ws o))
-      go i none q = record { rest-is = refl; copies-is = refl; kept = h }
-      go i (some s) q = (let a = i s (runs-keep P runs ps s q h) in record { rest-is = a .rest-is; copies-is = ap suc (a .copies-is); kept = a .kept })
+    runs-apart : (runs : List (List ℕ)) (ps r : List ℕ) → Apart ps → remove-runs at runs ps ≡ some r → Apart r
+    unfolding remove-runs
+    runs-apart [] ps r h e = (let q : ps ≡ r = cc in subst Apart q h)
+    runs-apart (run ∷ runs) ps r h e = go (λ s. runs-apart runs s r) (remove-run at run ps) refl e
+      where
+        go : ((s : List ℕ) → Apart s → remove-runs at runs s ≡ some r → Apart r) → (o : Option (List ℕ)) → remove-run at run ps ≡ o → then-runs runs o ≡ some r → Apart r
+        go i none q e = (let z : _≡_ {A = ℕ} 0 1 = cc in absurd (omega arith))
+        go i (some s) q e = i s (run-apart run (h .front) (h .names) s (h .inside) (ap (remove-run at run) (sym (h .is)) ∙ q)) e
+
+    -- the name's place put at the end
+    one-name : (ps : List ℕ) (h : Apart ps) → ps ++ (length ws ∷ []) ≡ h .front ++ repeated (suc (h .names)) (length ws)
+    one-name ps h =
+        ap (λ (l : List ℕ). l ++ (length ws ∷ [])) (h .is) ∙ append-assoc (h .front) (repeated (h .names) (length ws)) (length ws ∷ [])
+        ∙ ap (λ (l : List ℕ). h .front ++ l) (repeated-more (h .names) (length ws) ∙ ap (λ (k : ℕ). repeated k (length ws)) (let z : h .names + 1 ≡ suc (h .names) = omega arith in z))
+
+    abbrev more-names : (ps : List ℕ) → Apart ps → Apart (ps ++ (length ws ∷ []))
+    more-names ps h = record { front = h .front; names = suc (h .names); is = one-name ps h; inside = h .inside }
+
+    -- ---- again and again
+
+    abbrev next-time : ℕ → List (List ℕ) → List ℕ → Option (List ℕ) → PlacesTaken
+    next-time most runs ps o = elim o [ none ↦ record { places = ps; times = 0 } | some r ↦ once-more (take-out-places most at (length ws) runs (r ++ (length ws ∷ []))) ]
+
+    abbrev next-tree : ℕ → List Tree → List Tree → Option (List Tree) → Taken
+    next-tree most ts l o = elim o [ none ↦ record { factors = l; times = 0 } | some r ↦ tree-once-more (take-out most (name-of name) ts (r ++ (Sym (name-of name) ∷ []))) ]
+
+    -- what stands there, how often, and that a name does after the first time or where one did before
+    pub record Agree (before : ℕ) (q : PlacesTaken) (t : Taken) : Type 0 where
+      pub factors-are : factors-at (q .places) ≡ t .factors
+      pub times-is : q .times ≡ t .times
+      pub apart : Apart (q .places)
+      pub some-name : 1 ≤ before + q .times → 1 ≤ apart .names
+
+    put-factor : (r : List ℕ) → factors-at (r ++ (length ws ∷ [])) ≡ factors-at r ++ (Sym (name-of name) ∷ [])
+    unfolding factors-at
+    put-factor [] = ap (λ (t : Tree). t ∷ []) at-end
+    put-factor (p ∷ r) = ap (λ (l : List Tree). factor-at p ∷ l) (put-factor r)
+
+    pub taken-agree :
+        (most : ℕ) (runs : List (List ℕ)) (ts : List Tree) → Runs runs ts → 1 ≤ length runs → (ps : List ℕ) (h : Apart ps)
+        → Agree (h .names) (take-out-places most at (length ws) runs ps) (take-out most (name-of name) ts (factors-at ps))
+    unfolding take-out-places take-out once-more tree-once-more
+    taken-agree zero runs ts m some-run ps h = record { factors-are = refl; times-is = refl; apart = h; some-name = λ x. omega arith }
+    taken-agree (suc most) runs ts m some-run ps h =
+        subst (λ (q : PlacesTaken). Agree (h .names) q (take-out (suc most) (name-of name) ts (factors-at ps))) (sym (unrolled at (length ws) most runs ps some-run))
+        (subst (λ (o : Option (List Tree)). Agree (h .names) (next-time most runs ps (remove-runs at runs ps)) (next-tree most ts (factors-at ps) o)) (runs-removed runs ts m ps)
+        (go (λ s g. taken-agree most runs ts m some-run (s ++ (length ws ∷ [])) g) (remove-runs at runs ps) refl))
+      where
+        go : ((s : List ℕ) (g : Apart (s ++ (length ws ∷ [])))
+            → Agree (g .names) (take-out-places most at (length ws) runs (s ++ (length ws ∷ []))) (take-out most (name-of name) ts (factors-at (s ++ (length ws ∷ [])))))
+            → (o : Option (List ℕ)) → remove-runs at runs ps ≡ o → Agree (h .names) (next-time most runs ps o) (next-tree most ts (factors-at ps) (mapped o))
+        go i none q = record { factors-are = refl; times-is = refl; apart = h; some-name = λ x. omega arith }
+        go i (some s) q =
+            let a = i s (more-names s (runs-apart runs ps s h q)) in
+            let e = ap (take-out most (name-of name) ts) (put-factor s) in
+            record {
+              factors-are = a .factors-are ∙ ap (λ (t : Taken). t .factors) e;
+              times-is = ap suc (a .times-is ∙ ap (λ (t : Taken). t .times) e);
+              apart = a .apart;
+              some-name = λ x. a .some-name (omega arith);
+            }

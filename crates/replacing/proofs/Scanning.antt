@@ -27,6 +27,7 @@ use Rattle.closed.proofs.Chain.{chain, chain-end, chain-same}
 use Rattle.replacing.specs.Replacing.{formed-word}
 use Rattle.replacing.specs.Deciding.{Trees, Target, rewritten, rewritten-words, StaysAt, RefusedAt, Match, product-out, Wrote, Left}
 use Rattle.replacing.proofs.Turns.{first-out, replaced-none}
+use Rattle.replacing.proofs.Targets.{some-factor}
 use Rattle.replacing.proofs.Deciding.{equal-turn, head-formed}
 
 -- ---- parts of formed and complete words
@@ -201,7 +202,7 @@ module _ (part : List ℕ) (name : ℕ) where
                 (let z : tokens number u ≡ new = cc in
                 let a = ap length z in
                 let b = tokens-length number u in
-                let c = replace-shrinks by-size (tree-of part) (name-of name) (least-size (name-of name)) (t .some-factor) (tree-of (drop i ws)) u (head-formed part name t (drop i ws) here-trees here-some) q .0 in
+                let c = replace-shrinks by-size (tree-of part) (name-of name) (least-size (name-of name)) (some-factor t) (tree-of (drop i ws)) u (head-formed part name t (drop i ws) here-trees here-some) q .0 in
                 let d = m .size-is in
                 omega arith)
             go (refused r) q e = (let z : _≡_ {A = ℕ} 0 1 = cc in absurd (omega arith))

@@ -21,6 +21,7 @@ use Rattle.rewrite.specs.Rewrite.{each-operand, replace}
 use Rattle.rewrite.proofs.Counts.{well-formed-all}
 use Rattle.words.specs.Words.{number, name-of}
 use Rattle.words.proofs.Rewriting.{node-written, name-written}
+use Rattle.closed.proofs.Chain.{each-both, each-long}
 use Rattle.replacing.specs.Replacing.{replaced-words, formed-word}
 
 -- ---- trees formed as 01 has them
@@ -84,32 +85,6 @@ words-formed (w ∷ ws) n e h =
 -- ---- steps at each of some trees
 
 module _ (g : Tree → Outcome Tree) where
-  pub each-both : (l m : List Tree) → each g (l ++ m) ≡ (each g l >>= λ a. each g m >>= λ b. ok (a ++ b))
-  unfolding each
-  each-both [] m = go (each g m)
-    where
-      go : (o : Outcome (List Tree)) → o ≡ (o >>= λ b. ok b)
-      go (ok b) = refl
-      go (refused i) = refl
-  each-both (t ∷ l) m = go (g t) (each g l) (each g m) (each g (l ++ m)) (each-both l m)
-    where
-      go : (o : Outcome Tree) (p q r : Outcome (List Tree)) → r ≡ (p >>= λ a. q >>= λ b. ok (a ++ b))
-          → (o >>= λ u. r >>= λ s. ok (u ∷ s)) ≡ ((o >>= λ u. p >>= λ s. ok (u ∷ s)) >>= λ a. q >>= λ b. ok (a ++ b))
-      go (ok u) (ok a) (ok b) r e = ap (λ (x : Outcome (List Tree)). x >>= λ s. ok (u ∷ s)) e
-      go (ok u) (ok a) (refused i) r e = ap (λ (x : Outcome (List Tree)). x >>= λ s. ok (u ∷ s)) e
-      go (ok u) (refused i) q r e = ap (λ (x : Outcome (List Tree)). x >>= λ s. ok (u ∷ s)) e
-      go (refused i) p q r e = refl
-
-  pub each-long : (l m : List Tree) → each g l ≡ ok m → length m ≡ length l
-  unfolding each
-  each-long [] m e = (let q : [] ≡ m = cc in sym (ap length q))
-  each-long (t ∷ l) m e = go (g t) (each g l) (λ s. each-long l s) e
-    where
-      go : (o : Outcome Tree) (p : Outcome (List Tree)) → ((s : List Tree) → p ≡ ok s → length s ≡ length l) → (o >>= λ u. p >>= λ s. ok (u ∷ s)) ≡ ok m → length m ≡ suc (length l)
-      go (ok u) (ok s) h e = (let q : u ∷ s ≡ m = cc in sym (ap length q) ∙ ap suc (h s refl))
-      go (ok u) (refused i) h e = (let z : _≡_ {A = ℕ} 0 1 = cc in absurd (omega arith))
-      go (refused i) p h e = (let z : _≡_ {A = ℕ} 0 1 = cc in absurd (omega arith))
-
   pub each-forest : (l : List Tree) → each-operand g (forest l) ≡ (each g l >>= λ m. ok (forest m))
   unfolding each each-operand forest
   each-forest [] = refl

@@ -8,13 +8,13 @@ use lib.ListN.{length, getD, take, drop}
 use lib.Dec.{T}
 use Rattle.tree.specs.Bytes.{every}
 use Rattle.tree.specs.Outcome.{Refusal, Outcome, ok, refused, _>>=_, each}
-use Rattle.tree.specs.Tree.{Tree, Sym}
-use Rattle.tree.specs.Facts.{size, count as count-of}
+use Rattle.tree.specs.Tree.{Tree}
+use Rattle.tree.specs.Facts.{size}
 use Rattle.tree.specs.Rows.{occurrences}
 use Rattle.tree.specs.Tokens.{kind-of, tokens, all-tokens, trees-in, run-at}
-use Rattle.rewrite.specs.Rewrite.{flatten-mul-factors, replace}
+use Rattle.rewrite.specs.Rewrite.{replace}
 use Rattle.words.specs.Words.{number, tree-of, name-of, begins-with}
-use Rattle.closed.specs.Closed.{by-factors}
+use Rattle.closed.specs.Closed.{by-factors, endless}
 use Rattle.factors.specs.Places.{tree, at-places}
 use Rattle.replacing.specs.Replacing.{replaced-words, formed-word, repeated, head-words}
 
@@ -24,12 +24,11 @@ pub record Trees (ws : List ℕ) : Type 0 where
   pub complete : trees-in ws ≡ some count
   pub formed : T (every formed-word ws)
 
--- one tree with a factor, and the word of a symbol that is none of its factors
+-- one tree, the word of a symbol, and an end to replacing the one by the other
 pub record Target (part : List ℕ) (name : ℕ) : Type 0 where
   pub one : trees-in part ≡ some 1
   pub symbol : kind-of name ≡ 0
-  pub some-factor : 1 ≤ length (flatten-mul-factors (tree-of part) .factors)
-  pub new : count-of (Sym (name-of name)) (flatten-mul-factors (tree-of part) .factors) ≡ 0
+  pub ends : endless (tree-of part) (name-of name) ≡ false
 
 -- a tree starts at a place and ends before another
 pub record Within (ws : List ℕ) (to p : ℕ) : Type 0 where
@@ -51,7 +50,8 @@ module _ (part : List ℕ) (name : ℕ) where
   abbrev pub RefusedAt : List ℕ → Type 0
   RefusedAt ws = (i : Refusal) × (rewritten (tree-of ws) ≡ refused i)
 
-  -- the first tree, of so many words, is a product from which the target was taken out; the places of the factors left stand in front
+  -- The first tree, of so many words, is a product from which the target was taken out. Then the places of its factors stand in front, but for the names at the
+  -- end, which have none.
   pub record Match (ws places : List ℕ) (left copies code long : ℕ) : Type 0 where
     pub size-is : long ≡ size (tree-of ws)
     pub run-is : run-at ws 0 ≡ some long

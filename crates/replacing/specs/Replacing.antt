@@ -1,12 +1,12 @@
 -- `replace` on words of trees (01, "Rewriting"): the words are read as trees, each is rewritten, and the trees are written as words. Assumes nothing.
 use Prim.Native.Nat.{ℕ, zero, suc, _+_, _*_}
-use mathlib.Core.Bool.{Bool, true, false, not, _&&_, _||_}
+use mathlib.Core.Bool.{Bool, true, false, _&&_, _||_}
 use mathlib.Core.List.{List, [], _∷_, _++_}
 use lib.Dec.{eqb, leb}
 use Rattle.tree.specs.Bytes.{every}
 use Rattle.tree.specs.Outcome.{Outcome, ok, _>>=_, each}
 use Rattle.tree.specs.Kinds.{arity-ok}
-use Rattle.tree.specs.Tree.{Name, Tree}
+use Rattle.tree.specs.Tree.{Name, Tree, Sym}
 use Rattle.tree.specs.Tokens.{kind-of, below-of, numbered, read, all-tokens}
 use Rattle.rewrite.specs.Rewrite.{replace}
 use Rattle.words.specs.Words.{number, sound}
@@ -23,20 +23,15 @@ unfoldable pub formed-word : ℕ → Bool
 unfolding arity-ok
 formed-word w = leb (kind-of w) 1 || arity-ok (kind-of w) (below-of w)
 
--- whether a symbol is among the words
-unfoldable pub has-symbol-word : List ℕ → Bool
-has-symbol-word [] = false
-has-symbol-word (w ∷ ws) = eqb (kind-of w) 0 || has-symbol-word ws
-
--- whether a word is not among them
-unfoldable pub lacks : ℕ → List ℕ → Bool
-unfolding every
-lacks name ws = every (λ w. not (eqb w name)) ws
-
--- complete trees, formed as 01 has them; one target, with a symbol; and a new name's word
+-- complete trees, formed as 01 has them; one target; and a symbol's word
 unfoldable pub replaceable : List ℕ → List ℕ → ℕ → Bool
-unfolding every formed-word has-symbol-word lacks sound
-replaceable ws target name = every formed-word ws && (has-symbol-word target && (lacks name target && sound ws target name))
+unfolding every formed-word sound
+replaceable ws target name = every formed-word ws && sound ws target name
+
+-- the name k times
+unfoldable pub named : Name → ℕ → List Tree
+named n zero = []
+named n (suc k) = Sym n ∷ named n k
 
 -- ---- a rebuilt product as words: a left-nested product's are its signs, then its factors
 

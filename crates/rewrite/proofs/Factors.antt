@@ -145,7 +145,7 @@ put-all : (P : Tree → Type 0) {t : Tree} {r l : List Tree} → Put t r l → A
 put-all P here a = a .1
 put-all P (past p) a = (a .0, put-all P p (a .1))
 
-puts-all : (P : Tree → Type 0) {ts r l : List Tree} → Puts ts r l → All P l → All P r
+pub puts-all : (P : Tree → Type 0) {ts r l : List Tree} → Puts ts r l → All P l → All P r
 puts-all P done a = a
 puts-all P (also p q) a = puts-all P q (put-all P p a)
 
@@ -187,6 +187,10 @@ left : (ts l : List Tree) → Left ts l (remove-each ts l)
 unfolding Left remove-each
 left [] l = done
 left (t ∷ ts) l = left-step t ts l (remove-first t l) (first t l) (λ r. left ts r)
+
+pub puts-from : (ts l r : List Tree) → remove-each ts l ≡ some r → Puts ts r l
+unfolding Left
+puts-from ts l r e = subst (Left ts l) e (left ts l)
 
 -- the targets that are matched by their factors
 abbrev pub Product : Tree → Type 0

@@ -1,4 +1,5 @@
--- `replace` has fuel enough: any more gives the same, so that its end decides nothing. Assumes nothing.
+-- `replace` has fuel enough: any more gives the same, so that its end decides nothing. A target that is sought by its factors must have one, and not the name
+-- alone: taking such factors out and putting the name in would go on for ever. Assumes nothing.
 use Prim.Native.Nat.{ℕ, zero, suc, _+_, _-_, _*_, _≤_}
 use mathlib.Core.Path.{_≡_, refl, sym, _∙_, ap, ap₂, subst}
 use mathlib.Core.Bool.{Bool, true, false}
@@ -16,11 +17,11 @@ use Rattle.tree.specs.Facts.{size, count}
 use Rattle.tree.proofs.Formed.{operand-count, well-formed, well-formed-each}
 use Rattle.tree.proofs.Logic.{and-left, and-right}
 use Rattle.rewrite.specs.Rewrite.{Factors, constant-of, built, build-mul-from-factors, match-factors, each-operand, replace-within, replace}
-use Rattle.rewrite.proofs.Factors.{factors-of, built-factors, rest-all, Matched, matched}
+use Rattle.rewrite.proofs.Factors.{factors-of, built-factors, rest-all, Product, Matched, matched}
 use Rattle.rewrite.proofs.Coefficient.{exactly}
 use Rattle.rewrite.proofs.Weight.{weight, weights, weight-up, twice-size, falls}
 
-module _ (target : Tree) (n : Name) (some-factor : 1 ≤ length (factors-of target)) (new : count (Sym n) (factors-of target) ≡ 0) where
+module _ (target : Tree) (n : Name) (several : Product target → 2 + count (Sym n) (factors-of target) ≤ 2 * length (factors-of target)) where
   -- a product rebuilt weighs less
   Lighter : Tree → Option Factors → Type 0
   Lighter e none = Unit {0}
@@ -32,7 +33,7 @@ module _ (target : Tree) (n : Name) (some-factor : 1 ≤ length (factors-of targ
   lighter-step e w (some p) (r, q, h, t) = λ c z.
       subst (λ (l : List Tree). (suc (weight n (built c l)) ≤ weight n e) × T (well-formed (built c l))) (sym (ap (λ (p : Factors). p .factors) q))
       (let x = exactly .accepted e c (ap (λ (p : Factors). constant-of (p .coefficient)) (sym q) ∙ z) in
-      (falls n target some-factor new e r c w h x, built-factors c (r ++ (Sym n ∷ [])) (rest-all n e w h) .1))
+      (falls n target (several t) e r c w h x, built-factors c (r ++ (Sym n ∷ [])) (rest-all n e w h) .1))
 
   lighter : (e : Tree) → T (well-formed e) → Lighter e (match-factors target n e)
   lighter e w = lighter-step e w (match-factors target n e) (matched target n e)

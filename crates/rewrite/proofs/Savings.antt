@@ -230,7 +230,7 @@ module _
   unfolding Matched Saves
   again fuel s ih e l w p (r, q, h, t) (ok c) z =
       let x : c ≡ exact e = exactly .accepted e c (ap (λ (f : Factors). constant-of (f .coefficient)) (sym q) ∙ z) in
-      let y = falls n (Op Mul g) some-factor new e r c w h x in
+      let y = falls n (Op Mul g) (omega (arith, some-factor, new)) e r c w h x in
       let b = built-factors c (r ++ (Sym n ∷ [])) (rest-all n e w h) in
       subst (λ (fs : List Tree). Saves e (s (built c fs))) (sym (ap (λ (f : Factors). f .factors) q))
       (go x (s (built c (r ++ (Sym n ∷ [])))) (ih (built c (r ++ (Sym n ∷ []))) (omega arith) (b .1)))

@@ -1,4 +1,4 @@
--- `replace` lets no measure grow by which the new name counts least, and keeps trees well-formed, where the target has a factor. Assumes nothing.
+-- `replace` lets no measure grow by which the new name counts least, and keeps trees well-formed, where a target that is sought by its factors has one. Assumes nothing.
 use Prim.Native.Nat.{ℕ, zero, suc, _+_, _*_, _≤_}
 use mathlib.Core.Path.{_≡_, refl, sym, _∙_, ap, subst}
 use mathlib.Core.Bool.{Bool, true, false}
@@ -18,7 +18,7 @@ use Rattle.rewrite.specs.Rewrite.{Factors, constant-of, built, build-mul
 use Rattle.rewrite.proofs.ReplaceValue.{exact}
 use Rattle.rewrite.proofs.Coefficient.{exactly}
 use Rattle.rewrite.proofs.Measure.{sum-of, sum-append, sum-each, Measure, Least}
-use Rattle.rewrite.proofs.Factors.{factors-of, Puts, puts-sum, rest-all, built-factors, Matched, matched}
+use Rattle.rewrite.proofs.Factors.{factors-of, Puts, puts-sum, rest-all, built-factors, Product, Matched, matched}
 use Rattle.rewrite.proofs.Products.{with-sign, spread, spread-up, extra, built-of, factors-bound}
 
 -- A rebuilt product: the target's factors are gone, and the name is in their place. Whatever e measures besides its factors and its coefficient
@@ -35,7 +35,7 @@ rebuilt-of M target n e r c besides f h q =
     let x = ap (extra M) q in
     omega arith)
 
-module _ (M : Measure) (target : Tree) (n : Name) (least : Least M n) (some-factor : 1 ≤ length (factors-of target)) where
+module _ (M : Measure) (target : Tree) (n : Name) (least : Least M n) (some-factor : Product target → 1 ≤ length (factors-of target)) where
   -- what comes out, if anything does, is well-formed and measures at most N
   Shrinks : ℕ → Outcome Tree → Type 0
   Shrinks N (ok t) = (M .of t ≤ N) × T (well-formed t)
@@ -53,7 +53,7 @@ module _ (M : Measure) (target : Tree) (n : Name) (least : Least M n) (some-fact
       subst (λ (l : List Tree). (M .of (built c l) ≤ M .of e) × T (well-formed (built c l))) (sym (ap (λ (p : Factors). p .factors) q))
       (let x = exactly .accepted e c (ap (λ (p : Factors). constant-of (p .coefficient)) (sym q) ∙ z) in
       let b = rebuilt-of M target n e r c 0 (let f = factors-bound M e w in omega arith) h x in
-      let u = spread-up M n least (factors-of target) some-factor in
+      let u = spread-up M n least (factors-of target) (some-factor t) in
       (omega arith, built-factors c (r ++ (Sym n ∷ [])) (rest-all n e w h) .1))
   rebuilt-step e p w g (refused i) q = tt
 

@@ -13,7 +13,7 @@ use Rattle.tree.proofs.TreeLaws.{eq-name-sound, eq-name-refl}
 use Rattle.tree.specs.Facts.{size, count}
 use Rattle.rewrite.specs.Rewrite.{built}
 use Rattle.rewrite.proofs.ReplaceValue.{exact}
-use Rattle.rewrite.proofs.Measure.{sum-of, sum-each, Measure, size-op, sizes, count-cons, one-self}
+use Rattle.rewrite.proofs.Measure.{sum-of, sum-each, Measure, size-op, sizes, count-cons, one-of, one-self}
 use Rattle.rewrite.proofs.Factors.{factors-of, Puts}
 use Rattle.rewrite.proofs.Products.{spread, factors-bound}
 use Rattle.rewrite.proofs.Shrinks.{rebuilt-of}
@@ -78,32 +78,29 @@ module _ (n : Name) where
       go true t = refl
       go false t = absurd t
 
-  other-weight : (y : Tree) (l : List Tree) → count (Sym n) (y ∷ l) ≡ 0 → 2 ≤ weight y
+  name-share : (y : Tree) → 2 ≤ weight y + one-of y (Sym n)
   unfolding weight
-  other-weight (Sym s) l z = go (eq-name s n) (eq-name-sound s n)
+  name-share (Sym s) = go (eq-name s n) (eq-name-sound s n)
     where
-      go : (b : Bool) → (T b → s ≡ n) → 2 ≤ name-weight b
-      go true f =
-          let e : count (Sym n) (Sym s ∷ l) ≡ count (Sym n) (Sym n ∷ l) = ap (λ (m : Name). count (Sym n) (Sym m ∷ l)) (f tt) in
-          let a = count-cons (Sym n) (Sym n) l in
-          let b = one-self (Sym n) in
-          absurd (omega arith)
+      go : (b : Bool) → (T b → s ≡ n) → 2 ≤ name-weight b + one-of (Sym s) (Sym n)
+      go true f = (let e : one-of (Sym s) (Sym n) ≡ one-of (Sym n) (Sym n) = ap (λ (m : Name). one-of (Sym m) (Sym n)) (f tt) in let o = one-self (Sym n) in omega arith)
       go false f = omega arith
-  other-weight (Const c) l z = omega arith
-  other-weight (Op k f) l z = omega arith
+  name-share (Const c) = omega arith
+  name-share (Op k f) = omega arith
 
   -- a factor with its sign weighs 4, and the name with its sign 3
-  others-weight : (l : List Tree) → count (Sym n) l ≡ 0 → 1 ≤ length l → 4 ≤ spread by-weight l
+  shares : (l : List Tree) → 4 * length l ≤ spread by-weight l + count (Sym n) l
   unfolding sum-of
-  others-weight [] z p = absurd (omega arith)
-  others-weight (y ∷ l) z p = (let a = other-weight y l z in omega arith)
+  shares [] = omega arith
+  shares (y ∷ l) = (let a = name-share y in let b = count-cons (Sym n) y l in let c = shares l in omega arith)
 
+  -- neither no factor nor the name alone
   pub falls :
-      (target : Tree) → 1 ≤ length (factors-of target) → count (Sym n) (factors-of target) ≡ 0 → (e : Tree) (r : List Tree) (c : ℤ) → T (well-formed e)
+      (target : Tree) → 2 + count (Sym n) (factors-of target) ≤ 2 * length (factors-of target) → (e : Tree) (r : List Tree) (c : ℤ) → T (well-formed e)
       → Puts (factors-of target) r (factors-of e) → c ≡ exact e
       → suc (weight (built c (r ++ (Sym n ∷ [])))) ≤ weight e
-  falls target some-factor new e r c w h q =
+  falls target several e r c w h q =
       (let a = rebuilt-of by-weight target n e r c 0 (let f = factors-bound by-weight e w in omega arith) h q in
-      let b = others-weight (factors-of target) new some-factor in
+      let b = shares (factors-of target) in
       let d = new-weight in
       omega arith)

@@ -5,23 +5,23 @@ use mathlib.Core.Bool.{true, false}
 use Prim.Native.Nat.{ℕ, _≤_, _-_, _<_}
 use mathlib.Core.List.{List}
 use lib.ListN.{length, take, drop, getD}
-use Rattle.matching.specs.Matching.{is-passed, run-end, factor-runs, remove-runs}
+use Rattle.matching.specs.Matching.{is-passed, run-end, factor-runs, words-at, remove-runs}
 use Rattle.matching.proofs.Removing.{hit, Missed, missed-none, missed-more, all-removed, missing-at, removed-at, rest-stays}
 use borrow.Author.Needs.{needs}
 use Rattle.matching.proofs.remove_each.Statement.{statement}
 use Rattle.matching.proofs.remove_each.Tie as tie
 
 abbrev Inv-inner : tie.InvT-inner
-Inv-inner tokens part places count left q end i₀ i = (i ≤ left) × Missed tokens (take (end - q) (drop q part)) places i
+Inv-inner tokens part name places count left q end i₀ i = (i ≤ left) × Missed (words-at tokens name) (take (end - q) (drop q part)) places i
 
 abbrev μ-inner : tie.MeasureT-inner
-μ-inner tokens part places count left q end i₀ i = left - i
+μ-inner tokens part name places count left q end i₀ i = left - i
 
 abbrev Inv-outer : tie.InvT-outer
-Inv-outer tokens part places₀ count left₀ q₀ places left q = (remove-runs tokens (factor-runs part) (take count places₀) ≡ remove-runs tokens (factor-runs (drop q part)) (take left places)) × (left ≤ count) × (length places ≡ length places₀) × (drop count places ≡ drop count places₀) × (q < length part → is-passed (getD part q 0) ≡ false)
+Inv-outer tokens part name places₀ count left₀ q₀ places left q = (remove-runs (words-at tokens name) (factor-runs part) (take count places₀) ≡ remove-runs (words-at tokens name) (factor-runs (drop q part)) (take left places)) × (left ≤ count) × (length places ≡ length places₀) × (drop count places ≡ drop count places₀) × (q < length part → is-passed (getD part q 0) ≡ false)
 
 abbrev μ-outer : tie.MeasureT-outer
-μ-outer tokens part places₀ count left₀ q₀ places left q = length part - q
+μ-outer tokens part name places₀ count left₀ q₀ places left q = length part - q
 
 pub remove-each-spec : {M : Type 1} → statement M
 remove-each-spec =
@@ -32,9 +32,9 @@ remove-each-spec =
     Inv-outer
     μ-outer
     (λ c κs. omega arith)
-    (λ c. let a = c .before .before .before .before .args in (ap (λ r. remove-runs (a .tokens .now) r (take (a .count) (a .places .now))) (c .next-factor .ensures .runs), omega arith, refl, refl, c .next-factor .ensures .starts))
+    (λ c. let a = c .before .before .before .before .args in (ap (λ r. remove-runs (words-at (a .tokens .now) (a .name)) r (take (a .count) (a .places .now))) (c .next-factor .ensures .runs), omega arith, refl, refl, c .next-factor .ensures .starts))
     (λ c. c .before .outer .inv .2)
-    (λ c. let a = c .before .before .before .before .before .before .args in let o = c .before .outer in ((o .inv .0 ∙ all-removed (a .tokens .now) (a .part .now) (o .places) (o .q) (o .left) (c .if1 .taken), omega (arith, o .inv .1, o .inv .2, c .before .before .before .before .before .before .pre)), o .inv .3))
+    (λ c. let a = c .before .before .before .before .before .before .args in let o = c .before .outer in ((o .inv .0 ∙ all-removed (words-at (a .tokens .now) (a .name)) (a .part .now) (o .places) (o .q) (o .left) (c .if1 .taken), omega (arith, o .inv .1, o .inv .2, c .before .before .before .before .before .before .pre)), o .inv .3))
     (λ c κs. omega (arith, c .if1 .left))
     (λ c. (omega arith, missed-none _ _ _))
     (λ c. omega (arith, c .inner-test .left, c .before .before .before .before .outer .inv .1, c .before .before .before .before .outer .inv .2, c .before .before .before .before .before .before .before .before .before .pre, c .before .before .before .before .before .before .before .before .before .good))
@@ -59,11 +59,11 @@ remove-each-spec =
     let run-is = ap (λ (k : ℕ). take (k - o .q) (drop (o .q) (a .part .now))) e in
     let s = c .next-factor2 .ensures in (
       o .inv .0
-          ∙ removed-at (a .tokens .now) (a .part .now) (o .places) (o .q) (o .left) (c .before .before .before .before .before .before .before .before .before .before .before .before .if1 .left) (o .inv .4 (c .before .before .before .before .before .before .before .before .before .before .before .before .if1 .left)) (omega (arith, o .inv .1, o .inv .2, c .before .before .before .before .before .before .before .before .before .before .before .before .before .before .before .before .before .before .pre)) (n .i) (omega (arith, c .before .before .before .before .before .before .before .before .before .inner-test .left))
-          (subst (λ (r : List ℕ). hit (a .tokens .now) r (o .places) (n .i) ≡ true) run-is (sym (rw (c .before .before .before .before .before .if2 .taken) at (c .before .before .before .before .before .before .stands-at .ensures))))
-          (subst (λ (r : List ℕ). Missed (a .tokens .now) r (o .places) (n .i)) run-is (n .inv .1)) l (c .before .before .before .close-gap .ensures .0)
-          ∙ ap (λ (k : ℕ). remove-runs (a .tokens .now) (factor-runs (drop k (a .part .now))) (take (o .left - 1) l)) (sym e)
-          ∙ ap (λ r. remove-runs (a .tokens .now) r (take (o .left - 1) l)) (s .runs),
+          ∙ removed-at (words-at (a .tokens .now) (a .name)) (a .part .now) (o .places) (o .q) (o .left) (c .before .before .before .before .before .before .before .before .before .before .before .before .if1 .left) (o .inv .4 (c .before .before .before .before .before .before .before .before .before .before .before .before .if1 .left)) (omega (arith, o .inv .1, o .inv .2, c .before .before .before .before .before .before .before .before .before .before .before .before .before .before .before .before .before .before .pre)) (n .i) (omega (arith, c .before .before .before .before .before .before .before .before .before .inner-test .left))
+          (subst (λ (r : List ℕ). hit (words-at (a .tokens .now) (a .name)) r (o .places) (n .i) ≡ true) run-is (sym (rw (c .before .before .before .before .before .if2 .taken) at (c .before .before .before .before .before .before .stands-at .ensures))))
+          (subst (λ (r : List ℕ). Missed (words-at (a .tokens .now) (a .name)) r (o .places) (n .i)) run-is (n .inv .1)) l (c .before .before .before .close-gap .ensures .0)
+          ∙ ap (λ (k : ℕ). remove-runs (words-at (a .tokens .now) (a .name)) (factor-runs (drop k (a .part .now))) (take (o .left - 1) l)) (sym e)
+          ∙ ap (λ r. remove-runs (words-at (a .tokens .now) (a .name)) r (take (o .left - 1) l)) (s .runs),
       omega (arith, o .inv .1),
       c .before .before .before .close-gap .kept .0 ∙ o .inv .2,
       rest-stays l (o .places) (o .left) (a .count) (o .inv .1) (c .before .before .before .close-gap .ensures .1) ∙ o .inv .3,
@@ -77,7 +77,7 @@ remove-each-spec =
     let run-is = ap (λ (k : ℕ). take (k - o .q) (drop (o .q) (a .part .now))) e in
     let z : n .i ≡ o .left = omega (arith, c .inner-test .taken, n .inv .0) in (
       o .inv .0
-          ∙ missing-at (a .tokens .now) (a .part .now) (o .places) (o .q) (o .left) (c .before .before .before .if1 .left) (o .inv .4 (c .before .before .before .if1 .left)) (omega (arith, o .inv .1, o .inv .2, c .before .before .before .before .before .before .before .before .before .pre))
-          (subst (Missed (a .tokens .now) (take (run-end (a .part .now) (o .q) - o .q) (drop (o .q) (a .part .now))) (o .places)) z (subst (λ (r : List ℕ). Missed (a .tokens .now) r (o .places) (n .i)) run-is (n .inv .1))),
+          ∙ missing-at (words-at (a .tokens .now) (a .name)) (a .part .now) (o .places) (o .q) (o .left) (c .before .before .before .if1 .left) (o .inv .4 (c .before .before .before .if1 .left)) (omega (arith, o .inv .1, o .inv .2, c .before .before .before .before .before .before .before .before .before .pre))
+          (subst (Missed (words-at (a .tokens .now) (a .name)) (take (run-end (a .part .now) (o .q) - o .q) (drop (o .q) (a .part .now))) (o .places)) z (subst (λ (r : List ℕ). Missed (words-at (a .tokens .now) (a .name)) r (o .places) (n .i)) run-is (n .inv .1))),
       o .inv .3,
     )))
