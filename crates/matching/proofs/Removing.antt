@@ -312,7 +312,7 @@ module _ (ws part : List ℕ) (name : ℕ) (old : List ℕ) (count : ℕ) where
 -- ---- the name's places at the end
 
 module _ (limit : ℕ) where
-  after-most : (l : List ℕ) → names-after limit l ≤ length l
+  pub after-most : (l : List ℕ) → names-after limit l ≤ length l
   unfolding names-after
   after-most [] = omega arith
   after-most (p ∷ l) = go (eqb (names-after limit l) (length l) && leb limit p) (after-most l)

@@ -6,31 +6,38 @@ use mathlib.Core.Bool.{Bool, true, false, _&&_}
 use mathlib.Core.Option.{some}
 use mathlib.Core.List.{List, [], _∷_}
 use borrow.Author.Tests.{eq-eqb, ne-eqb}
-use lib.ListN.{length, getD, take}
+use lib.ListN.{length, getD, take, drop}
+use lib.Seq.{drop-cons, length-take-le}
 use lib.Dec.{T, eqb}
 use lib.Ieee as Ieee
 use lib.Ieee.{Float}
-use Rattle.tree.specs.Tree.{Tree}
+use Rattle.tree.specs.Tree.{Tree, eq-tree}
 use Rattle.tree.specs.Facts.{size}
 use Rattle.tree.specs.Tokens.{kind-of, takes, numbered, read, trees-in, run-at, tree-of-word}
-use Rattle.tree.proofs.TokenLaws.{Word, a-symbol, a-constant, an-operation, word-is, symbol-tree, constant-tree, operation-tree, tree-at, words-complete}
+use Rattle.tree.proofs.TokenLaws.{Word, a-symbol, a-constant, an-operation, word-is, symbol-tree, constant-tree, operation-tree, tree-at, complete-tail, complete-end, words-complete}
 use Rattle.tokens.specs.Answers.{end-answer}
 use Rattle.tokens.specs.declared.Run.the-variants as run
 use Rattle.rewrite.specs.Rewrite.{one, flatten-mul-factors, is-mul, constant-of}
-use Rattle.words.specs.Words.{tree-of, begins-with}
-use Rattle.words.proofs.Rewriting.{first-tree, one-long}
+use Rattle.rewrite.proofs.Factors.{factors-of}
+use Rattle.rewrite.proofs.Measure.{size-up}
+use Rattle.words.specs.Words.{tree-of, name-of, begins-with}
+use Rattle.words.proofs.Rewriting.{first-tree, one-long, begins-tree}
 use Rattle.coefficient.specs.Answers.{constant-answer}
 use Rattle.coefficient.specs.declared.Constant.the-variants as constant
-use Rattle.factors.specs.Places.{tree}
+use Rattle.factors.specs.Places.{tree, at-places}
+use Rattle.factors.proofs.PlaceLaws.{Each, Inside}
 use Rattle.factors.specs.Answers.{Flattening, flattened-by, flatten-answer}
 use Rattle.factors.specs.declared.Flattened.the-variants as flattened
 use Rattle.factors.specs.declared.Product.{Product}
 use Rattle.factors.proofs.Products.{Product-of, product-of, never-refused}
-use Rattle.closed.specs.Closed.{by-factors}
+use Rattle.closed.specs.Closed.{by-factors, lone}
+use Rattle.matching.specs.Matching.{names-after}
+use Rattle.matching.proofs.Removing.{after-most}
 use Rattle.matching.specs.Answers.{Takes}
 use Rattle.matching.specs.declared.Taken.{Taken}
 use Rattle.matching.specs.declared.Taken.the-variants as taken
 use Rattle.replacing.specs.Deciding.{Trees, Target, StaysAt, RefusedAt, Match, ProductFirst}
+use Rattle.replacing.proofs.Runs.{name-alone, name-tree}
 use Rattle.replacing.proofs.Deciding.{Product-at, product-at, none-taken, refused-there, match-there}
 use Rattle.replace.specs.Answers.{FlatFirst}
 
@@ -69,6 +76,69 @@ sought-by part old new p e k a w b q =
     q ∙ ap (λ (x : Float). Ieee.eq x one) (product-of part 0 old p new a w .coefficient-is ∙ ap (λ (t : Tree). flatten-mul-factors t .coefficient) (first-is part))
     ∙ sym (ap (λ (b : Bool). b && Ieee.eq (flatten-mul-factors (tree-of part) .coefficient) one) (first-mul part (some-words part e) true (eq-eqb (kind-of (getD part 0 0)) 5 k)))
 
+-- ---- no factor, or the name alone
+
+module _ (part : List ℕ) (name : ℕ) (coefficient : Float) (count : ℕ) (places : List ℕ) (one : trees-in part ≡ some 1) (symbol : kind-of name ≡ 0) (G : FlatFirst part coefficient count places) where
+  abbrev flat : Product-of part 0 (G .old) (record { coefficient = coefficient; count = count }) places
+  flat = product-of part 0 (G .old) (record { coefficient = coefficient; count = count }) places (G .answer) (G .written)
+
+  abbrev fs : List Tree
+  fs = factors-of (tree-of part)
+
+  places-are : at-places part (take count places) ≡ fs
+  places-are = flat .factors-are ∙ ap factors-of (first-is part)
+
+  count-are : count ≡ length fs
+  count-are = flat .count-is ∙ ap (λ (t : Tree). length (factors-of t)) (first-is part)
+
+  pub lone-none : count ≡ 0 → true ≡ lone (name-of name) fs
+  lone-none z = go fs (sym count-are ∙ z)
+    where
+      go : (l : List Tree) → length l ≡ 0 → true ≡ lone (name-of name) l
+      go [] e = (unfold lone in refl)
+      go (t ∷ l) e = absurd (omega arith)
+
+  pub lone-many : 1 < count → false ≡ lone (name-of name) fs
+  lone-many h = go fs (omega (arith, count-are))
+    where
+      go : (l : List Tree) → 1 < length l → false ≡ lone (name-of name) l
+      go [] e = absurd (omega arith)
+      go (t ∷ []) e = absurd (omega arith)
+      go (t ∷ (u ∷ l)) e = (unfold lone in refl)
+
+  module _ (only : count ≡ 1) (room : length part ≤ length places) where
+    abbrev at : ℕ
+    at = getD places 0 0
+
+    some-room : 1 ≤ length places
+    some-room = (let a = one-long part one in omega arith)
+
+    first-place : (l : List ℕ) → 1 ≤ length l → take count l ≡ getD l 0 0 ∷ []
+    first-place [] h = absurd (omega arith)
+    first-place (p ∷ l) h = ap (λ (k : ℕ). take k (p ∷ l)) only
+
+    there : Inside part 0 (0 + size (tree part 0)) at
+    there = subst (Each (Inside part 0 (0 + size (tree part 0)))) (first-place places some-room) (flat .inside) .0
+
+    pub at-within : at < length part
+    unfolding run-at
+    at-within = (let a = there .high in let b = size-up (tree part at) in let c = words-complete part 1 (size (tree part 0)) (flat .there) .0 in omega arith)
+
+    factor-is : fs ≡ tree-of (drop at part) ∷ []
+    unfolding at-places tree-of
+    factor-is = sym places-are ∙ ap (at-places part) (first-place places some-room) ∙ ap (λ (t : Tree). t ∷ []) (tree-at numbered part at)
+
+    pub lone-one : (b : Bool) → b ≡ begins-with (drop at part) (name ∷ []) → b ≡ lone (name-of name) fs
+    unfolding lone
+    lone-one b e =
+        let c = complete-end at part 1 one in
+        let some-there : 1 ≤ c .0 = more-than-none (c .0) at-within (c .1) in
+        sym (ap (lone (name-of name)) factor-is ∙ ap (eq-tree (tree-of (drop at part))) (sym (name-tree name symbol))
+        ∙ begins-tree (drop at part) (c .0) (c .1) some-there (name ∷ []) (name-alone name symbol) b e)
+      where
+        more-than-none : (m : ℕ) → at < length part → trees-in (drop at part) ≡ some m → 1 ≤ m
+        more-than-none m h e = (let t = complete-tail (getD part at 0) (drop (suc at) part) m (ap trees-in (sym (drop-cons part at 0 h)) ∙ e) in omega (arith, t .left))
+
 -- ---- there is a tree, and room
 
 module _ (ws old : List ℕ) (n : ℕ) (all : trees-in ws ≡ some n) (there : 0 < length ws) (room : length ws ≤ length old) where
@@ -100,47 +170,53 @@ module _
   by : T (by-factors (tree-of part))
   by = subst T (F .sought) tt
 
-  module _ (new : List ℕ) (r : Taken) (e : Takes ws part places count new r) where
+  module _ (new : List ℕ) (r : Taken) (e : Takes ws part name places count new r) where
     pub taken-full : r ≡ taken.NoRoom → ⊥
     unfolding run-at
     taken-full q =
-        (let x = subst (Takes ws part places count new) q e in
+        (let x = subst (Takes ws part name places count new) q e in
         let a = x .0 in
         let b = pr .few in
         let c = words-complete ws 1 (size (tree ws 0)) (pr .there) .0 in
         omega arith)
 
-    module _ (left copies : ℕ) (q : r ≡ taken.Out left copies) where
-      abbrev ta : Takes ws part places count new (taken.Out left copies)
-      ta = subst (Takes ws part places count new) q e
+    module _ (all times : ℕ) (q : r ≡ taken.Out all times) where
+      abbrev ta : Takes ws part name places count new (taken.Out all times)
+      ta = subst (Takes ws part name places count new) q e
 
-      pub taken-none : copies ≡ 0 → StaysAt part name ws
-      taken-none z = none-taken part name (F .target) ws (F .trees) pa by (G .old) places new p pr left copies (ta .1) z
+      pub all-there : all ≤ length new
+      all-there = ta .1 .1
 
-      one-more : (copies ≡ 0 → ⊥) → copies ≡ suc (copies - 1)
-      one-more z = go copies z
+      pub taken-none : times ≡ 0 → StaysAt part name ws
+      taken-none z = none-taken part name (F .target) ws (F .trees) pa by (G .old) places new p pr all times (ta .1) z
+
+      one-more : (times ≡ 0 → ⊥) → times ≡ suc (times - 1)
+      one-more z = go times z
         where
           go : (k : ℕ) → (k ≡ 0 → ⊥) → k ≡ suc (k - 1)
           go zero z = absurd (z refl)
           go (suc k) z = omega arith
 
-      pub taken-refused : (copies ≡ 0 → ⊥) → constant.Not ≡ constant-answer (constant-of coefficient) → RefusedAt part name ws
-      taken-refused z k = refused-there part name (F .target) ws (F .trees) pa by (G .old) places new p pr left copies (ta .1) (copies - 1) (one-more z) k
+      pub taken-refused : (times ≡ 0 → ⊥) → constant.Not ≡ constant-answer (constant-of coefficient) → RefusedAt part name ws
+      taken-refused z k = refused-there part name (F .target) ws (F .trees) pa by (G .old) places new p pr all times (ta .1) (times - 1) (one-more z) k
 
       pub never-ends : run.Broken ≡ end-answer 0 (run-at ws 0) → ⊥
       unfolding end-answer
       never-ends k = (let x = k ∙ ap (end-answer 0) (pr .there) in let z : _≡_ {A = ℕ} 0 1 = cc in omega arith)
 
       pub taken-matched :
-          (copies ≡ 0 → ⊥) → (code : ℕ) → constant.Is code ≡ constant-answer (constant-of coefficient) → (end : ℕ) → run.Ends end ≡ end-answer 0 (run-at ws 0)
-          → Match part name ws new left copies code end
+          (times ≡ 0 → ⊥) → (code : ℕ) → constant.Is code ≡ constant-answer (constant-of coefficient) → (end : ℕ) → run.Ends end ≡ end-answer 0 (run-at ws 0)
+          → (copies : ℕ) → copies ≡ names-after (length ws) (take all new) → Match part name ws new (all - copies) copies code end
       unfolding end-answer
-      taken-matched z code k end x =
-          let m = match-there part name (F .target) ws (F .trees) pa by (G .old) places new p pr left copies (ta .1) (copies - 1) (one-more z) code k in
+      taken-matched z code k end x copies c =
+          let m = match-there part name (F .target) ws (F .trees) pa by (G .old) places new p pr all times (ta .1) (times - 1) (one-more z) code k (all - copies) copies c refl in
           let y : run.Ends end ≡ run.Ends (0 + size (tree ws 0)) = x ∙ ap (end-answer 0) (pr .there) in
           let w : end ≡ 0 + size (tree ws 0) = cc in
           let v : end ≡ size (tree ws 0) = omega arith in
-          subst (Match part name ws new left copies code) (sym v) m
+          subst (Match part name ws new (all - copies) copies code) (sym v) m
+
+      pub fewer-names : (copies : ℕ) → copies ≡ names-after (length ws) (take all new) → copies ≤ all
+      fewer-names copies c = (let a = after-most (length ws) (take all new) in let b = length-take-le all new all-there in omega arith)
 
 -- ---- what the callees are asked
 

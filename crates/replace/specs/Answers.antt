@@ -7,15 +7,16 @@ use lib.ListN.{length, drop}
 use lib.Dec.{ltb}
 use Rattle.tree.specs.Outcome.{Outcome, ok, refused}
 use lib.Ieee.{Float}
-use Rattle.words.specs.Words.{begins-with, tree-of, name-of}
+use Rattle.words.specs.Words.{begins-with}
 use Rattle.factors.specs.Answers.{flatten-answer}
 use Rattle.factors.specs.declared.Flattened.the-variants as flattened
-use Rattle.replacing.specs.Replacing.{replaced-words}
 use Rattle.replacing.specs.Deciding.{StaysAt, RefusedAt, Match, Wrote, Left}
 use Rattle.replace.specs.declared.Decision.{Decision}
 use Rattle.replace.specs.declared.Decision.the-variants as decision
 use Rattle.replace.specs.declared.Replaced.{Replaced}
 use Rattle.replace.specs.declared.Replaced.the-variants as replaced
+use Rattle.replace.specs.declared.Sought.{Sought}
+use Rattle.replace.specs.declared.Sought.the-variants as sought
 use Rattle.replace.specs.declared.Step.{Step}
 use Rattle.replace.specs.declared.Step.the-variants as step
 
@@ -36,6 +37,12 @@ abbrev pub Writes : Outcome (List ℕ) → ℕ → List ℕ → Step → List �
 Writes o limit old (step.Wrote n) out = Wrote o old n out
 Writes o limit old step.Refused out = Left o limit old out
 
+-- by whether the target is sought by its factors, and whether these are none but the name
+unfoldable pub sought-as : Bool → Bool → Sought
+sought-as false lone = sought.Whole
+sought-as true false = sought.Factors
+sought-as true true = sought.Endless
+
 -- ---- what `replace` answers, and the words lent after it
 
 pub record Replacement : Type 0 where
@@ -47,12 +54,16 @@ unfoldable pub replaced-by : Outcome (List ℕ) → List ℕ → List ℕ → Re
 replaced-by (ok new) ws old = record { answer = replaced.Words (length new); out = new ++ drop (length new) old }
 replaced-by (refused i) ws old = record { answer = replaced.Refused; out = ws ++ drop (length ws) old }
 
--- by whether the words may be rewritten, and whether there is too little room; else nothing is written
-unfoldable pub replacement : Bool → Bool → Outcome (List ℕ) → List ℕ → List ℕ → Replacement
+-- by whether the words may be rewritten, whether there is too little room, and whether there is no end; where nothing is rewritten, nothing is written
+unfoldable pub replacement : Bool → Bool → Bool → Outcome (List ℕ) → List ℕ → List ℕ → Replacement
 unfolding replaced-by
-replacement false short o ws old = record { answer = replaced.Broken; out = old }
-replacement true true o ws old = record { answer = replaced.NoRoom; out = old }
-replacement true false o ws old = replaced-by o ws old
+replacement false short endless o ws old = record { answer = replaced.Broken; out = old }
+replacement true true endless o ws old = record { answer = replaced.NoRoom; out = old }
+replacement true false true o ws old = record { answer = replaced.Broken; out = old }
+replacement true false false o ws old = replaced-by o ws old
+
+abbrev pub Leaves : Replacement → Replaced → List ℕ → Type 0
+Leaves p r out = (r ≡ p .answer) × (out ≡ p .out)
 
 -- two places for each word, and one for each of the target's
 unfoldable pub scratch-short : List ℕ → List ℕ → ℕ → Bool
@@ -61,7 +72,3 @@ scratch-short ws part places = ltb (places / 2) (length ws) || ltb places (lengt
 unfoldable pub short-of-room : List ℕ → List ℕ → ℕ → ℕ → Bool
 unfolding scratch-short
 short-of-room ws part places room = ltb room (length ws) || scratch-short ws part places
-
-abbrev pub Answers : List ℕ → List ℕ → ℕ → Bool → Bool → List ℕ → Replaced → List ℕ → Type 0
-Answers ws part name may short old r out =
-    (r ≡ replacement may short (replaced-words (tree-of part) (name-of name) ws) ws old .answer) × (out ≡ replacement may short (replaced-words (tree-of part) (name-of name) ws) ws old .out)

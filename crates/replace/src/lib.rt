@@ -1,25 +1,27 @@
 // `replace` of the source (01, "Rewriting"), on words of trees, from one slice to another: an equal node becomes the new symbol, and in a Mul the target's
-// factors do, as often as they are all there. Such a product is written once: its coefficient, its signs, the factors left, each rewritten by itself, and the
-// symbols.
+// factors do, as often as they are all there. Such a product is written once: its coefficient, its signs, the factors that there are then, each rewritten by itself,
+// and the symbols at their end.
 ghost use mathlib.Core.Path.{_≡_};
 ghost use mathlib.Core.List.{_++_};
 ghost use Prim.Native.Nat.{_+_, _-_, _*_, _^_, _≤_, _<_};
 ghost use mathlib.Core.Bool.{true};
 ghost use mathlib.Core.Option.{some};
 ghost use lib.ListN.{length, take, drop};
-ghost use Rattle.tree.specs.Tokens.{trees-in};
-ghost use Rattle.words.specs.Words.{tree-of};
-ghost use Rattle.closed.specs.Closed.{by-factors};
+ghost use Rattle.tree.specs.Tokens.{kind-of, trees-in};
+ghost use Rattle.rewrite.specs.Rewrite.{flatten-mul-factors};
+ghost use Rattle.words.specs.Words.{tree-of, name-of};
+ghost use Rattle.closed.specs.Closed.{by-factors, lone, endless};
 ghost use Rattle.replacing.specs.Replacing.{replaceable, repeated, head-words};
 ghost use Rattle.replacing.specs.Deciding.{Trees, Target, Match, ProductFirst, rewritten-words, product-out};
-ghost use Rattle.replace.specs.Answers.{FlatFirst, Decides, Writes, Answers, scratch-short, short-of-room};
+ghost use Rattle.replace.specs.Answers.{FlatFirst, Decides, Writes, sought-as, replaced-by, replacement, Leaves, scratch-short, short-of-room};
 use coefficient::Constant;
 use factors::Flattened;
 use factors::flatten_mul_factors;
 use integers::constant_of;
 use matching::Taken;
+use matching::names_at_end;
 use matching::take_out;
-use replaceable::may_replace;
+use replaceable::are_formed;
 use tokens::Run;
 use tokens::end_of;
 use unit::is_one;
@@ -50,7 +52,7 @@ enum Decision {
     Equal,
     // Its word stays.
     Stays,
-    // It is a product with matches: how many factors are left, how often the target was taken out, the coefficient's code, and how many words it is.
+    // It is a product with matches: how many factors there are then before the names at the end, how many these are, the coefficient's code, and how many words it is.
     Matched(usize, usize, u64, usize),
     // It is a product with matches whose coefficient is no constant.
     Refused,
@@ -61,10 +63,21 @@ pub enum Replaced {
     Words(usize),
     // Refusal 10: the coefficient of a product to be rebuilt is no constant. The trees are written as they were.
     Refused,
-    // The words aren't trees that may be rewritten, the target isn't one tree with a symbol, or the name isn't a new symbol's word.
+    // The words aren't trees formed as 01 has them, the target isn't one tree, the name isn't a symbol's word, or replacing would never end: the target is a product
+    // with coefficient 1 that has no factor, or the name alone.
     Broken,
     // Fewer words of `out` than there are tokens, fewer than twice as many of `places`, or fewer than the target has.
     NoRoom,
+}
+
+// How the target is sought.
+enum Sought {
+    // As a whole only.
+    Whole,
+    // By its factors too.
+    Factors,
+    // By its factors, which would never end.
+    Endless,
 }
 
 enum Step {
@@ -73,22 +86,47 @@ enum Step {
     Refused,
 }
 
-// Whether the target is sought by its factors: a Mul with coefficient 1.
-fn is_sought(target: &[u64], places: &mut [u64]) -> bool
-    requires { ⌜ (trees-in (now target) ≡ some 1) × (length (now target) ≤ length (now places)) ⌝ }
-    ensures { λ r. ⌜ r ≡ by-factors (tree-of (now (target .entry))) ⌝ }
+// Whether a product has no factor, or the name alone, by the places of its factors.
+fn is_lone(target: &[u64], name: u64, coefficient: f64, count: usize, places: &[u64]) -> bool
+    requires { ⌜ (trees-in (now target) ≡ some 1) × (kind-of name ≡ 0) ⌝ }
+    requires { ⌜ FlatFirst (now target) coefficient count (now places) ⌝ }
+    requires { ⌜ length (now target) ≤ length (now places) ⌝ }
+    ensures { λ r. ⌜ r ≡ lone (name-of name) (flatten-mul-factors (tree-of (now (target .entry))) .factors) ⌝ }
+{
+    if count == 0 {
+        return true;
+    }
+    if count > 1 {
+        return false;
+    }
+    let at = places[0] as usize;
+    let alone = [name; 1];
+    starts_with(&target[at..], &alone)
+}
+
+// How the target is sought: by its factors where it is a Mul with coefficient 1.
+fn seek(target: &[u64], name: u64, places: &mut [u64]) -> Sought
+    requires { ⌜ (trees-in (now target) ≡ some 1) × (kind-of name ≡ 0) × (length (now target) ≤ length (now places)) ⌝ }
+    ensures { λ r. ⌜ r ≡ sought-as (by-factors (tree-of (now (target .entry)))) (lone (name-of name) (flatten-mul-factors (tree-of (now (target .entry))) .factors)) ⌝ }
 {
     if target[0] % KINDS != MUL {
-        return false;
+        return Sought::Whole;
     }
     let flat = flatten_mul_factors(target, 0, places);
     match flat {
         Flattened::Of(p) => {
             let coefficient = p.coefficient;
-            is_one(coefficient)
+            let count = p.count;
+            if is_one(coefficient) {
+                if is_lone(target, name, coefficient, count, places) {
+                    return Sought::Endless;
+                }
+                return Sought::Factors;
+            }
+            Sought::Whole
         }
-        Flattened::Broken => false,
-        Flattened::NoRoom => false,
+        Flattened::Broken => Sought::Whole,
+        Flattened::NoRoom => Sought::Whole,
     }
 }
 
@@ -106,10 +144,10 @@ fn decide_factors(
     requires { ⌜ 2 * length (now tokens) ≤ length (now places) ⌝ }
     ensures { λ r. ⌜ Decides (now (target .entry)) name (now (tokens .entry)) (now (places .exit)) r ⌝ }
 {
-    let Taken::Out(left, copies) = take_out(tokens, target, places, count) else {
+    let Taken::Out(all, times) = take_out(tokens, target, name, places, count) else {
         return Decision::Refused;
     };
-    if copies == 0 {
+    if times == 0 {
         return Decision::Stays;
     }
     let Constant::Is(code) = constant_of(coefficient) else {
@@ -118,7 +156,8 @@ fn decide_factors(
     let Run::Ends(end) = end_of(tokens, 0) else {
         return Decision::Refused;
     };
-    Decision::Matched(left, copies, code, end)
+    let copies = names_at_end(tokens.len() as u64, &places[..all]);
+    Decision::Matched(all - copies, copies, code, end)
 }
 
 // Decides on a product that isn't the target.
@@ -296,24 +335,19 @@ fn put_back(tokens: &[u64], out: &mut [u64])
     }
 }
 
-// Rewrites trees that may be rewritten, where there is room for them.
-fn replace_trees(
+// Rewrites trees, where there is room for them, or leaves them as they were.
+fn replace_sought(
     tokens: &[u64],
     target: &[u64],
     name: u64,
+    sought: bool,
     places: &mut [u64],
     out: &mut [u64],
 ) -> Replaced
-    requires { ⌜ Trees (now tokens) × Target (now target) name × (length (now tokens) ≤ length (now out)) ⌝ }
-    ensures { λ r. ⌜ Answers (now (tokens .entry)) (now (target .entry)) name true (scratch-short (now (tokens .entry)) (now (target .entry)) (length (now (places .entry)))) (now (out .entry)) r (now (out .exit)) ⌝ }
+    requires { ⌜ Trees (now tokens) × Target (now target) name × (sought ≡ by-factors (tree-of (now target))) ⌝ }
+    requires { ⌜ (2 * length (now tokens) ≤ length (now places)) × (length (now tokens) ≤ length (now out)) ⌝ }
+    ensures { λ r. ⌜ Leaves (replaced-by (rewritten-words (now (target .entry)) name (now (tokens .entry))) (now (tokens .entry)) (now (out .entry))) r (now (out .exit)) ⌝ }
 {
-    if places.len() / 2 < tokens.len() {
-        return Replaced::NoRoom;
-    }
-    if places.len() < target.len() {
-        return Replaced::NoRoom;
-    }
-    let sought = is_sought(target, places);
     let step = rewrite(tokens, target, name, sought, places, out);
     match step {
         Step::Wrote(n) => Replaced::Words(n),
@@ -321,6 +355,32 @@ fn replace_trees(
             put_back(tokens, out);
             Replaced::Refused
         }
+    }
+}
+
+// Rewrites trees by one target.
+fn replace_trees(
+    tokens: &[u64],
+    target: &[u64],
+    name: u64,
+    places: &mut [u64],
+    out: &mut [u64],
+) -> Replaced
+    requires { ⌜ Trees (now tokens) × (trees-in (now target) ≡ some 1) × (kind-of name ≡ 0) × (length (now tokens) ≤ length (now out)) ⌝ }
+    ensures { λ r. ⌜ Leaves (replacement true (scratch-short (now (tokens .entry)) (now (target .entry)) (length (now (places .entry)))) (endless (tree-of (now (target .entry))) (name-of name))
+        (rewritten-words (now (target .entry)) name (now (tokens .entry))) (now (tokens .entry)) (now (out .entry))) r (now (out .exit)) ⌝ }
+{
+    if places.len() / 2 < tokens.len() {
+        return Replaced::NoRoom;
+    }
+    if places.len() < target.len() {
+        return Replaced::NoRoom;
+    }
+    let sought = seek(target, name, places);
+    match sought {
+        Sought::Whole => replace_sought(tokens, target, name, false, places, out),
+        Sought::Factors => replace_sought(tokens, target, name, true, places, out),
+        Sought::Endless => Replaced::Broken,
     }
 }
 
@@ -332,10 +392,11 @@ pub fn replace(
     places: &mut [u64],
     out: &mut [u64],
 ) -> Replaced
-    ensures { λ r. ⌜ Answers (now (tokens .entry)) (now (target .entry)) name (replaceable (now (tokens .entry)) (now (target .entry)) name)
-        (short-of-room (now (tokens .entry)) (now (target .entry)) (length (now (places .entry))) (length (now (out .entry)))) (now (out .entry)) r (now (out .exit)) ⌝ }
+    ensures { λ r. ⌜ Leaves (replacement (replaceable (now (tokens .entry)) (now (target .entry)) name)
+        (short-of-room (now (tokens .entry)) (now (target .entry)) (length (now (places .entry))) (length (now (out .entry)))) (endless (tree-of (now (target .entry))) (name-of name))
+        (rewritten-words (now (target .entry)) name (now (tokens .entry))) (now (tokens .entry)) (now (out .entry))) r (now (out .exit)) ⌝ }
 {
-    if may_replace(tokens, target, name) {
+    if are_formed(tokens) {
         let request = check(tokens, target, name, out.len());
         match request {
             Request::Sound => replace_trees(tokens, target, name, places, out),

@@ -2,7 +2,7 @@
 use Prim.Native.Nat.{ℕ, zero, suc, _-_, _≤_, _<_}
 use native.Mathlib.Omega.{arith}
 use mathlib.Core.Path.{_≡_, refl, sym, _∙_, ap, ap₂}
-use mathlib.Core.Bool.{Bool, true, false, not, _&&_, _||_, cond}
+use mathlib.Core.Bool.{Bool, true, false, _&&_, _||_, cond}
 use mathlib.Core.List.{List, [], _∷_}
 use borrow.Author.Tests.{eq-eqb, ne-eqb, le-leb, lt-leb, le-ltb, eqb-true, leb-true, leb-false}
 use lib.ListN.{length, getD, drop}
@@ -13,7 +13,7 @@ use Rattle.tree.specs.Kinds.{arity-ok, kind-at}
 use Rattle.tree.specs.Tokens.{kind-of, below-of}
 use Rattle.tree.proofs.KindLaws.{arity-kind}
 use Rattle.kinds.specs.Numbers.{kind-number}
-use Rattle.replacing.specs.Replacing.{formed-word, has-symbol-word, lacks}
+use Rattle.replacing.specs.Replacing.{formed-word}
 
 -- ---- from the right
 
@@ -42,44 +42,6 @@ every-fails p (w ∷ ws) (suc k) h e = sym (ap (λ (b : Bool). p w && b) (sym (e
 
 pub every-ends : (p : ℕ → Bool) (ws : List ℕ) (i : ℕ) → i ≤ 0 → every p (drop i ws) ≡ true → true ≡ every p ws
 every-ends p ws i h e = (let z : i ≡ 0 = omega arith in sym (ap (λ (k : ℕ). every p (drop k ws)) (sym z) ∙ e))
-
--- ---- a symbol
-
-symbol-cons : (w : ℕ) (ws : List ℕ) → has-symbol-word (w ∷ ws) ≡ (eqb (kind-of w) 0 || has-symbol-word ws)
-unfolding has-symbol-word
-symbol-cons w ws = refl
-
-pub symbol-none : (ws : List ℕ) → has-symbol-word (drop (length ws) ws) ≡ false
-symbol-none ws = ap has-symbol-word (drop-length ws) ∙ (unfold has-symbol-word in refl)
-
-pub symbol-more :
-    (ws : List ℕ) (i : ℕ) → 0 < i → i ≤ length ws → has-symbol-word (drop i ws) ≡ false → (kind-of (getD ws (i - 1) 0) ≡ 0 → ⊥) → has-symbol-word (drop (i - 1) ws) ≡ false
-symbol-more ws i q h e f = ap has-symbol-word (here ws i q h) ∙ symbol-cons (getD ws (i - 1) 0) (drop i ws) ∙ ap₂ _||_ (ne-eqb (kind-of (getD ws (i - 1) 0)) 0 f) e
-
-or-true : (b : Bool) → (b || true) ≡ true
-or-true true = refl
-or-true false = refl
-
-pub symbol-found : (ws : List ℕ) (k : ℕ) → k < length ws → kind-of (getD ws k 0) ≡ 0 → true ≡ has-symbol-word ws
-unfolding has-symbol-word
-symbol-found [] k h e = absurd (omega arith)
-symbol-found (w ∷ ws) zero h e = sym (ap (λ (b : Bool). b || has-symbol-word ws) (eq-eqb (kind-of w) 0 e))
-symbol-found (w ∷ ws) (suc k) h e = sym (ap (λ (b : Bool). eqb (kind-of w) 0 || b) (sym (symbol-found ws k (omega arith) e)) ∙ or-true (eqb (kind-of w) 0))
-
-pub symbol-ends : (ws : List ℕ) (i : ℕ) → i ≤ 0 → has-symbol-word (drop i ws) ≡ false → false ≡ has-symbol-word ws
-symbol-ends ws i h e = (let z : i ≡ 0 = omega arith in sym (ap (λ (k : ℕ). has-symbol-word (drop k ws)) (sym z) ∙ e))
-
--- ---- another word
-
-pub differs : (w name : ℕ) → (w ≡ name → ⊥) → not (eqb w name) ≡ true
-differs w name n = ap not (ne-eqb w name n)
-
-pub equals : (w name : ℕ) → w ≡ name → not (eqb w name) ≡ false
-equals w name e = ap not (eq-eqb w name e)
-
-pub lacks-is : (name : ℕ) (ws : List ℕ) → lacks name ws ≡ every (λ w. not (eqb w name)) ws
-unfolding lacks
-lacks-is name ws = refl
 
 -- ---- a word by its kind
 

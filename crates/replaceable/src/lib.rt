@@ -1,15 +1,12 @@
-// Whether words are trees that `replace` may rewrite: each operation has as many operands as its kind, the target has a symbol, and the new name is none of its.
+// Whether words are formed as 01 has trees, which `replace` asks of what it rewrites: each operation has as many operands as its kind.
 ghost use mathlib.Core.Path.{_≡_};
-ghost use mathlib.Core.Bool.{_&&_};
 ghost use Rattle.tree.specs.Bytes.{every};
 ghost use Rattle.tree.specs.Kinds.{arity-ok};
 ghost use Rattle.kinds.specs.Numbers.{kind-number};
-ghost use Rattle.replacing.specs.Replacing.{formed-word, has-symbol-word, lacks};
+ghost use Rattle.replacing.specs.Replacing.{formed-word};
 
 // A word is kind + KINDS * below.
 const KINDS: u64 = 64;
-
-const SYM: u64 = 0;
 
 const CONST: u64 = 1;
 
@@ -45,7 +42,8 @@ fn is_formed(w: u64) -> bool
     operands_fit(kind, false, w / KINDS)
 }
 
-fn are_formed(tokens: &[u64]) -> bool
+// Whether all words are.
+pub fn are_formed(tokens: &[u64]) -> bool
     ensures { λ r. ⌜ r ≡ every formed-word (now (tokens .entry)) ⌝ }
 {
     let mut i = tokens.len();
@@ -56,41 +54,4 @@ fn are_formed(tokens: &[u64]) -> bool
         }
     }
     true
-}
-
-fn holds_symbol(target: &[u64]) -> bool
-    ensures { λ r. ⌜ r ≡ has-symbol-word (now (target .entry)) ⌝ }
-{
-    let mut i = target.len();
-    while i > 0 {
-        i -= 1;
-        if target[i] % KINDS == SYM {
-            return true;
-        }
-    }
-    false
-}
-
-fn lacks_word(target: &[u64], name: u64) -> bool
-    ensures { λ r. ⌜ r ≡ lacks name (now (target .entry)) ⌝ }
-{
-    let mut i = target.len();
-    while i > 0 {
-        i -= 1;
-        if target[i] == name {
-            return false;
-        }
-    }
-    true
-}
-
-pub fn may_replace(tokens: &[u64], target: &[u64], name: u64) -> bool
-    ensures { λ r. ⌜ r ≡ (every formed-word (now (tokens .entry)) && (has-symbol-word (now (target .entry)) && lacks name (now (target .entry)))) ⌝ }
-{
-    if are_formed(tokens) {
-        if holds_symbol(target) {
-            return lacks_word(target, name);
-        }
-    }
-    false
 }
