@@ -11,6 +11,7 @@ ghost use Rattle.print.specs.Print.{print-call, buffer-after};
 ghost use Rattle.printer.specs.Printing.{printed};
 ghost use Rattle.writer.specs.Answers.{write-answer};
 ghost use Rattle.words.specs.Words.{tree-of, name-of};
+ghost use Rattle.closed.specs.Closed.{endless};
 ghost use Rattle.replacing.specs.Replacing.{replaced-words, replaceable};
 ghost use Rattle.replace.specs.Answers.{replacement, short-of-room};
 ghost use Rattle.rewrite.specs.Rewrite.{replace-divisor, replace-outside-arms};
@@ -204,7 +205,7 @@ pub extern "C" fn cse_replace(
     answer: &mut [u64],
 ) -> u64
     ensures { λ r. ⌜ Replaces (replacement (replaceable (now (tokens .entry)) (now (target .entry)) name)
-        (short-of-room (now (tokens .entry)) (now (target .entry)) (length (now (places .entry))) (length (now (out .entry))))
+        (short-of-room (now (tokens .entry)) (now (target .entry)) (length (now (places .entry))) (length (now (out .entry)))) (endless (tree-of (now (target .entry))) (name-of name))
         (replaced-words (tree-of (now (target .entry))) (name-of name) (now (tokens .entry))) (now (tokens .entry)) (now (out .entry)))
         (now (out .entry)) (now (answer .entry)) r (now (out .exit)) (now (answer .exit)) ⌝ }
 {

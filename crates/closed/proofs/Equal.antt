@@ -276,59 +276,6 @@ module _ (target : Tree) (n : Name) (several : Product target → 2 + count (Sym
         right-append rep (rs target n t) (rs-of target n f) (right-tree t (and-left (well-formed t) (well-formed-each f) w))
         (right-operands f (and-right (well-formed t) (well-formed-each f) w))
 
--- ---- a target with a symbol has a factor, and one that doesn't hold the name has it as no factor
-
-mutual
-  unfolding has-symbol flatten-mul-factors sum-each sum-of
-
-  pub symbol-factor : (t : Tree) → T (has-symbol t) → 1 ≤ sum-of (λ u. 1) (factors-of t)
-  symbol-factor (Sym n) h = omega arith
-  symbol-factor (Const c) h = absurd h
-  symbol-factor (Op k f) h = factors-cases (λ l. 1 ≤ sum-of (λ u. 1) l) k f (let p = symbol-factors f h in let q = sum-factors (λ t. 1) f in omega arith) (λ e. omega arith)
-
-  symbol-factors : (f : Forest) → T (some-of (folds (λ n. true) (λ c. false) (λ k tests. some-of tests) f)) → 1 ≤ sum-each (λ t. sum-of (λ u. 1) (factors-of t)) f
-  symbol-factors nil h = absurd h
-  symbol-factors (t ◂ f) h =
-      elim (or-cases (has-symbol t) (some-of (folds (λ n. true) (λ c. false) (λ k tests. some-of tests) f)) h) [
-        | inl a ↦ (let p = symbol-factor t a in omega arith)
-        | inr b ↦ (let p = symbol-factors f b in omega arith)
-      ]
-
--- every name but n
-abbrev pub other-than : Name → Name → Bool
-other-than n m = not (eq-name m n)
-
-module _ (n : Name) where
-  name-other : (s : Name) → T (other-than n s) → one-of (Sym s) (Sym n) ≡ 0
-  name-other s h = one-none (Sym s) (Sym n) (λ e. go (eq-name s n) h (let q : s ≡ n = cc in subst (λ (m : Name). T (eq-name m n)) (sym q) (eq-name-refl n)))
-    where
-      go : (b : Bool) → T (not b) → T b → ⊥
-      go true g h = g
-      go false g h = h
-
-  mutual
-    unfolding holds flatten-mul-factors sum-each sum-of
-
-    new-factor : (t : Tree) → T (holds (other-than n) t) → sum-of (λ y. one-of y (Sym n)) (factors-of t) ≡ 0
-    new-factor (Sym s) h = (let a = name-other s h in omega arith)
-    new-factor (Const c) h = refl
-    new-factor (Op k f) h =
-        factors-cases (λ l. sum-of (λ y. one-of y (Sym n)) l ≡ 0) k f (let a = sum-factors (λ y. one-of y (Sym n)) f in let b = new-factors f h in omega arith)
-        (λ e. (let a = one-none (Op k f) (Sym n) (λ e. (let z : _≡_ {A = ℕ} 0 1 = cc in omega arith)) in omega arith))
-
-    new-factors : (f : Forest) → T (holds-each (other-than n) f) → sum-each (λ t. sum-of (λ y. one-of y (Sym n)) (factors-of t)) f ≡ 0
-    new-factors nil h = refl
-    new-factors (t ◂ f) h =
-        (let a = new-factor t (and-left (holds (other-than n) t) (holds-each (other-than n) f) h) in
-        let b = new-factors f (and-right (holds (other-than n) t) (holds-each (other-than n) f) h) in
-        omega arith)
-
-pub factor-there : (target : Tree) → T (has-symbol target) → 1 ≤ length (factors-of target)
-factor-there target h = (let a = symbol-factor target h in let b = length-sum (factors-of target) in omega arith)
-
-pub factor-new : (target : Tree) (n : Name) → T (holds (other-than n) target) → count (Sym n) (factors-of target) ≡ 0
-factor-new target n h = count-sum (Sym n) (factors-of target) ∙ new-factor n target h
-
 -- ---- targets that are not endless
 
 lone-or-several : (n : Name) (l : List Tree) → lone n l ≡ false → 2 + count (Sym n) l ≤ 2 * length l
@@ -346,10 +293,10 @@ ends-several target n e p = lone-or-several n (factors-of target) (go (is-mul ta
     go true t q = q
     go false t q = absurd t
 
--- one with a symbol, and none of its is the name
-pub several-ends : (target : Tree) (n : Name) → T (has-symbol target) → T (holds (other-than n) target) → endless target n ≡ false
+-- one with a factor, of which none is the name
+pub several-ends : (target : Tree) (n : Name) → 1 ≤ length (factors-of target) → count (Sym n) (factors-of target) ≡ 0 → endless target n ≡ false
 unfolding endless
-several-ends target n h k = go (by-factors target) (lone n (factors-of target)) (not-lone n (factors-of target) (factor-there target h) (factor-new target n k))
+several-ends target n h k = go (by-factors target) (lone n (factors-of target)) (not-lone n (factors-of target) h k)
   where
     go : (b c : Bool) → c ≡ false → (b && c) ≡ false
     go true c e = e

@@ -320,7 +320,7 @@ replaced-formed target n s [] [] h v = tt
 replaced-formed target n s [] (r ∷ rs) h v = absurd h
 replaced-formed target n s (e ∷ es) [] h v = absurd h
 replaced-formed target n s (e ∷ es) (r ∷ rs) h v =
-    and-both (well-formed r) (well-formed-all rs) (replace-shrinks by-operations target n (least-operations n) s e r (and-left (well-formed e) (well-formed-all es) v) (h .0) .1)
+    and-both (well-formed r) (well-formed-all rs) (replace-shrinks by-operations target n (least-operations n) (λ _. s) e r (and-left (well-formed e) (well-formed-all es) v) (h .0) .1)
     (replaced-formed target n s es rs (h .1) (and-right (well-formed e) (well-formed-all es) v))
 
 replaced-hold :

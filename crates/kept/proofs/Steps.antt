@@ -11,7 +11,7 @@ use lib.Dec.{T, eqb}
 use Rattle.tree.specs.Bytes.{every}
 use Rattle.tree.specs.Outcome.{Outcome, ok, refused, _>>=_, each}
 use Rattle.tree.specs.Tree.{Name, xname, Tree, Forest, Sym, Const, Op, nil, _◂_, folds}
-use Rattle.tree.specs.Facts.{total, operations, all-operations, size, has-symbol}
+use Rattle.tree.specs.Facts.{total, operations, all-operations, all-nodes, size}
 use Rattle.tree.specs.Rows.{Row}
 use Rattle.tree.specs.Tokens.{read, numbered, name-in, trees-in, trees-at, run-at, tokens, all-tokens, kind-of}
 use Rattle.tree.proofs.Logic.{and-left, and-right, and-both}
@@ -20,13 +20,16 @@ use Rattle.tree.proofs.TokenLaws.{complete-length, run-size, words-complete}
 use Rattle.tree.proofs.TokenCode.{unnumbered}
 use Rattle.rewrite.specs.Rewrite.{replace}
 use Rattle.rewrite.proofs.Measure.{sum-of}
-use Rattle.rewrite.proofs.Names.{holds-all}
+use Rattle.rewrite.proofs.Names.{holds-all, all-nodes-hold}
+use Rattle.rewrite.proofs.Counts.{counted-holds, absent}
 use Rattle.cse.specs.Extract.{is-candidate}
 use Rattle.cselaws.proofs.Outcomes.{Good, then-good, good-ok, good-at}
-use Rattle.cselaws.proofs.RoundsCount.{made-before, candidate-facts}
+use Rattle.cselaws.proofs.RoundsCount.{symbol-factor, factors-nodes, made-before, new-name, candidate-facts}
+use Rattle.closed.specs.Closed.{endless}
+use Rattle.closed.proofs.Equal.{several-ends}
 use Rattle.checked.specs.Check.{word-ok}
 use Rattle.words.specs.Words.{tree-of, name-of, some-trees, one-tree, sound}
-use Rattle.replacing.specs.Replacing.{replaced-words, formed-word, has-symbol-word, lacks, replaceable}
+use Rattle.replacing.specs.Replacing.{replaced-words, formed-word, replaceable}
 use Rattle.renaming.specs.Places.{numbered-at, best-place}
 use Rattle.renaming.specs.Rounds.{next-number, extract-on, extract-words}
 use Rattle.renaming.proofs.BestPlace.{Best, best-place-is, candidate-at-is}
@@ -37,7 +40,7 @@ use Rattle.renaming.proofs.WordForms.{extract-words-form, place-words}
 use Rattle.renaming.proofs.WordSteps.{Turn, Next, one-turn, words-size}
 use Rattle.kept.specs.Sound.{name-word, numbered-below, extractable}
 use Rattle.kept.proofs.Passing.{all-taken, extract-on-taken}
-use Rattle.kept.proofs.Words.{name-ok, words-taken, made-ok, all-taken-formed, taken-at, formed-words, kind-zero, word-names, names-below, run-apart, symbol-words}
+use Rattle.kept.proofs.Words.{name-ok, words-taken, made-ok, all-taken-formed, taken-at, formed-words, kind-zero, word-names, names-below}
 
 -- ---- words that may be extracted from
 
@@ -148,11 +151,6 @@ module _ (rows : List Row) (scoped : Bool) (n : ℕ) (ws : List ℕ) (r : Ready 
 
   -- ---- it may be replaced
 
-  part-symbol : T (has-symbol-word part)
-  part-symbol =
-      subst (λ (l : List ℕ). T (has-symbol-word l)) (place-words ws (r .trees) (r .complete) p inside)
-      (symbol-words target (candidate-facts scoped (read numbered ws) target chosen .1))
-
   pub may-replace : T (replaceable ws part (name-word n))
   unfolding replaceable sound some-trees one-tree
   may-replace =
@@ -161,9 +159,19 @@ module _ (rows : List Row) (scoped : Bool) (n : ℕ) (ws : List ℕ) (r : Ready 
       let d : T (one-tree (trees-in part)) = subst (λ (o : Option ℕ). T (one-tree o)) (sym part-one) tt in
       let e : T (eqb (kind-of (name-word n)) 0) = eq→eqb (kind-of (name-word n)) 0 (kind-zero (1 + 3 * n)) in
       let s = and-both (some-trees (trees-in ws)) (one-tree (trees-in part) && eqb (kind-of (name-word n)) 0) c (and-both (one-tree (trees-in part)) (eqb (kind-of (name-word n)) 0) d e) in
-      and-both (every formed-word ws) (has-symbol-word part && (lacks (name-word n) part && sound ws part (name-word n))) a
-      (and-both (has-symbol-word part) (lacks (name-word n) part && sound ws part (name-word n)) part-symbol
-      (and-both (lacks (name-word n) part) (sound ws part (name-word n)) (run-apart n ws p (size target) (r .below)) s))
+      and-both (every formed-word ws) (sound ws part (name-word n)) a s
+
+  -- it has a symbol, and the name is new
+  target-ends : endless target (xname n) ≡ false
+  target-ends =
+      let f = candidate-facts scoped (read numbered ws) target chosen in
+      let known = subst T (names-below n ws) (r .below) in
+      let held = counted-holds (made-before n) target (all-nodes (read numbered ws)) (all-nodes-hold (made-before n) (read numbered ws) known) (let q = f .2 in omega arith) in
+      several-ends target (xname n) (symbol-factor target (f .1))
+      (let a = absent (made-before n) (xname n) (new-name n) target held in let b = factors-nodes (Sym (xname n)) target in omega arith)
+
+  pub may-end : endless (tree-of part) (name-of (name-word n)) ≡ false
+  may-end = ap₂ endless part-tree (word-names n) ∙ target-ends
 
   -- the words replaced, and the run
   pub extracted-are : extract-words target n ws ≡ (replaced-words (tree-of part) (name-of (name-word n)) ws >>= λ l. ok (l ++ part))

@@ -75,7 +75,7 @@ replaced-formed x n s [] [] h v = tt
 replaced-formed x n s [] (r ∷ rs) h v = absurd h
 replaced-formed x n s (e ∷ es) [] h v = absurd h
 replaced-formed x n s (e ∷ es) (r ∷ rs) h v =
-    and-both (well-formed r) (well-formed-all rs) (replace-shrinks by-operations x n (least-operations n) s e r (and-left (well-formed e) (well-formed-all es) v) (h .0) .1)
+    and-both (well-formed r) (well-formed-all rs) (replace-shrinks by-operations x n (least-operations n) (λ _. s) e r (and-left (well-formed e) (well-formed-all es) v) (h .0) .1)
     (replaced-formed x n s es rs (h .1) (and-right (well-formed e) (well-formed-all es) v))
 
 one-all : (p : Name → Bool) (x : Tree) → T (holds-all p (x ∷ [])) → T (holds p x)

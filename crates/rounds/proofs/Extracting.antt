@@ -23,14 +23,15 @@ use Rattle.tokens.specs.Answers.{end-answer}
 use Rattle.tokens.specs.declared.Run.the-variants as run
 use Rattle.words.specs.Words.{tree-of, name-of, some-trees}
 use Rattle.words.proofs.Scanning.{Put, put-more}
+use Rattle.closed.specs.Closed.{endless}
 use Rattle.replacing.specs.Replacing.{replaced-words, replaceable}
 use Rattle.replacing.specs.Deciding.{Wrote}
 use Rattle.renaming.specs.Places.{numbered-at, best-place}
 use Rattle.renaming.specs.Rounds.{next-number, extract-words}
 use Rattle.kept.specs.Sound.{name-word}
-use Rattle.kept.proofs.Steps.{Ready, ready-of, inside, part-run, may-replace, extracted-are, stepped}
+use Rattle.kept.proofs.Steps.{Ready, ready-of, inside, part-run, may-replace, may-end, extracted-are, stepped}
 use Rattle.kept.proofs.Looping.{number-first}
-use Rattle.replace.specs.Answers.{Replacement, replaced-by, replacement, scratch-short, short-of-room, Answers}
+use Rattle.replace.specs.Answers.{Replacement, replaced-by, replacement, scratch-short, short-of-room, Leaves}
 use Rattle.best.specs.Answers.{has-room, best-of, best-answer}
 use Rattle.rounds.specs.Answers.{Finds, Chosen, Extracts, Turns}
 use Rattle.best.specs.declared.Best.{Best}
@@ -127,7 +128,8 @@ module _ (rows : List Row) (ws : List ℕ) (scoped : Bool) (at name : ℕ) (h : 
 
     -- what may be replaced, with room, is replaced or refused
     module _ (q : Replaced) (old mid : List ℕ) (lent : ℕ) (enough : lent ≡ 2048) (few : length ws ≤ 1024) (fits : length ws ≤ length old)
-        (a : Answers ws part (name-word name) (replaceable ws part (name-word name)) (short-of-room ws part lent (length old)) old q mid) where
+        (a : Leaves (replacement (replaceable ws part (name-word name)) (short-of-room ws part lent (length old)) (endless (tree-of part) (name-of (name-word name)))
+        (replaced-words (tree-of part) (name-of (name-word name)) ws) ws old) q mid) where
       abbrev outcome : Outcome (List ℕ)
       outcome = replaced-words (tree-of part) (name-of (name-word name)) ws
 
@@ -140,6 +142,9 @@ module _ (rows : List Row) (ws : List ℕ) (scoped : Bool) (at name : ℕ) (h : 
       may : replaceable ws part (name-word name) ≡ true
       may = is-true (replaceable ws part (name-word name)) (subst (λ (p : List ℕ). T (replaceable ws p (name-word name))) part-same (may-replace rows scoped name ws ready at (h .best)))
 
+      over : endless (tree-of part) (name-of (name-word name)) ≡ false
+      over = subst (λ (p : List ℕ). endless (tree-of p) (name-of (name-word name)) ≡ false) part-same (may-end rows scoped name ws ready at (h .best))
+
       roomy : short-of-room ws part lent (length old) ≡ false
       unfolding short-of-room scratch-short
       roomy =
@@ -150,8 +155,9 @@ module _ (rows : List Row) (ws : List ℕ) (scoped : Bool) (at name : ℕ) (h : 
       so : Replaced-so outcome q
       unfolding replacement replaced-by
       so =
-          let tests : replacement (replaceable ws part (name-word name)) (short-of-room ws part lent (length old)) outcome ws old ≡ replaced-by outcome ws old =
-          ap₂ (λ (x y : Bool). replacement x y outcome ws old) may roomy in
+          let last = endless (tree-of part) (name-of (name-word name)) in
+          let tests : replacement (replaceable ws part (name-word name)) (short-of-room ws part lent (length old)) last outcome ws old ≡ replaced-by outcome ws old =
+          ap₂ (λ (x y : Bool). replacement x y last outcome ws old) may roomy ∙ ap (λ (z : Bool). replacement true false z outcome ws old) over in
           go outcome refl (a .0 ∙ ap (λ (t : Replacement). t .answer) tests) (a .1 ∙ ap (λ (t : Replacement). t .out) tests)
         where
           go : (o : Outcome (List ℕ)) → outcome ≡ o → q ≡ replaced-by o ws old .answer → mid ≡ replaced-by o ws old .out → Replaced-so outcome q
