@@ -35,6 +35,9 @@ const UNSOUND: usize = 4;
 /// The word of a Neg, which needs an operand, and of an Add that has one operand only.
 const MINUS: u64 = 66;
 const LAME_SUM: u64 = 67;
+/// The words of a Mul and of the constant 1.
+const PRODUCT: u64 = 133;
+const ONE: u64 = 129;
 
 fn main() {
     let words: Vec<String> = std::env::args().skip(1).collect();
@@ -58,13 +61,32 @@ fn words_of(es: &[E]) -> Vec<u64> {
     words
 }
 
+/// A name that is new, or now and then one that may stand in the trees or be one of the target's
+/// factors.
 fn new_name(r: &mut Random) -> String {
+    if r.chance(15) {
+        return ["a", "b", "c", "__x0", "__m1"][r.below(5)].to_string();
+    }
     let n = 100 + r.below(1000);
     format!("__{}{n}", if r.chance(70) { "x" } else { "m" })
 }
 
-/// The rewritten expressions, or none where a rebuilt coefficient is no constant.
+/// Whether the source never ends: the target is sought by its factors, and these are none, or the
+/// name alone, which is put in again each time that it is taken out.
+fn endless(rewriting: Rewriting, target: &E, name: &E) -> bool {
+    if rewriting != Rewriting::Replace || !matches!(target.as_ref(), Expr::Mul(..)) {
+        return false;
+    }
+    let (one, wanted) = cse::factors(target);
+    one == 1.0 && wanted.iter().all(|f| f == name) && wanted.len() < 2
+}
+
+/// The rewritten expressions, or none where a rebuilt coefficient is no constant, or where the source
+/// would never end.
 fn asked(rewriting: Rewriting, pair: &Pair, name: &E) -> Option<Vec<E>> {
+    if endless(rewriting, &pair.part, name) {
+        return None;
+    }
     let one = |e: &E| match rewriting {
         Rewriting::Replace => cse::replace(e, &pair.part, name),
         Rewriting::Divisor => cse::divisor_replaced(e, &pair.part, name),
@@ -77,9 +99,11 @@ fn asked(rewriting: Rewriting, pair: &Pair, name: &E) -> Option<Vec<E>> {
     }
 }
 
-/// Where a coefficient is refused the trees are written as they were.
-fn expected(tokens: &[u64], given: &Option<Vec<E>>) -> Expected {
+/// Where a coefficient is refused the trees are written as they were; where there is no end nothing is
+/// written.
+fn expected(tokens: &[u64], endless: bool, given: &Option<Vec<E>>) -> Expected {
     match given {
+        None if endless => nothing(BROKEN),
         Some(es) => {
             let out = words_of(es);
             let answer = vec![out.len() as u64];
@@ -121,7 +145,7 @@ fn sound_call(r: &mut Random, rewriting: Rewriting, pair: &Pair, name: &str) -> 
 /// One thing made unsound, or lent too little; the number that is to be returned.
 fn spoil_call(r: &mut Random, c: &mut Call) -> u64 {
     let replace = c.rewriting == Rewriting::Replace;
-    match r.below(if replace { 9 } else { 5 }) {
+    match r.below(if replace { 8 } else { 5 }) {
         0 => c.tokens.push(MINUS),
         1 => c.part = c.part.repeat(2),
         2 => c.name += 1 + r.below(60) as u64,
@@ -133,12 +157,8 @@ fn spoil_call(r: &mut Random, c: &mut Call) -> u64 {
             c.answer = 0;
             return NO_ANSWER;
         }
-        5 => c.part = vec![words::constant_code(2.0) * words::BELOW + 1],
-        6 => {
-            let symbols: Vec<u64> = c.part.iter().copied().filter(|w| w % words::BELOW == 0).collect();
-            c.name = symbols[r.below(symbols.len())];
-        }
-        7 => c.tokens.insert(0, LAME_SUM),
+        5 => c.part = vec![PRODUCT, ONE, ONE],
+        6 => c.tokens.insert(0, LAME_SUM),
         _ => {
             c.places = r.below(2 * c.tokens.len());
             return NO_ROOM;
@@ -149,7 +169,7 @@ fn spoil_call(r: &mut Random, c: &mut Call) -> u64 {
 
 // ---- what was met
 
-const EVENTS: [&str; 8] = [
+const EVENTS: [&str; 11] = [
     "unchanged",
     "refused by 10",
     "equal trees",
@@ -158,6 +178,9 @@ const EVENTS: [&str; 8] = [
     "coefficients rebuilt",
     "matches inside a product with matches",
     "targets that are no products",
+    "targets without a symbol",
+    "products matched by factors of which one is the name",
+    "targets that never end",
 ];
 
 #[derive(Default)]
@@ -175,7 +198,7 @@ struct Tally {
 type Events = [bool; EVENTS.len()];
 
 /// Marks what happens in a tree, read off the tree: matches of the target as a whole or by factors.
-fn look(e: &E, target: &E, inside: bool, events: &mut Events) {
+fn look(e: &E, target: &E, name: &E, inside: bool, events: &mut Events) {
     if e == target {
         events[2] = true;
         events[6] |= inside;
@@ -186,18 +209,20 @@ fn look(e: &E, target: &E, inside: bool, events: &mut Events) {
         let (one, wanted) = cse::factors(target);
         let mut times = 0;
         while one == 1.0 && take_out(&mut left, &wanted) {
+            left.push(name.clone());
             times += 1;
         }
         if times > 0 {
             events[3] = true;
+            events[9] |= wanted.contains(name);
             events[4] |= times > 1;
             events[5] |= coefficient.abs() != 1.0;
             events[6] |= inside;
-            left.iter().for_each(|f| look(f, target, true, events));
+            left.iter().for_each(|f| look(f, target, name, true, events));
             return;
         }
     }
-    cse::children(e).into_iter().for_each(|c| look(c, target, inside, events));
+    cse::children(e).into_iter().for_each(|c| look(c, target, name, inside, events));
 }
 
 fn take_out(left: &mut Vec<E>, wanted: &[E]) -> bool {
@@ -213,13 +238,18 @@ fn take_out(left: &mut Vec<E>, wanted: &[E]) -> bool {
 }
 
 impl Tally {
-    fn mark(&mut self, rewriting: Rewriting, pair: &Pair, given: &Option<Vec<E>>) {
+    fn mark(&mut self, rewriting: Rewriting, pair: &Pair, name: &E, given: &Option<Vec<E>>) {
         let mut events = [false; EVENTS.len()];
+        let never = endless(rewriting, &pair.part, name);
         events[0] = given.as_ref() == Some(&pair.es);
-        events[1] = given.is_none();
+        events[1] = given.is_none() && !never;
         events[7] = !matches!(pair.part.as_ref(), Expr::Mul(..));
-        if rewriting == Rewriting::Replace {
-            pair.es.iter().for_each(|e| look(e, &pair.part, false, &mut events));
+        events[8] = !pairs::has_symbol(&pair.part);
+        events[10] = never;
+        if never {
+            // nothing is rewritten
+        } else if rewriting == Rewriting::Replace {
+            pair.es.iter().for_each(|e| look(e, &pair.part, name, false, &mut events));
         } else {
             events[2] = !events[0];
         }
@@ -310,12 +340,14 @@ fn compare(count: usize) {
 fn hold_one(r: &mut Random, rewriting: Rewriting, port: &mut Port, tally: &mut Tally) {
     let pair = pair(r, rewriting);
     let name = new_name(r);
-    let began = Instant::now();
-    let given = asked(rewriting, &pair, &pairs::sym(&name));
-    tally.source += began.elapsed();
-    tally.mark(rewriting, &pair, &given);
     let mut c = sound_call(r, rewriting, &pair, &name);
-    tally.hold(port, &c, &expected(&c.tokens, &given), &shown(&pair));
+    let name = pairs::sym(&name);
+    let began = Instant::now();
+    let given = asked(rewriting, &pair, &name);
+    tally.source += began.elapsed();
+    tally.mark(rewriting, &pair, &name, &given);
+    let never = endless(rewriting, &pair.part, &name);
+    tally.hold(port, &c, &expected(&c.tokens, never, &given), &shown(&pair));
     if r.chance(UNSOUND) {
         let number = spoil_call(r, &mut c);
         tally.unsound[(number - BROKEN) as usize] += 1;
@@ -333,7 +365,9 @@ fn self_test() {
         let pair = pair(&mut r, rewriting);
         let name = new_name(&mut r);
         let c = sound_call(&mut r, rewriting, &pair, &name);
-        let mut given = expected(&c.tokens, &asked(rewriting, &pair, &pairs::sym(&name)));
+        let name = pairs::sym(&name);
+        let never = endless(rewriting, &pair.part, &name);
+        let mut given = expected(&c.tokens, never, &asked(rewriting, &pair, &name));
         assert_eq!(port.difference(&c, &given), None, "a true one: {}", shown(&pair));
         spoil(&mut r, &mut given);
         noticed += usize::from(port.difference(&c, &given).is_some());

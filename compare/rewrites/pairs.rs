@@ -115,17 +115,21 @@ fn ones(r: &mut Random) -> Vec<E> {
     }
 }
 
-/// A target that is a product; of coefficient 1 but for one in eight.
+/// A target that is a product; of coefficient 1 but for one in eight, and now and then without a
+/// factor.
 fn product_target(r: &mut Random, inner: &E) -> (Vec<E>, E) {
     let mut factors: Vec<E> = (0..2 + r.below(3)).map(|_| factor(r, inner)).collect();
     if r.chance(10) {
         factors.truncate(1);
+    } else if r.chance(3) {
+        factors.clear();
     }
     let mut parts = factors.clone();
     parts.extend(ones(r));
     if r.chance(12) {
         parts.push(num(pick(r, &[2, -1, 0, -3])));
-    } else if parts.len() == 1 {
+    }
+    while parts.len() < 2 {
         parts.push(num(1));
     }
     if r.chance(20) {
@@ -213,7 +217,7 @@ fn size(e: &E, limit: usize) -> usize {
     n
 }
 
-fn has_symbol(e: &E) -> bool {
+pub fn has_symbol(e: &E) -> bool {
     matches!(e.as_ref(), Expr::Sym(_)) || children(e).into_iter().any(has_symbol)
 }
 
@@ -239,8 +243,7 @@ fn grown_pair(r: &mut Random, kinds: &[usize]) -> Pair {
     }
     let mut all = Vec::new();
     es.iter().for_each(|e| parts_of(e, &mut all));
-    let found: Vec<E> = all.into_iter().filter(|e| has_symbol(e)).cloned().collect();
-    let part = if found.is_empty() || r.chance(10) { sym("a") } else { pick(r, &found) };
+    let part = if r.chance(10) { sym("a") } else { pick(r, &all).clone() };
     Pair { es, part }
 }
 

@@ -1,3 +1,4 @@
+pub mod Examples
 pub mod Runs
 pub mod Places
 pub mod Removing

@@ -102,13 +102,7 @@ fn close_gap(places: &mut [u64], j: usize, n: usize)
 }
 
 // Removes for each factor of `part`, in order, the first of the `count` places where an equal tree stands. The search is left where one is missing.
-fn remove_each(
-    tokens: &[u64],
-    part: &[u64],
-    name: u64,
-    places: &mut [u64],
-    count: usize,
-) -> Removed
+fn remove_each(tokens: &[u64], part: &[u64], name: u64, places: &mut [u64], count: usize) -> Removed
     requires { ⌜ count ≤ length (now places) ⌝ }
     ensures { λ r. ⌜ Removes (remove-runs (words-at (now (tokens .entry)) name) (factor-runs (now (part .entry))) (take count (now (places .entry)))) (now (places .exit)) r × (drop count (now (places .exit)) ≡ drop count (now (places .entry))) ⌝ }
 {
@@ -151,13 +145,7 @@ fn copy_places(places: &mut [u64], from: usize, to: usize, n: usize)
 
 // Takes the factors of `part` out of the first `count` places as often as all of them are there, and puts the name's place at the end each time. The places are kept
 // behind themselves until then. Twice `count` times is enough: each time there is a factor less, or one that isn't the name.
-pub fn take_out(
-    tokens: &[u64],
-    part: &[u64],
-    name: u64,
-    places: &mut [u64],
-    count: usize,
-) -> Taken
+pub fn take_out(tokens: &[u64], part: &[u64], name: u64, places: &mut [u64], count: usize) -> Taken
     ensures { λ r. ⌜ Takes (now (tokens .entry)) (now (part .entry)) name (now (places .entry)) count (now (places .exit)) r ⌝ }
 {
     if places.len() / 2 < count {
