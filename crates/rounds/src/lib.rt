@@ -28,7 +28,7 @@ const CLASSES: u64 = 3;
 
 const MADE: u64 = 1;
 
-const MOST_WORDS: usize = 1024;
+const MOST_WORDS: usize = 1927;
 
 const TEXT_BYTES: usize = 131072;
 
@@ -99,11 +99,11 @@ fn are_below(tokens: &[u64], name: u64) -> bool
 
 // The best place among words that the arrays hold.
 fn find_best(rows: &[u64], tokens: &[u64], scoped: bool, text: &mut [u8]) -> Best
-    requires { ⌜ (length (now tokens) ≤ 1024) × (131072 ≤ length (now text)) ⌝ }
+    requires { ⌜ (length (now tokens) ≤ 1927) × (131072 ≤ length (now text)) ⌝ }
     ensures { λ r. ⌜ Finds (rows-in (now (rows .entry))) (now (tokens .entry)) scoped r ⌝ }
 {
-    let mut facts = [0u64; 5120];
-    let mut marks = [0u64; 1024];
+    let mut facts = [0u64; 9635];
+    let mut marks = [0u64; 1927];
     best_place(rows, tokens, scoped, &mut facts, &mut marks, text)
 }
 
@@ -117,10 +117,10 @@ fn extract(
     out: &mut [u64],
 ) -> Replaced
     requires { ⌜ Chosen (rows-in (now rows)) (now tokens) scoped at name ⌝ }
-    requires { ⌜ (length (now tokens) ≤ 1024) × (name ≤ 1099511627776) × (length (now tokens) ≤ length (now out)) ⌝ }
+    requires { ⌜ (length (now tokens) ≤ 1927) × (name ≤ 1099511627776) × (length (now tokens) ≤ length (now out)) ⌝ }
     ensures { λ r. ⌜ Extracts (now (tokens .entry)) at name (now (out .entry)) r (now (out .exit)) ⌝ }
 {
-    let mut places = [0u64; 2048];
+    let mut places = [0u64; 3854];
     let Run::Ends(end) = end_of(tokens, at) else {
         return Replaced::Broken;
     };
@@ -147,10 +147,10 @@ fn extract_here(
     name: u64,
 ) -> Round
     requires { ⌜ Chosen (rows-in (now rows)) (take len (now tokens)) scoped at name ⌝ }
-    requires { ⌜ (len ≤ length (now tokens)) × (len ≤ 1024) × (name ≤ 1099511627776) ⌝ }
+    requires { ⌜ (len ≤ length (now tokens)) × (len ≤ 1927) × (name ≤ 1099511627776) ⌝ }
     ensures { λ r. ⌜ Turns (now (tokens .entry)) len at name r (now (tokens .exit)) ⌝ }
 {
-    let mut out = [0u64; 1024];
+    let mut out = [0u64; 1927];
     let made = extract(rows, &tokens[..len], scoped, at, name, &mut out);
     match made {
         Replaced::Words(n) => {

@@ -30,11 +30,11 @@ use Rattle.scope.specs.Frame.{Lent, Holds, Is-group}
 
 -- how large a scope's answer is
 pub record Small (next : ℕ) (t : Told) : Type 0 where
-  pub rows : length (t .words) ≤ 144115188075855872
-  pub steps : t .steps ≤ 1024
+  pub rows : length (t .words) ≤ 288230376151711744
+  pub steps : t .steps ≤ 1927
   pub made : t .extracted ≤ 4294967296
   pub grows : next ≤ t .next
-  pub low : t .next ≤ 2147484672
+  pub low : t .next ≤ 2147485575
 
 pub told-small : (rows : List Row) (fuel row next : ℕ) (ws : List ℕ) → T (extractable rows next ws) → T (symbols-pass (is-number rows) ws)
     → (t : Told) → scope-told rows fuel row next ws ≡ ok t → Small next t

@@ -19,7 +19,7 @@ same-length : tie.Need-same-length
 same-length c = search needs
 
 returns : tie.Need-returns
-returns c = let a = c .before .before .before .before .before .before .before .before .before .before .before .args in found (a .rows .now) (a .tokens .now) (a .scoped) 5120 1024 (length (a .text .now)) refl refl (c .before .before .before .before .before .before .before .before .before .before .before .pre .1) (c .before .before .before .before .before .before .before .before .before .before .before .pre .0) (c .before .before .before .before .best-place .result) (c .before .before .before .before .best-place .ensures)
+returns c = let a = c .before .before .before .before .before .before .before .before .before .before .before .args in found (a .rows .now) (a .tokens .now) (a .scoped) 9635 1927 (length (a .text .now)) refl refl (c .before .before .before .before .before .before .before .before .before .before .before .pre .1) (c .before .before .before .before .before .before .before .before .before .before .before .pre .0) (c .before .before .before .before .best-place .result) (c .before .before .before .before .best-place .ensures)
 
 pub find-best-spec : {M : Type 1} → statement M
 find-best-spec =
