@@ -89,6 +89,9 @@ zeros-front zero m h = refl
 zeros-front (suc n) zero h = absurd (omega arith)
 zeros-front (suc n) (suc m) h = ap (λ (l : List ℕ). 0 ∷ l) (zeros-front n m (omega arith))
 
+pub zeros-many : (n m : ℕ) → n ≤ m → n ≡ length (take n (replicate {A = ℕ} m 0))
+zeros-many n m h = sym (ap length (zeros-front n m h) ∙ length-replicate n 0)
+
 module _ (n : ℕ) where
   abbrev zeros : List ℕ
   zeros = replicate n 0
