@@ -175,8 +175,8 @@ finish w = topo-sort-intermediates (w .inters) >>= λ l. ok (record { inters = l
 unfoldable pub scopes-open : ℕ
 scopes-open = 9
 
--- How many occurrences a scope works on: as many as two texts of so many nodes fit the area's 131,072 bytes, 34 a node, since candidates of a scope are ranked by
--- text, two at a time. Each open scope has a part of the work area of its own, a word of 64 bits for an occurrence.
+-- How many occurrences a scope works on: so many that two texts of as many nodes fit the area's 131,072 bytes, 34 a node, since a scope ranks candidates and
+-- divisors by text, two at a time. Each open scope has a part of the work area of its own, a word of 64 bits for an occurrence.
 unfoldable pub scope-rows : ℕ
 scope-rows = 1927
 

@@ -32,9 +32,9 @@ const ROW: usize = 31;
 const BITS: usize = 31744;
 
 // The same for few bindings, so that most lists needn't clear the large table.
-const FEW: usize = 256;
+const FEW: usize = 64;
 
-const FEW_BITS: usize = 7936;
+const FEW_BITS: usize = 1984;
 
 // The most words of a tree: a reciprocal has two besides its divisor's.
 const TREE: usize = 1026;
@@ -229,7 +229,7 @@ fn order_few(
 ) -> Ordered
     requires { ⌜ Ready (now tokens) (now settled) (now starts) (now places) results ⌝ }
     requires { ⌜ (count ≡ (length (now starts) - results) + length (now places)) × (count ≤ length (now taken)) ⌝ }
-    requires { ⌜ count ≤ 256 ⌝ }
+    requires { ⌜ count ≤ 64 ⌝ }
     ensures { λ r. ⌜ In-order (final-order results (now (places .entry)) (now (tokens .entry)) count) count (now (taken .entry)) (now (taken .exit)) r ⌝ }
 {
     let mut bits = [0u64; FEW_BITS];

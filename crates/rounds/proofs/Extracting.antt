@@ -52,7 +52,7 @@ or-false a b e f = rw (e, f)
 -- ---- the best place, where there is room
 
 pub found :
-    (rows ws : List ℕ) (scoped : Bool) (f m t : ℕ) → f ≡ 9635 → m ≡ 1927 → 131072 ≤ t → length ws ≤ 1927 → (r : Best) → r ≡ best-answer rows ws scoped f m t
+    (rows ws : List ℕ) (scoped : Bool) (f m t : ℕ) → 5 * length ws ≤ f → length ws ≤ m → 131072 ≤ t → length ws ≤ 1927 → (r : Best) → r ≡ best-answer rows ws scoped f m t
     → Finds (rows-in rows) ws scoped r
 unfolding best-answer has-room best-of some-trees
 found rows ws scoped f m t ef em lt lw r e =
@@ -63,8 +63,8 @@ found rows ws scoped f m t ef em lt lw r e =
     enough =
         is-true (has-room (length ws) f m t)
         (and-both (leb (length ws) 1000000) _ (le→leb (length ws) 1000000 (omega arith))
-        (and-both (leb (5 * length ws) f) _ (le→leb (5 * length ws) f (omega (arith, ef)))
-        (and-both (leb (length ws) m) (leb (68 * length ws) t) (le→leb (length ws) m (omega (arith, em))) (le→leb (68 * length ws) t (omega arith)))))
+        (and-both (leb (5 * length ws) f) _ (le→leb (5 * length ws) f ef)
+        (and-both (leb (length ws) m) (leb (68 * length ws) t) (le→leb (length ws) m em) (le→leb (68 * length ws) t (omega arith)))))
 
     go : (n : Option ℕ) → trees-in ws ≡ n → (pass : Bool) → every (word-ok (rows-in rows)) ws ≡ pass → (o : Option ℕ) → best-place ws (name-in (rows-in rows)) scoped ≡ o
         → Finds (rows-in rows) ws scoped (best-of true n pass o)

@@ -37,9 +37,9 @@ const ROW: usize = 31;
 const BITS: usize = 59737;
 
 // The same for few statements, so that most scopes needn't clear the large table.
-const FEW: usize = 256;
+const FEW: usize = 64;
 
-const FEW_BITS: usize = 7936;
+const FEW_BITS: usize = 1984;
 
 // The most words of a tree: a reciprocal has two besides its divisor's.
 const TREE: usize = 1929;
@@ -391,7 +391,7 @@ fn order_few(
 ) -> Ordered
     requires { ⌜ Prepared (now tokens) results first (now places) (now held) (now starts) (now members) (now ends) (now numbers) ⌝ }
     requires { ⌜ (count ≡ stmts-count (now tokens) results first (now places) (now numbers)) × (1927 ≤ length (now taken)) ⌝ }
-    requires { ⌜ count ≤ 256 ⌝ }
+    requires { ⌜ count ≤ 64 ⌝ }
     ensures { λ r. ⌜ (r ≡ order-told (stmts-order (now (tokens .entry)) results first (now (places .entry)) (now (numbers .entry))) (stmts-count (now (tokens .entry)) results first (now (places .entry)) (now (numbers .entry))))
         × (now (taken .exit) ≡ stmts-order (now (tokens .entry)) results first (now (places .entry)) (now (numbers .entry))
         ++ drop (length (stmts-order (now (tokens .entry)) results first (now (places .entry)) (now (numbers .entry)))) (now (taken .entry))) ⌝ }

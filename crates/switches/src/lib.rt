@@ -112,7 +112,7 @@ fn gather(tokens: &[u64], places: &mut [u64]) -> usize
     requires { ⌜ (length (now tokens) ≤ 1927) × (length (now tokens) ≤ length (now places)) ⌝ }
     ensures { λ r. ⌜ Listed (switch-places (now (tokens .entry))) (now (places .entry)) r (now (places .exit)) ⌝ }
 {
-    let mut marks = [0u64; 1927];
+    let mut marks = [0u64; MOST_WORDS];
     mark_outside(tokens, true, &mut marks);
     list(tokens, &marks, places)
 }

@@ -119,7 +119,7 @@ fn list_outside(tokens: &[u64], scoped: bool, places: &mut [u64]) -> usize
     requires { ⌜ (length (now tokens) ≤ 1927) × (length (now tokens) ≤ length (now places)) ⌝ }
     ensures { λ r. ⌜ Listed (outside-places (now (tokens .entry)) scoped) (now (places .entry)) r (now (places .exit)) ⌝ }
 {
-    let mut marks = [0u64; 1927];
+    let mut marks = [0u64; MOST_WORDS];
     mark_outside(tokens, scoped, &mut marks);
     list_marked(tokens, scoped, &marks, places)
 }
@@ -199,8 +199,8 @@ fn gather(tokens: &[u64], scoped: bool, places: &mut [u64]) -> usize
     requires { ⌜ (length (now tokens) ≤ 1927) × (length (now tokens) ≤ length (now places)) ⌝ }
     ensures { λ r. ⌜ Listed (chosen-places (now (tokens .entry)) (all-places (now (tokens .entry))) (outside-places (now (tokens .entry)) scoped)) (now (places .entry)) r (now (places .exit)) ⌝ }
 {
-    let mut all = [0u64; 1927];
-    let mut outside = [0u64; 1927];
+    let mut all = [0u64; MOST_WORDS];
+    let mut outside = [0u64; MOST_WORDS];
     let listed = list_divisors(tokens, &mut all);
     match listed {
         Divisors::Count(n) => {
