@@ -3,7 +3,7 @@
 use crate::arael::{E, Expr, LargeScope};
 use crate::cse::children;
 
-const MOST: usize = 1024;
+const MOST: usize = 1927;
 
 fn size(e: &E) -> usize {
     1 + children(e).into_iter().map(size).sum::<usize>()

@@ -154,7 +154,7 @@ pub fn copies(r: &mut Random) -> Vec<T> {
         1 => op(ADD, vec![num(1), t]),
         _ => op(NEG, vec![t]),
     };
-    let height = if r.chance(50) { 20 + r.below(12) as i64 } else { 1 + r.below(12) as i64 };
+    let height = if r.chance(50) { 28 + r.below(16) as i64 } else { 1 + r.below(12) as i64 };
     // texts that come after the text they hold, or before it, and now and then a divisor fewer
     let way = r.below(3);
     for n in 0..height {

@@ -44,21 +44,21 @@ module _ (w f m t : ℕ) where
   unfolding has-room
   few-marks h g l = rw (le-leb w 1000000 h, le-leb (5 * w) f g, lt-leb w m l)
 
-  pub last-room : w ≤ 1000000 → 5 * w ≤ f → w ≤ m → leb (128 * w) t ≡ has-room w f m t
+  pub last-room : w ≤ 1000000 → 5 * w ≤ f → w ≤ m → leb (68 * w) t ≡ has-room w f m t
   unfolding has-room
   last-room h g l = rw (le-leb w 1000000 h, le-leb (5 * w) f g, le-leb w m l)
 
-  pub room-is : true ≡ has-room w f m t → (w ≤ 1000000) × (5 * w ≤ f) × (w ≤ m) × (128 * w ≤ t)
+  pub room-is : true ≡ has-room w f m t → (w ≤ 1000000) × (5 * w ≤ f) × (w ≤ m) × (68 * w ≤ t)
   unfolding has-room
   room-is e =
       let a = leb w 1000000 in
       let b = leb (5 * w) f in
       let c = leb w m in
-      let d = leb (128 * w) t in
+      let d = leb (68 * w) t in
       let x : T (a && (b && (c && d))) = subst T e tt in
       let y = and-right a (b && (c && d)) x in
       let z = and-right b (c && d) y in
-      (leb→le w 1000000 (and-left a (b && (c && d)) x), leb→le (5 * w) f (and-left b (c && d) y), leb→le w m (and-left c d z), leb→le (128 * w) t (and-right c d z))
+      (leb→le w 1000000 (and-left a (b && (c && d)) x), leb→le (5 * w) f (and-left b (c && d) y), leb→le w m (and-left c d z), leb→le (68 * w) t (and-right c d z))
 
 -- ---- the answers
 

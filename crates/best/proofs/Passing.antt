@@ -119,7 +119,7 @@ module _ (rows ws : List ℕ) (room : ℕ) (c : Complete ws) (k : Writable rows 
   unfolding writable is-there
   place-writable i h = rw (place-run i h) (is-true (tree-ok (tree-here rows ws i)) (place-ok i h))
 
-  place-short : (i : ℕ) → i < length ws → length (text-here rows ws i) ≤ 64 * length ws
+  place-short : (i : ℕ) → i < length ws → length (text-here rows ws i) ≤ 34 * length ws
   unfolding run-at
   place-short i h =
       omega (arith, text-short rows ws i bits (place-ok i h), words-complete (drop i ws) 1 (size (tree-here rows ws i)) (place-run i h) .0, length-drop i ws)

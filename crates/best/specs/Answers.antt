@@ -12,9 +12,9 @@ use Rattle.renaming.specs.Places.{best-place}
 use Rattle.best.specs.declared.Best.{Best}
 use Rattle.best.specs.declared.Best.the-variants.{At, Nothing, Broken, NoRoom}
 
--- at most a million words, with five words of facts, a mark and 128 bytes of text for each
+-- at most a million words, with five words of facts, a mark and 68 bytes of text for each
 unfoldable pub has-room : ℕ → ℕ → ℕ → ℕ → Bool
-has-room words facts marks text = leb words 1000000 && (leb (5 * words) facts && (leb words marks && leb (128 * words) text))
+has-room words facts marks text = leb words 1000000 && (leb (5 * words) facts && (leb words marks && leb (68 * words) text))
 
 -- from the room, the number of trees, whether each word is one that print takes, and the best place
 unfoldable pub best-of : Bool → Option ℕ → Bool → Option ℕ → Best

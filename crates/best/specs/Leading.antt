@@ -30,7 +30,7 @@ pub record HasMarks (ws : List ℕ) (scoped : Bool) (marks : List ℕ) : Type 0 
 -- every tree can be written, and two texts fit
 pub record Writable (rows ws : List ℕ) (room : ℕ) : Type 0 where
   pub pass : T (every (word-ok (rows-in rows)) ws)
-  pub fits : 128 * length ws ≤ room
+  pub fits : 68 * length ws ≤ room
 
 -- ---- the place that leads, with what it saves: none where that is 0
 

@@ -35,7 +35,7 @@ const SYMBOL: usize = 4;
 // So many words at most, which keeps products small; and so many bytes for each, for two texts.
 const MOST_WORDS: usize = 1000000;
 
-const TEXT_BYTES: usize = 128;
+const TEXT_BYTES: usize = 68;
 
 pub enum Best {
     At(usize),

@@ -1,17 +1,17 @@
-// A table of yes or no in lent words: a row has 1,024 places, 64 in each of its 16 words, the lowest bit of the first word first. Each function takes any words
+// A table of yes or no in lent words: a row has 1,984 places, 64 in each of its 31 words, the lowest bit of the first word first. Each function takes any words
 // and numbers at all; a place outside the table is no.
 ghost use mathlib.Core.Path.{_≡_};
 ghost use lib.ListN.{length};
 ghost use Rattle.bits.specs.Bits.{inside, yes, with-yes};
 
-const COLUMNS: usize = 1024;
+const COLUMNS: usize = 1984;
 
 // Words in a row, and places in a word.
-const WORDS: usize = 16;
+const WORDS: usize = 31;
 
 const PLACES: usize = 64;
 
-// Whether a place is in a table of so many words. The row is tested by a division, so that no product is too large.
+// Whether a place is in a table of so many words. The row is tested by a division, so that no product is too large, and its words are taken away, so that no sum is.
 fn is_inside(words: usize, row: usize, column: usize) -> bool
     ensures { λ r. ⌜ r ≡ inside words row column ⌝ }
 {
@@ -21,7 +21,7 @@ fn is_inside(words: usize, row: usize, column: usize) -> bool
     if row > words / WORDS {
         return false;
     }
-    WORDS * row + column / PLACES < words
+    column / PLACES < words - WORDS * row
 }
 
 // Whether a place is yes.

@@ -175,10 +175,10 @@ finish w = topo-sort-intermediates (w .inters) >>= λ l. ok (record { inters = l
 unfoldable pub scopes-open : ℕ
 scopes-open = 9
 
--- How many occurrences a scope works on. Each open scope has a part of the work area of its own, a word of 64 bits for an occurrence; and two texts of so many
--- nodes fit the area's bytes, which candidates of a scope are ranked by.
+-- How many occurrences a scope works on: so many that two texts of as many nodes fit the area's 131,072 bytes, 34 a node, since a scope ranks candidates and
+-- divisors by text, two at a time. Each open scope has a part of the work area of its own, a word of 64 bits for an occurrence.
 unfoldable pub scope-rows : ℕ
-scope-rows = 1024
+scope-rows = 1927
 
 -- The largest number that a scope may start with, far below what a word of 64 bits holds as a name's number.
 abbrev pub most-number : ℕ

@@ -258,7 +258,7 @@ limits-nesting (t ∷ l) h = (let q = limits-step t l h in (q .0, limits-nesting
 
 pub limits-rows : (l : List Tree) → T (within-limits l) → occurrences l ≤ scope-rows
 unfolding within-limits scope-rows
-limits-rows l h = leb→le (occurrences l) 1024 (and-left (leb (occurrences l) 1024) _ h)
+limits-rows l h = omega (arith, leb→le (occurrences l) 1024 (and-left (leb (occurrences l) 1024) _ h))
 
 -- For a list within the limits more than nine open scopes would change nothing,
 pub answer-by-more : (fuel : ℕ) → scopes-open ≤ fuel → (scoped : Bool) (es : List Tree) → T (within-limits es) → answer scoped es ≡ (cse-scope fuel scoped 0 es >>= λ a. ok (as-answer a))

@@ -61,8 +61,8 @@ fn extract_and_list(
     places: &mut [u64],
 ) -> Listed
     requires { ⌜ T (extractable (rows-in (now rows)) first (take len (now tokens))) × T (symbols-pass (is-number (rows-in (now rows))) (take len (now tokens))) ⌝ }
-    requires { ⌜ (len ≤ 1024) × (len ≤ length (now tokens)) × (first ≤ 549755813888) ⌝ }
-    requires { ⌜ (131072 ≤ length (now text)) × (1024 ≤ length (now places)) ⌝ }
+    requires { ⌜ (len ≤ 1927) × (len ≤ length (now tokens)) × (first ≤ 549755813888) ⌝ }
+    requires { ⌜ (131072 ≤ length (now text)) × (len ≤ length (now places)) ⌝ }
     ensures { λ r. ⌜ Lists (rows-in (now (rows .entry))) scoped first (take len (now (tokens .entry))) r (now (tokens .exit)) (now (places .exit)) ⌝ }
 {
     let rounds = extract_all(rows, tokens, len, scoped, first, text);

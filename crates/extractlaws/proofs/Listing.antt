@@ -51,12 +51,12 @@ module _ (rows : List Row) (old : List ℕ) (len : ℕ) (scoped : Bool) (first t
   pub record Given : Type 0 where
     pub good : T (extractable rows first ws)
     pub pass : T (symbols-pass (is-number rows) ws)
-    pub few : len ≤ 1024
+    pub few : len ≤ 1927
     pub there : len ≤ length old
     pub low : first ≤ 549755813888
     pub bytes : 131072 ≤ text
 
-  pub given-so : T (extractable rows first ws) × T (symbols-pass (is-number rows) ws) → (len ≤ 1024) × (len ≤ length old) × (first ≤ 549755813888) → 131072 ≤ text → Given
+  pub given-so : T (extractable rows first ws) × T (symbols-pass (is-number rows) ws) → (len ≤ 1927) × (len ≤ length old) × (first ≤ 549755813888) → 131072 ≤ text → Given
   given-so (g, p) (f, t, l) b = record { good = g; pass = p; few = f; there = t; low = l; bytes = b }
 
   module _ (g : Given) (r : Rounds) (out : List ℕ) (given : (r ≡ rounds-answer rows old len scoped first text) × Leaves-words rows old len scoped first text out) where
@@ -93,20 +93,20 @@ module _ (rows : List Row) (old : List ℕ) (len : ℕ) (scoped : Bool) (first t
       unfolding all-rounds
       left = rounds-leave rows scoped (length (read numbered ws)) first ws refl (ready-of rows first ws (g .good)) (g .pass) vs (done .0)
 
-      vs-few : length vs ≤ 1024
-      vs-few = omega (arith, left-short rows scoped (length (read numbered ws)) first ws vs left, length-take-le len old (g .there), g .few)
+      vs-few : length vs ≤ len
+      vs-few = omega (arith, left-short rows scoped (length (read numbered ws)) first ws vs left, length-take-le len old (g .there))
 
       -- ---- the divisors are listed
 
       abbrev new : List ℕ
       new = divisors-to-bind vs (name-in rows) scoped
 
-      module _ (places : List ℕ) (lent : 1024 ≤ length places) (bytes : ℕ) (kept : bytes ≡ text) (b : ToBind) (now : List ℕ)
+      module _ (places : List ℕ) (lent : len ≤ length places) (bytes : ℕ) (kept : bytes ≡ text) (b : ToBind) (now : List ℕ)
           (bound : (b ≡ to-bind-answer rows vs scoped bytes places .answer) × (now ≡ to-bind-answer rows vs scoped bytes places .places)) where
         has-room : to-bind-short (length vs) (length places) bytes ≡ false
         unfolding to-bind-short
         has-room =
-            none (ltb 1024 (length vs)) (ltb (length places) (length vs)) (ltb bytes 131072) (not-less 1024 (length vs) vs-few)
+            none (ltb 1927 (length vs)) (ltb (length places) (length vs)) (ltb bytes 131072) (not-less 1927 (length vs) (omega (arith, vs-few, g .few)))
             (not-less (length places) (length vs) (omega (arith, vs-few, lent))) (not-less bytes 131072 (omega (arith, kept, g .bytes)))
           where
             none : (x y z : Bool) → x ≡ false → y ≡ false → z ≡ false → (x || (y || z)) ≡ false

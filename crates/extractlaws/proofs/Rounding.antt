@@ -31,11 +31,11 @@ module _ (rows : List Row) (old : List ℕ) (len : ℕ) (scoped : Bool) (first t
   abbrev ws : List ℕ
   ws = take len old
 
-  module _ (few : len ≤ 1024) (there : len ≤ length old) (low : first ≤ 549755813888) (bytes : 131072 ≤ text) (good : T (extractable rows first ws)) where
+  module _ (few : len ≤ 1927) (there : len ≤ length old) (low : first ≤ 549755813888) (bytes : 131072 ≤ text) (good : T (extractable rows first ws)) where
     has-room : rounds-short (length old) len first text ≡ false
     unfolding rounds-short
     has-room =
-        none-true (ltb 1024 len) (ltb (length old) len) (ltb 549755813888 first) (ltb text 131072) (not-less 1024 len few) (not-less (length old) len there)
+        none-true (ltb 1927 len) (ltb (length old) len) (ltb 549755813888 first) (ltb text 131072) (not-less 1927 len few) (not-less (length old) len there)
         (not-less 549755813888 first low) (not-less text 131072 bytes)
 
     by-outcome :

@@ -2,8 +2,8 @@
 // the order of their needs, and the answer's rows are counted and written. The trees from before are settled once; a reciprocal is made when it is needed.
 ghost use mathlib.Core.Path.{_≡_};
 ghost use mathlib.Core.List.{_++_};
-ghost use Prim.Native.Nat.{_+_, _-_, _≤_, _<_};
-ghost use lib.ListN.{length, take, drop};
+ghost use Prim.Native.Nat.{_+_, _-_, _*_, _≤_, _<_};
+ghost use lib.ListN.{length, take, drop, replicate};
 ghost use Rattle.needs.specs.Marks.{with-needs};
 ghost use Rattle.finishlaws.specs.Entries.{final-run, entry-row, entry-tree, entry, entries};
 ghost use Rattle.finishlaws.specs.Final.{final-rows};
@@ -26,8 +26,15 @@ use treelist::list_trees;
 // The most words, and the most bindings.
 const MOST: usize = 1024;
 
-// The words of a table of bits with a row for each binding.
-const BITS: usize = 16384;
+// The words of a row of a table of bits, and of a table with a row for each of the most bindings.
+const ROW: usize = 31;
+
+const BITS: usize = 31744;
+
+// The same for few bindings, so that most lists needn't clear the large table.
+const FEW: usize = 64;
+
+const FEW_BITS: usize = 1984;
 
 // The most words of a tree: a reciprocal has two besides its divisor's.
 const TREE: usize = 1026;
@@ -188,6 +195,85 @@ fn mark_all(
     }
 }
 
+// The positions of the bindings in the order in which they are taken, by a table of bits that has a row for each and is all no.
+fn order_in(
+    tokens: &[u64],
+    settled: &[u64],
+    starts: &[u64],
+    places: &[u64],
+    results: usize,
+    count: usize,
+    bits: &mut [u64],
+    taken: &mut [u64],
+) -> Ordered
+    requires { ⌜ Ready (now tokens) (now settled) (now starts) (now places) results ⌝ }
+    requires { ⌜ (count ≡ (length (now starts) - results) + length (now places)) × (count ≤ length (now taken)) ⌝ }
+    requires { ⌜ now bits ≡ replicate (31 * count) 0 ⌝ }
+    ensures { λ r. ⌜ In-order (final-order results (now (places .entry)) (now (tokens .entry)) count) count (now (taken .entry)) (now (taken .exit)) r ⌝ }
+{
+    let mut waiting = [0u64; MOST];
+    let mut stack = [0u64; MOST];
+    mark_all(tokens, settled, starts, places, results, count, bits);
+    order(bits, count, &mut waiting, &mut stack, taken)
+}
+
+// The same for few bindings, in a small table.
+fn order_few(
+    tokens: &[u64],
+    settled: &[u64],
+    starts: &[u64],
+    places: &[u64],
+    results: usize,
+    count: usize,
+    taken: &mut [u64],
+) -> Ordered
+    requires { ⌜ Ready (now tokens) (now settled) (now starts) (now places) results ⌝ }
+    requires { ⌜ (count ≡ (length (now starts) - results) + length (now places)) × (count ≤ length (now taken)) ⌝ }
+    requires { ⌜ count ≤ 64 ⌝ }
+    ensures { λ r. ⌜ In-order (final-order results (now (places .entry)) (now (tokens .entry)) count) count (now (taken .entry)) (now (taken .exit)) r ⌝ }
+{
+    let mut bits = [0u64; FEW_BITS];
+    let end = ROW * count;
+    order_in(
+        tokens,
+        settled,
+        starts,
+        places,
+        results,
+        count,
+        &mut bits[..end],
+        taken,
+    )
+}
+
+// The same for any number of bindings, in a large table.
+fn order_many(
+    tokens: &[u64],
+    settled: &[u64],
+    starts: &[u64],
+    places: &[u64],
+    results: usize,
+    count: usize,
+    taken: &mut [u64],
+) -> Ordered
+    requires { ⌜ Ready (now tokens) (now settled) (now starts) (now places) results ⌝ }
+    requires { ⌜ (count ≡ (length (now starts) - results) + length (now places)) × (count ≤ length (now taken)) ⌝ }
+    ensures { λ r. ⌜ In-order (final-order results (now (places .entry)) (now (tokens .entry)) count) count (now (taken .entry)) (now (taken .exit)) r ⌝ }
+{
+    let mut bits = [0u64; BITS];
+    let end = ROW * count;
+    order_in(
+        tokens,
+        settled,
+        starts,
+        places,
+        results,
+        count,
+        &mut bits[..end],
+        taken,
+    )
+}
+
 // The positions of the bindings in the order in which they are taken.
 fn take_in_order(
     tokens: &[u64],
@@ -202,11 +288,10 @@ fn take_in_order(
     requires { ⌜ (count ≡ (length (now starts) - results) + length (now places)) × (count ≤ length (now taken)) ⌝ }
     ensures { λ r. ⌜ In-order (final-order results (now (places .entry)) (now (tokens .entry)) count) count (now (taken .entry)) (now (taken .exit)) r ⌝ }
 {
-    let mut bits = [0u64; BITS];
-    let mut waiting = [0u64; MOST];
-    let mut stack = [0u64; MOST];
-    mark_all(tokens, settled, starts, places, results, count, &mut bits);
-    order(&bits, count, &mut waiting, &mut stack, taken)
+    if count <= FEW {
+        return order_few(tokens, settled, starts, places, results, count, taken);
+    }
+    order_many(tokens, settled, starts, places, results, count, taken)
 }
 
 // The row that entry q of the answer begins with: the bindings in order, and then the results.

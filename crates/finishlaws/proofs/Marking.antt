@@ -1,9 +1,9 @@
 -- The needs of the bindings marked one after another: each bit says whether a binding reads a name that another binds. Assumes nothing.
-use Prim.Native.Nat.{ℕ, zero, suc, _+_, _%_, _≤_, _<_}
+use Prim.Native.Nat.{ℕ, zero, suc, _+_, _*_, _%_, _≤_, _<_}
 use native.Mathlib.Omega.{arith}
 use mathlib.Core.Path.{_≡_, refl, sym, _∙_, ap}
 use mathlib.Core.Bool.{Bool, true, false, _&&_}
-use mathlib.Core.List.{List}
+use mathlib.Core.List.{List, _∷_}
 use borrow.Author.Tests.{ltb-true, ltb-false}
 use lib.Dec.{ltb}
 use lib.ListN.{length, getD, take, replicate, length-replicate, getD-replicate}
@@ -64,8 +64,8 @@ module _ (f : ℕ → List ℕ) where
   marked-ends {old} {count} {bits} {j} s h = s .marked ∙ ap (λ (n : ℕ). marks f n old) (let z : j ≡ count = omega (arith, s .most) in z)
 
   -- from a table that is all no
-  module _ (t : List ℕ) (long : length t ≡ 16384) (none : (j i : ℕ) → yes t j i ≡ false) where
-    pub marks-yes : (n : ℕ) → n ≤ 1024 → (j i : ℕ) → j < n → i < 1024 → yes (marks f n t) j i ≡ holds-name (f j) i
+  module _ (t : List ℕ) (none : (j i : ℕ) → yes t j i ≡ false) where
+    pub marks-yes : (n : ℕ) → 31 * n ≤ length t → (j i : ℕ) → j < n → i < 1984 → yes (marks f n t) j i ≡ holds-name (f j) i
     unfolding marks
     marks-yes zero g j i h k = absurd (omega arith)
     marks-yes (suc n) g j i h k = go (ltb j n) refl (λ i. marks-yes n (omega arith) j _ i k)
@@ -76,10 +76,21 @@ module _ (f : ℕ → List ℕ) where
             other-rows (f n) n (marks f n t) j i (λ q. omega arith) ∙ earlier before
         go false e earlier =
             let same : j ≡ n = omega (arith, ltb-false j n e) in
-            let wide : word-of n i < length (marks f n t) = omega (arith, marks-long n t, long) in
+            let wide : word-of n i < length (marks f n t) = omega (arith, marks-long n t) in
             ap (λ (x : ℕ). yes (with-needs (f n) n (marks f n t)) x i) same
             ∙ (needs-fresh (f n) n (marks f n t) i (marks-after n t n i (omega arith) ∙ none n i) (inside-of (length (marks f n t)) n i k wide)
             ∙ ap (λ (x : ℕ). holds-name (f x) i) (sym same))
+
+-- ---- tables that are all no
+
+-- the front of one
+pub zeros-front : (n m : ℕ) → n ≤ m → take n (replicate m 0) ≡ replicate {A = ℕ} n 0
+zeros-front zero m h = refl
+zeros-front (suc n) zero h = absurd (omega arith)
+zeros-front (suc n) (suc m) h = ap (λ (l : List ℕ). 0 ∷ l) (zeros-front n m (omega arith))
+
+pub zeros-many : (n m : ℕ) → n ≤ m → n ≡ length (take n (replicate {A = ℕ} m 0))
+zeros-many n m h = sym (ap length (zeros-front n m h) ∙ length-replicate n 0)
 
 module _ (n : ℕ) where
   abbrev zeros : List ℕ
@@ -97,5 +108,5 @@ module _ (n : ℕ) where
       go false e = refl
 
 pub marked-yes :
-    (f : ℕ → List ℕ) (words n : ℕ) → words ≡ 16384 → n ≤ 1024 → (j i : ℕ) → j < n → i < 1024 → yes (marks f n (replicate words 0)) j i ≡ holds-name (f j) i
-marked-yes f words n e = marks-yes f (replicate words 0) (length-replicate words 0 ∙ e) (λ j i. zero-row words j i) n
+    (f : ℕ → List ℕ) (words n : ℕ) → words ≡ 31 * n → (j i : ℕ) → j < n → i < 1984 → yes (marks f n (replicate words 0)) j i ≡ holds-name (f j) i
+marked-yes f words n e = marks-yes f (replicate words 0) (λ j i. zero-row words j i) n (omega (arith, length-replicate {A = ℕ} words 0, e))

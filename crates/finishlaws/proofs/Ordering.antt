@@ -1,5 +1,5 @@
 -- The order of the bindings by the marked needs is that of `topo_sort_intermediates` (01, "Order"). Assumes nothing.
-use Prim.Native.Nat.{ℕ, zero, suc, _+_, _-_, _≤_, _<_}
+use Prim.Native.Nat.{ℕ, zero, suc, _+_, _-_, _*_, _≤_, _<_}
 use native.Mathlib.Omega.{arith}
 use mathlib.Core.Path.{_≡_, refl, sym, _∙_, ap, ap₂}
 use mathlib.Core.Option.{some}
@@ -63,7 +63,7 @@ module _ (k m : ℕ) (places ws : List ℕ) (complete : trees-in ws ≡ some m) 
   pub bindings-count : length bindings ≡ count
   bindings-count = omega (arith, binds-count 0 (drop k F), length-drop k F, final-count k m places ws complete there)
 
-  module _ (words : ℕ) (wide : words ≡ 16384) where
+  module _ (words : ℕ) (wide : words ≡ 31 * count) where
     abbrev bits : List ℕ
     bits = marks (binding-run k places ws) count (replicate words 0)
 
@@ -72,7 +72,7 @@ module _ (k m : ℕ) (places ws : List ℕ) (complete : trees-in ws ≡ some m) 
     marked-reads j i h g =
         let tree : ℕ → Tree = λ n. getD F (k + n) (Op 0 nil) in
         let fit = fits-at F (final-fit k m places ws complete there) (k + j) (omega (arith, bindings-count, final-count k m places ws complete there)) in
-        marked-yes (binding-run k places ws) words count wide few j i (omega (arith, bindings-count)) (omega (arith, bindings-count))
+        marked-yes (binding-run k places ws) words count wide j i (omega (arith, bindings-count)) (omega (arith, bindings-count, few))
         ∙ (sym (reads-name number is-alone i (xname j) (tree j) (tree i) fit)
         ∙ sym (ap₂ (λ (a b : Intermediate). meets (names a) (free b)) (lets-by-number F k i g) (lets-by-number F k j h)))
 

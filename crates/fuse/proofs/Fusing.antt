@@ -189,19 +189,19 @@ module _ (base places numbers old : List ℕ) (len : ℕ) where
       unfolding fusing-by
       full e = answers-by true false there e fused.NoRoom old refl
 
-      pub long-list : 1026 < len → Answers fused.NoRoom old
+      pub long-list : 1929 < len → Answers fused.NoRoom old
       unfolding room-for
-      long-list g = full (rw (lt-leb len 1026 g) refl)
+      long-list g = full (rw (lt-leb len 1929 g) refl)
 
-      module _ (short : len ≤ 1026) where
+      module _ (short : len ≤ 1929) where
         pub large-number : false ≡ all-small (take (length places) numbers) → Answers fused.NoRoom old
         unfolding room-for
-        large-number g = full (rw (le-leb len 1026 short) (sym g))
+        large-number g = full (rw (le-leb len 1929 short) (sym g))
 
         module _ (low : true ≡ all-small (take (length places) numbers)) where
           room : fitting ≡ true
           unfolding room-for
-          room = rw (le-leb len 1026 short) (sym low)
+          room = rw (le-leb len 1929 short) (sym low)
 
           -- the words are copied to an area
           module _ (area copied : List ℕ) (copies : copied ≡ take len old ++ drop (length (take len old)) area) where

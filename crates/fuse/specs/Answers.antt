@@ -48,7 +48,7 @@ all-small (n ∷ l) = leb n 549755813888 && all-small l
 
 unfoldable pub room-for : ℕ → List ℕ → Bool
 unfolding all-small
-room-for len numbers = leb len 1026 && all-small numbers
+room-for len numbers = leb len 1929 && all-small numbers
 
 -- the first `len` words with the members at places replaced
 unfoldable pub fusing : List ℕ → List ℕ → List ℕ → List ℕ → ℕ → Fusing

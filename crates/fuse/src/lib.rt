@@ -18,7 +18,7 @@ use tokens::end_of;
 use words::Rewritten;
 
 // The most words that can be fused.
-const AREA: usize = 1026;
+const AREA: usize = 1929;
 
 // The word of `__mN` is FIRST_NAME + NEXT_NAME * N.
 const FIRST_NAME: u64 = 128;

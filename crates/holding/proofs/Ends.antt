@@ -56,33 +56,33 @@ whole-so ws places e = go (trees-in ws) refl e
     go (some m) s q = ((m, s), q)
 
 module _ (words places first lent : ℕ) where
-  pub words-many : 1024 < words → false ≡ room-to-hold words places first lent
+  pub words-many : 1927 < words → false ≡ room-to-hold words places first lent
   unfolding room-to-hold
-  words-many h = sym (ap (λ (b : Bool). b && (leb first 4294967296 && (leb places 4294967296 && leb 1024 lent))) (lt-leb words 1024 h))
+  words-many h = sym (ap (λ (b : Bool). b && (leb first 4294967296 && (leb places 4294967296 && leb 1927 lent))) (lt-leb words 1927 h))
 
   pub first-large : 4294967296 < first → false ≡ room-to-hold words places first lent
   unfolding room-to-hold
-  first-large h = sym (ap (λ (b : Bool). leb words 1024 && (b && (leb places 4294967296 && leb 1024 lent))) (lt-leb first 4294967296 h) ∙ and-false (leb words 1024))
+  first-large h = sym (ap (λ (b : Bool). leb words 1927 && (b && (leb places 4294967296 && leb 1927 lent))) (lt-leb first 4294967296 h) ∙ and-false (leb words 1927))
 
   pub places-many : 4294967296 < places → false ≡ room-to-hold words places first lent
   unfolding room-to-hold
   places-many h =
-      sym (ap (λ (b : Bool). leb words 1024 && (leb first 4294967296 && (b && leb 1024 lent))) (lt-leb places 4294967296 h)
-      ∙ (ap (λ (b : Bool). leb words 1024 && b) (and-false (leb first 4294967296)) ∙ and-false (leb words 1024)))
+      sym (ap (λ (b : Bool). leb words 1927 && (leb first 4294967296 && (b && leb 1927 lent))) (lt-leb places 4294967296 h)
+      ∙ (ap (λ (b : Bool). leb words 1927 && b) (and-false (leb first 4294967296)) ∙ and-false (leb words 1927)))
 
-  pub room-told : words ≤ 1024 → first ≤ 4294967296 → places ≤ 4294967296 → leb 1024 lent ≡ room-to-hold words places first lent
+  pub room-told : words ≤ 1927 → first ≤ 4294967296 → places ≤ 4294967296 → leb 1927 lent ≡ room-to-hold words places first lent
   unfolding room-to-hold
   room-told w f p =
-      sym (ap (λ (b : Bool). b && (leb first 4294967296 && (leb places 4294967296 && leb 1024 lent))) (le-leb words 1024 w)
-      ∙ (ap (λ (b : Bool). b && (leb places 4294967296 && leb 1024 lent)) (le-leb first 4294967296 f) ∙ ap (λ (b : Bool). b && leb 1024 lent) (le-leb places 4294967296 p)))
+      sym (ap (λ (b : Bool). b && (leb first 4294967296 && (leb places 4294967296 && leb 1927 lent))) (le-leb words 1927 w)
+      ∙ (ap (λ (b : Bool). b && (leb places 4294967296 && leb 1927 lent)) (le-leb first 4294967296 f) ∙ ap (λ (b : Bool). b && leb 1927 lent) (le-leb places 4294967296 p)))
 
-  room-so : room-to-hold words places first lent ≡ true → (words ≤ 1024) × ((first ≤ 4294967296) × ((places ≤ 4294967296) × (1024 ≤ lent)))
+  room-so : room-to-hold words places first lent ≡ true → (words ≤ 1927) × ((first ≤ 4294967296) × ((places ≤ 4294967296) × (1927 ≤ lent)))
   unfolding room-to-hold
   room-so e =
-      let a = both-true (leb words 1024) (leb first 4294967296 && (leb places 4294967296 && leb 1024 lent)) e in
-      let b = both-true (leb first 4294967296) (leb places 4294967296 && leb 1024 lent) (a .1) in
-      let c = both-true (leb places 4294967296) (leb 1024 lent) (b .1) in
-      (leb-true words 1024 (a .0), (leb-true first 4294967296 (b .0), (leb-true places 4294967296 (c .0), leb-true 1024 lent (c .1))))
+      let a = both-true (leb words 1927) (leb first 4294967296 && (leb places 4294967296 && leb 1927 lent)) e in
+      let b = both-true (leb first 4294967296) (leb places 4294967296 && leb 1927 lent) (a .1) in
+      let c = both-true (leb places 4294967296) (leb 1927 lent) (b .1) in
+      (leb-true words 1927 (a .0), (leb-true first 4294967296 (b .0), (leb-true places 4294967296 (c .0), leb-true 1927 lent (c .1))))
 
 -- ---- the answers
 
@@ -95,43 +95,43 @@ module _ (ws places : List ℕ) (first : ℕ) (old : List ℕ) where
   new = words-held ws first places
 
   by-tests :
-      (b r f : Bool) → whole-there ws places ≡ b → room-to-hold (length ws) (length places) first (length old) ≡ r → leb (length (words-held ws first places)) 1024 ≡ f
+      (b r f : Bool) → whole-there ws places ≡ b → room-to-hold (length ws) (length places) first (length old) ≡ r → leb (length (words-held ws first places)) 1927 ≡ f
       → holding ws places first old ≡ holding-by b r f (words-held ws first places) old
   unfolding holding
   by-tests b r f e g h =
-      ap (λ (x : Bool). holding-by x (room-to-hold (length ws) (length places) first (length old)) (leb (length new) 1024) new old) e
-      ∙ (ap (λ (y : Bool). holding-by b y (leb (length new) 1024) new old) g ∙ ap (λ (z : Bool). holding-by b r z new old) h)
+      ap (λ (x : Bool). holding-by x (room-to-hold (length ws) (length places) first (length old)) (leb (length new) 1927) new old) e
+      ∙ (ap (λ (y : Bool). holding-by b y (leb (length new) 1927) new old) g ∙ ap (λ (z : Bool). holding-by b r z new old) h)
 
   ends : (c : Holding) → holding ws places first old ≡ c → Holds ws places first old (c .answer) (c .out)
   ends c e = (ap (λ (x : Holding). x .answer) (sym e), ap (λ (x : Holding). x .out) (sym e))
 
   pub held-broken : (r : Bool) → r ≡ whole-there ws places → r ≡ false → Holds ws places first old held.Broken old
   unfolding holding-by
-  held-broken r e f = ends (record { answer = held.Broken; out = old }) (by-tests false (room-to-hold (length ws) (length places) first (length old)) (leb (length new) 1024) (sym e ∙ f) refl refl)
+  held-broken r e f = ends (record { answer = held.Broken; out = old }) (by-tests false (room-to-hold (length ws) (length places) first (length old)) (leb (length new) 1927) (sym e ∙ f) refl refl)
 
   module _ (b : Bool) (e : b ≡ whole-there ws places) (t : b ≡ true) where
     pub held-full : (r : Bool) → r ≡ room-to-hold (length ws) (length places) first (length old) → r ≡ false → Holds ws places first old held.NoRoom old
     unfolding holding-by
-    held-full r g f = ends (record { answer = held.NoRoom; out = old }) (by-tests true false (leb (length new) 1024) (sym e ∙ t) (sym g ∙ f) refl)
+    held-full r g f = ends (record { answer = held.NoRoom; out = old }) (by-tests true false (leb (length new) 1927) (sym e ∙ t) (sym g ∙ f) refl)
 
     module _ (r : Bool) (g : r ≡ room-to-hold (length ws) (length places) first (length old)) (u : r ≡ true) where
-      room-is : (length ws ≤ 1024) × ((first ≤ 4294967296) × ((length places ≤ 4294967296) × (1024 ≤ length old)))
+      room-is : (length ws ≤ 1927) × ((first ≤ 4294967296) × ((length places ≤ 4294967296) × (1927 ≤ length old)))
       room-is = room-so (length ws) (length places) first (length old) (sym g ∙ u)
 
       pub ready-so : Ready ws places first
       ready-so = let q = room-is in (whole-so ws places (sym e ∙ t), (q .0, (q .1 .0, q .1 .1 .0)))
 
-      pub held-many : (n : ℕ) → n ≡ length (words-held ws first places) → 1024 < n → Holds ws places first old held.TooMany old
+      pub held-many : (n : ℕ) → n ≡ length (words-held ws first places) → 1927 < n → Holds ws places first old held.TooMany old
       unfolding holding-by
       held-many n c h =
           ends (record { answer = held.TooMany; out = old })
-          (by-tests true true false (sym e ∙ t) (sym g ∙ u) (lt-leb (length new) 1024 (omega (arith, c, h))))
+          (by-tests true true false (sym e ∙ t) (sym g ∙ u) (lt-leb (length new) 1927 (omega (arith, c, h))))
 
-      module _ (n : ℕ) (c : n ≡ length (words-held ws first places)) (few : n ≤ 1024) (blank work : List ℕ) (long : length blank ≡ 1024) (w : work ≡ overlay 0 (words-held ws first places) (overlay 0 ws blank)) where
-        base-long : length (overlay 0 ws blank) ≡ 1024
+      module _ (n : ℕ) (c : n ≡ length (words-held ws first places)) (few : n ≤ 1927) (blank work : List ℕ) (long : length blank ≡ 1927) (w : work ≡ overlay 0 (words-held ws first places) (overlay 0 ws blank)) where
+        base-long : length (overlay 0 ws blank) ≡ 1927
         base-long = overlay-length 0 ws blank ∙ long
 
-        pub work-long : length work ≡ 1024
+        pub work-long : length work ≡ 1927
         work-long = ap length w ∙ (overlay-length 0 (words-held ws first places) (overlay 0 ws blank) ∙ base-long)
 
         pub front-counted : n ≡ length (take n work)
@@ -145,7 +145,7 @@ module _ (ws places : List ℕ) (first : ℕ) (old : List ℕ) where
         held-written out o =
             let k =
             ends (record { answer = held.Words (length new); out = new ++ drop (length new) old })
-            (by-tests true true true (sym e ∙ t) (sym g ∙ u) (le-leb (length new) 1024 (omega (arith, c, few)))) in
+            (by-tests true true true (sym e ∙ t) (sym g ∙ u) (le-leb (length new) 1927 (omega (arith, c, few)))) in
             let q = room-is .1 .1 .1 in (
               ap held.Words c ∙ k .0,
               o ∙ (ap (λ (l : List ℕ). overlay 0 l old) front-is ∙ (overlay-front new old (omega (arith, c, few, q)) ∙ k .1)),

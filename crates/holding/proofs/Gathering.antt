@@ -21,10 +21,10 @@ use Rattle.holding.proofs.Taking.{words-short, held-none, held-one, hel
 -- the reciprocals from number j on are still to be written, over what is
 abbrev pub Gathered : List ℕ → List ℕ → ℕ → ℕ → List ℕ → List ℕ → ℕ → ℕ → Type 0
 Gathered ws places first len old out n j =
-    ((n + length (reciprocals-held ws first places j) ≡ len + length (reciprocals-held ws first places 0)) × ((j ≤ length places) × (n ≤ 1024 + 1026 * j)))
+    ((n + length (reciprocals-held ws first places j) ≡ len + length (reciprocals-held ws first places 0)) × ((j ≤ length places) × (n ≤ 1927 + 1929 * j)))
     × ((length out ≡ length old) × (overlay n (reciprocals-held ws first places j) out ≡ overlay len (reciprocals-held ws first places 0) old))
 
-pub gathering-starts : (ws places : List ℕ) (first len : ℕ) (old : List ℕ) → len ≤ 1024 → Gathered ws places first len old old len 0
+pub gathering-starts : (ws places : List ℕ) (first len : ℕ) (old : List ℕ) → len ≤ 1927 → Gathered ws places first len old old len 0
 gathering-starts ws places first len old h = ((refl, (omega arith, omega arith)), (refl, refl))
 
 -- all that is held is in two parts
@@ -78,16 +78,16 @@ module _ (ws places : List ℕ) (first : ℕ) (ready : Ready ws places first) (j
         (omega (arith, count, ap length some), o ∙ ap (λ (l : List ℕ). overlay n l work) (one-front ∙ sym some))
 
   -- no overflow
-  pub one-small : (m n : ℕ) → m ≡ length (reciprocal-words ws first places j) → n ≤ 8796093022208 → n + m ≤ 8796093023234
+  pub one-small : (m n : ℕ) → m ≡ length (reciprocal-words ws first places j) → n ≤ 8796093022208 → n + m ≤ 8796093024137
   one-small m n c h = omega (arith, c, h, words-short ws places first ready j more)
 
   pub place-small : (n len : ℕ) (old out : List ℕ) → Gathered ws places first len old out n j → n ≤ 8796093022208
   place-small n len old out s = omega (arith, s .0 .1 .1, more, ready .1 .1 .1)
 
-  held-short : length (reciprocal-held ws first places j) ≤ 1026
+  held-short : length (reciprocal-held ws first places j) ≤ 1929
   held-short = go (no-switch-words (reciprocal-words ws first places j)) refl
     where
-      go : (b : Bool) → no-switch-words (reciprocal-words ws first places j) ≡ b → length (reciprocal-held ws first places j) ≤ 1026
+      go : (b : Bool) → no-switch-words (reciprocal-words ws first places j) ≡ b → length (reciprocal-held ws first places j) ≤ 1929
       go true e = omega (arith, ap length (held-none ws places first ready j more e))
       go false e = omega (arith, ap length (held-one ws places first ready j more e), words-short ws places first ready j more)
 

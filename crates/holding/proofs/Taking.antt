@@ -60,10 +60,10 @@ module _ (ws places : List ℕ) (first : ℕ) (ready : Ready ws places first) wh
   unfolding settled-held
   S-is = refl
 
-  pub settled-short : length (settled-held ws first places) ≤ 1024
+  pub settled-short : length (settled-held ws first places) ≤ 1927
   settled-short = omega (arith, ready .1 .0, ap length S-is, first-no-more ws places there first (ready .0 .0 .0) (ready .0 .0 .1))
 
-  module _ (old mid : List ℕ) (long : 1024 ≤ length old) (copy : mid ≡ overlay 0 ws old) where
+  module _ (old mid : List ℕ) (long : 1927 ≤ length old) (copy : mid ≡ overlay 0 ws old) where
     copied : take (length ws) mid ≡ ws
     copied = ap (take (length ws)) (copy ∙ overlay-front ws old (omega (arith, long, ready .1 .0))) ∙ take-at ws (drop (length ws) old) (length ws) refl
 
@@ -112,10 +112,10 @@ module _ (ws places : List ℕ) (first : ℕ) (ready : Ready ws places first) wh
     unfolding reciprocal-words
     words-are = ap (λ (l : List Tree). all-tokens number (take 1 l)) one-next
 
-    pub words-short : length (reciprocal-words ws first places j) ≤ 1026
+    pub words-short : length (reciprocal-words ws first places j) ≤ 1929
     words-short = omega (arith, ready .1 .0, ap length words-are, made-within ws places first j more there)
 
-    module _ (old : List ℕ) (lent : 1026 ≤ length old) where
+    module _ (old : List ℕ) (lent : 1929 ≤ length old) where
       abbrev R : List ℕ
       R = reciprocal-words ws first places j
 

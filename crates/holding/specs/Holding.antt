@@ -46,11 +46,11 @@ unfolding trees-in some-trees all-there
 whole-there ws places = some-trees (trees-in ws) && all-there ws places
 
 unfoldable pub room-to-hold : ℕ → ℕ → ℕ → ℕ → Bool
-room-to-hold words places first lent = leb words 1024 && (leb first 4294967296 && (leb places 4294967296 && leb 1024 lent))
+room-to-hold words places first lent = leb words 1927 && (leb first 4294967296 && (leb places 4294967296 && leb 1927 lent))
 
 -- both, as the parts of the work ask it
 abbrev pub Ready : List ℕ → List ℕ → ℕ → Type 0
-Ready ws places first = (Complete ws × (all-there ws places ≡ true)) × ((length ws ≤ 1024) × ((first ≤ 4294967296) × (length places ≤ 4294967296)))
+Ready ws places first = (Complete ws × (all-there ws places ≡ true)) × ((length ws ≤ 1927) × ((first ≤ 4294967296) × (length places ≤ 4294967296)))
 
 -- ---- what holding answers, and the words lent after it
 
@@ -68,4 +68,4 @@ holding-by true true true new old = record { answer = held.Words (length new); o
 unfoldable pub holding : List ℕ → List ℕ → ℕ → List ℕ → Holding
 unfolding holding-by whole-there room-to-hold words-held
 holding ws places first old =
-    holding-by (whole-there ws places) (room-to-hold (length ws) (length places) first (length old)) (leb (length (words-held ws first places)) 1024) (words-held ws first places) old
+    holding-by (whole-there ws places) (room-to-hold (length ws) (length places) first (length old)) (leb (length (words-held ws first places)) 1927) (words-held ws first places) old

@@ -20,10 +20,10 @@ use tokens::Trees;
 use tokens::count_trees;
 
 // The most words that are held.
-const AREA: usize = 1024;
+const AREA: usize = 1927;
 
 // A reciprocal is at most two words more than its divisor.
-const ROOM: usize = 1026;
+const ROOM: usize = 1929;
 
 // Where the first number and the number of places are at most this, every name has a word.
 const NUMBERS: u64 = 4294967296;
@@ -71,7 +71,7 @@ fn no_switch(words: &[u64]) -> bool
 // The reciprocal of number j. That it can't be made never comes up.
 fn take_reciprocal(tokens: &[u64], places: &[u64], first: u64, j: usize, one: &mut [u64]) -> usize
     requires { ⌜ Ready (now tokens) (now places) first ⌝ }
-    requires { ⌜ (j < length (now places)) × (1026 ≤ length (now one)) ⌝ }
+    requires { ⌜ (j < length (now places)) × (1929 ≤ length (now one)) ⌝ }
     ensures { λ r. ⌜ r ≡ length (reciprocal-words (now (tokens .entry)) first (now (places .entry)) j) ⌝ }
     ensures { λ _. ⌜ now (one .exit) ≡ reciprocal-words (now (tokens .entry)) first (now (places .entry)) j
         ++ drop (length (reciprocal-words (now (tokens .entry)) first (now (places .entry)) j)) (now (one .entry)) ⌝ }
@@ -115,7 +115,7 @@ fn hold_reciprocals(
     work: &mut [u64],
     len: usize,
 ) -> usize
-    requires { ⌜ Ready (now tokens) (now places) first × (len ≤ 1024) ⌝ }
+    requires { ⌜ Ready (now tokens) (now places) first × (len ≤ 1927) ⌝ }
     ensures { λ r. ⌜ r ≡ len + length (reciprocals-held (now (tokens .entry)) first (now (places .entry)) 0) ⌝ }
     ensures { λ _. ⌜ now (work .exit) ≡ overlay len (reciprocals-held (now (tokens .entry)) first (now (places .entry)) 0) (now (work .entry)) ⌝ }
 {
@@ -130,7 +130,7 @@ fn hold_reciprocals(
 
 // Settles all trees in a copy. That it can't be done never comes up.
 fn settle_all(tokens: &[u64], places: &[u64], first: u64, work: &mut [u64]) -> usize
-    requires { ⌜ Ready (now tokens) (now places) first × (1024 ≤ length (now work)) ⌝ }
+    requires { ⌜ Ready (now tokens) (now places) first × (1927 ≤ length (now work)) ⌝ }
     ensures { λ r. ⌜ r ≡ length (settled-held (now (tokens .entry)) first (now (places .entry))) ⌝ }
     ensures { λ _. ⌜ now (work .exit) ≡ overlay 0 (settled-held (now (tokens .entry)) first (now (places .entry))) (overlay 0 (now (tokens .entry)) (now (work .entry))) ⌝ }
 {
@@ -145,7 +145,7 @@ fn settle_all(tokens: &[u64], places: &[u64], first: u64, work: &mut [u64]) -> u
 
 // Writes what is held to the front of work, and answers how many words it is. Those past the end are dropped.
 fn hold_all(tokens: &[u64], places: &[u64], first: u64, work: &mut [u64]) -> usize
-    requires { ⌜ Ready (now tokens) (now places) first × (1024 ≤ length (now work)) ⌝ }
+    requires { ⌜ Ready (now tokens) (now places) first × (1927 ≤ length (now work)) ⌝ }
     ensures { λ r. ⌜ r ≡ length (words-held (now (tokens .entry)) first (now (places .entry))) ⌝ }
     ensures { λ _. ⌜ now (work .exit) ≡ overlay 0 (words-held (now (tokens .entry)) first (now (places .entry))) (overlay 0 (now (tokens .entry)) (now (work .entry))) ⌝ }
 {

@@ -1,4 +1,4 @@
--- What those who write texts of trees of at most 1,024 nodes need to know: each text has at most 65,536 bytes, so that it ends inside a slice with so much room;
+-- What those who write texts of trees of at most 1,927 nodes need to know: each text has at most 65,536 bytes, so that it ends inside a slice with so much room;
 -- and equal trees have equal texts. Assumes nothing.
 use Prim.Native.Nat.{ℕ, suc, _+_, _^_, _≤_, _<_}
 use native.Mathlib.Omega.{arith}
@@ -23,12 +23,12 @@ pub equal-texts : (t u : Tree) → T (eq-tree t u) → display t ≡ display u
 equal-texts t u e = ap display (eq-tree-sound t u e)
 
 -- words of 64 bits, as a slice has them
-small-words : (ws : List ℕ) → ((i : ℕ) → getD ws i 0 < 2 ^ 64) → T (every (λ w. ltb w (2 ^ 64)) ws)
+pub small-words : (ws : List ℕ) → ((i : ℕ) → getD ws i 0 < 2 ^ 64) → T (every (λ w. ltb w (2 ^ 64)) ws)
 unfolding every
 small-words [] f = tt
 small-words (w ∷ ws) f = and-both (ltb w (2 ^ 64)) (every (λ w. ltb w (2 ^ 64)) ws) (lt→ltb w (2 ^ 64) (f 0)) (small-words ws (λ i. f (suc i)))
 
-module _ {rows ws : List ℕ} {at : ℕ} (S : Stands rows ws at) (words : (i : ℕ) → getD ws i 0 < 2 ^ 64) (few : size (tree-here rows ws at) ≤ 1024) where
+module _ {rows ws : List ℕ} {at : ℕ} (S : Stands rows ws at) (words : (i : ℕ) → getD ws i 0 < 2 ^ 64) (few : size (tree-here rows ws at) ≤ 1927) where
   fit : T (numbers-fit (tree-here rows ws at))
   unfolding tree-here
   fit = read-fits (names rows) ws at (small-words ws words)

@@ -1,4 +1,4 @@
--- The text of an expression has at most 34 bytes for each node: so that of 1,024 nodes fits 65,536 bytes, and two fit 131,072. A tree that is read from words
+-- The text of an expression has at most 34 bytes for each node: so that of 1,927 nodes fits 65,536 bytes, and two fit 131,072. A tree that is read from words
 -- below 2^64 is such an expression where it passes. Assumes nothing.
 use Prim.Native.Nat.{ℕ, zero, suc, _+_, _*_, _/_, _%_, _^_, _≤_, _<_}
 use native.Mathlib.Omega.{arith}
@@ -60,7 +60,7 @@ pub text-fits : (t : Tree) → T (tree-ok t) → T (numbers-fit t) → length (d
 text-fits t h g = omega (arith, text-short t h g)
 
 -- half of the text area
-pub text-half : (t : Tree) → T (tree-ok t) → T (numbers-fit t) → size t ≤ 1024 → length (display t) ≤ 65536
+pub text-half : (t : Tree) → T (tree-ok t) → T (numbers-fit t) → size t ≤ 1927 → length (display t) ≤ 65536
 text-half t h g k = omega (arith, text-short t h g)
 
 -- where there is room the text ends after its last byte
@@ -69,7 +69,7 @@ text-ends t old to h g k = omega (arith, text-short t h g)
 
 -- two texts, one after the other
 pub two-texts :
-    (t u : Tree) (old : List ℕ) → T (tree-ok t) → T (numbers-fit t) → size t ≤ 1024 → T (tree-ok u) → T (numbers-fit u) → size u ≤ 1024 → 131072 ≤ length old
+    (t u : Tree) (old : List ℕ) → T (tree-ok t) → T (numbers-fit t) → size t ≤ 1927 → T (tree-ok u) → T (numbers-fit u) → size u ≤ 1927 → 131072 ≤ length old
     → (place-after old 0 (display t) ≡ length (display t)) × (place-after old (length (display t)) (display u) ≡ length (display t) + length (display u))
 two-texts t u old h g k i j l m = (omega (arith, text-short t h g), omega (arith, text-short t h g, text-short u i j))
 

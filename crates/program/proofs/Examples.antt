@@ -89,14 +89,14 @@ pub record Examples : Type 0 where
   one-scope : numbers-in 1 ≡ refused (by 23)
   eight-deep : (answer true (nested 8 ∷ []) >>= λ a. ok (rows a)) ≡ ok 50
   nine-deep : answer true (nested 9 ∷ []) ≡ refused (by 23)
-  rows-enough : numbers-held 1024 (num 2) ≡ ok 1
-  a-row-too-few : numbers-held 1025 (num 2) ≡ refused (by 23)
-  a-switch-held : numbers-held 1019 (Op Select (num 1 ◂ num 2 ◂ nil)) ≡ ok 2
-  no-row-for-a-switch : numbers-held 1020 (Op Select (num 1 ◂ num 2 ◂ nil)) ≡ refused (by 23)
-  some-divisors : (answer true (twice-divided 26) >>= λ a. ok (rows a)) ≡ ok 955
-  rows-for-many : rows-for (twice-divided 27) ≡ ok (120, 1038)
-  many-divisors-flat : (answer false (twice-divided 27) >>= λ a. ok (a .extracted)) ≡ ok 0
-  many-divisors : answer true (twice-divided 27) ≡ refused (by 23)
+  rows-enough : numbers-held 1927 (num 2) ≡ ok 1
+  a-row-too-few : numbers-held 1928 (num 2) ≡ refused (by 23)
+  a-switch-held : numbers-held 1922 (Op Select (num 1 ◂ num 2 ◂ nil)) ≡ ok 2
+  no-row-for-a-switch : numbers-held 1923 (Op Select (num 1 ◂ num 2 ◂ nil)) ≡ refused (by 23)
+  some-divisors : (answer true (twice-divided 38) >>= λ a. ok (rows a)) ≡ ok 1843
+  rows-for-many : rows-for (twice-divided 39) ≡ ok (168, 1962)
+  many-divisors-flat : (answer false (twice-divided 39) >>= λ a. ok (a .extracted)) ≡ ok 0
+  many-divisors : answer true (twice-divided 39) ≡ refused (by 23)
   divided-once : no-switch-bound (v "p" ⊘ Op Select (num 1 ◂ num 2 ◂ num 3 ◂ nil) ∷ []) ≡ true
   divided-twice : no-switch-bound (v "p" ⊘ in-divisor ∷ v "q" ⊘ in-divisor ∷ v "r" ⊘ num 2 ∷ []) ≡ false
   work-too-short : extract-call false 65535 131072 few (1 ∷ []) 9 ≡ refused (by 8)

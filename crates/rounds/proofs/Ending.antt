@@ -74,7 +74,7 @@ module _ (rows : List Row) (old : List ℕ) (len : ℕ) (scoped : Bool) (first t
 
   pub record Loop (tokens : List ℕ) (words made : ℕ) : Type 0 where
     pub state : State short good tokens words made
-    pub few : made ≤ 1024
+    pub few : made ≤ 1927
     pub long : length tokens ≡ length old
 
   abbrev End : Bool → Bool → Rounds → List ℕ → Type 0
@@ -85,7 +85,7 @@ module _ (rows : List Row) (old : List ℕ) (len : ℕ) (scoped : Bool) (first t
 
   abbrev After : Bool → Bool → List ℕ → ℕ → ℕ → Round → List ℕ → Type 0
   After s g tokens words made (round.Next n) out =
-      State s g out n (suc made) × (suc (operations-in (take n out)) ≤ operations-in (take words tokens)) × (suc made ≤ 1024) × (length out ≡ length old)
+      State s g out n (suc made) × (suc (operations-in (take n out)) ≤ operations-in (take words tokens)) × (suc made ≤ 1927) × (length out ≡ length old)
   After s g tokens words made round.Last out = End s g (rounds.Done words made) out
   After s g tokens words made round.Refused out = End s g rounds.Refused out
   After s g tokens words made round.Broken out = End s g rounds.Broken out
@@ -98,7 +98,7 @@ module _ (rows : List Row) (old : List ℕ) (len : ℕ) (scoped : Bool) (first t
   -- ---- the tests
 
   record Bounds : Type 0 where
-    few-words : len ≤ 1024
+    few-words : len ≤ 1927
     there : len ≤ length old
     first-most : first ≤ 549755813888
     text-enough : 131072 ≤ text
@@ -106,11 +106,11 @@ module _ (rows : List Row) (old : List ℕ) (len : ℕ) (scoped : Bool) (first t
   bounds : short ≡ false → Bounds
   unfolding rounds-short
   bounds e =
-      let a = or-right-false (ltb 1024 len) _ e in
+      let a = or-right-false (ltb 1927 len) _ e in
       let b = or-right-false (ltb (length old) len) _ a in
       let c = or-right-false (ltb 549755813888 first) (ltb text 131072) b in
       record {
-        few-words = less-not 1024 len (or-left-false (ltb 1024 len) _ e);
+        few-words = less-not 1927 len (or-left-false (ltb 1927 len) _ e);
         there = less-not (length old) len (or-left-false (ltb (length old) len) _ a);
         first-most = less-not 549755813888 first (or-left-false (ltb 549755813888 first) (ltb text 131072) b);
         text-enough = less-not text 131072 c;
@@ -118,7 +118,7 @@ module _ (rows : List Row) (old : List ℕ) (len : ℕ) (scoped : Bool) (first t
 
   large-short : 549755813888 < first → short ≡ true
   unfolding rounds-short
-  large-short h = go (ltb 1024 len) (ltb (length old) len) (ltb 549755813888 first) (ltb text 131072) (lt→ltb 549755813888 first h)
+  large-short h = go (ltb 1927 len) (ltb (length old) len) (ltb 549755813888 first) (ltb text 131072) (lt→ltb 549755813888 first h)
     where
       go : (a b d c : Bool) → T d → (a || (b || (d || c))) ≡ true
       go true b d c t = refl
@@ -148,7 +148,7 @@ module _ (rows : List Row) (old : List ℕ) (len : ℕ) (scoped : Bool) (first t
   short-so : (name : ℕ) → first ≤ 549755813888 → short ≡ true → round-short (length old) len name text ≡ true
   unfolding rounds-short round-short
   short-so name l e =
-      or-part (ltb 1024 len) (ltb (length old) len) (ltb text 131072) (ltb 549755813888 first) (ltb 1099511627776 name)
+      or-part (ltb 1927 len) (ltb (length old) len) (ltb text 131072) (ltb 549755813888 first) (ltb 1099511627776 name)
       (λ f. (let lt = ltb→lt 549755813888 first (subst T (sym f) tt) in omega arith)) e
 
   module _ (low : first ≤ 549755813888) (tokens : List ℕ) (words made : ℕ) where
@@ -189,7 +189,7 @@ module _ (rows : List Row) (old : List ℕ) (len : ℕ) (scoped : Bool) (first t
         here-long : length here ≡ words
         here-long = let B = bounds e in length-take-le words tokens (omega (arith, long, most, B .there))
 
-        few-made : made ≤ 1024
+        few-made : made ≤ 1927
         few-made = let B = bounds e in omega (arith, going-most rows scoped k first ws here made going, length-take-le len old (B .there), B .few-words)
 
         room : round-short (length tokens) words (first + made) text ≡ false
@@ -231,7 +231,7 @@ module _ (rows : List Row) (old : List ℕ) (len : ℕ) (scoped : Bool) (first t
             let past : drop len out ≡ drop len old =
             ap (λ (j : ℕ). drop j out) (sym split) ∙ sym (drop-drop (len - n) n out) ∙ ap (drop (len - n)) after ∙ drop-drop (len - n) n tokens ∙ ap (λ (j : ℕ). drop j tokens) split ∙ rest in
             let whole : length out ≡ length old = omega (arith, length-append vs (drop n tokens), length-drop n tokens, long, short-now, B .there) in
-            let few : suc made ≤ 1024 = omega (arith, going-most rows scoped k first ws vs (suc made) g, start-long, B .few-words) in
+            let few : suc made ≤ 1927 = omega (arith, going-most rows scoped k first ws vs (suc made) g, start-long, B .few-words) in
             the-same false true (round.Next n) q out now (is-next rows tokens words scoped (first + made) text room p vs fine f z) is (
               (subst (λ (l : List ℕ). Going rows scoped k first ws l (suc made)) (sym front) g, short-now, past),
               subst (λ (l : List ℕ). suc (operations-in l) ≤ operations-in here) (sym front) less,

@@ -53,7 +53,7 @@ or-false a b e f = rw (e, f)
 -- ---- the best place, where there is room
 
 pub found :
-    (rows ws : List ℕ) (scoped : Bool) (f m t : ℕ) → f ≡ 5120 → m ≡ 1024 → 131072 ≤ t → length ws ≤ 1024 → (r : Best) → r ≡ best-answer rows ws scoped f m t
+    (rows ws : List ℕ) (scoped : Bool) (f m t : ℕ) → 5 * length ws ≤ f → length ws ≤ m → 131072 ≤ t → length ws ≤ 1927 → (r : Best) → r ≡ best-answer rows ws scoped f m t
     → Finds (rows-in rows) ws scoped r
 unfolding best-answer has-room best-of some-trees
 found rows ws scoped f m t ef em lt lw r e =
@@ -64,8 +64,8 @@ found rows ws scoped f m t ef em lt lw r e =
     enough =
         is-true (has-room (length ws) f m t)
         (and-both (leb (length ws) 1000000) _ (le→leb (length ws) 1000000 (omega arith))
-        (and-both (leb (5 * length ws) f) _ (le→leb (5 * length ws) f (omega (arith, ef)))
-        (and-both (leb (length ws) m) (leb (128 * length ws) t) (le→leb (length ws) m (omega (arith, em))) (le→leb (128 * length ws) t (omega arith)))))
+        (and-both (leb (5 * length ws) f) _ (le→leb (5 * length ws) f ef)
+        (and-both (leb (length ws) m) (leb (68 * length ws) t) (le→leb (length ws) m em) (le→leb (68 * length ws) t (omega arith)))))
 
     go : (n : Option ℕ) → trees-in ws ≡ n → (pass : Bool) → every (word-ok (rows-in rows)) ws ≡ pass → (o : Option ℕ) → best-place ws (name-in (rows-in rows)) scoped ≡ o
         → Finds (rows-in rows) ws scoped (best-of true n pass o)
@@ -127,9 +127,14 @@ module _ (rows : List Row) (ws : List ℕ) (scoped : Bool) (at name : ℕ) (h : 
     fewer new f = stepped rows scoped name ws ready at (h .best) (ready .trees) name (omega arith) (next-is rows name ws ready) (new ++ part) (made-are new f) .2
 
     -- what may be replaced, with room, is replaced or refused
+<<<<<<< HEAD
     module _ (q : Replaced) (old mid : List ℕ) (lent : ℕ) (enough : lent ≡ 2048) (few : length ws ≤ 1024) (fits : length ws ≤ length old)
         (a : Leaves (replacement (replaceable ws part (name-word name)) (short-of-room ws part lent (length old)) (endless (tree-of part) (name-of (name-word name)))
         (replaced-words (tree-of part) (name-of (name-word name)) ws) ws old) q mid) where
+=======
+    module _ (q : Replaced) (old mid : List ℕ) (lent : ℕ) (enough : lent ≡ 3854) (few : length ws ≤ 1927) (fits : length ws ≤ length old)
+        (a : Answers ws part (name-word name) (replaceable ws part (name-word name)) (short-of-room ws part lent (length old)) old q mid) where
+>>>>>>> w7
       abbrev outcome : Outcome (List ℕ)
       outcome = replaced-words (tree-of part) (name-of (name-word name)) ws
 
@@ -148,7 +153,7 @@ module _ (rows : List Row) (ws : List ℕ) (scoped : Bool) (at name : ℕ) (h : 
       roomy : short-of-room ws part lent (length old) ≡ false
       unfolding short-of-room scratch-short
       roomy =
-          let half : lent / 2 ≡ 1024 = ap (λ (n : ℕ). n / 2) enough in
+          let half : lent / 2 ≡ 1927 = ap (λ (n : ℕ). n / 2) enough in
           or-false (ltb (length old) (length ws)) _ (not-less (length old) (length ws) fits)
           (or-false (ltb (lent / 2) (length ws)) (ltb lent (length part)) (not-less (lent / 2) (length ws) (omega (arith, half))) (not-less lent (length part) (omega (arith, enough, part-long, within))))
 

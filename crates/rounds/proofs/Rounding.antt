@@ -68,29 +68,29 @@ module _ (rows : List Row) (old : List ℕ) (len : ℕ) (scoped : Bool) (name te
   unfolding round-by
   none-fits e = both (record { answer = round.NoRoom; words = old }) (by-tests true (extractable rows name ws) (best-place ws (name-in rows) scoped) e refl refl)
 
-  pub too-many : 1024 < len → Is round.NoRoom old
+  pub too-many : 1927 < len → Is round.NoRoom old
   unfolding round-short
-  too-many h = none-fits (or-first (ltb 1024 len) _ (lt→ltb 1024 len h))
+  too-many h = none-fits (or-first (ltb 1927 len) _ (lt→ltb 1927 len h))
 
   pub too-few : length old < len → Is round.NoRoom old
   unfolding round-short
-  too-few h = none-fits (or-second (ltb 1024 len) _ (or-first (ltb (length old) len) _ (lt→ltb (length old) len h)))
+  too-few h = none-fits (or-second (ltb 1927 len) _ (or-first (ltb (length old) len) _ (lt→ltb (length old) len h)))
 
   pub too-large : 1099511627776 < name → Is round.NoRoom old
   unfolding round-short
-  too-large h = none-fits (or-second (ltb 1024 len) _ (or-second (ltb (length old) len) _ (or-first (ltb 1099511627776 name) _ (lt→ltb 1099511627776 name h))))
+  too-large h = none-fits (or-second (ltb 1927 len) _ (or-second (ltb (length old) len) _ (or-first (ltb 1099511627776 name) _ (lt→ltb 1099511627776 name h))))
 
   pub too-short : text < 131072 → Is round.NoRoom old
   unfolding round-short
   too-short h =
       none-fits
-      (or-second (ltb 1024 len) _
+      (or-second (ltb 1927 len) _
       (or-second (ltb (length old) len) _ (or-second (ltb 1099511627776 name) (ltb text 131072) (is-true (ltb text 131072) (lt→ltb text 131072 h)))))
 
-  pub fits : len ≤ 1024 → len ≤ length old → name ≤ 1099511627776 → 131072 ≤ text → short ≡ false
+  pub fits : len ≤ 1927 → len ≤ length old → name ≤ 1099511627776 → 131072 ≤ text → short ≡ false
   unfolding round-short
   fits a b c d =
-      or-false (ltb 1024 len) _ (not-less 1024 len a)
+      or-false (ltb 1927 len) _ (not-less 1927 len a)
       (or-false (ltb (length old) len) _ (not-less (length old) len b) (or-false (ltb 1099511627776 name) _ (not-less 1099511627776 name c) (not-less text 131072 d)))
 
   module _ (room : short ≡ false) where

@@ -60,9 +60,9 @@ pub record Turned : Type 0 where
   pub answer : Round
   pub words : List ℕ
 
--- more words than are lent or than 1,024, a name over 2^40, or too little text
+-- more words than are lent or than 1,927, a name over 2^40, or too little text
 unfoldable pub round-short : ℕ → ℕ → ℕ → ℕ → Bool
-round-short lent len name text = ltb 1024 len || (ltb lent len || (ltb 1099511627776 name || ltb text 131072))
+round-short lent len name text = ltb 1927 len || (ltb lent len || (ltb 1099511627776 name || ltb text 131072))
 
 -- the new words in front, and everything after them as it was
 unfoldable pub round-outcome : Outcome (List ℕ) → List ℕ → Turned

@@ -14,9 +14,9 @@ use Rattle.kept.specs.Sound.{extractable}
 use Rattle.rounds.specs.declared.Rounds.{Rounds}
 use Rattle.rounds.specs.declared.Rounds.the-variants as rounds
 
--- more words than are lent or than 1,024, a first number over 2^39, or too little text
+-- more words than are lent or than 1,927, a first number over 2^39, or too little text
 unfoldable pub rounds-short : ℕ → ℕ → ℕ → ℕ → Bool
-rounds-short lent len first text = ltb 1024 len || (ltb lent len || (ltb 549755813888 first || ltb text 131072))
+rounds-short lent len first text = ltb 1927 len || (ltb lent len || (ltb 549755813888 first || ltb text 131072))
 
 -- all rounds, from words all of whose trees are results: as many as there are operations are enough
 unfoldable pub all-rounds : List Row → Bool → ℕ → List ℕ → Outcome (List ℕ)

@@ -28,7 +28,17 @@ const CLASSES: u64 = 3;
 
 const MADE: u64 = 1;
 
-const MOST_WORDS: usize = 1024;
+// The most words, five words of facts for each, and two places for each.
+const MOST_WORDS: usize = 1927;
+
+const FACTS: usize = 9635;
+
+const PLACES: usize = 3854;
+
+// Few words and their facts, so that most rounds needn't clear the large arrays.
+const FEW_WORDS: usize = 256;
+
+const FEW_FACTS: usize = 1280;
 
 const TEXT_BYTES: usize = 131072;
 
@@ -97,14 +107,35 @@ fn are_below(tokens: &[u64], name: u64) -> bool
     true
 }
 
-// The best place among words that the arrays hold.
-fn find_best(rows: &[u64], tokens: &[u64], scoped: bool, text: &mut [u8]) -> Best
-    requires { ⌜ (length (now tokens) ≤ 1024) × (131072 ≤ length (now text)) ⌝ }
+// The best place among few words, with small arrays.
+fn find_in_few(rows: &[u64], tokens: &[u64], scoped: bool, text: &mut [u8]) -> Best
+    requires { ⌜ (length (now tokens) ≤ 256) × (131072 ≤ length (now text)) ⌝ }
     ensures { λ r. ⌜ Finds (rows-in (now (rows .entry))) (now (tokens .entry)) scoped r ⌝ }
 {
-    let mut facts = [0u64; 5120];
-    let mut marks = [0u64; 1024];
+    let mut facts = [0u64; FEW_FACTS];
+    let mut marks = [0u64; FEW_WORDS];
     best_place(rows, tokens, scoped, &mut facts, &mut marks, text)
+}
+
+// The same among any number of words, with large ones.
+fn find_in_many(rows: &[u64], tokens: &[u64], scoped: bool, text: &mut [u8]) -> Best
+    requires { ⌜ (length (now tokens) ≤ 1927) × (131072 ≤ length (now text)) ⌝ }
+    ensures { λ r. ⌜ Finds (rows-in (now (rows .entry))) (now (tokens .entry)) scoped r ⌝ }
+{
+    let mut facts = [0u64; FACTS];
+    let mut marks = [0u64; MOST_WORDS];
+    best_place(rows, tokens, scoped, &mut facts, &mut marks, text)
+}
+
+// The best place among words that the arrays hold.
+fn find_best(rows: &[u64], tokens: &[u64], scoped: bool, text: &mut [u8]) -> Best
+    requires { ⌜ (length (now tokens) ≤ 1927) × (131072 ≤ length (now text)) ⌝ }
+    ensures { λ r. ⌜ Finds (rows-in (now (rows .entry))) (now (tokens .entry)) scoped r ⌝ }
+{
+    if tokens.len() <= FEW_WORDS {
+        return find_in_few(rows, tokens, scoped, text);
+    }
+    find_in_many(rows, tokens, scoped, text)
 }
 
 // The words with the tree at a place replaced by a name, and that tree after them.
@@ -117,10 +148,10 @@ fn extract(
     out: &mut [u64],
 ) -> Replaced
     requires { ⌜ Chosen (rows-in (now rows)) (now tokens) scoped at name ⌝ }
-    requires { ⌜ (length (now tokens) ≤ 1024) × (name ≤ 1099511627776) × (length (now tokens) ≤ length (now out)) ⌝ }
+    requires { ⌜ (length (now tokens) ≤ 1927) × (name ≤ 1099511627776) × (length (now tokens) ≤ length (now out)) ⌝ }
     ensures { λ r. ⌜ Extracts (now (tokens .entry)) at name (now (out .entry)) r (now (out .exit)) ⌝ }
 {
-    let mut places = [0u64; 2048];
+    let mut places = [0u64; PLACES];
     let Run::Ends(end) = end_of(tokens, at) else {
         return Replaced::Broken;
     };
@@ -147,10 +178,10 @@ fn extract_here(
     name: u64,
 ) -> Round
     requires { ⌜ Chosen (rows-in (now rows)) (take len (now tokens)) scoped at name ⌝ }
-    requires { ⌜ (len ≤ length (now tokens)) × (len ≤ 1024) × (name ≤ 1099511627776) ⌝ }
+    requires { ⌜ (len ≤ length (now tokens)) × (len ≤ 1927) × (name ≤ 1099511627776) ⌝ }
     ensures { λ r. ⌜ Turns (now (tokens .entry)) len at name r (now (tokens .exit)) ⌝ }
 {
-    let mut out = [0u64; 1024];
+    let mut out = [0u64; MOST_WORDS];
     let made = extract(rows, &tokens[..len], scoped, at, name, &mut out);
     match made {
         Replaced::Words(n) => {

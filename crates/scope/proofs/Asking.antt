@@ -44,7 +44,7 @@ module _ (rows : List Row) (fuel next : ℕ) (held group : List ℕ) (h : Holds 
     -- what it answers is small
     module _ (r : Scoped) (given : r ≡ scope-answer (scope-told rows fuel 35 next (take n work)) (at + 1)) where
       abbrev Answer-small : Scoped → Type 0
-      Answer-small (scoped.Told end steps after extracted) = steps ≤ 1024
+      Answer-small (scoped.Told end steps after extracted) = steps ≤ 1927
       Answer-small (scoped.Refused q) = Unit {0}
 
       answer-small : (o : Outcome Told) → scope-told rows fuel 35 next (take n work) ≡ o → Answer-small (scope-answer o (at + 1))
@@ -52,7 +52,7 @@ module _ (rows : List Row) (fuel next : ℕ) (held group : List ℕ) (h : Holds 
       answer-small (ok t) e = told-small rows fuel 35 next (take n work) (column-scoped .0) (column-scoped .1) t e .steps
       answer-small (refused i) e = tt
 
-      pub steps-few : (end steps after extracted : ℕ) → r ≡ scoped.Told end steps after extracted → steps ≤ 1024
+      pub steps-few : (end steps after extracted : ℕ) → r ≡ scoped.Told end steps after extracted → steps ≤ 1927
       steps-few end steps after extracted e = subst Answer-small (sym given ∙ e) (answer-small (scope-told rows fuel 35 next (take n work)) refl)
 
   pub arm-too-deep : fuel ≡ 0 → (at : ℕ) (old : List ℕ) → Arm-done (arm-told (inner rows fuel) held group next a) at old (armed.Refused 23) old
@@ -70,10 +70,10 @@ column-answers rows fuel next held group a at old n work is r new given =
 
 -- how large the answer of n arms is
 pub record Arms-small (next n : ℕ) (r : Arms-told) : Type 0 where
-  pub rows : length (r .words) ≤ n * 144115188075855873
+  pub rows : length (r .words) ≤ n * 288230376151711745
   pub made : r .extracted ≤ n * 4294967296
   pub grows : next ≤ r .next
-  pub low : 0 < n → r .next ≤ 2147484672
+  pub low : 0 < n → r .next ≤ 2147485575
 
 module _ (rows : List Row) (fuel next : ℕ) (held group : List ℕ) (h : Holds rows next held) (g : Is-group held group) where
   abbrev told-arms : ℕ → Outcome Arms-told
@@ -111,11 +111,11 @@ module _ (rows : List Row) (fuel next : ℕ) (held group : List ℕ) (h : Holds 
 
 -- ---- arms that are measured
 
-told-rows-small : (rows : List Row) (fuel row next : ℕ) (ws : List ℕ) → T (extractable rows next ws) → T (symbols-pass (is-number rows) ws) → told-rows (scope-told rows fuel row next ws) ≤ 144115188075855872
+told-rows-small : (rows : List Row) (fuel row next : ℕ) (ws : List ℕ) → T (extractable rows next ws) → T (symbols-pass (is-number rows) ws) → told-rows (scope-told rows fuel row next ws) ≤ 288230376151711744
 unfolding told-rows
 told-rows-small rows fuel row next ws g p = go (scope-told rows fuel row next ws) refl
   where
-    go : (o : Outcome Told) → scope-told rows fuel row next ws ≡ o → told-rows o ≤ 144115188075855872
+    go : (o : Outcome Told) → scope-told rows fuel row next ws ≡ o → told-rows o ≤ 288230376151711744
     go (ok t) e = told-small rows fuel row next ws g p t e .rows
     go (refused i) e = omega arith
 

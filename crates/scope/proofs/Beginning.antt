@@ -66,20 +66,20 @@ module _ (rows : List Row) (fuel row : ℕ) (ws : List ℕ) (k first : ℕ) (pla
   unfolding lets-count
   lets-are = omega (arith, length-drop k (read numbered ws), complete-length numbered ws (length starts) (rd .complete))
 
-  pub lets-small : lets ≤ 1024
+  pub lets-small : lets ≤ 1927
   unfolding stmts-count
   lets-small = omega (arith, lets-are, rd .statements [])
 
-  pub from-low : first + lets ≤ 2147484672
+  pub from-low : first + lets ≤ 2147485575
   from-low = omega (arith, lets-small, rd .low)
 
   pub holds-from : Holds rows (first + lets) held
   holds-from = subst (λ (n : ℕ). Holds rows n held) (sym (rd .last)) h
 
-  pub members-short : length members ≤ 1024
+  pub members-short : length members ≤ 1927
   members-short = omega (arith, ap length (rd .grouped .members-are), all-few rows from held h)
 
-  pub ends-short : length ends ≤ 1024
+  pub ends-short : length ends ≤ 1927
   ends-short = ends-few rows fuel from held members ends h (rd .grouped) (omega (arith, rd .last, from-low))
 
   module _ (w : Walked) (numbers sizes : List ℕ) (given : (w ≡ walk-answer (groups-told rows fuel (first + lets) held)) × Walk-wrote (groups-told rows fuel (first + lets) held) numbers sizes) where
@@ -183,7 +183,7 @@ module _ (rows : List Row) (ws : List ℕ) (k first : ℕ) (places : List ℕ) (
   pub left-there : T (all-there ws places)
   left-there = there-tested ws places (subst (All-there ws) (sym (l .places-are)) (places-there rows good k first ws (l .good) (l .pass)))
 
-  module _ (held : List ℕ) (held-is : held ≡ held-words ws k first places) (short : length held ≤ 1024) where
+  module _ (held : List ℕ) (held-is : held ≡ held-words ws k first places) (short : length held ≤ 1927) where
     at-places : (P : List ℕ → Type 0) → P (divisors-to-bind ws (name-in rows) true) → P places
     at-places P x = subst P (sym (l .places-are)) x
 
@@ -202,10 +202,10 @@ module _ (rows : List Row) (ws : List ℕ) (k first : ℕ) (places : List ℕ) (
     held-whole = subst (λ (o : Option ℕ). T (some-trees o)) (sym trees-here) tt
 
     module _ (trees : ℕ) (whole : trees-in ws ≡ some trees) where
-      pub trees-short : trees ≤ 1024
+      pub trees-short : trees ≤ 1927
       trees-short = omega (arith, complete-length numbered ws trees whole, trees-few rows good k first ws (l .good) (l .pass) (l .few))
 
-      module _ (old starts : List ℕ) (lent : length old ≡ 1024) (listed : starts ≡ tree-listing held old .out) where
+      module _ (old starts : List ℕ) (lent : length old ≡ 1927) (listed : starts ≡ tree-listing held old .out) where
         abbrev m : ℕ
         m = length (trees-held ws (next-number k first (read numbered ws)) places)
 
@@ -234,7 +234,7 @@ module _ (rows : List Row) (ws : List ℕ) (k first : ℕ) (places : List ℕ) (
               held-is = held-is;
               starts-are = starts-are ∙ ap (λ (n : ℕ). take n (starts-of held)) (sym starts-long);
               grouped = record { members-are = g .members-are; ends-are = g .ends-are };
-              statements = at-places (λ ps. (numbers : List ℕ) → stmts-count ws k first ps numbers ≤ 1024) (stmts-few rows good k first ws (l .good) (l .pass) (l .few) (subst (λ (n : ℕ). n ≤ 1024) (ap length held-is ∙ ap (λ (ps : List ℕ). length (held-words ws k first ps)) (l .places-are)) short));
+              statements = at-places (λ ps. (numbers : List ℕ) → stmts-count ws k first ps numbers ≤ 1927) (stmts-few rows good k first ws (l .good) (l .pass) (l .few) (subst (λ (n : ℕ). n ≤ 1927) (ap length held-is ∙ ap (λ (ps : List ℕ). length (held-words ws k first ps)) (l .places-are)) short));
               last = last-is;
             }
           where
@@ -253,7 +253,7 @@ whole-so rows n ws g = let r = ready-of rows n ws g in subst (λ (o : Option ℕ
 pub rest-is : (w : List ℕ) (u : ℕ) → take (length w - u) (drop u w) ≡ drop u w
 rest-is w u = take-all (length w - u) (drop u w) (omega (arith, length-drop u w))
 
-pub lent-rest : (fuel : ℕ) (work text : List ℕ) (u : ℕ) → Lent (suc fuel) work text → u ≤ 1024 → Lent fuel (take (length work - u) (drop u work)) text
+pub lent-rest : (fuel : ℕ) (work text : List ℕ) (u : ℕ) → Lent (suc fuel) work text → u ≤ 1927 → Lent fuel (take (length work - u) (drop u work)) text
 lent-rest fuel work text u l h = record { words = omega (arith, l .words, ap length (rest-is work u), length-drop u work); bytes = l .bytes }
 
 module _ (rows : List Row) (fuel row : ℕ) (work : List ℕ) (used k first : ℕ) (places : List ℕ) (there : used ≤ length work) (l : Left rows (take used work) k first places) where
@@ -263,13 +263,13 @@ module _ (rows : List Row) (fuel row : ℕ) (work : List ℕ) (used k first : �
   used-long : length vs ≡ used
   used-long = length-take-le used work there
 
-  pub used-few : used ≤ 1024
+  pub used-few : used ≤ 1927
   used-few = omega (arith, used-long, l .few)
 
   abbrev outcome : Outcome Told
   outcome = fused-scope (inner rows fuel) row vs k first places
 
-  module _ (old tokens : List ℕ) (long : length old ≡ 1024) (copied : tokens ≡ overlay 0 vs old) where
+  module _ (old tokens : List ℕ) (long : length old ≡ 1927) (copied : tokens ≡ overlay 0 vs old) where
     pub tokens-are : take used tokens ≡ vs
     tokens-are = ap (take used) (copied ∙ overlay-front vs old (omega (arith, used-long, used-few, long))) ∙ take-at vs (drop (length vs) old) used used-long
 
@@ -283,15 +283,15 @@ module _ (rows : List Row) (fuel row : ℕ) (work : List ℕ) (used k first : �
       pub trees-enough : k ≤ trees
       trees-enough = omega (arith, tokens-left .enough, complete-length numbered (take used tokens) trees whole)
 
-      pub trees-few-here : trees ≤ 1024
+      pub trees-few-here : trees ≤ 1927
       trees-few-here = omega (arith, complete-length numbered (take used tokens) trees whole, trees-few rows (is-number rows) k first (take used tokens) (tokens-left .good) (tokens-left .pass) (tokens-left .few))
 
       number-is : first + (trees - k) ≡ reciprocals-first (take used tokens) k first places
       unfolding reciprocals-first next-number
       number-is = omega (arith, length-drop k (read numbered (take used tokens)), complete-length numbered (take used tokens) trees whole)
 
-      pub places-short : length places ≤ 1024
-      places-short = omega (arith, lets-of (take used tokens) k first places trees whole, subst (λ (ps : List ℕ). lets-count (take used tokens) k first ps ≤ 1024) (sym (tokens-left .places-are)) (lets-few rows (is-number rows) k first (take used tokens) (tokens-left .good) (tokens-left .pass) (tokens-left .few)))
+      pub places-short : length places ≤ 1927
+      places-short = omega (arith, lets-of (take used tokens) k first places trees whole, subst (λ (ps : List ℕ). lets-count (take used tokens) k first ps ≤ 1927) (sym (tokens-left .places-are)) (lets-few rows (is-number rows) k first (take used tokens) (tokens-left .good) (tokens-left .pass) (tokens-left .few)))
 
       pub tokens-there : T (all-there (take used tokens) places)
       tokens-there = left-there rows (take used tokens) k first places tokens-left
@@ -309,8 +309,8 @@ module _ (rows : List Row) (fuel row : ℕ) (work : List ℕ) (used k first : �
         too-many e at table =
             let g = subst (λ (q : Holding). Holding-so (words-held (take used tokens) (first + (trees - k)) places) q held) e given in
             let hs = held-words (take used tokens) k first places in
-            let b : leb (length hs) 1024 ≡ false = lt-leb (length hs) 1024 (omega (arith, g, ap length words-are)) in
-            scope-refused outcome (by 23) (same-outcome ∙ by-no-test (leb (length hs) 1024) _ (refused (by 23)) b) at table
+            let b : leb (length hs) 1927 ≡ false = lt-leb (length hs) 1927 (omega (arith, g, ap length words-are)) in
+            scope-refused outcome (by 23) (same-outcome ∙ by-no-test (leb (length hs) 1927) _ (refused (by 23)) b) at table
 
         module _ (n : ℕ) (e : r ≡ holding.Words n) where
           so : Holding-so (words-held (take used tokens) (first + (trees - k)) places) (holding.Words n) held
@@ -322,11 +322,11 @@ module _ (rows : List Row) (fuel row : ℕ) (work : List ℕ) (used k first : �
           pub held-are : take n held ≡ held-words (take used tokens) k first places
           held-are = so .0 ∙ words-are
 
-          pub held-short : length (take n held) ≤ 1024
+          pub held-short : length (take n held) ≤ 1927
           held-short = omega (arith, ap length (so .0), so .2)
 
           pub outcome-is : outcome ≡ grouped-scope rows fuel row (take used tokens) k first places
           unfolding fused-scope grouped-scope groups-told
           outcome-is =
               same-outcome
-              ∙ by-test (leb (length (held-words (take used tokens) k first places)) 1024) _ (refused (by 23)) (le-leb (length (held-words (take used tokens) k first places)) 1024 (omega (arith, ap length held-are, held-short)))
+              ∙ by-test (leb (length (held-words (take used tokens) k first places)) 1927) _ (refused (by 23)) (le-leb (length (held-words (take used tokens) k first places)) 1927 (omega (arith, ap length held-are, held-short)))

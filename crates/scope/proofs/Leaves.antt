@@ -102,7 +102,7 @@ module _ (held group : List ℕ) (complete : T (some-trees (trees-in held))) (g 
 
 -- ---- what is held
 
-module _ (ws places : List ℕ) (number : ℕ) (old : List ℕ) (complete : T (some-trees (trees-in ws))) (at-all : T (all-there ws places)) (few : length ws ≤ 1024) (short : length places ≤ 1024) (low : number ≤ 4294967296) (lent : 1024 ≤ length old) where
+module _ (ws places : List ℕ) (number : ℕ) (old : List ℕ) (complete : T (some-trees (trees-in ws))) (at-all : T (all-there ws places)) (few : length ws ≤ 1927) (short : length places ≤ 1927) (low : number ≤ 4294967296) (lent : 1927 ≤ length old) where
   abbrev hs : List ℕ
   hs = words-held ws number places
 
@@ -112,11 +112,11 @@ module _ (ws places : List ℕ) (number : ℕ) (old : List ℕ) (complete : T (s
 
   roomy : room-to-hold (length ws) (length places) number (length old) ≡ true
   unfolding room-to-hold
-  roomy = rw (le-leb (length ws) 1024 few, le-leb number 4294967296 low, le-leb (length places) 4294967296 (omega arith), le-leb 1024 (length old) lent)
+  roomy = rw (le-leb (length ws) 1927 few, le-leb number 4294967296 low, le-leb (length places) 4294967296 (omega arith), le-leb 1927 (length old) lent)
 
-  held-by : holding ws places number old ≡ holding-by true true (leb (length hs) 1024) hs old
+  held-by : holding ws places number old ≡ holding-by true true (leb (length hs) 1927) hs old
   unfolding holding
-  held-by = ap₂ (λ (a b : Bool). holding-by a b (leb (length hs) 1024) hs old) whole roomy
+  held-by = ap₂ (λ (a b : Bool). holding-by a b (leb (length hs) 1927) hs old) whole roomy
 
   module _ (r : Held) (out : List ℕ) (given : (r ≡ holding ws places number old .answer) × (out ≡ holding ws places number old .out)) where
     abbrev Held-by : Held → Type 0
@@ -125,13 +125,13 @@ module _ (ws places : List ℕ) (number : ℕ) (old : List ℕ) (complete : T (s
     Held-by held-enum.Broken = ⊥
     Held-by held-enum.NoRoom = ⊥
 
-    by-few : (b : Bool) → leb (length hs) 1024 ≡ b → out ≡ holding-by true true b hs old .out → Held-by (holding-by true true b hs old .answer)
+    by-few : (b : Bool) → leb (length hs) 1927 ≡ b → out ≡ holding-by true true b hs old .out → Held-by (holding-by true true b hs old .answer)
     unfolding holding-by
-    by-few true q e = (ap (take (length hs)) e ∙ take-at hs (drop (length hs) old) (length hs) refl, omega (arith, ap length e, length-append hs (drop (length hs) old)), leb-true (length hs) 1024 q)
-    by-few false q e = leb-false (length hs) 1024 q
+    by-few true q e = (ap (take (length hs)) e ∙ take-at hs (drop (length hs) old) (length hs) refl, omega (arith, ap length e, length-append hs (drop (length hs) old)), leb-true (length hs) 1927 q)
+    by-few false q e = leb-false (length hs) 1927 q
 
     held-answer : Held-by r
-    held-answer = subst Held-by (sym (given .0 ∙ ap (λ (x : Held-so). x .answer) held-by)) (by-few (leb (length hs) 1024) refl (given .1 ∙ ap (λ (x : Held-so). x .out) held-by))
+    held-answer = subst Held-by (sym (given .0 ∙ ap (λ (x : Held-so). x .answer) held-by)) (by-few (leb (length hs) 1927) refl (given .1 ∙ ap (λ (x : Held-so). x .out) held-by))
 
     pub held-words-are : (n : ℕ) → r ≡ held-enum.Words n → Holding-so hs (holding-enum.Words n) out
     held-words-are n e = subst Held-by e held-answer

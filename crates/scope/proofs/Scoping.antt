@@ -40,7 +40,7 @@ module _ (rows : List Row) (row next : ℕ) (ws : List ℕ) (at : ℕ) (old : Li
 
   module _ (f : ℕ) where
     abbrev test : Bool
-    test = leb (length ws) 1024 && leb next most-number
+    test = leb (length ws) 1927 && leb next most-number
 
     not-tested : test ≡ false → scope-told rows (suc f) row next ws ≡ refused (by 23)
     unfolding scope-told
@@ -51,21 +51,21 @@ module _ (rows : List Row) (row next : ℕ) (ws : List ℕ) (at : ℕ) (old : Li
     tested e = by-test test _ (refused (by 23)) e
 
   module _ (fuel : ℕ) (more : fuel ≡ suc (fuel - 1)) where
-    pub too-long : 1024 < length ws → Scope-done (scope-told rows fuel row next ws) at old (scoped.Refused 23) old
+    pub too-long : 1927 < length ws → Scope-done (scope-told rows fuel row next ws) at old (scoped.Refused 23) old
     too-long h =
         scope-refused (scope-told rows fuel row next ws) (by 23)
-        (ap (λ (f : ℕ). scope-told rows f row next ws) more ∙ not-tested (fuel - 1) (ap (λ (b : Bool). b && leb next most-number) (lt-leb (length ws) 1024 h))) at old
+        (ap (λ (f : ℕ). scope-told rows f row next ws) more ∙ not-tested (fuel - 1) (ap (λ (b : Bool). b && leb next most-number) (lt-leb (length ws) 1927 h))) at old
 
     pub too-large : most-number < next → Scope-done (scope-told rows fuel row next ws) at old (scoped.Refused 23) old
     too-large h =
         scope-refused (scope-told rows fuel row next ws) (by 23)
-        (ap (λ (f : ℕ). scope-told rows f row next ws) more ∙ not-tested (fuel - 1) (ap (λ (b : Bool). leb (length ws) 1024 && b) (lt-leb next most-number h) ∙ and-false (leb (length ws) 1024))) at old
+        (ap (λ (f : ℕ). scope-told rows f row next ws) more ∙ not-tested (fuel - 1) (ap (λ (b : Bool). leb (length ws) 1927 && b) (lt-leb next most-number h) ∙ and-false (leb (length ws) 1927))) at old
 
-    module _ (few : length ws ≤ 1024) (low : next ≤ most-number) (sound : T (extractable rows next ws)) (pass : T (symbols-pass (is-number rows) ws)) where
+    module _ (few : length ws ≤ 1927) (low : next ≤ most-number) (sound : T (extractable rows next ws)) (pass : T (symbols-pass (is-number rows) ws)) where
       from-rounds : scope-told rows fuel row next ws ≡ (all-rounds rows true next ws >>= λ vs. fused-scope (inner rows (fuel - 1)) row vs (length (read numbered ws)) next (divisors-to-bind vs (name-in rows) true))
       from-rounds =
           ap (λ (f : ℕ). scope-told rows f row next ws) more
-          ∙ tested (fuel - 1) (ap₂ (λ (a b : Bool). a && b) (le-leb (length ws) 1024 few) (le-leb next most-number low))
+          ∙ tested (fuel - 1) (ap₂ (λ (a b : Bool). a && b) (le-leb (length ws) 1927 few) (le-leb next most-number low))
 
       module _ (r : Listed) (tokens places : List ℕ) (given : Lists rows next ws r tokens places) where
         pub ten : r ≡ listed.Refused → Scope-done (scope-told rows fuel row next ws) at old (scoped.Refused 10) old

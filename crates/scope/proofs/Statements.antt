@@ -60,7 +60,7 @@ module _ (rows : List Row) (fuel : ℕ) (ws : List ℕ) (k first : ℕ) (places 
   pub grouped : Grouped held members ends numbers
   grouped = record { complete = held-complete p; short = p .short; members-are = p .members-are; ends-are = p .ends-are; numbered = p .numbered; small = p .small }
 
-  pub lets-few : lets ≤ 1024
+  pub lets-few : lets ≤ 1927
   lets-few = omega (arith, count-is p, p .statements)
 
   pub let-is : (q : ℕ) → q < lets → run q ≡ let-run (first + q) (tree-run ws k first places numbers (k + q))

@@ -29,14 +29,14 @@ most-rows = 9223372036854775808
 
 -- a thousand words for each scope that may still be opened, and the text
 pub record Lent (fuel : ℕ) (work text : List ℕ) : Type 0 where
-  pub words : 1024 * fuel ≤ length work
+  pub words : 1927 * fuel ≤ length work
   pub bytes : 131072 ≤ length text
 
 -- words whose columns may be scopes, with numbers from `next` on
 pub record Holds (rows : List Row) (next : ℕ) (held : List ℕ) : Type 0 where
   pub good : T (extractable rows next held)
   pub pass : T (symbols-pass (is-number rows) held)
-  pub few : length held ≤ 1024
+  pub few : length held ≤ 1927
 
 -- some places are a group of the words'
 pub record Is-group (held group : List ℕ) : Type 0 where
@@ -69,12 +69,12 @@ pub record Ready (ws : List ℕ) (k first : ℕ) (places held starts members end
   pub complete : trees-in ws ≡ some (length starts)
   pub enough : k ≤ length starts
   pub there : T (all-there ws places)
-  pub few : length ws ≤ 1024
+  pub few : length ws ≤ 1927
   pub low : first ≤ most-number
   pub held-is : held ≡ held-words ws k first places
   pub starts-are : starts ≡ take (length starts) (starts-of held)
   pub grouped : Members held members ends
-  pub statements : (numbers : List ℕ) → stmts-count ws k first places numbers ≤ 1024
+  pub statements : (numbers : List ℕ) → stmts-count ws k first places numbers ≤ 1927
   pub last : first + ((length starts - k) + length places) ≡ reciprocals-first ws k first places + length places
 
 -- the rest of the scope: its groups, and then its statements in order
@@ -122,7 +122,7 @@ pub record Left (rows : List Row) (ws : List ℕ) (k first : ℕ) (places : List
   pub pass : T (symbols-pass (is-number rows) ws)
   pub enough : k ≤ length (read numbered ws)
   pub places-are : places ≡ divisors-to-bind ws (name-in rows) true
-  pub few : length ws ≤ 1024
+  pub few : length ws ≤ 1927
   pub low : first ≤ most-number
 
 -- what the groups of words are put into

@@ -47,7 +47,7 @@ use tokens::operand_count;
 use treelist::list_trees;
 
 // The most words of a scope.
-const MOST: usize = 1024;
+const MOST: usize = 1927;
 
 // The largest number that a scope may start with.
 const MOST_NUMBER: u64 = 2147483648;
@@ -91,7 +91,7 @@ enum Walked {
 enum Holding {
     // How many words are held.
     Words(usize),
-    // More than 1,024 would be.
+    // More than 1,927 would be.
     TooMany,
 }
 
@@ -135,7 +135,7 @@ fn tree_count(tokens: &[u64]) -> usize
 // What the scope holds, at the front of `held`.
 fn hold_all(tokens: &[u64], places: &[u64], number: u64, held: &mut [u64]) -> Holding
     requires { ⌜ T (some-trees (trees-in (now tokens))) × T (all-there (now tokens) (now places)) ⌝ }
-    requires { ⌜ (length (now tokens) ≤ 1024) × (length (now places) ≤ 1024) × (number ≤ 4294967296) × (1024 ≤ length (now held)) ⌝ }
+    requires { ⌜ (length (now tokens) ≤ 1927) × (length (now places) ≤ 1927) × (number ≤ 4294967296) × (1927 ≤ length (now held)) ⌝ }
     ensures { λ r. ⌜ Holding-so (words-held (now (tokens .entry)) number (now (places .entry))) r (now (held .exit)) ⌝ }
 {
     let done = hold(tokens, places, number, held);
@@ -149,7 +149,7 @@ fn hold_all(tokens: &[u64], places: &[u64], number: u64, held: &mut [u64]) -> Ho
 
 // The switches of words, at the front of `places`. That they can't be listed never comes up.
 fn list_all(held: &[u64], places: &mut [u64]) -> usize
-    requires { ⌜ T (some-trees (trees-in (now held))) × (length (now held) ≤ 1024) × (1024 ≤ length (now places)) ⌝ }
+    requires { ⌜ T (some-trees (trees-in (now held))) × (length (now held) ≤ 1927) × (1927 ≤ length (now places)) ⌝ }
     ensures { λ r. ⌜ (take r (now (places .exit)) ≡ switch-places (now (held .entry))) × (r ≤ length (now (places .exit))) ⌝ }
 {
     let listed = list_switches(held, places);
@@ -176,8 +176,8 @@ fn group_listed(held: &[u64], places: &[u64], members: &mut [u64], ends: &mut [u
 
 // The groups of the switches of words: all members at the front of `members`, and where each group ends among them at the front of `ends`.
 fn group_all(held: &[u64], members: &mut [u64], ends: &mut [u64]) -> Found
-    requires { ⌜ T (some-trees (trees-in (now held))) × (length (now held) ≤ 1024) ⌝ }
-    requires { ⌜ (1024 ≤ length (now members)) × (1024 ≤ length (now ends)) ⌝ }
+    requires { ⌜ T (some-trees (trees-in (now held))) × (length (now held) ≤ 1927) ⌝ }
+    requires { ⌜ (1927 ≤ length (now members)) × (1927 ≤ length (now ends)) ⌝ }
     ensures { λ r. ⌜ Grouping-so (now (held .entry)) (r .members) (r .groups) (now (members .exit)) (now (ends .exit)) ⌝ }
 {
     let mut switches = [0u64; MOST];
@@ -199,8 +199,8 @@ fn extract_and_list(
     places: &mut [u64],
 ) -> Listed
     requires { ⌜ T (extractable (rows-in (now rows)) first (take len (now tokens))) × T (symbols-pass (is-number (rows-in (now rows))) (take len (now tokens))) ⌝ }
-    requires { ⌜ (len ≤ 1024) × (len ≤ length (now tokens)) × (first ≤ 549755813888) ⌝ }
-    requires { ⌜ (131072 ≤ length (now text)) × (1024 ≤ length (now places)) ⌝ }
+    requires { ⌜ (len ≤ 1927) × (len ≤ length (now tokens)) × (first ≤ 549755813888) ⌝ }
+    requires { ⌜ (131072 ≤ length (now text)) × (len ≤ length (now places)) ⌝ }
     ensures { λ r. ⌜ Lists (rows-in (now (rows .entry))) first (take len (now (tokens .entry))) r (now (tokens .exit)) (now (places .exit)) ⌝ }
 {
     let rounds = extract_all(rows, tokens, len, true, first, text);
@@ -227,7 +227,7 @@ fn group_begin(ends: &[u64], g: usize) -> usize
 
 // How many arms each switch of a group has.
 fn count_arms(held: &[u64], group: &[u64]) -> usize
-    requires { ⌜ Is-group (now held) (now group) × (length (now held) ≤ 1024) × T (some-trees (trees-in (now held))) ⌝ }
+    requires { ⌜ Is-group (now held) (now group) × (length (now held) ≤ 1927) × T (some-trees (trees-in (now held))) ⌝ }
     ensures { λ r. ⌜ r ≡ arm-count (now (held .entry)) (getD (now (group .entry)) 0 0) ⌝ }
 {
     let opener = group[0] as usize;
@@ -719,7 +719,7 @@ fn scope_held(
     table: &mut [u64],
 ) -> Scoped
     requires { ⌜ Lent fuel (now work) (now text) × Left (rows-in (now rows)) (now tokens) results first (now places) ⌝ }
-    requires { ⌜ (trees-in (now tokens) ≡ some trees) × (now held ≡ held-words (now tokens) results first (now places)) × (length (now held) ≤ 1024) ⌝ }
+    requires { ⌜ (trees-in (now tokens) ≡ some trees) × (now held ≡ held-words (now tokens) results first (now places)) × (length (now held) ≤ 1927) ⌝ }
     requires { ⌜ at + told-rows (grouped-scope (rows-in (now rows)) fuel row (now tokens) results first (now places)) ≤ most-rows ⌝ }
     ensures { λ r. ⌜ (r ≡ scope-answer (grouped-scope (rows-in (now (rows .entry))) fuel row (now (tokens .entry)) results first (now (places .entry))) at)
         × (now (table .exit) ≡ scope-table (grouped-scope (rows-in (now (rows .entry))) fuel row (now (tokens .entry)) results first (now (places .entry))) at (now (table .entry))) ⌝ }

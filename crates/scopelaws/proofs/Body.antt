@@ -75,7 +75,7 @@ module _ (rows : List Row) (k first : ℕ) (vs : List ℕ) where
   hs = held-words vs k first bind-at
 
   abbrev pub Few-held : Type 0
-  Few-held = length hs ≤ 1024
+  Few-held = length hs ≤ 1927
 
   module _ (scope : ℕ → List Tree → Outcome Scoped) where
     -- the table of bits gives the order of the needs

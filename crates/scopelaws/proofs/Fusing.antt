@@ -89,11 +89,11 @@ module _ (scope : ℕ → List Tree → Outcome Scoped) (proper : (n : ℕ) (es 
   held-many = ap length hs-are ∙ (held-length vs n places fit ∙ ap occurrences (sym (held-are vs k first n places within)))
 
   module _
-      (inner : length (held-words vs k first places) ≤ 1024 → (n i a : ℕ) → reciprocals-first vs k first places + length places ≤ n → Opens-group (held-words vs k first places) i
+      (inner : length (held-words vs k first places) ≤ 1927 → (n i a : ℕ) → reciprocals-first vs k first places + length places ≤ n → Opens-group (held-words vs k first places) i
       → a < arm-count (held-words vs k first places) (getD (places-of (held-words vs k first places) i) 0 0)
       → by-words n (column-words (held-words vs k first places) (places-of (held-words vs k first places) i) a)
       ≡ (scope n (read numbered (column-words (held-words vs k first places) (places-of (held-words vs k first places) i) a)) >>= λ s. ok (told value-row s)))
-      (ordering : length (held-words vs k first places) ≤ 1024 → (l : Walked)
+      (ordering : length (held-words vs k first places) ≤ 1927 → (l : Walked)
       → numbered-groups scope (reciprocals-first vs k first places + length places)
       (scope-groups (map (numbered-at vs) places) (next-number k first (read numbered vs)) (read numbered vs))
       ≡ ok l
@@ -105,7 +105,7 @@ module _ (scope : ℕ → List Tree → Outcome Scoped) (proper : (n : ℕ) (es 
       abbrev made : ℕ
       made = length (drop k ts)
 
-      walk : length hs ≤ 1024
+      walk : length hs ≤ 1927
           → (walked by-words hs (place-groups hs) start (length (place-groups hs)) >>= λ l. ordered-scope row vs k first places l)
           ≡ (settled-scope scope made k first ts ds >>= λ a. ok (told row a))
       unfolding settled-scope
@@ -134,14 +134,14 @@ module _ (scope : ℕ → List Tree → Outcome Scoped) (proper : (n : ℕ) (es 
           (state-of k first (bind-each-on (map (numbered-at vs) places) (next-number k first (read numbered vs)) (read numbered vs))) >>= λ a. ok (told row a))
       unfolding fused-scope fuse-held scope-rows
       fused-is =
-          go (leb (length hs) 1024) refl
+          go (leb (length hs) 1927) refl
           ∙ ap
           (λ (x : ℕ).
-          (elim (leb x 1024) as (λ _. Outcome Scoped) [ true ↦ (fuse-all scope made state >>= λ w. finish w) | false ↦ refused (by 23) ]) >>= λ a. ok (told row a)) held-many
+          (elim (leb x 1927) as (λ _. Outcome Scoped) [ true ↦ (fuse-all scope made state >>= λ w. finish w) | false ↦ refused (by 23) ]) >>= λ a. ok (told row a)) held-many
         where
-          go : (b : Bool) → leb (length hs) 1024 ≡ b
+          go : (b : Bool) → leb (length hs) 1927 ≡ b
               → cond b (walked by-words hs (place-groups hs) start (length (place-groups hs)) >>= λ l. ordered-scope row vs k first places l) (refused (by 23))
               ≡ ((elim b as (λ _. Outcome Scoped) [ true ↦ (fuse-all scope made state >>= λ w. finish w) | false ↦ refused (by 23) ]) >>= λ a. ok (told row a))
           go true e =
-              walk (leb→le (length hs) 1024 (subst T (sym e) tt)) ∙ ap (λ (o : Outcome Scoped). o >>= λ a. ok (told row a)) (sym (scope-is k first ts ds within scope made))
+              walk (leb→le (length hs) 1927 (subst T (sym e) tt)) ∙ ap (λ (o : Outcome Scoped). o >>= λ a. ok (told row a)) (sym (scope-is k first ts ds within scope made))
           go false e = refl

@@ -30,7 +30,7 @@ module _ (rows : List Row) where
   more-open :
       (fuel next : ℕ) (es : List Tree)
       → by-trees (suc fuel) next es
-      ≡ (elim (leb (occurrences es) 1024 && leb next 2147483648) as (λ _. Outcome Scoped) [ true ↦ scope-body rows (λ n l. by-trees fuel n l) next es | false ↦ refused (by 23) ])
+      ≡ (elim (leb (occurrences es) 1927 && leb next 2147483648) as (λ _. Outcome Scoped) [ true ↦ scope-body rows (λ n l. by-trees fuel n l) next es | false ↦ refused (by 23) ])
   unfolding cse-scope-by opens scope-rows
   more-open fuel next es = refl
 

@@ -1,6 +1,6 @@
 -- The table after the names of some words are marked in a row: a place of the row is yes where it was or where one of the words names its position, every other row
 -- is as before, and so is the table's length; and so after the rows of several statements (01, "Order"). Assumes nothing.
-use Prim.Native.Nat.{ℕ, zero, suc, _+_, _-_, _/_, _%_, _≤_, _<_}
+use Prim.Native.Nat.{ℕ, zero, suc, _+_, _-_, _*_, _/_, _%_, _≤_, _<_}
 use native.Mathlib.Omega.{arith}
 use mathlib.Core.Path.{_≡_, refl, sym, _∙_, ap}
 use mathlib.Core.Logic.{_≢_}
@@ -160,8 +160,8 @@ module _ (first lets : ℕ) (numbers ends : List ℕ) where
     marks-after (suc n) t j q h = reads-other (run n) n (marks n t) j q (λ e. omega arith) ∙ marks-after n t j q (omega arith)
 
     -- from a table that is all no
-    module _ (t : List ℕ) (long : length t ≡ 16384) (blank : (j q : ℕ) → yes t j q ≡ false) where
-      pub marks-yes : (n : ℕ) → n ≤ 1024 → (j q : ℕ) → j < n → q < 1024 → yes (marks n t) j q ≡ any (names-place q) (run j)
+    module _ (t : List ℕ) (blank : (j q : ℕ) → yes t j q ≡ false) where
+      pub marks-yes : (n : ℕ) → 31 * n ≤ length t → (j q : ℕ) → j < n → q < 1984 → yes (marks n t) j q ≡ any (names-place q) (run j)
       unfolding marks-by
       marks-yes zero g j q h k = absurd (omega arith)
       marks-yes (suc n) g j q h k = go (ltb j n) refl (λ i. marks-yes n (omega arith) j _ i k)
@@ -173,7 +173,7 @@ module _ (first lets : ℕ) (numbers ends : List ℕ) where
               reads-other (run n) n (marks n t) j q (λ x. omega arith) ∙ earlier before
           go false e earlier =
               let same : j ≡ n = omega (arith, ltb-false j n e) in
-              let wide : word-of n q < length (marks n t) = omega (arith, marks-long n t, long) in
+              let wide : word-of n q < length (marks n t) = omega (arith, marks-long n t) in
               ap (λ (x : ℕ). yes (with-reads first lets numbers ends (run n) n (marks n t)) x q) same
               ∙ (reads-fresh (run n) n (marks n t) q (marks-after n t n q (omega arith) ∙ blank n q) (inside-of (length (marks n t)) n q k wide)
               ∙ ap (λ (x : ℕ). any (names-place q) (run x)) (sym same))

@@ -1,6 +1,6 @@
 -- The order of a scope's statements told on words is that of `topo_sort_intermediates` (01, "Order", "Scoped fusion"): the table of bits marked from the words that
 -- each statement reads is the table of their needs. Assumes nothing.
-use Prim.Native.Nat.{ℕ, zero, suc, _+_, _-_, _%_, _≤_, _<_}
+use Prim.Native.Nat.{ℕ, zero, suc, _+_, _-_, _*_, _%_, _≤_, _<_}
 use native.Mathlib.Omega.{arith}
 use mathlib.Core.Path.{_≡_, refl, sym, _∙_, ap, ap₂, subst}
 use mathlib.Core.Bool.{Bool, true, false, _&&_, cond}
@@ -50,12 +50,6 @@ use Rattle.scopeneedlaws.proofs.Statements.{roots-count, stmts-are, stm
 use Rattle.scopeneedlaws.proofs.Reading.{table-by, lets-read, read-count, tree-reads, match-reads, match-names}
 
 -- ---- a table that is all no
-
-abbrev zeros : List ℕ
-zeros = replicate 16384 0
-
-zeros-long : length zeros ≡ 16384
-zeros-long = length-replicate {A = ℕ} 16384 0
 
 zero-row : (t : List ℕ) (n : ℕ) → t ≡ replicate n 0 → (r c : ℕ) → yes t r c ≡ false
 unfolding yes
@@ -287,9 +281,12 @@ module _ (ws : List ℕ) (k first : ℕ) (places : List ℕ) (m : ℕ) (complete
 
     -- ---- the table
 
-    module _ (few : stmts-count ws k first places (all-numbers (l .groups)) ≤ 1024) where
+    module _ (few : stmts-count ws k first places (all-numbers (l .groups)) ≤ 1927) where
       abbrev count : ℕ
       count = stmts-count ws k first places numbers
+
+      abbrev zeros : List ℕ
+      zeros = replicate (31 * count) 0
 
       abbrev bits : List ℕ
       bits = needs-table ws k first places numbers count zeros
@@ -302,11 +299,11 @@ module _ (ws : List ℕ) (k first : ℕ) (places : List ℕ) (m : ℕ) (complete
       bit-at j i h g =
           let c = stmts-long in
           ap (λ (t : List ℕ). yes t j i) bits-are
-          ∙ (marks-yes first lets numbers (ends-from 0 gs) run zeros zeros-long (zero-row zeros 16384 refl) count few j i (omega arith) (omega arith) ∙ read-bits j i h g)
+          ∙ (marks-yes first lets numbers (ends-from 0 gs) run zeros (zero-row zeros (31 * count) refl) count (omega (arith, length-replicate {A = ℕ} (31 * count) 0)) j i (omega arith) (omega (arith, few)) ∙ read-bits j i h g)
 
       -- the table of bits is that of the needs
       pub table-is :
-          table-of (needs-table ws k first places (all-numbers (l .groups)) (stmts-count ws k first places (all-numbers (l .groups))) (replicate 16384 0)) (stmts-count ws k first places (all-numbers (l .groups)))
+          table-of (needs-table ws k first places (all-numbers (l .groups)) (stmts-count ws k first places (all-numbers (l .groups))) (replicate (31 * stmts-count ws k first places (all-numbers (l .groups))) 0)) (stmts-count ws k first places (all-numbers (l .groups)))
           ≡ needs (scope-stmts k first (read numbered ws) (map (numbered-at ws) places) (l .groups)) (scope-stmts k first (read numbered ws) (map (numbered-at ws) places) (l .groups))
       table-is =
           ap (table-of bits) (sym stmts-long)

@@ -139,14 +139,14 @@ module _ {ws : List ℕ} {k first : ℕ} {places held starts members ends number
 
   -- ---- a tree from before
 
-  pub trees-few : length starts ≤ 1024
+  pub trees-few : length starts ≤ 1927
   trees-few = omega (arith, complete-within ws m (p .complete), p .few)
 
   pub count-is : stmts-count ws k first places numbers ≡ ((length starts - k) + length places) + length (place-groups held)
   unfolding stmts-count
   count-is = omega (arith, lets-are, ap (λ (hs : List ℕ). length (place-groups hs)) (p .held-is))
 
-  pub places-few : length places ≤ 1024
+  pub places-few : length places ≤ 1927
   places-few = omega (arith, count-is, p .statements)
 
   settled-before : (i : ℕ) → i < m → getD (settled-trees ws k first places) i (Op 0 nil) ≡ getD S i (Op 0 nil)

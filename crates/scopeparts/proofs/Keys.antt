@@ -151,7 +151,7 @@ module _ {held members ends numbers : List ℕ} (G : Grouped held members ends n
       long-part : (n x : ℕ) (l : List ℕ) → x + n ≤ length l → length (take n (drop x l)) ≡ n
       long-part n x l w = length-take-le n (drop x l) (omega (arith, w, length-drop x l))
 
-      pub key-stands-there : (old out : List ℕ) → length old ≡ 1026 → out ≡ overlay 0 (take (s - (getD members b 0 + 1)) (drop (getD members b 0 + 1) held)) old → Stands (words-at held (getD members b 0 + 1)) out (s - (getD members b 0 + 1))
+      pub key-stands-there : (old out : List ℕ) → length old ≡ 1929 → out ≡ overlay 0 (take (s - (getD members b 0 + 1)) (drop (getD members b 0 + 1) held)) old → Stands (words-at held (getD members b 0 + 1)) out (s - (getD members b 0 + 1))
       key-stands-there old out l f =
           let w = long-part (s - k) k held (omega (arith, stop-inside, es)) in
           let y = ap length key-words in
@@ -205,7 +205,7 @@ module _ {held members ends numbers : List ℕ} (G : Grouped held members ends n
     w-is : w ≡ getD held q 0
     w-is = ap (λ (i : ℕ). getD held i 0) first-member
 
-    pub kind-there : (26 ≤ getD held (getD members b 0) 0 % 64) × ((1 ≤ getD held (getD members b 0) 0 / 64) × (getD held (getD members b 0) 0 / 64 ≤ 1024))
+    pub kind-there : (26 ≤ getD held (getD members b 0) 0 % 64) × ((1 ≤ getD held (getD members b 0) 0 / 64) × (getD held (getD members b 0) 0 / 64 ≤ 1927))
     kind-there =
         let a = has-key held q (switching .1) in
         let o = operation-takes (getD held q 0) (omega (arith, a .1)) in
@@ -216,7 +216,7 @@ module _ {held members ends numbers : List ℕ} (G : Grouped held members ends n
         let m = length-drop (suc q) held in
         (omega (arith, w-is, a .1), (omega (arith, w-is, a .0, o), omega (arith, w-is, o, n, l, v, m, G .short)))
 
-    pub part-few : getD ends g 0 - b ≤ 1024
+    pub part-few : getD ends g 0 - b ≤ 1927
     part-few = omega (arith, part-long, group-switches held g group-there .0 .1, G .short)
 
     pub head-is :

@@ -96,8 +96,8 @@ module _ (held starts : List ℕ) (i : ℕ) (complete : Complete held) (are : st
 
 -- ---- a reciprocal
 
-module _ (ws places : List ℕ) (n j : ℕ) (there : T (bindings.all-there ws places)) (few : length ws ≤ 1024) (low : n ≤ 4294967296) (less : length places ≤ 4294967296) (h : j < length places)
-    (old : List ℕ) (lent : 1026 ≤ length old) where
+module _ (ws places : List ℕ) (n j : ℕ) (there : T (bindings.all-there ws places)) (few : length ws ≤ 1927) (low : n ≤ 4294967296) (less : length places ≤ 4294967296) (h : j < length places)
+    (old : List ℕ) (lent : 1929 ≤ length old) where
   made-run : made-words ws places n j ≡ reciprocal-run ws places n j
   unfolding reciprocal-run all-tokens
   made-run = append-nil (tokens unnumbered (made ws places n j)) ∙ ap (tokens unnumbered) (sym (made-is ws places n j h (Op 0 nil)))
@@ -130,7 +130,7 @@ unfolding all-small
 small-each [] f = refl
 small-each (n ∷ l) f = rw (le-leb n 549755813888 (f 0 (omega arith)), small-each l (λ i h. f (suc i) (omega arith))) refl
 
-module _ {held members numbers : List ℕ} (f : Fusable held members numbers) (old : List ℕ) (len : ℕ) (lent : len ≤ length old) (short : len ≤ 1026) (c : Complete (take len old)) where
+module _ {held members numbers : List ℕ} (f : Fusable held members numbers) (old : List ℕ) (len : ℕ) (lent : len ≤ length old) (short : len ≤ 1929) (c : Complete (take len old)) where
   found : all-there old len (length members) (length numbers) ≡ true
   unfolding all-there some-trees
   found = rw (le-leb len (length old) lent, c .1, le-leb (length members) (length numbers) (f .numbered)) refl
@@ -142,7 +142,7 @@ module _ {held members numbers : List ℕ} (f : Fusable held members numbers) (o
 
   room : room-for len (take (length members) numbers) ≡ true
   unfolding room-for
-  room = rw (le-leb len 1026 short, small-each (take (length members) numbers) used-small) refl
+  room = rw (le-leb len 1929 short, small-each (take (length members) numbers) used-small) refl
 
   abbrev new : List ℕ
   new = fused-by held members numbers (take len old)

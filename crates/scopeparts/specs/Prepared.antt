@@ -31,16 +31,16 @@ pub record Prepared (ws : List ℕ) (k first : ℕ) (places held starts members 
   pub complete : trees-in ws ≡ some (length starts)
   pub enough : k ≤ length starts
   pub there : T (all-there ws places)
-  pub few : length ws ≤ 1024
+  pub few : length ws ≤ 1927
   pub low : first ≤ 2147483648
   pub held-is : held ≡ held-words ws k first places
-  pub short : length held ≤ 1024
+  pub short : length held ≤ 1927
   pub starts-are : starts ≡ take (length starts) (starts-of held)
   pub members-are : members ≡ joined-groups (place-groups held)
   pub ends-are : ends ≡ ends-from 0 (place-groups held)
   pub numbered : length numbers ≡ length members
   pub small : (i : ℕ) → i < length numbers → getD numbers i 0 ≤ most
-  pub statements : stmts-count ws k first places numbers ≤ 1024
+  pub statements : stmts-count ws k first places numbers ≤ 1927
 
 -- the same where it doesn't matter how the ends are given
 abbrev pub Readied : List ℕ → ℕ → ℕ → List ℕ → List ℕ → List ℕ → List ℕ → List ℕ → Type 0
@@ -49,7 +49,7 @@ Readied ws k first places held starts members numbers = (ends : List ℕ) × Pre
 -- the part of it that speaks of the groups only
 pub record Grouped (held members ends numbers : List ℕ) : Type 0 where
   pub complete : Complete held
-  pub short : length held ≤ 1024
+  pub short : length held ≤ 1927
   pub members-are : members ≡ joined-groups (place-groups held)
   pub ends-are : ends ≡ ends-from 0 (place-groups held)
   pub numbered : length numbers ≡ length members

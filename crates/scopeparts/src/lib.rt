@@ -2,9 +2,9 @@
 // and of a match before its arms. A tree is taken from what the scope holds or, as a reciprocal, made when it is needed; then its members are replaced by their names.
 ghost use mathlib.Core.Path.{_≡_};
 ghost use mathlib.Core.List.{_++_};
-ghost use Prim.Native.Nat.{_+_, _-_, _≤_, _<_};
+ghost use Prim.Native.Nat.{_+_, _-_, _*_, _≤_, _<_};
 ghost use lib.Dec.{T};
-ghost use lib.ListN.{length, take, drop};
+ghost use lib.ListN.{length, take, drop, replicate};
 ghost use Rattle.words.specs.Words.{Complete};
 ghost use Rattle.reciprocal.specs.Bindings.{all-there};
 ghost use Rattle.treelist.specs.Starts.{starts-of};
@@ -28,13 +28,21 @@ use tables::put_word;
 use tokens::Run;
 use tokens::end_of;
 
-// The most statements, and the words of a table of bits with a row for each.
-const MOST: usize = 1024;
+// The most statements.
+const MOST: usize = 1927;
 
-const BITS: usize = 16384;
+// The words of a row of a table of bits, and of a table with a row for each of the most statements.
+const ROW: usize = 31;
+
+const BITS: usize = 59737;
+
+// The same for few statements, so that most scopes needn't clear the large table.
+const FEW: usize = 64;
+
+const FEW_BITS: usize = 1984;
 
 // The most words of a tree: a reciprocal has two besides its divisor's.
-const TREE: usize = 1026;
+const TREE: usize = 1929;
 
 // The row of a let of `__xN` is FIRST_LET + NEXT_NAME * N.
 const FIRST_LET: u64 = 93;
@@ -48,9 +56,9 @@ const MATCH: u64 = 4;
 
 // The tree of number i among some words, at the front of `tree`. That it lacks words never comes up.
 fn take_held(held: &[u64], starts: &[u64], i: usize, tree: &mut [u64]) -> usize
-    requires { ⌜ Complete (now held) × (length (now held) ≤ 1024) ⌝ }
+    requires { ⌜ Complete (now held) × (length (now held) ≤ 1927) ⌝ }
     requires { ⌜ (now starts ≡ take (length (now starts)) (starts-of (now held))) × (i < length (now starts)) ⌝ }
-    requires { ⌜ 1026 ≤ length (now tree) ⌝ }
+    requires { ⌜ 1929 ≤ length (now tree) ⌝ }
     ensures { λ r. ⌜ Stands (run-number (now (held .entry)) i) (now (tree .exit)) r ⌝ }
 {
     let at = starts[i] as usize;
@@ -63,9 +71,9 @@ fn take_held(held: &[u64], starts: &[u64], i: usize, tree: &mut [u64]) -> usize
 
 // The reciprocal of number j, those of the divisors numbered from `number` on. That it can't be made never comes up.
 fn take_reciprocal(tokens: &[u64], places: &[u64], number: u64, j: usize, tree: &mut [u64]) -> usize
-    requires { ⌜ T (all-there (now tokens) (now places)) × (length (now tokens) ≤ 1024) ⌝ }
+    requires { ⌜ T (all-there (now tokens) (now places)) × (length (now tokens) ≤ 1927) ⌝ }
     requires { ⌜ (number ≤ 4294967296) × (length (now places) ≤ 4294967296) ⌝ }
-    requires { ⌜ (j < length (now places)) × (1026 ≤ length (now tree)) ⌝ }
+    requires { ⌜ (j < length (now places)) × (1929 ≤ length (now tree)) ⌝ }
     ensures { λ r. ⌜ Stands (reciprocal-run (now (tokens .entry)) (now (places .entry)) number j) (now (tree .exit)) r ⌝ }
 {
     let bound = reciprocal(tokens, places, number, j, tree);
@@ -90,7 +98,7 @@ fn take_tree(
     tree: &mut [u64],
 ) -> usize
     requires { ⌜ Readied (now tokens) results first (now places) (now held) (now starts) (now members) (now numbers) ⌝ }
-    requires { ⌜ (i < length (now starts) + length (now places)) × (1026 ≤ length (now tree)) ⌝ }
+    requires { ⌜ (i < length (now starts) + length (now places)) × (1929 ≤ length (now tree)) ⌝ }
     ensures { λ r. ⌜ Stands (settled-run (now (tokens .entry)) results first (now (places .entry)) i) (now (tree .exit)) r ⌝ }
 {
     if i < starts.len() {
@@ -103,7 +111,7 @@ fn take_tree(
 // The first `len` words with the members replaced. That they can't be never comes up.
 fn fuse_words(held: &[u64], members: &[u64], numbers: &[u64], tree: &mut [u64], len: usize) -> usize
     requires { ⌜ Fusable (now held) (now members) (now numbers) ⌝ }
-    requires { ⌜ (len ≤ length (now tree)) × (len ≤ 1026) ⌝ }
+    requires { ⌜ (len ≤ length (now tree)) × (len ≤ 1929) ⌝ }
     requires { ⌜ Complete (take len (now tree)) ⌝ }
     ensures { λ r. ⌜ Stands (fused-by (now (held .entry)) (now (members .entry)) (now (numbers .entry)) (take len (now (tree .entry)))) (now (tree .exit)) r ⌝ }
 {
@@ -129,7 +137,7 @@ fn take_final(
     tree: &mut [u64],
 ) -> usize
     requires { ⌜ Readied (now tokens) results first (now places) (now held) (now starts) (now members) (now numbers) ⌝ }
-    requires { ⌜ (i < length (now starts) + length (now places)) × (length (now tree) ≡ 1026) ⌝ }
+    requires { ⌜ (i < length (now starts) + length (now places)) × (length (now tree) ≡ 1929) ⌝ }
     ensures { λ r. ⌜ Stands (tree-run (now (tokens .entry)) results first (now (places .entry)) (now (numbers .entry)) i) (now (tree .exit)) r ⌝ }
 {
     let n = take_tree(
@@ -168,7 +176,7 @@ fn take_key(
     tree: &mut [u64],
 ) -> usize
     requires { ⌜ Grouped (now held) (now members) (now ends) (now numbers) ⌝ }
-    requires { ⌜ (g < length (now ends)) × (length (now tree) ≡ 1026) ⌝ }
+    requires { ⌜ (g < length (now ends)) × (length (now tree) ≡ 1929) ⌝ }
     ensures { λ r. ⌜ Stands (key-run (now (held .entry)) (place-groups (now (held .entry))) (now (numbers .entry)) g) (now (tree .exit)) r ⌝ }
 {
     let begin = group_begin(ends, g);
@@ -327,6 +335,123 @@ fn mark_stmts(
     }
 }
 
+// The positions of the statements in the order in which they are taken, in front of what was in `taken`, by a table of bits that has a row for each and is all no.
+fn order_in(
+    tokens: &[u64],
+    results: usize,
+    first: u64,
+    places: &[u64],
+    held: &[u64],
+    starts: &[u64],
+    members: &[u64],
+    ends: &[u64],
+    numbers: &[u64],
+    count: usize,
+    bits: &mut [u64],
+    taken: &mut [u64],
+) -> Ordered
+    requires { ⌜ Prepared (now tokens) results first (now places) (now held) (now starts) (now members) (now ends) (now numbers) ⌝ }
+    requires { ⌜ (count ≡ stmts-count (now tokens) results first (now places) (now numbers)) × (1927 ≤ length (now taken)) ⌝ }
+    requires { ⌜ now bits ≡ replicate (31 * count) 0 ⌝ }
+    ensures { λ r. ⌜ (r ≡ order-told (stmts-order (now (tokens .entry)) results first (now (places .entry)) (now (numbers .entry))) (stmts-count (now (tokens .entry)) results first (now (places .entry)) (now (numbers .entry))))
+        × (now (taken .exit) ≡ stmts-order (now (tokens .entry)) results first (now (places .entry)) (now (numbers .entry))
+        ++ drop (length (stmts-order (now (tokens .entry)) results first (now (places .entry)) (now (numbers .entry)))) (now (taken .entry))) ⌝ }
+{
+    let mut waiting = [0u64; MOST];
+    let mut stack = [0u64; MOST];
+    mark_stmts(
+        tokens,
+        results,
+        first,
+        places,
+        held,
+        starts,
+        members,
+        ends,
+        numbers,
+        count,
+        bits,
+    );
+    order(bits, count, &mut waiting, &mut stack, taken)
+}
+
+// The same for few statements, in a small table.
+fn order_few(
+    tokens: &[u64],
+    results: usize,
+    first: u64,
+    places: &[u64],
+    held: &[u64],
+    starts: &[u64],
+    members: &[u64],
+    ends: &[u64],
+    numbers: &[u64],
+    count: usize,
+    taken: &mut [u64],
+) -> Ordered
+    requires { ⌜ Prepared (now tokens) results first (now places) (now held) (now starts) (now members) (now ends) (now numbers) ⌝ }
+    requires { ⌜ (count ≡ stmts-count (now tokens) results first (now places) (now numbers)) × (1927 ≤ length (now taken)) ⌝ }
+    requires { ⌜ count ≤ 64 ⌝ }
+    ensures { λ r. ⌜ (r ≡ order-told (stmts-order (now (tokens .entry)) results first (now (places .entry)) (now (numbers .entry))) (stmts-count (now (tokens .entry)) results first (now (places .entry)) (now (numbers .entry))))
+        × (now (taken .exit) ≡ stmts-order (now (tokens .entry)) results first (now (places .entry)) (now (numbers .entry))
+        ++ drop (length (stmts-order (now (tokens .entry)) results first (now (places .entry)) (now (numbers .entry)))) (now (taken .entry))) ⌝ }
+{
+    let mut bits = [0u64; FEW_BITS];
+    let end = ROW * count;
+    order_in(
+        tokens,
+        results,
+        first,
+        places,
+        held,
+        starts,
+        members,
+        ends,
+        numbers,
+        count,
+        &mut bits[..end],
+        taken,
+    )
+}
+
+// The same for any number of statements, in a large table.
+fn order_many(
+    tokens: &[u64],
+    results: usize,
+    first: u64,
+    places: &[u64],
+    held: &[u64],
+    starts: &[u64],
+    members: &[u64],
+    ends: &[u64],
+    numbers: &[u64],
+    count: usize,
+    taken: &mut [u64],
+) -> Ordered
+    requires { ⌜ Prepared (now tokens) results first (now places) (now held) (now starts) (now members) (now ends) (now numbers) ⌝ }
+    requires { ⌜ (count ≡ stmts-count (now tokens) results first (now places) (now numbers)) × (1927 ≤ length (now taken)) ⌝ }
+    ensures { λ r. ⌜ (r ≡ order-told (stmts-order (now (tokens .entry)) results first (now (places .entry)) (now (numbers .entry))) (stmts-count (now (tokens .entry)) results first (now (places .entry)) (now (numbers .entry))))
+        × (now (taken .exit) ≡ stmts-order (now (tokens .entry)) results first (now (places .entry)) (now (numbers .entry))
+        ++ drop (length (stmts-order (now (tokens .entry)) results first (now (places .entry)) (now (numbers .entry)))) (now (taken .entry))) ⌝ }
+{
+    let mut bits = [0u64; BITS];
+    let end = ROW * count;
+    order_in(
+        tokens,
+        results,
+        first,
+        places,
+        held,
+        starts,
+        members,
+        ends,
+        numbers,
+        count,
+        &mut bits[..end],
+        taken,
+    )
+}
+
 // The positions of the statements in the order in which they are taken, in front of what was in `taken`: all of them, or Ring where some need each other.
 pub fn order_stmts(
     tokens: &[u64],
@@ -341,16 +466,28 @@ pub fn order_stmts(
     taken: &mut [u64],
 ) -> Ordered
     requires { ⌜ Prepared (now tokens) results first (now places) (now held) (now starts) (now members) (now ends) (now numbers) ⌝ }
-    requires { ⌜ 1024 ≤ length (now taken) ⌝ }
+    requires { ⌜ 1927 ≤ length (now taken) ⌝ }
     ensures { λ r. ⌜ (r ≡ order-told (stmts-order (now (tokens .entry)) results first (now (places .entry)) (now (numbers .entry))) (stmts-count (now (tokens .entry)) results first (now (places .entry)) (now (numbers .entry))))
         × (now (taken .exit) ≡ stmts-order (now (tokens .entry)) results first (now (places .entry)) (now (numbers .entry))
         ++ drop (length (stmts-order (now (tokens .entry)) results first (now (places .entry)) (now (numbers .entry)))) (now (taken .entry))) ⌝ }
 {
-    let mut bits = [0u64; BITS];
-    let mut waiting = [0u64; MOST];
-    let mut stack = [0u64; MOST];
     let count = starts.len() - results + places.len() + ends.len();
-    mark_stmts(
+    if count <= FEW {
+        return order_few(
+            tokens,
+            results,
+            first,
+            places,
+            held,
+            starts,
+            members,
+            ends,
+            numbers,
+            count,
+            taken,
+        );
+    }
+    order_many(
         tokens,
         results,
         first,
@@ -361,9 +498,8 @@ pub fn order_stmts(
         ends,
         numbers,
         count,
-        &mut bits,
-    );
-    order(&bits, count, &mut waiting, &mut stack, taken)
+        taken,
+    )
 }
 
 // Writes the rows of the let of number p from a place on; the place after them.

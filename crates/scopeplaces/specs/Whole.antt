@@ -1,6 +1,6 @@
 -- One scope on words, whole (01, "Scoped fusion", "Order"): its arms' scopes in order, its statements in the order of their needs, and its answer as rows.
 -- Assumes nothing.
-use Prim.Native.Nat.{ℕ, zero, suc, _+_, _-_}
+use Prim.Native.Nat.{ℕ, zero, suc, _+_, _-_, _*_}
 use mathlib.Core.Bool.{Bool, true, false, _&&_, cond}
 use mathlib.Core.List.{List, [], _∷_, _++_, reverse}
 use lib.ListN.{length, getD, replicate}
@@ -95,10 +95,10 @@ module _ (ws : List ℕ) (k first : ℕ) (places : List ℕ) (numbers : List ℕ
   needs-table n table =
       marks-by (λ p row t. with-reads first (lets-count ws k first places) numbers (ends-from 0 (place-groups (held-words ws k first places))) (reads-run p) row t) n table
 
-  -- the positions in the order in which they are taken
+  -- the positions in the order in which they are taken, by a table with a row of 31 words for each
   unfoldable pub stmts-order : List ℕ
   unfolding needs-table stmts-count table-of positions-taken
-  stmts-order = reverse (positions-taken (table-of (needs-table stmts-count (replicate 16384 0)) stmts-count))
+  stmts-order = reverse (positions-taken (table-of (needs-table stmts-count (replicate (31 * stmts-count) 0)) stmts-count))
 
   -- the rows of statement p, given those of the groups' arms
   unfoldable pub stmt-run : List (List ℕ) → ℕ → List ℕ
@@ -138,14 +138,14 @@ unfolding held-words place-groups walked ordered-scope reciprocals-first
 fused-scope scope row ws k first places =
     let hs = held-words ws k first places in
     let gs = place-groups hs in
-    cond (leb (length hs) 1024) (walked scope hs gs (reciprocals-first ws k first places + length places) (length gs) >>= λ l. ordered-scope row ws k first places l) (refused (by 23))
+    cond (leb (length hs) 1927) (walked scope hs gs (reciprocals-first ws k first places + length places) (length gs) >>= λ l. ordered-scope row ws k first places l) (refused (by 23))
 
 -- A scope on the words of its input, with values in rows of a kind. 23 for more scopes than can be open, more words than can be worked on, and numbers too large.
 unfoldable pub scope-told : List Row → ℕ → ℕ → ℕ → List ℕ → Outcome Told
 unfolding all-rounds divisors-to-bind name-in fused-scope read
 scope-told rows zero row next ws = refused (by 23)
 scope-told rows (suc fuel) row next ws =
-    cond (leb (length ws) 1024 && leb next most-number)
+    cond (leb (length ws) 1927 && leb next most-number)
     (all-rounds rows true next ws >>= λ vs.
     fused-scope (λ n cs. scope-told rows fuel value-row n cs) row vs (length (read numbered ws)) next (divisors-to-bind vs (name-in rows) true))
     (refused (by 23))

@@ -1,4 +1,4 @@
--- Bounds on a scope's answer (01, "Scoped fusion", refusal 23): its numbers stay below 2^32, its statements are at most 1,024, and its rows are paid for by the scope
+-- Bounds on a scope's answer (01, "Scoped fusion", refusal 23): its numbers stay below 2^32, its statements are at most 1,927, and its rows are paid for by the scope
 -- itself and by the numbers that it takes, so that no sum of rows comes near 2^63. The same for some arms of a group and for some groups. Assumes nothing.
 use Prim.Native.Nat.{ℕ, zero, suc, _+_, _*_, _-_, _≤_, _<_}
 use native.Mathlib.Omega.{arith}
@@ -43,14 +43,14 @@ use Rattle.scopesound.proofs.Sizes.{tree-run-length, match-run-length, 
 
 -- the rows that a scope may have beside those that its numbers pay for, and what a number pays for
 abbrev pub per-scope : ℕ
-per-scope = 1052672
+per-scope = 3721037
 
 abbrev pub per-number : ℕ
-per-number = 33554432
+per-number = 67108864
 
 -- the rows of a match beside its arms'
 abbrev pub per-match : ℕ
-per-match = 2050
+per-match = 3856
 
 -- ---- what is bounded
 
@@ -58,23 +58,23 @@ per-match = 2050
 pub record Scope-bound (from : ℕ) (a : Told) : Type 0 where
   pub low : from ≤ most-number
   pub forth : from ≤ a .next
-  pub most : a .next ≤ most-number + 1024
+  pub most : a .next ≤ most-number + 1927
   pub made : from + a .extracted ≤ a .next
-  pub few : a .steps ≤ 1024
+  pub few : a .steps ≤ 1927
   pub rows : length (a .words) + per-number * from ≤ per-scope + per-number * a .next
 
 -- the first n arms of a group, from the number after its members'
 pub record Arms-bound (from n : ℕ) (a : Arms-told) : Type 0 where
   pub low : 1 ≤ n → from ≤ most-number
   pub forth : from ≤ a .next
-  pub most : (x : ℕ) → from ≤ x → most-number + 1024 ≤ x → a .next ≤ x
+  pub most : (x : ℕ) → from ≤ x → most-number + 1927 ≤ x → a .next ≤ x
   pub made : from + a .extracted ≤ a .next
   pub rows : length (a .words) + per-number * from ≤ suc per-scope * n + per-number * a .next
 
 -- the first n groups, from the number after lets and reciprocals
 pub record Walk-bound (gs : List (List ℕ)) (from n : ℕ) (l : Walk) : Type 0 where
   pub forth : from ≤ l .next
-  pub most : (x : ℕ) → from ≤ x → most-number + 1024 ≤ x → l .next ≤ x
+  pub most : (x : ℕ) → from ≤ x → most-number + 1927 ≤ x → l .next ≤ x
   pub made : from + l .extracted ≤ l .next
   pub arms-many : length (l .arms) ≡ n
   pub numbers-many : length (l .numbers) ≡ group-start gs n
@@ -311,9 +311,9 @@ module _ (rows : List Row) (good : ℕ → Bool) (k first : ℕ) (vs : List ℕ)
   abbrev held-sounds : T (extractable rows start hs)
   held-sounds = held-extractable rows good k first vs sound pass
 
-  module _ (short : length vs ≤ 1024) (results : k ≤ length (read numbered vs)) (low : first ≤ most-number) where
-    module _ (held-short : length hs ≤ 1024) (l : Walk) (w : Walk-bound (place-groups hs) start (length (place-groups hs)) l) where
-      lets-short : (i : ℕ) → suc (length (tree-run vs k first ps (l .numbers) i)) ≤ 1027
+  module _ (short : length vs ≤ 1927) (results : k ≤ length (read numbered vs)) (low : first ≤ most-number) where
+    module _ (held-short : length hs ≤ 1927) (l : Walk) (w : Walk-bound (place-groups hs) start (length (place-groups hs)) l) where
+      lets-short : (i : ℕ) → suc (length (tree-run vs k first ps (l .numbers) i)) ≤ 1930
       lets-short i =
           let r = ready-of rows (next-number k first (read numbered vs)) vs sound in
           let t = tree-run-length vs (r .trees) (r .complete) k first ps (places-there rows good k first vs sound pass) (l .numbers) i in
@@ -355,8 +355,8 @@ module _ (rows : List Row) (good : ℕ → Bool) (k first : ℕ) (vs : List ℕ)
               let stmts = stmts-runs vs k first ps (l .numbers) (l .arms) (stmts-order vs k first ps (l .numbers)) (stmts-count vs k first ps (l .numbers)) in
               let values = values-runs vs k first ps (l .numbers) row k in
               let a = length-append stmts values in
-              let b = stmts-length vs k first ps (l .numbers) (l .arms) 1027 per-match lets-short matches-short e (w .arms-many) in
-              let c = values-length vs k first ps (l .numbers) (l .arms) 1027 per-match lets-short matches-short row k in
+              let b = stmts-length vs k first ps (l .numbers) (l .arms) 1930 per-match lets-short matches-short e (w .arms-many) in
+              let c = values-length vs k first ps (l .numbers) (l .arms) 1930 per-match lets-short matches-short row k in
               let d = first-lets rows good k first vs sound pass in
               let f = last-most rows good k first vs sound pass short in
               let g = made-are rows good k first vs sound pass in
@@ -368,7 +368,7 @@ module _ (rows : List Row) (good : ℕ → Bool) (k first : ℕ) (vs : List ℕ)
               record {
                 low = low;
                 forth = omega (arith, d, forth);
-                most = w .most (most-number + 1024) (omega (arith, f, low)) (omega arith);
+                most = w .most (most-number + 1927) (omega (arith, f, low)) (omega arith);
                 made = omega (arith, made, d, g, h);
                 few = stmts-few rows good k first vs sound pass short held-short (l .numbers);
                 rows = omega (arith, a, b, c, d, i, results, paid);
@@ -383,10 +383,10 @@ module _ (rows : List Row) (good : ℕ → Bool) (k first : ℕ) (vs : List ℕ)
       pub fused-bounded : (row : ℕ) → Good (Scope-bound first) (fused-scope scope row vs k first ps)
       unfolding fused-scope
       fused-bounded row =
-          tested (Scope-bound first) (leb (length hs) 1024) (walked scope hs (place-groups hs) start (length (place-groups hs)) >>= λ l. ordered-scope row vs k first ps l) (by 23)
+          tested (Scope-bound first) (leb (length hs) 1927) (walked scope hs (place-groups hs) start (length (place-groups hs)) >>= λ l. ordered-scope row vs k first ps l) (by 23)
           (λ t.
           then-good (Walk-bound (place-groups hs) start (length (place-groups hs))) (Scope-bound first) (walked scope hs (place-groups hs) start (length (place-groups hs)))
-          (groups-bounded (length (place-groups hs)) (omega arith)) (λ l. ordered-scope row vs k first ps l) (λ l w. ordered-bounded (leb→le (length hs) 1024 t) l w row))
+          (groups-bounded (length (place-groups hs)) (omega arith)) (λ l. ordered-scope row vs k first ps l) (λ l w. ordered-bounded (leb→le (length hs) 1927 t) l w row))
 
 -- ---- a whole scope, arms and all
 
@@ -395,13 +395,13 @@ module _ (rows : List Row) (good : ℕ → Bool) where
   unfolding scope-told Good
   scope-bounded zero row next ws sound pass = tt
   scope-bounded (suc fuel) row next ws sound pass =
-      tested (Scope-bound next) (leb (length ws) 1024 && leb next most-number)
+      tested (Scope-bound next) (leb (length ws) 1927 && leb next most-number)
       (all-rounds rows true next ws >>= λ vs.
       fused-scope (λ n cs. scope-told rows fuel value-row n cs) row vs (length (read numbered ws)) next (divisors-to-bind vs (name-in rows) true))
       (by 23)
       (λ t.
-      let few = leb→le (length ws) 1024 (and-left (leb (length ws) 1024) (leb next most-number) t) in
-      let low = leb→le next most-number (and-right (leb (length ws) 1024) (leb next most-number) t) in
+      let few = leb→le (length ws) 1927 (and-left (leb (length ws) 1927) (leb next most-number) t) in
+      let low = leb→le next most-number (and-right (leb (length ws) 1927) (leb next most-number) t) in
       then-good (λ (vs : List ℕ). all-rounds rows true next ws ≡ ok vs) (Scope-bound next) (all-rounds rows true next ws) (known (all-rounds rows true next ws))
       (λ vs. fused-scope (λ n cs. scope-told rows fuel value-row n cs) row vs (length (read numbered ws)) next (divisors-to-bind vs (name-in rows) true))
       (λ vs e.
@@ -437,12 +437,12 @@ module _ (rows : List Row) (good : ℕ → Bool) where
 
 -- ---- in figures
 
--- a scope's rows are below 2^57
-pub rows-most : (from : ℕ) (a : Told) → Scope-bound from a → length (a .words) ≤ 144115188075855872
+-- a scope's rows are below 2^58
+pub rows-most : (from : ℕ) (a : Told) → Scope-bound from a → length (a .words) ≤ 288230376151711744
 rows-most from a b = (let p = b .rows in let q = b .most in omega arith)
 
 -- and those of some arms, 17 of them at most
-pub arms-rows-most : (from n : ℕ) (a : Arms-told) → Arms-bound from n a → n ≤ 17 → from ≤ most-number + 4096 → length (a .words) ≤ 144115188075855872
+pub arms-rows-most : (from n : ℕ) (a : Arms-told) → Arms-bound from n a → n ≤ 17 → from ≤ most-number + 4096 → length (a .words) ≤ 288230376151711744
 arms-rows-most from n a b few low =
     let p = b .rows in
     let q = b .most (most-number + 4096) low (omega arith) in
@@ -452,11 +452,11 @@ pub arms-next-most : (from n : ℕ) (a : Arms-told) → Arms-bound from n a → 
 arms-next-most from n a b low = b .most (most-number + 4096) low (omega arith)
 
 module _ (gs : List (List ℕ)) (from n : ℕ) (l : Walk) (b : Walk-bound gs from n l) where
-  pub walk-next-most : from ≤ most-number + 1024 → l .next ≤ most-number + 1024
-  walk-next-most low = b .most (most-number + 1024) low (omega arith)
+  pub walk-next-most : from ≤ most-number + 1927 → l .next ≤ most-number + 1927
+  walk-next-most low = b .most (most-number + 1927) low (omega arith)
 
   -- each member's number is a word's to hold
-  pub numbers-small : from ≤ most-number + 1024 → Every (λ (j : ℕ). j ≤ 549755813888) (l .numbers)
+  pub numbers-small : from ≤ most-number + 1927 → Every (λ (j : ℕ). j ≤ 549755813888) (l .numbers)
   numbers-small low =
       let q = walk-next-most low in
       every-so (λ (j : ℕ). (from ≤ j) × (j < l .next)) (λ (j : ℕ). j ≤ 549755813888) (λ j h. (let c = h .1 in omega (arith, c, q))) (l .numbers) (b .numbers-between)

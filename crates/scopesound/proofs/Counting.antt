@@ -288,27 +288,27 @@ module _ (rows : List Row) (good : ℕ → Bool) (k first : ℕ) (vs : List ℕ)
   pub made-are : length (drop k (read numbered vs)) ≤ lets-count vs k first places
   made-are = omega (arith, lets-are)
 
-  module _ (short : length vs ≤ 1024) where
-    pub trees-few : length (read numbered vs) ≤ 1024
+  module _ (short : length vs ≤ 1927) where
+    pub trees-few : length (read numbered vs) ≤ 1927
     trees-few = omega (arith, divisors-most, short)
 
-    pub lets-few : lets-count vs k first places ≤ 1024
+    pub lets-few : lets-count vs k first places ≤ 1927
     lets-few = omega (arith, lets-most, divisors-most, short)
 
-    pub first-most : reciprocals-first vs k first places ≤ first + 1024
+    pub first-most : reciprocals-first vs k first places ≤ first + 1927
     first-most = omega (arith, first-is, number-is, length-drop k (read numbered vs), divisors-most, short)
 
-    pub last-most : reciprocals-first vs k first places + length places ≤ first + 1024
+    pub last-most : reciprocals-first vs k first places + length places ≤ first + 1927
     last-most = omega (arith, first-lets, lets-few)
 
-    module _ (held-short : length held ≤ 1024) where
-      pub members-few : length (joined-groups (place-groups held)) ≤ 1024
+    module _ (held-short : length held ≤ 1927) where
+      pub members-few : length (joined-groups (place-groups held)) ≤ 1927
       members-few = (let m = members-count held (length (trees-held vs n places)) held-trees in omega (arith, m, switches-most, held-short))
 
-      pub groups-few : length (place-groups held) ≤ 1024
+      pub groups-few : length (place-groups held) ≤ 1927
       groups-few = (let g = groups-count held (length (trees-held vs n places)) held-trees in omega (arith, g, switches-most, held-short))
 
-      pub stmts-few : (numbers : List ℕ) → stmts-count vs k first places numbers ≤ 1024
+      pub stmts-few : (numbers : List ℕ) → stmts-count vs k first places numbers ≤ 1927
       stmts-few numbers =
           let g = groups-count held (length (trees-held vs n places)) held-trees in
           let s = stmts-are numbers in

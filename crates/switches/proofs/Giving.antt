@@ -77,18 +77,18 @@ module _ (ws old : List ℕ) where
     unfolding listing-by some-trees
     full e = answers-by true false (ap some-trees (complete .1)) e (record { answer = switch-list.NoRoom; out = old }) refl
 
-    pub too-many : 1024 < length ws → Answers switch-list.NoRoom old
+    pub too-many : 1927 < length ws → Answers switch-list.NoRoom old
     unfolding room-for
-    too-many h = full (ap (λ (b : Bool). b && leb (length ws) (length old)) (lt-leb (length ws) 1024 h))
+    too-many h = full (ap (λ (b : Bool). b && leb (length ws) (length old)) (lt-leb (length ws) 1927 h))
 
     pub few-places : length old < length ws → Answers switch-list.NoRoom old
     unfolding room-for
-    few-places h = full (ap (λ (b : Bool). leb (length ws) 1024 && b) (lt-leb (length ws) (length old) h) ∙ and-none (leb (length ws) 1024))
+    few-places h = full (ap (λ (b : Bool). leb (length ws) 1927 && b) (lt-leb (length ws) (length old) h) ∙ and-none (leb (length ws) 1927))
 
-    pub listed : length ws ≤ 1024 → length ws ≤ length old → (n : ℕ) (out : List ℕ) → Listed (switch-places ws) old n out → Answers (switch-list.Count n) out
+    pub listed : length ws ≤ 1927 → length ws ≤ length old → (n : ℕ) (out : List ℕ) → Listed (switch-places ws) old n out → Answers (switch-list.Count n) out
     unfolding listing-by some-trees room-for
     listed words lent n out k =
-        let room : room-for (length ws) (length old) ≡ true = rw (le-leb (length ws) 1024 words, le-leb (length ws) (length old) lent) in
+        let room : room-for (length ws) (length old) ≡ true = rw (le-leb (length ws) 1927 words, le-leb (length ws) (length old) lent) in
         answers-by true true (ap some-trees (complete .1)) room (record { answer = switch-list.Count n; out = out })
         (ap (λ (i : ℕ). record { answer = switch-list.Count i; out = switch-places ws ++ drop (length (switch-places ws)) old }) (sym (k .count))
         ∙ ap (λ (l : List ℕ). record { answer = switch-list.Count n; out = l }) (sym (k .places)))

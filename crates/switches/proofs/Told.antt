@@ -17,11 +17,11 @@ use Rattle.switches.specs.declared.SwitchList.the-variants as switch-lis
 pub switches-few : (ws : List ℕ) → length (switch-places ws) ≤ length ws
 switches-few ws = omega (arith, ap length (places-end ws), places-few ws (length ws))
 
-module _ (ws old : List ℕ) (complete : Complete ws) (words : length ws ≤ 1024) (lent : length ws ≤ length old) where
+module _ (ws old : List ℕ) (complete : Complete ws) (words : length ws ≤ 1927) (lent : length ws ≤ length old) where
   listing-is : listing ws old ≡ record { answer = switch-list.Count (length (switch-places ws)); out = switch-places ws ++ drop (length (switch-places ws)) old }
   unfolding listing listing-by some-trees room-for
   listing-is =
-      let room : room-for (length ws) (length old) ≡ true = rw (le-leb (length ws) 1024 words, le-leb (length ws) (length old) lent) in
+      let room : room-for (length ws) (length old) ≡ true = rw (le-leb (length ws) 1927 words, le-leb (length ws) (length old) lent) in
       ap (λ (b : Bool). listing-by b (room-for (length ws) (length old)) (switch-places ws) old) (ap some-trees (complete .1))
       ∙ ap (λ (b : Bool). listing-by true b (switch-places ws) old) room
 

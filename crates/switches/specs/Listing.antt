@@ -45,9 +45,9 @@ listing-by false room new old = record { answer = switch-list.Broken; out = old 
 listing-by true false new old = record { answer = switch-list.NoRoom; out = old }
 listing-by true true new old = record { answer = switch-list.Count (length new); out = new ++ drop (length new) old }
 
--- 1,024 words at most, and a place for each
+-- 1,927 words at most, and a place for each
 unfoldable pub room-for : ℕ → ℕ → Bool
-room-for words lent = leb words 1024 && leb words lent
+room-for words lent = leb words 1927 && leb words lent
 
 unfoldable pub listing : List ℕ → List ℕ → Listing
 unfolding listing-by trees-in some-trees room-for switch-places

@@ -20,7 +20,7 @@ const KINDS: u64 = 64;
 const BRANCH: u64 = 26;
 
 // So many words at most, which the array of marks holds.
-const MOST_WORDS: usize = 1024;
+const MOST_WORDS: usize = 1927;
 
 pub enum SwitchList {
     // How many places were written.
@@ -109,10 +109,10 @@ fn list(tokens: &[u64], marks: &[u64], places: &mut [u64]) -> usize
 // The same from the words alone.
 fn gather(tokens: &[u64], places: &mut [u64]) -> usize
     requires { ⌜ Complete (now tokens) ⌝ }
-    requires { ⌜ (length (now tokens) ≤ 1024) × (length (now tokens) ≤ length (now places)) ⌝ }
+    requires { ⌜ (length (now tokens) ≤ 1927) × (length (now tokens) ≤ length (now places)) ⌝ }
     ensures { λ r. ⌜ Listed (switch-places (now (tokens .entry))) (now (places .entry)) r (now (places .exit)) ⌝ }
 {
-    let mut marks = [0u64; 1024];
+    let mut marks = [0u64; MOST_WORDS];
     mark_outside(tokens, true, &mut marks);
     list(tokens, &marks, places)
 }

@@ -136,25 +136,25 @@ module _ (rows : List Row) (ws : List ℕ) (scoped : Bool) (text : ℕ) (old : L
   or-true true = refl
   or-true false = refl
 
-  pub too-many : 1024 < length ws → Answers tobind.NoRoom old
+  pub too-many : 1927 < length ws → Answers tobind.NoRoom old
   unfolding to-bind-short
-  too-many h = short (ap (λ (b : Bool). b || (ltb (length old) (length ws) || ltb text 131072)) (lt-ltb 1024 (length ws) h))
+  too-many h = short (ap (λ (b : Bool). b || (ltb (length old) (length ws) || ltb text 131072)) (lt-ltb 1927 (length ws) h))
 
   pub few-places : length old < length ws → Answers tobind.NoRoom old
   unfolding to-bind-short
   few-places h =
-      short (ap (λ (b : Bool). ltb 1024 (length ws) || (b || ltb text 131072)) (lt-ltb (length old) (length ws) h) ∙ or-true (ltb 1024 (length ws)))
+      short (ap (λ (b : Bool). ltb 1927 (length ws) || (b || ltb text 131072)) (lt-ltb (length old) (length ws) h) ∙ or-true (ltb 1927 (length ws)))
 
   pub little-text : text < 131072 → Answers tobind.NoRoom old
   unfolding to-bind-short
   little-text h =
-      short (ap (λ (b : Bool). ltb 1024 (length ws) || (ltb (length old) (length ws) || b)) (lt-ltb text 131072 h)
-      ∙ (ap (λ (b : Bool). ltb 1024 (length ws) || b) (or-true (ltb (length old) (length ws))) ∙ or-true (ltb 1024 (length ws))))
+      short (ap (λ (b : Bool). ltb 1927 (length ws) || (ltb (length old) (length ws) || b)) (lt-ltb text 131072 h)
+      ∙ (ap (λ (b : Bool). ltb 1927 (length ws) || b) (or-true (ltb (length old) (length ws))) ∙ or-true (ltb 1927 (length ws))))
 
-  module _ (words : length ws ≤ 1024) (lent : length ws ≤ length old) (bytes : 131072 ≤ text) where
+  module _ (words : length ws ≤ 1927) (lent : length ws ≤ length old) (bytes : 131072 ≤ text) where
     room : to-bind-short (length ws) (length old) text ≡ false
     unfolding to-bind-short
-    room = rw (le-ltb 1024 (length ws) words, le-ltb (length old) (length ws) lent, le-ltb text 131072 bytes)
+    room = rw (le-ltb 1927 (length ws) words, le-ltb (length old) (length ws) lent, le-ltb text 131072 bytes)
 
     broken : good ≡ false → Answers tobind.Broken old
     unfolding to-bind-by

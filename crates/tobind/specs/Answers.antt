@@ -18,9 +18,9 @@ pub record Bound : Type 0 where
   pub answer : ToBind
   pub places : List ℕ
 
--- more words than 1,024 or than places, or too little text
+-- more words than 1,927 or than places, or too little text
 unfoldable pub to-bind-short : ℕ → ℕ → ℕ → Bool
-to-bind-short words lent text = ltb 1024 words || (ltb lent words || ltb text 131072)
+to-bind-short words lent text = ltb 1927 words || (ltb lent words || ltb text 131072)
 
 -- by whether there is too little room, and whether the trees are ones that can be written: the places in front of what stood after as many, or nothing written
 unfoldable pub to-bind-by : Bool → Bool → List ℕ → List ℕ → Bound

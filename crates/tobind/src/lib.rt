@@ -34,7 +34,7 @@ const KINDS: u64 = 64;
 const DIV: u64 = 6;
 
 // So many words at most, which the arrays hold; and bytes for two texts.
-const MOST_WORDS: usize = 1024;
+const MOST_WORDS: usize = 1927;
 
 const TEXT_BYTES: usize = 131072;
 
@@ -116,10 +116,10 @@ fn list_marked(tokens: &[u64], scoped: bool, marks: &[u64], places: &mut [u64]) 
 // Lists the divisors of the divisions outside arms and returns how many there are.
 fn list_outside(tokens: &[u64], scoped: bool, places: &mut [u64]) -> usize
     requires { ⌜ Complete (now tokens) ⌝ }
-    requires { ⌜ (length (now tokens) ≤ 1024) × (length (now tokens) ≤ length (now places)) ⌝ }
+    requires { ⌜ (length (now tokens) ≤ 1927) × (length (now tokens) ≤ length (now places)) ⌝ }
     ensures { λ r. ⌜ Listed (outside-places (now (tokens .entry)) scoped) (now (places .entry)) r (now (places .exit)) ⌝ }
 {
-    let mut marks = [0u64; 1024];
+    let mut marks = [0u64; MOST_WORDS];
     mark_outside(tokens, scoped, &mut marks);
     list_marked(tokens, scoped, &marks, places)
 }
@@ -196,11 +196,11 @@ fn choose(tokens: &[u64], all: &[u64], outside: &[u64], places: &mut [u64]) -> u
 // The same from the words.
 fn gather(tokens: &[u64], scoped: bool, places: &mut [u64]) -> usize
     requires { ⌜ Complete (now tokens) ⌝ }
-    requires { ⌜ (length (now tokens) ≤ 1024) × (length (now tokens) ≤ length (now places)) ⌝ }
+    requires { ⌜ (length (now tokens) ≤ 1927) × (length (now tokens) ≤ length (now places)) ⌝ }
     ensures { λ r. ⌜ Listed (chosen-places (now (tokens .entry)) (all-places (now (tokens .entry))) (outside-places (now (tokens .entry)) scoped)) (now (places .entry)) r (now (places .exit)) ⌝ }
 {
-    let mut all = [0u64; 1024];
-    let mut outside = [0u64; 1024];
+    let mut all = [0u64; MOST_WORDS];
+    let mut outside = [0u64; MOST_WORDS];
     let listed = list_divisors(tokens, &mut all);
     match listed {
         Divisors::Count(n) => {

@@ -1,6 +1,6 @@
 -- `bits::is_inside` meets its contract. Assumes nothing.
 use native.Mathlib.Omega.{arith}
-use Rattle.bits.proofs.BitLaws.{outside-column, outside-word, inside-word}
+use Rattle.bits.proofs.BitLaws.{outside-column, outside-word, inside-rest}
 use borrow.Author.Needs.{needs}
 use Rattle.bits.proofs.is_inside.Statement.{statement}
 use Rattle.bits.proofs.is_inside.Tie as tie
@@ -19,4 +19,4 @@ is-inside-spec =
     (λ c. search needs)
     (λ c.
     let a = c .before .before .args in
-    inside-word (a .words) (a .row) (a .column) (omega (arith, c .before .if1 .left))))
+    inside-rest (a .words) (a .row) (a .column) (omega (arith, c .before .if1 .left)) (omega (arith, c .if2 .left))))

@@ -1,8 +1,7 @@
 -- `scopeparts::order_stmts` meets its contract. Assumes nothing.
 use native.Mathlib.Omega.{arith}
-use mathlib.Core.Path.{refl}
 use Rattle.scopeparts.proofs.Held.{trees-few, places-few}
-use Rattle.scopeparts.proofs.Marking.{counted, ordered-so}
+use Rattle.scopeparts.proofs.Marking.{counted}
 use borrow.Author.Needs.{needs}
 use Rattle.scopeparts.proofs.order_stmts.Statement.{statement}
 use Rattle.scopeparts.proofs.order_stmts.Tie as tie
@@ -14,11 +13,9 @@ order-stmts-spec =
     (λ c. c .before .before .before .before .before .before .before .before .pre .0 .enough)
     (λ c. let p = c .before .before .before .before .before .before .before .before .pre .0 in omega (arith, trees-few p, places-few p))
     (λ c. let p = c .before .before .before .before .before .before .before .before .pre .0 in omega (arith, counted p, p .statements))
-    (λ c. search needs)
-    (λ c κs. let p = c .before .before .before .before .before .before .before .before .before .pre .0 in (p, omega (arith, counted p)))
-    (λ c. search needs)
+    (λ c κs. let start = c .before .before .before .before .before .before .before .before .before .before in (start .pre .0, ((counted (start .pre .0), start .pre .1), c .before .if1 .taken)))
     (λ c. search needs)
     (λ c. search needs)
-    (λ c κs. tt)
+    (λ c κs. let start = c .before .before .before .before .before .before .before .before .before .before in (start .pre .0, (counted (start .pre .0), start .pre .1)))
     (λ c. search needs)
-    (λ c. let p = c .before .before .before .before .before .before .before .before .before .before .before .before .before .before .before .before .before .before .before .before .pre .0 in ordered-so p _ _ _ (c .before .before .before .before .before .before .before .before .before .before .before .before .before .before .before .before .before .before .before .before .args .taken .now) _ (counted p) (search needs) (search needs) (c .before .before .before .before .before .before .before .before .before .before .before .before .before .before .before .before .before .before .before .before .pre .1) 16384 refl (c .before .before .before .before .before .before .before .before .before .before .mark-stmts .ensures) _ _ _ _ (c .before .before .before .before .order .ensures)))
+    (λ c. search needs))

@@ -14,6 +14,6 @@ gather-spec =
     (λ c. search needs)
     (λ c κs. search needs)
     (λ c. search needs)
-    (λ c κs. ((c .before .before .before .before .before .before .before .pre .0, c .before .before .before .before .before .before .before .pre .1 .1), marks-left (c .before .before .before .before .before .before .before .args .tokens .now) (replicate 1024 0) _ (omega (arith, c .before .before .before .before .before .before .before .pre .1 .0, length-replicate {A = ℕ} 1024 0)) (c .before .before .before .before .before .before .before .pre .0) (c .before .before .before .mark-outside .ensures .1)))
+    (λ c κs. ((c .before .before .before .before .before .before .before .pre .0, c .before .before .before .before .before .before .before .pre .1 .1), marks-left (c .before .before .before .before .before .before .before .args .tokens .now) (replicate 1927 0) _ (omega (arith, c .before .before .before .before .before .before .before .pre .1 .0, length-replicate {A = ℕ} 1927 0)) (c .before .before .before .before .before .before .before .pre .0) (c .before .before .before .mark-outside .ensures .1)))
     (λ c. search needs)
     (λ c. c .before .before .list .ensures))

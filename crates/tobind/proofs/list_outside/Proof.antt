@@ -16,6 +16,6 @@ list-outside-spec =
     (λ c. search needs)
     (λ c κs. search needs)
     (λ c. search needs)
-    (λ c κs. let w = c .before .before .before .before .before .before .before .args .tokens .now in let scoped = c .before .before .before .before .before .before .before .args .scoped in let lent = c .before .before .before .before .before .before .before .pre .1 in ((c .before .before .before .before .before .before .before .pre .0, lent .1), marks-left w scoped (replicate 1024 0) _ (omega (arith, lent .0, length-replicate {A = ℕ} 1024 0)) (not-none (trees-in w) (c .before .before .before .before .before .before .before .pre .0)) (c .before .before .before .mark-outside .ensures .1)))
+    (λ c κs. let w = c .before .before .before .before .before .before .before .args .tokens .now in let scoped = c .before .before .before .before .before .before .before .args .scoped in let lent = c .before .before .before .before .before .before .before .pre .1 in ((c .before .before .before .before .before .before .before .pre .0, lent .1), marks-left w scoped (replicate 1927 0) _ (omega (arith, lent .0, length-replicate {A = ℕ} 1927 0)) (not-none (trees-in w) (c .before .before .before .before .before .before .before .pre .0)) (c .before .before .before .mark-outside .ensures .1)))
     (λ c. search needs)
     (λ c. c .before .before .list-marked .ensures))

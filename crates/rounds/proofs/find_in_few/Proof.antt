@@ -1,0 +1,32 @@
+-- `rounds::find_in_few` meets its contract. Assumes nothing.
+use native.Mathlib.Omega.{arith}
+use lib.ListN.{length}
+use Rattle.rounds.proofs.Extracting.{found}
+use borrow.Author.Needs.{needs}
+use Rattle.rounds.proofs.find_in_few.Statement.{statement}
+use Rattle.rounds.proofs.find_in_few.Tie as tie
+
+slice-aggregate-best-place : tie.Need-slice-aggregate-best-place
+slice-aggregate-best-place c = search needs
+
+slice-aggregate-best-place-2 : tie.Need-slice-aggregate-best-place-2
+slice-aggregate-best-place-2 c = search needs
+
+best-place-requires : tie.Need-best-place-requires
+best-place-requires c κs = search needs
+
+same-length : tie.Need-same-length
+same-length c = search needs
+
+returns : tie.Need-returns
+returns c = let a = c .before .before .before .before .before .before .before .before .before .before .before .args in let few = c .before .before .before .before .before .before .before .before .before .before .before .pre .0 in found (a .rows .now) (a .tokens .now) (a .scoped) 1280 256 (length (a .text .now)) (omega (arith, few)) (omega (arith, few)) (c .before .before .before .before .before .before .before .before .before .before .before .pre .1) (omega (arith, few)) (c .before .before .before .before .best-place .result) (c .before .before .before .before .best-place .ensures)
+
+pub find-in-few-spec : {M : Type 1} → statement M
+find-in-few-spec =
+    tie.close
+    (tie.spec
+    slice-aggregate-best-place
+    slice-aggregate-best-place-2
+    best-place-requires
+    same-length
+    returns)

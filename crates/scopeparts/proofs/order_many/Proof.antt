@@ -1,0 +1,22 @@
+-- `scopeparts::order_many` meets its contract. Assumes nothing.
+use Prim.Native.Nat.{_*_}
+use native.Mathlib.Omega.{arith}
+use Rattle.finishlaws.proofs.Marking.{zeros-front, zeros-many}
+use borrow.Author.Needs.{needs}
+use Rattle.scopeparts.proofs.order_many.Statement.{statement}
+use Rattle.scopeparts.proofs.order_many.Tie as tie
+
+pub order-many-spec : {M : Type 1} → statement M
+order-many-spec =
+    tie.close
+    (tie.spec
+    (λ c. search needs)
+    (λ c. search needs)
+    (λ c.
+    let start = c .before .before .before .before .before .before .before .before .before in
+    zeros-many (31 * start .args .count) 59737 (omega (arith, start .pre .0 .statements, start .pre .1 .0)))
+    (λ c κs.
+    let start = c .before .before .before .before .before .before .before .before .before .before in
+    (start .pre .0, (start .pre .1, zeros-front (31 * start .args .count) 59737 (omega (arith, start .pre .0 .statements, start .pre .1 .0)))))
+    (λ c. search needs)
+    (λ c. search needs))
