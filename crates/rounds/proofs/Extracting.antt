@@ -127,14 +127,9 @@ module _ (rows : List Row) (ws : List ℕ) (scoped : Bool) (at name : ℕ) (h : 
     fewer new f = stepped rows scoped name ws ready at (h .best) (ready .trees) name (omega arith) (next-is rows name ws ready) (new ++ part) (made-are new f) .2
 
     -- what may be replaced, with room, is replaced or refused
-<<<<<<< HEAD
-    module _ (q : Replaced) (old mid : List ℕ) (lent : ℕ) (enough : lent ≡ 2048) (few : length ws ≤ 1024) (fits : length ws ≤ length old)
+    module _ (q : Replaced) (old mid : List ℕ) (lent : ℕ) (enough : lent ≡ 3854) (few : length ws ≤ 1927) (fits : length ws ≤ length old)
         (a : Leaves (replacement (replaceable ws part (name-word name)) (short-of-room ws part lent (length old)) (endless (tree-of part) (name-of (name-word name)))
         (replaced-words (tree-of part) (name-of (name-word name)) ws) ws old) q mid) where
-=======
-    module _ (q : Replaced) (old mid : List ℕ) (lent : ℕ) (enough : lent ≡ 3854) (few : length ws ≤ 1927) (fits : length ws ≤ length old)
-        (a : Answers ws part (name-word name) (replaceable ws part (name-word name)) (short-of-room ws part lent (length old)) old q mid) where
->>>>>>> w7
       abbrev outcome : Outcome (List ℕ)
       outcome = replaced-words (tree-of part) (name-of (name-word name)) ws
 
