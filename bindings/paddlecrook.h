@@ -98,8 +98,8 @@ uint64_t cse_replace_outside_arms(const uint64_t *tokens, size_t tokens_len, con
                                   size_t out_len, uint64_t *answer, size_t answer_len);
 
 /* Each equal tree becomes a symbol, and so do the target's factors in a product. places: twice as many words as tokens or target has, whichever has more;
- * what is left there is free. The target has a symbol, and not the new name, or else 253. 10: a rebuilt coefficient is no constant; out has the trees as
- * they were. */
+ * what is left there is free. 253 too for a target that would be replaced for ever: a product with coefficient 1 that has no factor, or the name alone. 10: a
+ * rebuilt coefficient is no constant; out has the trees as they were. */
 uint64_t cse_replace(const uint64_t *tokens, size_t tokens_len, const uint64_t *target, size_t target_len, uint64_t name, uint64_t *places,
                      size_t places_len, uint64_t *out, size_t out_len, uint64_t *answer, size_t answer_len);
 
