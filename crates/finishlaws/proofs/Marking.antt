@@ -92,6 +92,14 @@ zeros-front (suc n) (suc m) h = ap (λ (l : List ℕ). 0 ∷ l) (zeros-front n m
 pub zeros-many : (n m : ℕ) → n ≤ m → n ≡ length (take n (replicate {A = ℕ} m 0))
 zeros-many n m h = sym (ap length (zeros-front n m h) ∙ length-replicate n 0)
 
+-- one of any length by its own
+pub zeros-own : (m : ℕ) → replicate {A = ℕ} m 0 ≡ replicate (length (replicate {A = ℕ} m 0)) 0
+zeros-own m = ap (λ (n : ℕ). replicate {A = ℕ} n 0) (sym (length-replicate {A = ℕ} m 0))
+
+module _ (t : List ℕ) (none : t ≡ replicate (length t) 0) (n : ℕ) (h : n ≤ length t) where
+  pub own-front : take n t ≡ replicate n 0
+  own-front = ap (take n) none ∙ zeros-front n (length t) h
+
 module _ (n : ℕ) where
   abbrev zeros : List ℕ
   zeros = replicate n 0

@@ -36,9 +36,7 @@ const ROW: usize = 31;
 
 const BITS: usize = 59737;
 
-// The same for few statements, so that most scopes needn't clear the large table.
-const FEW: usize = 64;
-
+// Of a table for 64 statements, so that most scopes needn't clear the large one.
 const FEW_BITS: usize = 1984;
 
 // The most words of a tree: a reciprocal has two besides its divisor's.
@@ -336,7 +334,7 @@ fn mark_stmts(
 }
 
 // The positions of the statements in the order in which they are taken, in front of what was in `taken`, by a table of bits that has a row for each and is all no.
-fn order_in(
+fn order_with(
     tokens: &[u64],
     results: usize,
     first: u64,
@@ -375,8 +373,9 @@ fn order_in(
     order(bits, count, &mut waiting, &mut stack, taken)
 }
 
-// The same for few statements, in a small table.
-fn order_few(
+// The same by a table that is all no: the one lent where it has a row for each statement, and else the largest. Since this function calls itself, the compiler
+// keeps its frame apart from its caller's, so that the largest table isn't on the stack of each open scope.
+fn order_in(
     tokens: &[u64],
     results: usize,
     first: u64,
@@ -387,56 +386,35 @@ fn order_few(
     ends: &[u64],
     numbers: &[u64],
     count: usize,
+    bits: &mut [u64],
     taken: &mut [u64],
 ) -> Ordered
     requires { ⌜ Prepared (now tokens) results first (now places) (now held) (now starts) (now members) (now ends) (now numbers) ⌝ }
     requires { ⌜ (count ≡ stmts-count (now tokens) results first (now places) (now numbers)) × (1927 ≤ length (now taken)) ⌝ }
-    requires { ⌜ count ≤ 64 ⌝ }
+    requires { ⌜ now bits ≡ replicate (length (now bits)) 0 ⌝ }
     ensures { λ r. ⌜ (r ≡ order-told (stmts-order (now (tokens .entry)) results first (now (places .entry)) (now (numbers .entry))) (stmts-count (now (tokens .entry)) results first (now (places .entry)) (now (numbers .entry))))
         × (now (taken .exit) ≡ stmts-order (now (tokens .entry)) results first (now (places .entry)) (now (numbers .entry))
         ++ drop (length (stmts-order (now (tokens .entry)) results first (now (places .entry)) (now (numbers .entry)))) (now (taken .entry))) ⌝ }
 {
-    let mut bits = [0u64; FEW_BITS];
     let end = ROW * count;
-    order_in(
-        tokens,
-        results,
-        first,
-        places,
-        held,
-        starts,
-        members,
-        ends,
-        numbers,
-        count,
-        &mut bits[..end],
-        taken,
-    )
-}
-
-// The same for any number of statements, in a large table.
-fn order_many(
-    tokens: &[u64],
-    results: usize,
-    first: u64,
-    places: &[u64],
-    held: &[u64],
-    starts: &[u64],
-    members: &[u64],
-    ends: &[u64],
-    numbers: &[u64],
-    count: usize,
-    taken: &mut [u64],
-) -> Ordered
-    requires { ⌜ Prepared (now tokens) results first (now places) (now held) (now starts) (now members) (now ends) (now numbers) ⌝ }
-    requires { ⌜ (count ≡ stmts-count (now tokens) results first (now places) (now numbers)) × (1927 ≤ length (now taken)) ⌝ }
-    ensures { λ r. ⌜ (r ≡ order-told (stmts-order (now (tokens .entry)) results first (now (places .entry)) (now (numbers .entry))) (stmts-count (now (tokens .entry)) results first (now (places .entry)) (now (numbers .entry))))
-        × (now (taken .exit) ≡ stmts-order (now (tokens .entry)) results first (now (places .entry)) (now (numbers .entry))
-        ++ drop (length (stmts-order (now (tokens .entry)) results first (now (places .entry)) (now (numbers .entry)))) (now (taken .entry))) ⌝ }
-{
-    let mut bits = [0u64; BITS];
-    let end = ROW * count;
-    order_in(
+    if bits.len() < end {
+        let mut largest = [0u64; BITS];
+        return order_in(
+            tokens,
+            results,
+            first,
+            places,
+            held,
+            starts,
+            members,
+            ends,
+            numbers,
+            count,
+            &mut largest,
+            taken,
+        );
+    }
+    order_with(
         tokens,
         results,
         first,
@@ -471,23 +449,9 @@ pub fn order_stmts(
         × (now (taken .exit) ≡ stmts-order (now (tokens .entry)) results first (now (places .entry)) (now (numbers .entry))
         ++ drop (length (stmts-order (now (tokens .entry)) results first (now (places .entry)) (now (numbers .entry)))) (now (taken .entry))) ⌝ }
 {
+    let mut bits = [0u64; FEW_BITS];
     let count = starts.len() - results + places.len() + ends.len();
-    if count <= FEW {
-        return order_few(
-            tokens,
-            results,
-            first,
-            places,
-            held,
-            starts,
-            members,
-            ends,
-            numbers,
-            count,
-            taken,
-        );
-    }
-    order_many(
+    order_in(
         tokens,
         results,
         first,
@@ -498,6 +462,7 @@ pub fn order_stmts(
         ends,
         numbers,
         count,
+        &mut bits,
         taken,
     )
 }

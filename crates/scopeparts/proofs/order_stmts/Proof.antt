@@ -1,5 +1,6 @@
 -- `scopeparts::order_stmts` meets its contract. Assumes nothing.
 use native.Mathlib.Omega.{arith}
+use Rattle.finishlaws.proofs.Marking.{zeros-own}
 use Rattle.scopeparts.proofs.Held.{trees-few, places-few}
 use Rattle.scopeparts.proofs.Marking.{counted}
 use borrow.Author.Needs.{needs}
@@ -13,9 +14,7 @@ order-stmts-spec =
     (λ c. c .before .before .before .before .before .before .before .before .pre .0 .enough)
     (λ c. let p = c .before .before .before .before .before .before .before .before .pre .0 in omega (arith, trees-few p, places-few p))
     (λ c. let p = c .before .before .before .before .before .before .before .before .pre .0 in omega (arith, counted p, p .statements))
-    (λ c κs. let start = c .before .before .before .before .before .before .before .before .before .before in (start .pre .0, ((counted (start .pre .0), start .pre .1), c .before .if1 .taken)))
     (λ c. search needs)
-    (λ c. search needs)
-    (λ c κs. let start = c .before .before .before .before .before .before .before .before .before .before in (start .pre .0, (counted (start .pre .0), start .pre .1)))
+    (λ c κs. let start = c .before .before .before .before .before .before .before .before .before .before in (start .pre .0, ((counted (start .pre .0), start .pre .1), zeros-own 1984)))
     (λ c. search needs)
     (λ c. search needs))

@@ -1,8 +1,8 @@
--- `scopeparts::order_in` meets its contract. Assumes nothing.
+-- `scopeparts::order_with` meets its contract. Assumes nothing.
 use Rattle.scopeparts.proofs.Marking.{ordered-so}
 use borrow.Author.Needs.{needs}
-use Rattle.scopeparts.proofs.order_in.Statement.{statement}
-use Rattle.scopeparts.proofs.order_in.Tie as tie
+use Rattle.scopeparts.proofs.order_with.Statement.{statement}
+use Rattle.scopeparts.proofs.order_with.Tie as tie
 
 returns : tie.Need-returns
 returns c =
@@ -11,8 +11,8 @@ returns c =
     ordered-so (start .pre .0) _ _ _ (a .taken .now) (a .count) (start .pre .1 .0 .0) (search needs) (search needs) (start .pre .1 .0 .1) (a .bits .now) (start .pre .1 .1)
     (c .before .before .before .before .before .before .before .before .before .before .before .mark-stmts .ensures) _ _ _ _ (c .before .before .before .before .order .ensures)
 
-pub order-in-spec : {M : Type 1} → statement M
-order-in-spec =
+pub order-with-spec : {M : Type 1} → statement M
+order-with-spec =
     tie.close
     (tie.spec
     (λ c κs. search needs)
