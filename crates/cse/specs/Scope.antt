@@ -175,16 +175,25 @@ finish w = topo-sort-intermediates (w .inters) >>= λ l. ok (record { inters = l
 unfoldable pub scopes-open : ℕ
 scopes-open = 9
 
--- How many occurrences a scope works on: so many that two texts of as many nodes fit the area's 131,072 bytes, 34 a node, since a scope ranks candidates and
--- divisors by text, two at a time. Each open scope has a part of the work area of its own, a word of 64 bits for an occurrence.
+-- How many occurrences a scope may be given: so many that two texts of as many nodes fit the area's 131,072 bytes, 34 a node, since a scope ranks candidates and
+-- divisors by text, two at a time.
 unfoldable pub scope-rows : ℕ
 scope-rows = 1927
+
+-- How many occurrences a scope may hold for fusion: each open scope has a part of the work area of its own, a word of 64 bits for an occurrence, and the area has
+-- 65,536.
+unfoldable pub held-rows : ℕ
+held-rows = 7281
+
+-- How many statements can be put in the order of their needs: a bit for each two of them, and as many words of 64 bits as the area has.
+unfoldable pub most-stmts : ℕ
+most-stmts = 2048
 
 -- The largest number that a scope may start with, far below what a word of 64 bits holds as a name's number.
 abbrev pub most-number : ℕ
 most-number = 2147483648
 
--- whether a scope may be opened from a number on: its input fits its part, and its numbers their words
+-- whether a scope may be opened from a number on: its input's texts fit, and its numbers fit their words
 unfoldable pub opens : ℕ → List Tree → Bool
 unfolding occurrences scope-rows
 opens next es = leb (occurrences es) scope-rows && leb next most-number
@@ -211,17 +220,27 @@ unfoldable pub held : ℕ → State → List Tree
 unfolding held-bindings
 held x s = s .results ++ held-bindings x (s .lets)
 
--- fusion and the order of statements, where what the scope holds has no more occurrences than the scope has rows, and else refusal 23
+-- its statements: a let for each binding, and a match for each group of switches
+unfoldable pub statements : State → ℕ
+unfolding groups-from collect-switches roots
+statements s = length (s .lets) + length (groups-from [] (collect-switches (roots s)))
+
+-- whether a scope has room for fusion and for the order of its statements
+unfoldable pub has-room : ℕ → State → Bool
+unfolding held occurrences held-rows statements most-stmts
+has-room x s = leb (occurrences (held x s)) held-rows && leb (statements s) most-stmts
+
+-- fusion and the order of statements, and refusal 23 where there is no room for them
 unfoldable pub fuse-held : (ℕ → List Tree → Outcome Scoped) → ℕ → State → Outcome Scoped
-unfolding fuse-all finish held occurrences scope-rows
+unfolding fuse-all finish has-room
 fuse-held scope x s =
-    elim (leb (occurrences (held x s)) scope-rows) [
+    elim (has-room x s) [
       | true ↦ (fuse-all scope x s >>= λ w. finish w)
       | false ↦ refused (by 23)
     ]
 
 -- "an arm scope works in the part of the work area after its caller's last used row": each scope in a part of its own. Refusal 23, which 01 lacks, is for an
--- input with more occurrences than a part has rows, for numbers past 2^31, and for a scope that would hold more for fusion. The flat form opens one scope, from
+-- input with more occurrences than can be ranked, for numbers past 2^31, and for a scope that has no room for fusion. The flat form opens one scope, from
 -- number 0 on, and fuses nothing, so that it needs no such test. The first argument says how many more scopes can be open; where it ends decides nothing for a
 -- list whose arms nest at most 8 deep (ScopeRoom).
 unfoldable pub cse-scope : ℕ → Bool → ℕ → List Tree → Outcome Scoped

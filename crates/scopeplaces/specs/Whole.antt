@@ -95,10 +95,10 @@ module _ (ws : List ℕ) (k first : ℕ) (places : List ℕ) (numbers : List ℕ
   needs-table n table =
       marks-by (λ p row t. with-reads first (lets-count ws k first places) numbers (ends-from 0 (place-groups (held-words ws k first places))) (reads-run p) row t) n table
 
-  -- the positions in the order in which they are taken, by a table with a row of 31 words for each
+  -- the positions in the order in which they are taken, by a table with a row of 32 words for each
   unfoldable pub stmts-order : List ℕ
   unfolding needs-table stmts-count table-of positions-taken
-  stmts-order = reverse (positions-taken (table-of (needs-table stmts-count (replicate (31 * stmts-count) 0)) stmts-count))
+  stmts-order = reverse (positions-taken (table-of (needs-table stmts-count (replicate (32 * stmts-count) 0)) stmts-count))
 
   -- the rows of statement p, given those of the groups' arms
   unfoldable pub stmt-run : List (List ℕ) → ℕ → List ℕ
@@ -132,13 +132,20 @@ ordered-scope row ws k first places l =
     }))
     (refused (by 11))
 
--- after the rounds: 23 for more words than can be held, then the groups in order, and then the order of statements
+-- whether there is room for what the scope holds, and for the order of its statements
+unfoldable pub room-for : List ℕ → ℕ → ℕ → List ℕ → Bool
+unfolding held-words place-groups lets-count
+room-for ws k first places =
+    let hs = held-words ws k first places in
+    leb (length hs) 7281 && leb (lets-count ws k first places + length (place-groups hs)) 2048
+
+-- after the rounds: 23 where there is no room, then the groups in order, and then the order of statements
 unfoldable pub fused-scope : (ℕ → List ℕ → Outcome Told) → ℕ → List ℕ → ℕ → ℕ → List ℕ → Outcome Told
-unfolding held-words place-groups walked ordered-scope reciprocals-first
+unfolding room-for held-words place-groups walked ordered-scope reciprocals-first
 fused-scope scope row ws k first places =
     let hs = held-words ws k first places in
     let gs = place-groups hs in
-    cond (leb (length hs) 1927) (walked scope hs gs (reciprocals-first ws k first places + length places) (length gs) >>= λ l. ordered-scope row ws k first places l) (refused (by 23))
+    cond (room-for ws k first places) (walked scope hs gs (reciprocals-first ws k first places + length places) (length gs) >>= λ l. ordered-scope row ws k first places l) (refused (by 23))
 
 -- A scope on the words of its input, with values in rows of a kind. 23 for more scopes than can be open, more words than can be worked on, and numbers too large.
 unfoldable pub scope-told : List Row → ℕ → ℕ → ℕ → List ℕ → Outcome Told
