@@ -182,8 +182,8 @@ scope-rows = 1927
 
 -- How many occurrences a scope may hold for fusion: each open scope has a part of the work area of its own, a word of 64 bits for an occurrence, and the area has
 -- 65,536.
-unfoldable pub held-rows : ℕ
-held-rows = 7281
+unfoldable pub fusion-rows : ℕ
+fusion-rows = 7281
 
 -- How many statements can be put in the order of their needs: a bit for each two of them, and as many words of 64 bits as the area has.
 unfoldable pub most-stmts : ℕ
@@ -227,8 +227,8 @@ statements s = length (s .lets) + length (groups-from [] (collect-switches (root
 
 -- whether a scope has room for fusion and for the order of its statements
 unfoldable pub has-room : ℕ → State → Bool
-unfolding held occurrences held-rows statements most-stmts
-has-room x s = leb (occurrences (held x s)) held-rows && leb (statements s) most-stmts
+unfolding held occurrences fusion-rows statements most-stmts
+has-room x s = leb (occurrences (held x s)) fusion-rows && leb (statements s) most-stmts
 
 -- fusion and the order of statements, and refusal 23 where there is no room for them
 unfoldable pub fuse-held : (ℕ → List Tree → Outcome Scoped) → ℕ → State → Outcome Scoped

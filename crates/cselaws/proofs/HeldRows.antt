@@ -102,6 +102,21 @@ each-first x (d ∷ ds) s h =
     let f : first-total x (bind-reciprocal d s .lets) ≡ first-total x l = (unfold inverse in first-append x l b (let v = divided-length d n (s .lets) in omega arith)) in
     omega arith)
 
+-- each reciprocal is one binding more
+lets-each : (ds : List Tree) (s : State) → length (bind-reciprocals ds s .lets) ≡ length ds + length (s .lets)
+unfolding bind-reciprocals bind-reciprocal inverse
+lets-each [] s = omega arith
+lets-each (d ∷ ds) s =
+    (let n = xname (s .next) in
+    let l = replace-divisor-bound d n (s .lets) in
+    let a = lets-each ds (bind-reciprocal d s) in
+    let u = length-more l (record { name = n; expr = inverse d }) in
+    let v = divided-length d n (s .lets) in
+    omega arith)
+
+pub reciprocals-lets : (scoped : Bool) (s : State) → length (reciprocals scoped s .lets) ≡ length (bound-divisors scoped s) + length (s .lets)
+reciprocals-lets scoped s = ap (λ (t : State). length (t .lets)) (reciprocals-are scoped s) ∙ lets-each (bound-divisors scoped s) s
+
 each-none : (x : ℕ) (ds : List Tree) (s : State) → AllTrees None ds → Past None x (s .lets) → Past None x (bind-reciprocals ds s .lets)
 unfolding bind-reciprocals
 each-none x [] s g h = h

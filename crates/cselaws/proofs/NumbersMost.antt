@@ -26,6 +26,7 @@ use Rattle.cselaws.proofs.ReciprocalsCount.{bound-divisors, reciprocals
 use Rattle.cselaws.proofs.DivisorsMost.{bound-most}
 use Rattle.cselaws.proofs.ScopeValue.{one-named}
 use Rattle.cselaws.proofs.ArmNodes.{arms-total, lists-total, held-sum}
+use Rattle.cselaws.proofs.HeldRows.{reciprocals-lets}
 use Rattle.cselaws.proofs.ScopeRoom.{or-no-room, or-not-held}
 
 -- ---- rounds and reciprocals
@@ -73,6 +74,18 @@ opened-next scoped next es w h s e =
     let c = a .3 in
     let d = bound-most scoped s in
     let g = reciprocals-next scoped s in
+    let i = operations-most es in
+    omega arith)
+
+-- and it has no more bindings than its input has nodes
+pub opened-lets :
+    (scoped : Bool) (next : ℕ) (es : List Tree) → T (well-formed-all es) → T (holds-all (made-before next) es) → (s : State) → extract-all scoped next es ≡ ok s
+    → length (reciprocals scoped s .lets) ≤ occurrences es
+opened-lets scoped next es w h s e =
+    (let a = extract-all-end scoped next es w h s e in
+    let b = a .2 in
+    let d = bound-most scoped s in
+    let g = reciprocals-lets scoped s in
     let i = operations-most es in
     omega arith)
 
@@ -178,6 +191,15 @@ held-members x s =
     let c = held-sum one outer-counted none-counted x s in
     let d : members-total [] ≡ 0 = (unfold members-total in refl) in
     omega arith)
+
+-- and each group has a member
+groups-members : (gs : List Group) → length gs ≤ members-total gs
+unfolding members-total members
+groups-members [] = omega arith
+groups-members (g ∷ gs) = (let a = groups-members gs in omega arith)
+
+pub held-matches : (x : ℕ) (s : State) → length (groups-from [] (collect-switches (roots s))) ≤ occurrences (held x s)
+held-matches x s = (let a = groups-members (groups-from [] (collect-switches (roots s))) in let b = held-members x s in omega arith)
 
 -- each takes one
 pub name-members-next : (ms : List Switch) (w : Work) → name-members ms w .next ≡ length ms + w .next

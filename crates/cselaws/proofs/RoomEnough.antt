@@ -25,7 +25,7 @@ use Rattle.rewrite.proofs.Measure.{sum-of}
 use Rattle.cse.specs.Extract.{State, roots, divisors, extract-all, replace-divisor-each, bind-reciprocal, bind-reciprocals, reciprocals}
 use Rattle.cse.specs.Answer.{Intermediate, Answer}
 use Rattle.cse.specs.Order.{needs, positions-taken, at-each, topo-sort-intermediates}
-use Rattle.cse.specs.Scope.{Group, Work, Scoped, Armed, members, collect-switches, groups-from, name-members, columns, arms-of-members, scope-arms, fuse-group, fuse-groups, fuse-all, unfused, finish, held, fuse-held, cse-scope, scope-rows, most-number, opens, scopes-open, as-answer, answer}
+use Rattle.cse.specs.Scope.{Group, Work, Scoped, Armed, members, collect-switches, groups-from, name-members, columns, arms-of-members, scope-arms, fuse-group, fuse-groups, fuse-all, unfused, finish, held, fusion-rows, statements, most-stmts, has-room, fuse-held, cse-scope, scope-rows, most-number, opens, scopes-open, as-answer, answer}
 use Rattle.cselaws.proofs.Outcomes.{Good, good-at}
 use Rattle.cselaws.proofs.RoundsCount.{made-before, below-made, extract-all-end}
 use Rattle.cselaws.proofs.RoundsValue.{reciprocals-keep, roots-known}
@@ -40,7 +40,7 @@ use Rattle.cselaws.proofs.Levels.{Most, extract-all-within}
 use Rattle.cselaws.proofs.NestingLevel.{nesting-op, nesting-level, arms-deeper}
 use Rattle.cselaws.proofs.BoundSwitches.{if-given, none-hold-switch, arms-pass, groups-pass, none-bound, no-switch-bound, given-at, none-hold}
 use Rattle.cselaws.proofs.ArmNodes.{arms-total, groups-total, lists-total, All-arms, Groups, Small-groups, held-groups, held-small, Given, Columns, group-columns}
-use Rattle.cselaws.proofs.NumbersMost.{members-total, held-members, name-members-next, group-total, opened-next, numbers-most, most-add, most-up, Work-later, Scope-later, group-later, scope-later}
+use Rattle.cselaws.proofs.NumbersMost.{members-total, held-members, held-matches, name-members-next, group-total, opened-next, opened-lets, numbers-most, most-add, most-up, Work-later, Scope-later, group-later, scope-later}
 use Rattle.cselaws.proofs.SwitchArms.{All-operands, as-list, groups-all}
 use Rattle.cselaws.proofs.HeldRows.{held-rows}
 
@@ -304,16 +304,26 @@ module _ (start m : ℕ) (es : List Tree) (F : AllTrees (Fit (under start) (suc 
           let d = most-up m (groups-total (groups-from [] (collect-switches (roots t)))) (occurrences es) (omega arith) in
           omega arith)
 
+      -- and has few statements
+      enough : occurrences es ≤ 1024 → T (has-room (length (s .lets)) t)
+      unfolding has-room fusion-rows statements most-stmts
+      enough h =
+          (let q = held-within in
+          let a = opened-lets true start es formed made s e in
+          let b = held-matches (length (s .lets)) t in
+          and-both (leb (occurrences (held (length (s .lets)) t)) 7281) (leb (length (t .lets) + length (groups-from [] (collect-switches (roots t)))) 2048)
+          (le→leb (occurrences (held (length (s .lets)) t)) 7281 (omega arith)) (le→leb (length (t .lets) + length (groups-from [] (collect-switches (roots t)))) 2048 (omega arith)))
+
       fused-fine :
           (B : ℕ) (scope : ℕ → List Tree → Outcome Scoped) (test : ℕ → List Tree → Bool)
           → ((start : ℕ) (es : List Tree) → Good (Scope-later start) (scope start es))
           → T (groups-pass scope test (groups-from [] (collect-switches (roots t))) (unfused (length (s .lets)) t))
-          → occurrences es ≤ scope-rows → start + numbers-most (suc m) (occurrences es) ≤ B
-          → ((start : ℕ) (es : List Tree) → Given (Fit (under start) m) scope-rows es → T (test start es) → start + numbers-most m (occurrences es) ≤ B
+          → occurrences es ≤ 1024 → start + numbers-most (suc m) (occurrences es) ≤ B
+          → ((start : ℕ) (es : List Tree) → Given (Fit (under start) m) 1024 es → T (test start es) → start + numbers-most m (occurrences es) ≤ B
           → Fine (After (start + numbers-most m (occurrences es))) (scope start es))
           → Fine (After (start + numbers-most (suc m) (occurrences es))) (fuse-held scope (length (s .lets)) (reciprocals true s))
       unfolding fuse-held fuse-all numbers-most
-      fused-fine B scope test later p h l ih = go (leb (occurrences (held x t)) scope-rows) (le→leb (occurrences (held x t)) scope-rows (let q = held-within in omega arith))
+      fused-fine B scope test later p h l ih = go (has-room x t) (enough h)
         where
           x : ℕ
           x = length (s .lets)
@@ -330,8 +340,8 @@ module _ (start m : ℕ) (es : List Tree) (F : AllTrees (Fit (under start) (suc 
           fused : Fine (After (start + (2 * occurrences es + numbers-most m (occurrences es)))) (fuse-groups scope (groups-from [] (collect-switches (roots t))) (unfused x t) >>= λ w. finish w)
           fused =
               then-fine (Later (t .next + groups-numbers m gs)) (After n) (fuse-groups scope gs (unfused x t))
-              (unfold unfused in groups-fine scope-rows m B scope test later ih (t .next) gs (unfused x t) (omega arith)
-              (groups-fit (under (t .next)) m (roots t) roots-fit) (held-small scope-rows x t (let q = held-within in omega arith)) p (let q = opened in let z = groups-within in omega arith)) _
+              (unfold unfused in groups-fine 1024 m B scope test later ih (t .next) gs (unfused x t) (omega arith)
+              (groups-fit (under (t .next)) m (roots t) roots-fit) (held-small 1024 x t (let q = held-within in omega arith)) p (let q = opened in let z = groups-within in omega arith)) _
               (λ w z h. finish-fine n w (let q = opened in let y = groups-within in omega arith))
 
           go : (b : Bool) → T b
@@ -343,14 +353,14 @@ module _ (start m : ℕ) (es : List Tree) (F : AllTrees (Fit (under start) (suc 
 -- An input of at most 1,024 occurrences whose arms nest less than D deep, where so many scopes can be open and their numbers are within 2^31. Where none can be
 -- open, nothing is given.
 scope-fine :
-    (D start : ℕ) (es : List Tree) → AllTrees (Fit (under start) D) es → occurrences es ≤ scope-rows → 1 ≤ D + length es → T (none-bound D start es)
+    (D start : ℕ) (es : List Tree) → AllTrees (Fit (under start) D) es → occurrences es ≤ 1024 → 1 ≤ D + length es → T (none-bound D start es)
     → start + numbers-most D (occurrences es) ≤ most-number → Fine (After (start + numbers-most D (occurrences es))) (cse-scope D true start es)
 unfolding cse-scope opens none-bound if-given
 scope-fine zero start [] F h n c l = absurd (omega arith)
 scope-fine zero start (e ∷ es) F h n c l = absurd (F .0)
 scope-fine (suc m) start es F h n c l =
     fits (leb (occurrences es) scope-rows && leb start most-number)
-    (and-both (leb (occurrences es) scope-rows) (leb start most-number) (le→leb (occurrences es) scope-rows h) (le→leb start most-number (omega arith))) (extract-all true start es) refl
+    (and-both (leb (occurrences es) scope-rows) (leb start most-number) (le→leb (occurrences es) scope-rows (unfold scope-rows in omega arith)) (le→leb start most-number (omega arith))) (extract-all true start es) refl
     (extract-all-ten true start es) c (λ n l G b d. scope-fine m n l (G .0) (G .1) (let z = G .2 in omega arith) b d)
   where
     inner : ℕ → List Tree → Outcome Scoped
@@ -363,7 +373,7 @@ scope-fine (suc m) start es F h n c l =
     fusing s = groups-pass inner test (groups-from [] (collect-switches (roots (reciprocals true s)))) (unfused (length (s .lets)) (reciprocals true s))
 
     fits : (b : Bool) → T b → (o : Outcome State) → extract-all true start es ≡ o → Only Ten o → T (if-given (λ s. none-hold-switch (bound-divisors true s) && fusing s) o)
-        → ((n : ℕ) (l : List Tree) → Given (Fit (under n) m) scope-rows l → T (test n l) → n + numbers-most m (occurrences l) ≤ most-number
+        → ((n : ℕ) (l : List Tree) → Given (Fit (under n) m) 1024 l → T (test n l) → n + numbers-most m (occurrences l) ≤ most-number
         → Fine (After (n + numbers-most m (occurrences l))) (inner n l))
         → Fine {A = Scoped} (After (start + numbers-most (suc m) (occurrences es))) (elim b [ true ↦ (o >>= λ s. fuse-held inner (length (s .lets)) (reciprocals true s)) | false ↦ refused (by 23) ])
     fits true t (ok s) e T10 c ih =
@@ -374,12 +384,12 @@ scope-fine (suc m) start es F h n c l =
 
 -- ---- the answer
 
-nine-most : (n : ℕ) → n ≤ scope-rows → 0 + numbers-most 9 n ≤ most-number
-unfolding numbers-most scope-rows
+nine-most : (n : ℕ) → n ≤ 1024 → 0 + numbers-most 9 n ≤ most-number
+unfolding numbers-most
 nine-most n h = omega arith
 
 answer-fine : (es : List Tree) → T (well-formed-all es) → T (holds-all (under 0) es) → T (within-limits es) → T (no-switch-bound es) → Fine (λ (a : Answer). Unit {0}) (answer true es)
-unfolding answer scopes-open scope-rows no-switch-bound
+unfolding answer scopes-open no-switch-bound
 answer-fine es w h l p =
     then-fine (After (0 + numbers-most 9 (occurrences es))) (λ (a : Answer). Unit {0}) (cse-scope 9 true 0 es)
     (scope-fine 9 0 es (fit-all (under 0) 8 es w h (nests-at-most 8 es (limits-nesting es l))) (limits-rows es l) (omega arith) p (nine-most (occurrences es) (limits-rows es l))) _

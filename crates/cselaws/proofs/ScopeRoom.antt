@@ -1,6 +1,5 @@
--- The rows and the number of open scopes. Fusion depends on the arms' scopes only by what it gives them; these inputs are no larger than what the scope holds,
--- and nest one level less. So refusal 23 arises, in a list of at most 1,024 occurrences, only where a scope would hold too much for fusion, or begin at a number
--- past 2^31; and that nine scopes can be open decides nothing where arms nest at most 8 deep. Assumes nothing.
+-- The number of open scopes. Fusion depends on the arms' scopes only by what it gives them, and that nests one level less; so that nine scopes can be open decides
+-- nothing where arms nest at most 8 deep. Assumes nothing.
 use Prim.Native.Nat.{ℕ, zero, suc, _+_, _≤_}
 use mathlib.Core.Path.{_≡_, refl, sym, _∙_, ap, fun-ext}
 use mathlib.Core.Bool.{Bool, true, false, _&&_, cond}
@@ -16,12 +15,12 @@ use Rattle.tree.specs.Rows.{occurrences, within-limits}
 use Rattle.tree.proofs.Logic.{and-left, and-right, and-both}
 use Rattle.cse.specs.Extract.{State, roots, extract-all, reciprocals}
 use Rattle.cse.specs.Answer.{Match, arm, block}
-use Rattle.cse.specs.Scope.{Group, Work, Scoped, Armed, members, member-names, collect-switches, groups-from, name-members, columns, arms-of-members, scope-arms, fuse-group, fuse-groups, fuse-all, finish, unfused, held, fuse-held, scope-rows, most-number, opens, scopes-open, cse-scope, as-answer, answer}
+use Rattle.cse.specs.Scope.{Group, Work, Scoped, Armed, members, member-names, collect-switches, groups-from, name-members, columns, arms-of-members, scope-arms, fuse-group, fuse-groups, fuse-all, finish, unfused, has-room, fuse-held, opens, scopes-open, cse-scope, as-answer, answer}
 use Rattle.cselaws.proofs.Outcomes.{Good}
 use Rattle.cselaws.proofs.ReciprocalsCount.{AllTrees, all-map, divisors-all, inverse}
 use Rattle.cselaws.proofs.Levels.{trees-at, Most, μ, all-nodes-most, extract-all-within, reciprocals-within}
 use Rattle.cselaws.proofs.NestingLevel.{nesting-op, nesting-level, nesting-is, arms-deeper}
-use Rattle.cselaws.proofs.ArmNodes.{arms-total, All-arms, Groups, Small-groups, held-small, some-small, Given, Columns, group-columns}
+use Rattle.cselaws.proofs.ArmNodes.{arms-total, All-arms, Groups, Small-groups, some-small, Given, Columns, group-columns}
 use Rattle.cselaws.proofs.SwitchArms.{All-operands, as-list, groups-all}
 
 -- a fact of what a scope gives, where that it does not fit has it too
@@ -34,7 +33,7 @@ pub or-not-held :
     (P : Outcome Scoped → Type 0) → P (refused (by 23)) → (scope : ℕ → List Tree → Outcome Scoped) (x : ℕ) (s : State) → P (fuse-all scope x s >>= λ w. finish w)
     → P (fuse-held scope x s)
 unfolding fuse-held
-or-not-held P h scope x s g = or-no-room P h (leb (occurrences (held x s)) scope-rows) (fuse-all scope x s >>= λ w. finish w) g
+or-not-held P h scope x s g = or-no-room P h (has-room x s) (fuse-all scope x s >>= λ w. finish w) g
 
 -- ---- fusion depends on the arms' scopes only by what it gives them
 
@@ -80,59 +79,7 @@ module _
     unfolding fuse-all
     fuse-same x s h m = groups-same (groups-from [] (collect-switches (roots s))) (unfused x s) h m
 
--- ---- what arms' scopes are given: no more than the scope holds
-
--- A scope that is refused where it would begin at a number past 2^31 or hold too much for fusion, and for nothing else of its own.
-unfoldable pub by-held : ℕ → ℕ → List Tree → Outcome Scoped
-unfolding extract-all reciprocals fuse-held
-by-held zero next es = refused (by 23)
-by-held (suc fuel) next es =
-    elim (leb next most-number) [
-      | true ↦ (extract-all true next es >>= λ s. fuse-held (λ n l. by-held fuel n l) (length (s .lets)) (reciprocals true s))
-      | false ↦ refused (by 23)
-    ]
-
-module _ (scope other : ℕ → List Tree → Outcome Scoped) (same : (n : ℕ) (l : List Tree) → occurrences l ≤ scope-rows → scope n l ≡ other n l) where
-  held-same : (x : ℕ) (s : State) → fuse-held scope x s ≡ fuse-held other x s
-  unfolding fuse-held
-  held-same x s = go (leb (occurrences (held x s)) scope-rows) (leb→le (occurrences (held x s)) scope-rows)
-    where
-      anything : (rs : List Tree) → Groups (λ t. Unit {0}) (groups-from [] (collect-switches rs))
-      anything rs = groups-all (λ t. Unit {0}) (λ t. Unit {0}) (λ k f h. operands-any f) (λ k q f t h. trees-any (operands f)) rs (trees-any rs)
-        where
-          trees-any : (l : List Tree) → AllTrees (λ t. Unit {0}) l
-          trees-any [] = tt
-          trees-any (t ∷ l) = (tt, trees-any l)
-
-          operands-any : (f : Forest) → All-operands (λ t. Unit {0}) f
-          operands-any nil = tt
-          operands-any (t ◂ f) = (tt, operands-any f)
-
-      go : (b : Bool) → (T b → occurrences (held x s) ≤ scope-rows)
-          → _≡_ {A = Outcome Scoped} (elim b [ true ↦ (fuse-all scope x s >>= λ w. finish w) | false ↦ refused (by 23) ])
-          (elim b [ true ↦ (fuse-all other x s >>= λ w. finish w) | false ↦ refused (by 23) ])
-      go true h =
-          ap (λ (o : Outcome Work). o >>= λ w. finish w)
-          (fuse-same (λ t. Unit {0}) scope-rows scope other (λ n l g. same n l (g .1)) x s (anything (roots s)) (held-small scope-rows x s (h tt)))
-      go false h = refl
-
--- For an input of at most 1,024 occurrences the test of occurrences never refuses, in it or in its arms' scopes.
-pub held-alone : (fuel next : ℕ) (es : List Tree) → occurrences es ≤ scope-rows → cse-scope fuel true next es ≡ by-held fuel next es
-unfolding cse-scope by-held opens
-held-alone zero next es h = refl
-held-alone (suc fuel) next es h =
-    go (leb (occurrences es) scope-rows) (le→leb (occurrences es) scope-rows h) (leb next most-number)
-    (then-ext (extract-all true next es) (λ s. fuse-held (λ n l. cse-scope fuel true n l) (length (s .lets)) (reciprocals true s))
-    (λ s. fuse-held (λ n l. by-held fuel n l) (length (s .lets)) (reciprocals true s))
-    (λ s. held-same (λ n l. cse-scope fuel true n l) (λ n l. by-held fuel n l) (λ n l k. held-alone fuel n l k) (length (s .lets)) (reciprocals true s)))
-  where
-    go : (b : Bool) → T b → (c : Bool) {o q : Outcome Scoped} → o ≡ q
-        → _≡_ {A = Outcome Scoped} (elim (b && c) [ true ↦ o | false ↦ refused (by 23) ]) (elim c [ true ↦ q | false ↦ refused (by 23) ])
-    go true t true e = e
-    go true t false e = refl
-    go false t c e = absurd t
-
--- ---- and trees that nest a level less
+-- ---- arms nest a level less
 
 abbrev pub deep : Tree → ℕ
 deep t = μ nesting-op nesting-level t
@@ -193,7 +140,7 @@ module _
     fused-same : (x : ℕ) (s : State) → AllTrees (λ t. deep t ≤ m) (roots s) → fuse-held scope x s ≡ fuse-held other x s
     unfolding fuse-held
     fused-same x s d =
-        ap (λ (o : Outcome Work). elim (leb (occurrences (held x s)) scope-rows) as (λ _. Outcome Scoped) [ true ↦ (o >>= λ w. finish w) | false ↦ refused (by 23) ])
+        ap (λ (o : Outcome Work). elim (has-room x s) as (λ _. Outcome Scoped) [ true ↦ (o >>= λ w. finish w) | false ↦ refused (by 23) ])
         (fuse-same (Shallow m) (arms-total (collect-switches (roots s))) scope other (λ n l G. same n l (G .0) (G .2)) x s
         (groups-all (Shallow (suc m)) (Shallow m) (operands-shallow m) (arms-shallow m) (roots s) d) (some-small (roots s)))
 
@@ -229,8 +176,8 @@ scopes-enough zero h scoped next es d = absurd (omega arith)
 scopes-enough (suc fuel) h false next es d = (unfold cse-scope in refl)
 scopes-enough (suc fuel) h true next es d = scopes-same 9 (suc fuel) 9 h (omega arith) next es (nests-at-most 8 es d) (omega arith)
 
--- A scope, without that number: it is refused by 23 where its input has more occurrences than rows, where its numbers are past 2^31, or where it would hold more
--- for fusion, and else its arms' scopes are scopes in the same way.
+-- A scope, without that number: it is refused by 23 where its input has more occurrences than can be ranked, where its numbers are past 2^31, or where it has no
+-- room for fusion, and else its arms' scopes are scopes in the same way.
 abbrev pub scope-of : ℕ → List Tree → Outcome Scoped
 scope-of next es = cse-scope scopes-open true next es
 
@@ -256,15 +203,11 @@ pub limits-nesting : (l : List Tree) → T (within-limits l) → AllTrees (λ t.
 limits-nesting [] h = tt
 limits-nesting (t ∷ l) h = (let q = limits-step t l h in (q .0, limits-nesting l (q .1)))
 
-pub limits-rows : (l : List Tree) → T (within-limits l) → occurrences l ≤ scope-rows
-unfolding within-limits scope-rows
-limits-rows l h = omega (arith, leb→le (occurrences l) 1024 (and-left (leb (occurrences l) 1024) _ h))
+pub limits-rows : (l : List Tree) → T (within-limits l) → occurrences l ≤ 1024
+unfolding within-limits
+limits-rows l h = leb→le (occurrences l) 1024 (and-left (leb (occurrences l) 1024) _ h)
 
--- For a list within the limits more than nine open scopes would change nothing,
+-- For a list within the limits more than nine open scopes would change nothing.
 pub answer-by-more : (fuel : ℕ) → scopes-open ≤ fuel → (scoped : Bool) (es : List Tree) → T (within-limits es) → answer scoped es ≡ (cse-scope fuel scoped 0 es >>= λ a. ok (as-answer a))
 unfolding answer
 answer-by-more fuel m scoped es h = ap (λ (o : Outcome Scoped). o >>= λ a. ok (as-answer a)) (sym (scopes-enough fuel m scoped 0 es (limits-nesting es h)))
-
--- and however many can be open, 23 arises only where a scope would hold too much for fusion or begin at a number past 2^31.
-pub answer-by-held : (fuel : ℕ) → scopes-open ≤ fuel → (es : List Tree) → T (within-limits es) → answer true es ≡ (by-held fuel 0 es >>= λ a. ok (as-answer a))
-answer-by-held fuel m es h = answer-by-more fuel m true es h ∙ ap (λ (o : Outcome Scoped). o >>= λ a. ok (as-answer a)) (held-alone fuel 0 es (limits-rows es h))
