@@ -14,7 +14,7 @@ use Rattle.tree.specs.Rows.{occurrences}
 use Rattle.cse.specs.Extract.{Binding, State, extract-all, reciprocals, roots}
 use Rattle.cse.specs.Answer.{Intermediate}
 use Rattle.cse.specs.Order.{topo-sort-intermediates}
-use Rattle.cse.specs.Scope.{Switch, Work, Scoped, switches, collect-switches, groups-from, fuse-groups, fuse-all, unfused, finish, some-switch, holds-switch, held-bindings, held, fuse-held, scope-rows, most-number, opens, scopes-open, cse-scope, as-answer, answer}
+use Rattle.cse.specs.Scope.{Switch, Work, Scoped, switches, collect-switches, groups-from, fuse-groups, fuse-all, unfused, finish, some-switch, holds-switch, held-bindings, held, fusion-rows, statements, most-stmts, has-room, fuse-held, scope-rows, most-number, opens, scopes-open, cse-scope, as-answer, answer}
 use Rattle.cselaws.proofs.Outcomes.{Good}
 use Rattle.cselaws.proofs.ArmNodes.{occurrences-append}
 use Rattle.renaming.specs.Shown.{extract-all-by, reciprocals-by, cse-scope-by, answer-by}
@@ -35,6 +35,17 @@ module _ (R : Renaming) where
       (λ l. ok (record { inters = l; results = map (renamed R) (w .results); next = w .next; extracted = w .extracted }))
       (λ l z. agree-ok (Known-scoped R) (renamed-scoped R) (put l) (z, h .0))
 
+  -- the groups of a state
+  state-groups-renamed :
+      (s : State) → Known-state R s
+      → groups-from [] (collect-switches (roots (renamed-state R s))) ≡ map (renamed-group R) (groups-from [] (collect-switches (roots s)))
+  state-groups-renamed s h =
+      let k = roots-known R s h in
+      let ss = collect-switches (roots s) in
+      ap (λ (l : List Tree). groups-from [] (collect-switches l)) (roots-renamed R s)
+      ∙ ap (groups-from []) (collect-renamed R (roots s) k)
+      ∙ groups-renamed R [] ss tt (collect-known R (roots s) k)
+
   -- bindings and switches of a state whose extraction is done
   module _
       (scope sense : ℕ → List Tree → Outcome Scoped)
@@ -46,12 +57,8 @@ module _ (R : Renaming) where
           let k = roots-known R s h in
           let ss = collect-switches (roots s) in
           let gs = groups-from [] ss in
-          let e : groups-from [] (collect-switches (roots (renamed-state R s))) ≡ map (renamed-group R) gs =
-          ap (λ (l : List Tree). groups-from [] (collect-switches l)) (roots-renamed R s)
-          ∙ ap (groups-from []) (collect-renamed R (roots s) k)
-          ∙ groups-renamed R [] ss tt (collect-known R (roots s) k) in
           let whole : fuse-all sense x (renamed-state R s) ≡ fuse-groups sense (map (renamed-group R) gs) (renamed-work R (unfused x s)) =
-          ap₂ (fuse-groups sense) e (unfused-renamed R x s) in
+          ap₂ (fuse-groups sense) (state-groups-renamed s h) (unfused-renamed R x s) in
           subst (λ (u : Outcome Work). Agree (Known-work R) (renamed-work R) (fuse-all scope x s) u) (sym whole)
           (fuse-groups-renamed R scope sense same gs (unfused x s) (groups-known R [] ss tt (collect-known R (roots s) k)) (unfused-known R x s h))
 
@@ -111,6 +118,15 @@ module _ (R : Renaming) where
       ∙ ap₂ _+_ (occurrences-renamed R (s .results)) (ap occurrences (held-bindings-renamed x (s .lets)) ∙ occurrences-renamed R (held-bindings x (s .lets)))
       ∙ sym (occurrences-append (s .results) (held-bindings x (s .lets)))
 
+  statements-renamed : (s : State) → Known-state R s → statements (renamed-state R s) ≡ statements s
+  unfolding statements
+  statements-renamed s h =
+      ap₂ _+_ (length-map (s .lets) (renamed-binding R)) (ap length (state-groups-renamed s h) ∙ length-map (groups-from [] (collect-switches (roots s))) (renamed-group R))
+
+  room-renamed : (x : ℕ) (s : State) → Known-state R s → has-room x (renamed-state R s) ≡ has-room x s
+  unfolding has-room
+  room-renamed x s h = ap₂ (λ (m n : ℕ). leb m fusion-rows && leb n most-stmts) (held-renamed x s) (statements-renamed s h)
+
   scoped-step :
       (scope sense : ℕ → List Tree → Outcome Scoped)
       → ((n : ℕ) (l : List Tree) → Known-all R l → Agree (Known-scoped R) (renamed-scoped R) (scope n l) (sense n (map (renamed R) l)))
@@ -123,11 +139,11 @@ module _ (R : Renaming) where
       let x = length (s .lets) in
       let e : fuse-held sense (length (map (renamed-binding R) (s .lets))) (reciprocals true (renamed-state R s)) ≡ fuse-held sense x (renamed-state R t) =
       ap₂ (fuse-held sense) (length-map (s .lets) (renamed-binding R)) (reciprocals-renamed R true s h) in
-      let from : ℕ → Outcome Scoped = λ m.
-      elim (leb m scope-rows) as (λ _. Outcome Scoped) [ true ↦ (fuse-all sense x (renamed-state R t) >>= λ w. finish w) | false ↦ refused (by 23) ] in
+      let from : Bool → Outcome Scoped = λ b.
+      elim b as (λ _. Outcome Scoped) [ true ↦ (fuse-all sense x (renamed-state R t) >>= λ w. finish w) | false ↦ refused (by 23) ] in
       subst (λ (u : Outcome Scoped). Agree (Known-scoped R) (renamed-scoped R) (fuse-held scope x t) u) (sym e)
-      (subst (λ (m : ℕ). Agree (Known-scoped R) (renamed-scoped R) (fuse-held scope x t) (from m)) (sym (held-renamed x t))
-      (room-step (leb (occurrences (held x t)) scope-rows) (fuse-all scope x t >>= λ w. finish w) (fuse-all sense x (renamed-state R t) >>= λ w. finish w)
+      (subst (λ (b : Bool). Agree (Known-scoped R) (renamed-scoped R) (fuse-held scope x t) (from b)) (sym (room-renamed x t (reciprocals-known R true s h)))
+      (room-step (has-room x t) (fuse-all scope x t >>= λ w. finish w) (fuse-all sense x (renamed-state R t) >>= λ w. finish w)
       (then-agree (Known-work R) (renamed-work R) (Known-scoped R) (renamed-scoped R) (fuse-all scope x t) (fuse-all sense x (renamed-state R t))
       (fuse-all-renamed scope sense same x t (reciprocals-known R true s h)) (λ w. finish w) (λ w. finish w) (λ w z. finish-renamed w z))))
 
