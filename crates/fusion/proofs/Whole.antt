@@ -12,7 +12,7 @@ use Rattle.tree.proofs.TokenLaws.{map-append}
 use Rattle.text.specs.Text.{display}
 use Rattle.cse.specs.Extract.{State, extract-all, reciprocals}
 use Rattle.cse.specs.Answer.{Intermediate, Let}
-use Rattle.cse.specs.Scope.{collect-switches, groups-from, Work, Scoped, binds, unfused, fuse-groups, fuse-all, finish}
+use Rattle.cse.specs.Scope.{collect-switches, groups-from, Work, Scoped, binds, unfused, fuse-groups, fuse-all, finish, statements}
 use Rattle.renaming.specs.Shown.{extract-all-by, reciprocals-by}
 use Rattle.renaming.specs.Rounds.{by-number, next-number, state-of, bind-each-on, rounds-on, reciprocals-on}
 use Rattle.renaming.proofs.ByText.{extract-all-text, reciprocals-text}
@@ -139,6 +139,28 @@ numbers-length i (e ∷ l) = ap suc (numbers-length (suc i) l)
 lets-length : (k first : ℕ) (ts : List Tree) → length (state-of k first ts .lets) ≡ length (drop k ts)
 unfolding state-of
 lets-length k first ts = numbers-length first (drop k ts)
+
+-- its statements: a let for each tree after the results and for each divisor, and a match for each group
+pub statements-are :
+    (k first : ℕ) (ts ds : List Tree) → k ≤ length ts
+    → statements (state-of k first (bind-each-on ds (next-number k first ts) ts)) ≡ (length (drop k ts) + length ds) + length (scope-groups ds (next-number k first ts) ts)
+unfolding statements scope-groups
+statements-are k first ts ds within =
+    ap (λ (y : List Tree). statements (state-of k first y)) all-roots
+    ∙ ap₂ _+_ (lets-length k first (settled-roots ds n ts) ∙ lets) (ap (λ (y : List Tree). length (groups-from [] (collect-switches y))) (roots-of-state k first (settled-roots ds n ts)))
+  where
+    n : ℕ
+    n = next-number k first ts
+
+    all-roots : bind-each-on ds (next-number k first ts) ts ≡ settled-roots ds (next-number k first ts) ts
+    all-roots = (unfold settled-roots in bound-are-settled ds (next-number k first ts) ts)
+
+    lets : length (drop k (settled-roots ds (next-number k first ts) ts)) ≡ length (drop k ts) + length ds
+    lets =
+        (unfold settled-roots in
+        let m = next-number k first ts in
+        let f : Tree → Tree = settle-tree ds m in
+        omega (arith, length-append (map f ts) (settled-reciprocals ds m), length-map ts f, reciprocals-count ds m, length-drop k (settled-roots ds m ts), length-drop k ts))
 
 -- with the divisors of the trees
 divided : (shown : Tree → List ℕ) (k first : ℕ) (ts : List Tree) → reciprocals-on shown true k first ts ≡ bind-each-on (divisors-of shown ts) (next-number k first ts) ts

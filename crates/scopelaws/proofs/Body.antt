@@ -7,6 +7,7 @@ use mathlib.Core.Bool.{true}
 use mathlib.Core.Option.{some}
 use mathlib.Core.List.{List, [], map, reverse}
 use lib.ListN.{length, getD, drop}
+use lib.Dec.{T}
 use Rattle.tree.specs.Outcome.{Outcome, ok, _>>=_}
 use Rattle.tree.specs.Tree.{Tree}
 use Rattle.tree.specs.Facts.{all-operations}
@@ -33,7 +34,7 @@ use Rattle.fusion.specs.Words.{all-numbers}
 use Rattle.fusion.specs.Whole.{divisors-of, settled-roots, scope-groups, scope-stmts}
 use Rattle.fusion.proofs.Whole.{rounds-then}
 use Rattle.scopeplaces.specs.Parts.{reciprocals-first, held-words}
-use Rattle.scopeplaces.specs.Whole.{Told, stmts-order, fused-scope}
+use Rattle.scopeplaces.specs.Whole.{Told, stmts-order, room-for, fused-scope}
 use Rattle.scopelaws.specs.Told.{told}
 use Rattle.scopelaws.proofs.Groups.{places-of, Opens-group}
 use Rattle.scopelaws.proofs.Walking.{Proper}
@@ -74,8 +75,8 @@ module _ (rows : List Row) (k first : ℕ) (vs : List ℕ) where
   abbrev hs : List ℕ
   hs = held-words vs k first bind-at
 
-  abbrev pub Few-held : Type 0
-  Few-held = length hs ≤ 1927
+  abbrev pub Has-room : Type 0
+  Has-room = T (room-for vs k first bind-at)
 
   module _ (scope : ℕ → List Tree → Outcome Scoped) where
     -- the table of bits gives the order of the needs
@@ -101,7 +102,7 @@ module _ (rows : List Row) (k first : ℕ) (vs : List ℕ) where
 module _
     (rows : List Row) (scope : ℕ → List Tree → Outcome Scoped) (proper : (n : ℕ) (es : List Tree) → Good (Proper n es) (scope n es)) (by-words : ℕ → List ℕ → Outcome Told)
     (next : ℕ) (ws : List ℕ) (m : ℕ) (complete : trees-in ws ≡ some m)
-    (agree : (vs : List ℕ) → all-rounds rows true next ws ≡ ok vs → Few-held rows (length (read numbered ws)) next vs
+    (agree : (vs : List ℕ) → all-rounds rows true next ws ≡ ok vs → Has-room rows (length (read numbered ws)) next vs
     → Arms-agree rows (length (read numbered ws)) next vs scope by-words × Order-agrees rows (length (read numbered ws)) next vs scope)
     (row : ℕ)
   where
@@ -134,7 +135,7 @@ module _
         let back = read-again us code in
         let c = written-complete us code in
         fused-is scope proper by-words vs k next (divisors-to-bind vs names true) (subst (λ (l : List Tree). k ≤ length l) (sym back) long)
-        (roots-fit names k next vs (length us) c) (λ few. agree vs e few .0) (λ few. agree vs e few .1) row
+        (roots-fit names k next vs (length us) c) (λ room. agree vs e room .0) (λ room. agree vs e room .1) row
         ∙ (ap
         (λ (ds : List Tree).
         fuse-held scope (length (drop k (read numbered vs))) (state-of k next (bind-each-on ds (next-number k next (read numbered vs)) (read numbered vs))) >>= λ a. ok (told row a))

@@ -1,12 +1,13 @@
 -- A scope after its rounds, on words and by trees (01, "Reciprocals", "Scoped fusion", "Order"), if each arm's scope is the same on words as by trees. Assumes
 -- nothing.
 use Prim.Native.Nat.{ℕ, _+_, _≤_, _<_}
+use native.Mathlib.Omega.{arith}
 use mathlib.Core.Path.{_≡_, refl, sym, _∙_, ap, ap₂, subst}
-use mathlib.Core.Bool.{Bool, true, false, cond}
+use mathlib.Core.Bool.{Bool, true, false, _&&_, cond}
 use mathlib.Core.Option.{some}
 use mathlib.Core.List.{List, map, reverse}
 use lib.ListN.{length, getD, drop, length-map}
-use lib.Dec.{T, leb, leb→le}
+use lib.Dec.{T, leb}
 use Rattle.tree.specs.Outcome.{Outcome, ok, refused, by, _>>=_}
 use Rattle.tree.specs.Tree.{Tree}
 use Rattle.tree.specs.Rows.{occurrences}
@@ -14,7 +15,7 @@ use Rattle.tree.specs.Tokens.{read, numbered, trees-in}
 use Rattle.cse.specs.AnswerRows.{value-row}
 use Rattle.cse.specs.Extract.{State}
 use Rattle.cse.specs.Order.{needs, positions-taken}
-use Rattle.cse.specs.Scope.{Group, Scoped, finish, fuse-all, fuse-held, held, scope-rows}
+use Rattle.cse.specs.Scope.{Group, Scoped, finish, fuse-all, held, fusion-rows, statements, most-stmts, has-room, fuse-held}
 use Rattle.cselaws.proofs.Outcomes.{Good, good-at}
 use Rattle.renaming.specs.Places.{numbered-at}
 use Rattle.renaming.specs.Rounds.{next-number, state-of, bind-each-on}
@@ -27,12 +28,12 @@ use Rattle.fusion.specs.Settled.{Walked, numbered-groups}
 use Rattle.fusion.specs.Words.{all-numbers}
 use Rattle.fusion.specs.Whole.{settled-roots, scope-groups, scope-stmts, scope-work, settled-scope}
 use Rattle.fusion.proofs.Groups.{groups-kept}
-use Rattle.fusion.proofs.Whole.{scope-is}
-use Rattle.scopeplaces.specs.Parts.{place-groups, trees-held, words-held, reciprocals-first, held-words}
-use Rattle.scopeplaces.specs.Whole.{Told, Walk, walked, stmts-order, ordered-scope, fused-scope}
+use Rattle.fusion.proofs.Whole.{scope-is, statements-are}
+use Rattle.scopeplaces.specs.Parts.{place-groups, trees-held, words-held, reciprocals-first, lets-count, held-words}
+use Rattle.scopeplaces.specs.Whole.{Told, Walk, walked, stmts-order, ordered-scope, room-for, fused-scope}
 use Rattle.scopelaws.specs.Told.{told}
 use Rattle.scopelaws.proofs.Holding.{held-complete, held-length, held-are}
-use Rattle.scopelaws.proofs.Groups.{group-of, places-of, numbers-of, Opens-group, scope-groups-are}
+use Rattle.scopelaws.proofs.Groups.{group-of, places-of, numbers-of, Opens-group, scope-groups-are, groups-count}
 use Rattle.scopelaws.proofs.Walking.{Proper, told-groups, walked-is}
 use Rattle.scopelaws.proofs.Matches.{its-group, Armed-well, groups-armed}
 use Rattle.scopelaws.proofs.Ordering.{ordered-is}
@@ -88,12 +89,29 @@ module _ (scope : ℕ → List Tree → Outcome Scoped) (proper : (n : ℕ) (es 
       (held (length (drop k (read numbered vs))) (state-of k first (bind-each-on (map (numbered-at vs) places) (next-number k first (read numbered vs)) (read numbered vs))))
   held-many = ap length hs-are ∙ (held-length vs n places fit ∙ ap occurrences (sym (held-are vs k first n places within)))
 
+  -- as many statements
+  stmts-many : lets-count vs k first places + length (place-groups hs) ≡ statements state
+  unfolding lets-count
+  stmts-many =
+      let a = length-map places (numbered-at vs) in
+      let b = groups-count hs in
+      let c = ap length groups-are in
+      let d = length-map (numbers-of hs) (group-of hs) in
+      let e = statements-are k first ts ds within in
+      omega (arith, a, b, c, d, e)
+
+  pub room-is :
+      room-for vs k first places
+      ≡ has-room (length (drop k (read numbered vs))) (state-of k first (bind-each-on (map (numbered-at vs) places) (next-number k first (read numbered vs)) (read numbered vs)))
+  unfolding room-for has-room fusion-rows most-stmts
+  room-is = ap₂ (λ (m n : ℕ). leb m 7281 && leb n 2048) held-many stmts-many
+
   module _
-      (inner : length (held-words vs k first places) ≤ 1927 → (n i a : ℕ) → reciprocals-first vs k first places + length places ≤ n → Opens-group (held-words vs k first places) i
+      (inner : T (room-for vs k first places) → (n i a : ℕ) → reciprocals-first vs k first places + length places ≤ n → Opens-group (held-words vs k first places) i
       → a < arm-count (held-words vs k first places) (getD (places-of (held-words vs k first places) i) 0 0)
       → by-words n (column-words (held-words vs k first places) (places-of (held-words vs k first places) i) a)
       ≡ (scope n (read numbered (column-words (held-words vs k first places) (places-of (held-words vs k first places) i) a)) >>= λ s. ok (told value-row s)))
-      (ordering : length (held-words vs k first places) ≤ 1927 → (l : Walked)
+      (ordering : T (room-for vs k first places) → (l : Walked)
       → numbered-groups scope (reciprocals-first vs k first places + length places)
       (scope-groups (map (numbered-at vs) places) (next-number k first (read numbered vs)) (read numbered vs))
       ≡ ok l
@@ -105,7 +123,7 @@ module _ (scope : ℕ → List Tree → Outcome Scoped) (proper : (n : ℕ) (es 
       abbrev made : ℕ
       made = length (drop k ts)
 
-      walk : length hs ≤ 1927
+      walk : T (room-for vs k first places)
           → (walked by-words hs (place-groups hs) start (length (place-groups hs)) >>= λ l. ordered-scope row vs k first places l)
           ≡ (settled-scope scope made k first ts ds >>= λ a. ok (told row a))
       unfolding settled-scope
@@ -132,16 +150,16 @@ module _ (scope : ℕ → List Tree → Outcome Scoped) (proper : (n : ℕ) (es 
           fused-scope by-words row vs k first places
           ≡ (fuse-held scope (length (drop k (read numbered vs)))
           (state-of k first (bind-each-on (map (numbered-at vs) places) (next-number k first (read numbered vs)) (read numbered vs))) >>= λ a. ok (told row a))
-      unfolding fused-scope fuse-held scope-rows
+      unfolding fused-scope fuse-held
       fused-is =
-          go (leb (length hs) 1927) refl
+          go (room-for vs k first places) refl
           ∙ ap
-          (λ (x : ℕ).
-          (elim (leb x 1927) as (λ _. Outcome Scoped) [ true ↦ (fuse-all scope made state >>= λ w. finish w) | false ↦ refused (by 23) ]) >>= λ a. ok (told row a)) held-many
+          (λ (b : Bool).
+          (elim b as (λ _. Outcome Scoped) [ true ↦ (fuse-all scope made state >>= λ w. finish w) | false ↦ refused (by 23) ]) >>= λ a. ok (told row a)) room-is
         where
-          go : (b : Bool) → leb (length hs) 1927 ≡ b
+          go : (b : Bool) → room-for vs k first places ≡ b
               → cond b (walked by-words hs (place-groups hs) start (length (place-groups hs)) >>= λ l. ordered-scope row vs k first places l) (refused (by 23))
               ≡ ((elim b as (λ _. Outcome Scoped) [ true ↦ (fuse-all scope made state >>= λ w. finish w) | false ↦ refused (by 23) ]) >>= λ a. ok (told row a))
           go true e =
-              walk (leb→le (length hs) 1927 (subst T (sym e) tt)) ∙ ap (λ (o : Outcome Scoped). o >>= λ a. ok (told row a)) (sym (scope-is k first ts ds within scope made))
+              walk (subst T (sym e) tt) ∙ ap (λ (o : Outcome Scoped). o >>= λ a. ok (told row a)) (sym (scope-is k first ts ds within scope made))
           go false e = refl

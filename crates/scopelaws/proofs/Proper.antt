@@ -6,13 +6,11 @@ use mathlib.Core.Bool.{Bool, true, false}
 use mathlib.Core.List.{List}
 use lib.ListN.{length, take, drop, length-map}
 use lib.Seq.{length-take-le}
-use lib.Dec.{leb}
 use Rattle.tree.specs.Outcome.{Outcome, refused, by, _>>=_}
 use Rattle.tree.specs.Tree.{Tree}
 use Rattle.tree.specs.Facts.{all-operations}
-use Rattle.tree.specs.Rows.{occurrences}
 use Rattle.cse.specs.Order.{topo-sort-intermediates}
-use Rattle.cse.specs.Scope.{Scoped, finish, fuse-all, fuse-held, held, scope-rows}
+use Rattle.cse.specs.Scope.{Scoped, finish, fuse-all, has-room, fuse-held}
 use Rattle.cselaws.proofs.Outcomes.{Good, then-good, any-good, good-ok}
 use Rattle.renaming.specs.Shown.{extract-all-by, reciprocals-by}
 use Rattle.renaming.specs.Rounds.{next-number, state-of, bind-each-on, rounds-on}
@@ -55,7 +53,7 @@ module _ (scope : ℕ → List Tree → Outcome Scoped) (proper : (n : ℕ) (es 
       let x = length (drop k ts) in
       let s = state-of k first (bind-each-on ds (next-number k first ts) ts) in
       tested-good (From first k) (fuse-all scope x s >>= λ w. finish w) 23
-      (subst (Good (From first k)) (sym (scope-is k first ts ds h scope x)) (settled-proper x k first ts ds h)) (leb (occurrences (held x s)) scope-rows)
+      (subst (Good (From first k)) (sym (scope-is k first ts ds h scope x)) (settled-proper x k first ts ds h)) (has-room x s)
 
   -- a scope after its test
   pub body-proper :

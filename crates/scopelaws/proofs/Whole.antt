@@ -23,7 +23,7 @@ use Rattle.rounds.specs.Rounds.{all-rounds}
 use Rattle.switchplaces.specs.Switches.{arm-count}
 use Rattle.switchplaces.specs.Columns.{column-words}
 use Rattle.scopeplaces.specs.Parts.{reciprocals-first, held-words}
-use Rattle.scopeplaces.specs.Whole.{fused-scope, scope-told}
+use Rattle.scopeplaces.specs.Whole.{room-for, fused-scope, scope-told}
 use Rattle.scopelaws.specs.Told.{told}
 use Rattle.scopelaws.proofs.Groups.{places-of, Opens-group}
 use Rattle.scopelaws.proofs.Walking.{Proper}
@@ -47,14 +47,14 @@ Keeps-sound rows Sound =
     → let k = length (read numbered ws) in
     let places = divisors-to-bind vs (name-in rows) true in
     let hs = held-words vs k next places in
-    length hs ≤ 1927 → (n i a : ℕ) → reciprocals-first vs k next places + length places ≤ n → Opens-group hs i → a < arm-count hs (getD (places-of hs i) 0 0)
+    T (room-for vs k next places) → (n i a : ℕ) → reciprocals-first vs k next places + length places ≤ n → Opens-group hs i → a < arm-count hs (getD (places-of hs i) 0 0)
     → Sound n (column-words hs (places-of hs i) a)
 
 -- and its table of bits gives the order of the needs
 abbrev pub Keeps-order : List Row → (ℕ → List ℕ → Type 0) → (ℕ → List Tree → Outcome Scoped) → Type 0
 Keeps-order rows Sound scope =
     (next : ℕ) (ws vs : List ℕ) → Sound next ws → length ws ≤ 1927 → next ≤ 2147483648 → all-rounds rows true next ws ≡ ok vs
-    → length (held-words vs (length (read numbered ws)) next (divisors-to-bind vs (name-in rows) true)) ≤ 1927
+    → T (room-for vs (length (read numbered ws)) next (divisors-to-bind vs (name-in rows) true))
     → Order-agrees rows (length (read numbered ws)) next vs scope
 
 module _
