@@ -1,4 +1,4 @@
--- Bounds on a scope's answer (01, "Scoped fusion", refusal 23): its numbers stay below 2^32, its statements are at most 1,927, and its rows are paid for by the scope
+-- Bounds on a scope's answer (01, "Scoped fusion", refusal 23): its numbers stay below 2^32, its statements are at most 2,048, and its rows are paid for by the scope
 -- itself and by the numbers that it takes, so that no sum of rows comes near 2^63. The same for some arms of a group and for some groups. Assumes nothing.
 use Prim.Native.Nat.{ℕ, zero, suc, _+_, _*_, _-_, _≤_, _<_}
 use native.Mathlib.Omega.{arith}
@@ -33,12 +33,12 @@ use Rattle.switchplaces.proofs.Grouped.{every-so}
 use Rattle.switchplaces.proofs.GroupColumns.{every-at}
 use Rattle.fusion.specs.Words.{numbers-from}
 use Rattle.fusion.proofs.Members.{numbers-count}
-use Rattle.scopeplaces.specs.Parts.{place-groups, joined-groups, group-at, group-start, reciprocals-first, held-words, match-run}
-use Rattle.scopeplaces.specs.Whole.{Told, Arms-told, Walk, arms-told, group-told, walked, stmts-count, tree-run, stmts-order, stmts-runs, values-runs, ordered-scope, fused-scope, scope-told}
+use Rattle.scopeplaces.specs.Parts.{place-groups, joined-groups, group-at, group-start, reciprocals-first, lets-count, held-words, match-run}
+use Rattle.scopeplaces.specs.Whole.{Told, Arms-told, Walk, arms-told, group-told, walked, stmts-count, tree-run, stmts-order, stmts-runs, values-runs, ordered-scope, room-for, fused-scope, scope-told}
 use Rattle.scopesound.proofs.Columns.{armed-past, column-sound, column-pass, Fused, group-fused}
 use Rattle.scopesound.proofs.Rounds.{rounds-sound, rounds-short, rounds-pass, rounds-results}
 use Rattle.scopesound.proofs.Sums.{sum-each, each-append}
-use Rattle.scopesound.proofs.Counting.{arms-some, places-there, held-extractable, held-passes, held-words-ok, first-lets, last-most, trees-few, members-few, stmts-few, made-are}
+use Rattle.scopesound.proofs.Counting.{arms-some, places-there, held-extractable, held-passes, held-words-ok, first-lets, last-most, trees-few, members-few, made-are}
 use Rattle.scopesound.proofs.Sizes.{tree-run-length, match-run-length, stmts-length, values-length}
 
 -- the rows that a scope may have beside those that its numbers pay for, and what a number pays for
@@ -50,7 +50,7 @@ per-number = 67108864
 
 -- the rows of a match beside its arms'
 abbrev pub per-match : ℕ
-per-match = 3856
+per-match = 10923
 
 -- ---- what is bounded
 
@@ -60,7 +60,7 @@ pub record Scope-bound (from : ℕ) (a : Told) : Type 0 where
   pub forth : from ≤ a .next
   pub most : a .next ≤ most-number + 1927
   pub made : from + a .extracted ≤ a .next
-  pub few : a .steps ≤ 1927
+  pub few : a .steps ≤ 2048
   pub rows : length (a .words) + per-number * from ≤ per-scope + per-number * a .next
 
 -- the first n arms of a group, from the number after its members'
@@ -312,7 +312,17 @@ module _ (rows : List Row) (good : ℕ → Bool) (k first : ℕ) (vs : List ℕ)
   held-sounds = held-extractable rows good k first vs sound pass
 
   module _ (short : length vs ≤ 1927) (results : k ≤ length (read numbered vs)) (low : first ≤ most-number) where
-    module _ (held-short : length hs ≤ 1927) (l : Walk) (w : Walk-bound (place-groups hs) start (length (place-groups hs)) l) where
+    -- what it holds, and its statements
+    pub held-few : T (room-for vs k first ps) → length hs ≤ 7281
+    unfolding room-for
+    held-few t = leb→le (length hs) 7281 (and-left (leb (length hs) 7281) (leb (lets-count vs k first ps + length (place-groups hs)) 2048) t)
+
+    pub stmts-few : T (room-for vs k first ps) → (numbers : List ℕ) → stmts-count vs k first ps numbers ≤ 2048
+    unfolding room-for stmts-count
+    stmts-few t numbers =
+        leb→le (lets-count vs k first ps + length (place-groups hs)) 2048 (and-right (leb (length hs) 7281) (leb (lets-count vs k first ps + length (place-groups hs)) 2048) t)
+
+    module _ (room : T (room-for vs k first ps)) (l : Walk) (w : Walk-bound (place-groups hs) start (length (place-groups hs)) l) where
       lets-short : (i : ℕ) → suc (length (tree-run vs k first ps (l .numbers) i)) ≤ 1930
       lets-short i =
           let r = ready-of rows (next-number k first (read numbered vs)) vs sound in
@@ -324,8 +334,8 @@ module _ (rows : List Row) (good : ℕ → Bool) (k first : ℕ) (vs : List ℕ)
           let r = ready-of rows start hs held-sounds in
           let m = match-run-length hs (r .trees) (r .complete) (place-groups hs) (l .numbers) run g in
           let a = group-within (place-groups hs) g in
-          let b = members-few rows good k first vs sound pass short held-short in
-          omega (arith, m, a, b, held-short)
+          let b = members-few rows good k first vs sound pass short (held-few room) in
+          omega (arith, m, a, b, held-few room)
 
       pub ordered-bounded : (row : ℕ) → Good (Scope-bound first) (ordered-scope row vs k first ps l)
       unfolding ordered-scope
@@ -370,7 +380,7 @@ module _ (rows : List Row) (good : ℕ → Bool) (k first : ℕ) (vs : List ℕ)
                 forth = omega (arith, d, forth);
                 most = w .most (most-number + 1927) (omega (arith, f, low)) (omega arith);
                 made = omega (arith, made, d, g, h);
-                few = stmts-few rows good k first vs sound pass short held-short (l .numbers);
+                few = stmts-few room (l .numbers);
                 rows = omega (arith, a, b, c, d, i, results, paid);
               }
 
@@ -383,10 +393,10 @@ module _ (rows : List Row) (good : ℕ → Bool) (k first : ℕ) (vs : List ℕ)
       pub fused-bounded : (row : ℕ) → Good (Scope-bound first) (fused-scope scope row vs k first ps)
       unfolding fused-scope
       fused-bounded row =
-          tested (Scope-bound first) (leb (length hs) 1927) (walked scope hs (place-groups hs) start (length (place-groups hs)) >>= λ l. ordered-scope row vs k first ps l) (by 23)
+          tested (Scope-bound first) (room-for vs k first ps) (walked scope hs (place-groups hs) start (length (place-groups hs)) >>= λ l. ordered-scope row vs k first ps l) (by 23)
           (λ t.
           then-good (Walk-bound (place-groups hs) start (length (place-groups hs))) (Scope-bound first) (walked scope hs (place-groups hs) start (length (place-groups hs)))
-          (groups-bounded (length (place-groups hs)) (omega arith)) (λ l. ordered-scope row vs k first ps l) (λ l w. ordered-bounded (leb→le (length hs) 1927 t) l w row))
+          (groups-bounded (length (place-groups hs)) (omega arith)) (λ l. ordered-scope row vs k first ps l) (λ l w. ordered-bounded t l w row))
 
 -- ---- a whole scope, arms and all
 

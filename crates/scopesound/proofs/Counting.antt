@@ -301,15 +301,9 @@ module _ (rows : List Row) (good : ℕ → Bool) (k first : ℕ) (vs : List ℕ)
     pub last-most : reciprocals-first vs k first places + length places ≤ first + 1927
     last-most = omega (arith, first-lets, lets-few)
 
-    module _ (held-short : length held ≤ 1927) where
-      pub members-few : length (joined-groups (place-groups held)) ≤ 1927
+    module _ (held-short : length held ≤ 7281) where
+      pub members-few : length (joined-groups (place-groups held)) ≤ 3640
       members-few = (let m = members-count held (length (trees-held vs n places)) held-trees in omega (arith, m, switches-most, held-short))
 
-      pub groups-few : length (place-groups held) ≤ 1927
+      pub groups-few : length (place-groups held) ≤ 3640
       groups-few = (let g = groups-count held (length (trees-held vs n places)) held-trees in omega (arith, g, switches-most, held-short))
-
-      pub stmts-few : (numbers : List ℕ) → stmts-count vs k first places numbers ≤ 1927
-      stmts-few numbers =
-          let g = groups-count held (length (trees-held vs n places)) held-trees in
-          let s = stmts-are numbers in
-          omega (arith, s, g, switches-most, held-short, lets-most, divisors-most, short)

@@ -174,9 +174,9 @@ module _ (vs : List ℕ) (k first : ℕ) (places : List ℕ) (numbers : List ℕ
   pub order-most : (f : ℕ → ℕ) → sum-each f (stmts-order vs k first places numbers) ≤ sum-first f (stmts-count vs k first places numbers)
   unfolding stmts-order
   order-most f =
-      let table = table-of (needs-table vs k first places numbers count (replicate (31 * count) 0)) count in
+      let table = table-of (needs-table vs k first places numbers count (replicate (32 * count) 0)) count in
       let t = taken-ok table in
-      let c = table-count (needs-table vs k first places numbers count (replicate (31 * count) 0)) count in
+      let c = table-count (needs-table vs k first places numbers count (replicate (32 * count) 0)) count in
       let d = different-most f (length table) (positions-taken table) (t .distinct) (t .inside) in
       let e : sum-first f (length table) ≡ sum-first f count = ap (sum-first f) c in
       omega (arith, each-reversed f (positions-taken table), d, e)
