@@ -5,9 +5,8 @@ use borrow.Author.Tests.{le-leb, lt-leb, leb-true}
 use mathlib.Core.Path.{_≡_, refl, sym, _∙_, ap, subst}
 use mathlib.Core.Bool.{Bool, true, false, _&&_}
 use mathlib.Core.Option.{Option, none, some}
-use mathlib.Core.List.{List, _++_}
-use lib.ListN.{length, take, drop}
-use lib.Seq.{length-take-le, take-at}
+use mathlib.Core.List.{List}
+use lib.ListN.{length}
 use lib.Dec.{T, leb}
 use Rattle.tree.specs.Tokens.{trees-in}
 use Rattle.tokens.specs.Answers.{count-answer}
@@ -16,10 +15,10 @@ use Rattle.words.specs.Words.{some-trees, Complete}
 use Rattle.reciprocal.specs.Bindings.{all-there}
 use Rattle.scopeplaces.specs.Overlay.{overlay}
 use Rattle.scopeplaces.specs.Parts.{words-held}
-use Rattle.tables.proofs.Laws.{overlay-length, overlay-front}
 use Rattle.holding.specs.Holding.{whole-there, room-to-hold, Ready, Holding, holding-by, holding}
 use Rattle.holding.specs.declared.Held.{Held}
 use Rattle.holding.specs.declared.Held.the-variants as held
+use Rattle.holding.proofs.Front.{held-length}
 
 -- ---- the tests
 
@@ -95,58 +94,50 @@ module _ (ws places : List ℕ) (first : ℕ) (old : List ℕ) where
   new = words-held ws first places
 
   by-tests :
-      (b r f : Bool) → whole-there ws places ≡ b → room-to-hold (length ws) (length places) first (length old) ≡ r → leb (length (words-held ws first places)) 1927 ≡ f
-      → holding ws places first old ≡ holding-by b r f (words-held ws first places) old
+      (b r f : Bool) → whole-there ws places ≡ b → room-to-hold (length ws) (length places) first (length old) ≡ r → leb (length (words-held ws first places)) (length old) ≡ f
+      → holding ws places first old ≡ holding-by b r f ws (words-held ws first places) old
   unfolding holding
   by-tests b r f e g h =
-      ap (λ (x : Bool). holding-by x (room-to-hold (length ws) (length places) first (length old)) (leb (length new) 1927) new old) e
-      ∙ (ap (λ (y : Bool). holding-by b y (leb (length new) 1927) new old) g ∙ ap (λ (z : Bool). holding-by b r z new old) h)
+      ap (λ (x : Bool). holding-by x (room-to-hold (length ws) (length places) first (length old)) (leb (length new) (length old)) ws new old) e
+      ∙ (ap (λ (y : Bool). holding-by b y (leb (length new) (length old)) ws new old) g ∙ ap (λ (z : Bool). holding-by b r z ws new old) h)
 
   ends : (c : Holding) → holding ws places first old ≡ c → Holds ws places first old (c .answer) (c .out)
   ends c e = (ap (λ (x : Holding). x .answer) (sym e), ap (λ (x : Holding). x .out) (sym e))
 
   pub held-broken : (r : Bool) → r ≡ whole-there ws places → r ≡ false → Holds ws places first old held.Broken old
   unfolding holding-by
-  held-broken r e f = ends (record { answer = held.Broken; out = old }) (by-tests false (room-to-hold (length ws) (length places) first (length old)) (leb (length new) 1927) (sym e ∙ f) refl refl)
+  held-broken r e f =
+      ends (record { answer = held.Broken; out = old })
+      (by-tests false (room-to-hold (length ws) (length places) first (length old)) (leb (length new) (length old)) (sym e ∙ f) refl refl)
 
   module _ (b : Bool) (e : b ≡ whole-there ws places) (t : b ≡ true) where
     pub held-full : (r : Bool) → r ≡ room-to-hold (length ws) (length places) first (length old) → r ≡ false → Holds ws places first old held.NoRoom old
     unfolding holding-by
-    held-full r g f = ends (record { answer = held.NoRoom; out = old }) (by-tests true false (leb (length new) 1927) (sym e ∙ t) (sym g ∙ f) refl)
+    held-full r g f = ends (record { answer = held.NoRoom; out = old }) (by-tests true false (leb (length new) (length old)) (sym e ∙ t) (sym g ∙ f) refl)
 
     module _ (r : Bool) (g : r ≡ room-to-hold (length ws) (length places) first (length old)) (u : r ≡ true) where
       room-is : (length ws ≤ 1927) × ((first ≤ 4294967296) × ((length places ≤ 4294967296) × (1927 ≤ length old)))
       room-is = room-so (length ws) (length places) first (length old) (sym g ∙ u)
 
-      pub ready-so : Ready ws places first
-      ready-so = let q = room-is in (whole-so ws places (sym e ∙ t), (q .0, (q .1 .0, q .1 .1 .0)))
+      pub ready-so : Ready ws places first × (1927 ≤ length old)
+      ready-so = let q = room-is in ((whole-so ws places (sym e ∙ t), (q .0, (q .1 .0, q .1 .1 .0))), q .1 .1 .1)
 
-      pub held-many : (n : ℕ) → n ≡ length (words-held ws first places) → 1927 < n → Holds ws places first old held.TooMany old
-      unfolding holding-by
-      held-many n c h =
-          ends (record { answer = held.TooMany; out = old })
-          (by-tests true true false (sym e ∙ t) (sym g ∙ u) (lt-leb (length new) 1927 (omega (arith, c, h))))
+      module _ (n : ℕ) (c : n ≡ length (words-held ws first places)) (out : List ℕ) (w : out ≡ overlay 0 (words-held ws first places) (overlay 0 ws old)) where
+        out-long : length out ≡ length old
+        out-long = ap length w ∙ held-length ws (words-held ws first places) old
 
-      module _ (n : ℕ) (c : n ≡ length (words-held ws first places)) (few : n ≤ 1927) (blank work : List ℕ) (long : length blank ≡ 1927) (w : work ≡ overlay 0 (words-held ws first places) (overlay 0 ws blank)) where
-        base-long : length (overlay 0 ws blank) ≡ 1927
-        base-long = overlay-length 0 ws blank ∙ long
-
-        pub work-long : length work ≡ 1927
-        work-long = ap length w ∙ (overlay-length 0 (words-held ws first places) (overlay 0 ws blank) ∙ base-long)
-
-        pub front-counted : n ≡ length (take n work)
-        front-counted = sym (length-take-le n work (omega (arith, few, work-long)))
-
-        front-is : take n work ≡ words-held ws first places
-        front-is = ap (take n) (w ∙ overlay-front new (overlay 0 ws blank) (omega (arith, c, few, base-long))) ∙ take-at new (drop (length new) (overlay 0 ws blank)) n (sym c)
-
-        pub held-written : (out : List ℕ) → out ≡ overlay 0 (take n work) old → Holds ws places first old (held.Words n) out
+        pub held-many : length out < n → Holds ws places first old held.TooMany out
         unfolding holding-by
-        held-written out o =
+        held-many h =
             let k =
-            ends (record { answer = held.Words (length new); out = new ++ drop (length new) old })
-            (by-tests true true true (sym e ∙ t) (sym g ∙ u) (le-leb (length new) 1927 (omega (arith, c, few)))) in
-            let q = room-is .1 .1 .1 in (
-              ap held.Words c ∙ k .0,
-              o ∙ (ap (λ (l : List ℕ). overlay 0 l old) front-is ∙ (overlay-front new old (omega (arith, c, few, q)) ∙ k .1)),
-            )
+            ends (record { answer = held.TooMany; out = overlay 0 new (overlay 0 ws old) })
+            (by-tests true true false (sym e ∙ t) (sym g ∙ u) (lt-leb (length new) (length old) (omega (arith, c, h, out-long)))) in
+            (k .0, w ∙ k .1)
+
+        pub held-written : n ≤ length out → Holds ws places first old (held.Words n) out
+        unfolding holding-by
+        held-written h =
+            let k =
+            ends (record { answer = held.Words (length new); out = overlay 0 new (overlay 0 ws old) })
+            (by-tests true true true (sym e ∙ t) (sym g ∙ u) (le-leb (length new) (length old) (omega (arith, c, h, out-long)))) in
+            (ap held.Words c ∙ k .0, w ∙ k .1)

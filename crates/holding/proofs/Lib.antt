@@ -1,4 +1,5 @@
 pub mod Switch
 pub mod Taking
 pub mod Gathering
+pub mod Front
 pub mod Ends

@@ -3,7 +3,7 @@
 use Prim.Native.Nat.{ℕ, _≤_}
 use mathlib.Core.Path.{_≡_}
 use mathlib.Core.Bool.{Bool, true, false, _&&_}
-use mathlib.Core.List.{List, _++_, map}
+use mathlib.Core.List.{List, map}
 use lib.ListN.{length, take, drop}
 use lib.Dec.{leb}
 use Rattle.tree.specs.Tokens.{all-tokens, read, numbered, trees-in}
@@ -12,6 +12,7 @@ use Rattle.renaming.specs.Places.{numbered-at}
 use Rattle.reciprocals.proofs.Parts.{settle-tree, settled-reciprocals}
 use Rattle.reciprocal.specs.Bindings.{all-there}
 use Rattle.fusion.specs.Switchless.{with-switches}
+use Rattle.scopeplaces.specs.Overlay.{overlay}
 use Rattle.scopeplaces.specs.Parts.{words-held}
 use Rattle.holding.specs.declared.Held.{Held}
 use Rattle.holding.specs.declared.Held.the-variants as held
@@ -58,14 +59,15 @@ pub record Holding : Type 0 where
   pub answer : Held
   pub out : List ℕ
 
--- by whether the trees are there, whether there is room, and whether what is held is few enough
-unfoldable pub holding-by : Bool → Bool → Bool → List ℕ → List ℕ → Holding
-holding-by false room few new old = record { answer = held.Broken; out = old }
-holding-by true false few new old = record { answer = held.NoRoom; out = old }
-holding-by true true false new old = record { answer = held.TooMany; out = old }
-holding-by true true true new old = record { answer = held.Words (length new); out = new ++ drop (length new) old }
+-- by whether the trees are there, whether there is room, and whether what is held is no longer than the words lent. It is written over a copy of the trees, and its words
+-- past the end are dropped.
+unfoldable pub holding-by : Bool → Bool → Bool → List ℕ → List ℕ → List ℕ → Holding
+holding-by false room few ws new old = record { answer = held.Broken; out = old }
+holding-by true false few ws new old = record { answer = held.NoRoom; out = old }
+holding-by true true false ws new old = record { answer = held.TooMany; out = overlay 0 new (overlay 0 ws old) }
+holding-by true true true ws new old = record { answer = held.Words (length new); out = overlay 0 new (overlay 0 ws old) }
 
 unfoldable pub holding : List ℕ → List ℕ → ℕ → List ℕ → Holding
 unfolding holding-by whole-there room-to-hold words-held
 holding ws places first old =
-    holding-by (whole-there ws places) (room-to-hold (length ws) (length places) first (length old)) (leb (length (words-held ws first places)) 1927) (words-held ws first places) old
+    holding-by (whole-there ws places) (room-to-hold (length ws) (length places) first (length old)) (leb (length (words-held ws first places)) (length old)) ws (words-held ws first places) old

@@ -19,7 +19,7 @@ use tables::put;
 use tokens::Trees;
 use tokens::count_trees;
 
-// The most words that are held.
+// The most words that are taken, and the fewest lent for what is held: so the settled trees always have room.
 const AREA: usize = 1927;
 
 // A reciprocal is at most two words more than its divisor.
@@ -36,7 +36,7 @@ const BRANCH: u64 = 26;
 pub enum Held {
     // How many words are held.
     Words(usize),
-    // More than can be held.
+    // More words than are lent. Those past the end are dropped.
     TooMany,
     // A word lacks operands, or a divisor isn't there.
     Broken,
@@ -190,11 +190,9 @@ pub fn hold(tokens: &[u64], places: &[u64], first: u64, held: &mut [u64]) -> Hel
     if !room_for(tokens.len(), places.len(), first, held.len()) {
         return Held::NoRoom;
     }
-    let mut work = [0u64; AREA];
-    let n = hold_all(tokens, places, first, &mut work);
-    if n > AREA {
+    let n = hold_all(tokens, places, first, held);
+    if n > held.len() {
         return Held::TooMany;
     }
-    put(&work[..n], 0, held);
     Held::Words(n)
 }

@@ -57,38 +57,38 @@ and-none : (b : Bool) → (b && false) ≡ false
 and-none true = refl
 and-none false = refl
 
-module _ (ws old : List ℕ) where
+module _ (ws : List ℕ) (marks : ℕ) (old : List ℕ) where
   abbrev pub Answers : SwitchList → List ℕ → Type 0
-  Answers r out = (r ≡ listing ws old .answer) × (out ≡ listing ws old .out)
+  Answers r out = (r ≡ listing ws marks old .answer) × (out ≡ listing ws marks old .out)
 
-  answers-by : (a b : Bool) → some-trees (trees-in ws) ≡ a → room-for (length ws) (length old) ≡ b → (x : Listing) → listing-by a b (switch-places ws) old ≡ x → Answers (x .answer) (x .out)
+  answers-by : (a b : Bool) → some-trees (trees-in ws) ≡ a → room-for (length ws) marks (length old) ≡ b → (x : Listing) → listing-by a b (switch-places ws) old ≡ x → Answers (x .answer) (x .out)
   unfolding listing
   answers-by a b e f x q =
-      let s : listing ws old ≡ x =
-      ap (λ (y : Bool). listing-by y (room-for (length ws) (length old)) (switch-places ws) old) e ∙ (ap (λ (y : Bool). listing-by a y (switch-places ws) old) f ∙ q) in
+      let s : listing ws marks old ≡ x =
+      ap (λ (y : Bool). listing-by y (room-for (length ws) marks (length old)) (switch-places ws) old) e ∙ (ap (λ (y : Bool). listing-by a y (switch-places ws) old) f ∙ q) in
       (sym (ap (λ (y : Listing). y .answer) s), sym (ap (λ (y : Listing). y .out) s))
 
   pub broken : trees-in ws ≡ none → Answers switch-list.Broken old
   unfolding listing-by some-trees
-  broken e = answers-by false (room-for (length ws) (length old)) (ap some-trees e) refl (record { answer = switch-list.Broken; out = old }) refl
+  broken e = answers-by false (room-for (length ws) marks (length old)) (ap some-trees e) refl (record { answer = switch-list.Broken; out = old }) refl
 
   module _ (complete : Complete ws) where
-    full : room-for (length ws) (length old) ≡ false → Answers switch-list.NoRoom old
+    full : room-for (length ws) marks (length old) ≡ false → Answers switch-list.NoRoom old
     unfolding listing-by some-trees
     full e = answers-by true false (ap some-trees (complete .1)) e (record { answer = switch-list.NoRoom; out = old }) refl
 
-    pub too-many : 1927 < length ws → Answers switch-list.NoRoom old
+    pub few-marks : marks < length ws → Answers switch-list.NoRoom old
     unfolding room-for
-    too-many h = full (ap (λ (b : Bool). b && leb (length ws) (length old)) (lt-leb (length ws) 1927 h))
+    few-marks h = full (ap (λ (b : Bool). b && leb (length ws) (length old)) (lt-leb (length ws) marks h))
 
     pub few-places : length old < length ws → Answers switch-list.NoRoom old
     unfolding room-for
-    few-places h = full (ap (λ (b : Bool). leb (length ws) 1927 && b) (lt-leb (length ws) (length old) h) ∙ and-none (leb (length ws) 1927))
+    few-places h = full (ap (λ (b : Bool). leb (length ws) marks && b) (lt-leb (length ws) (length old) h) ∙ and-none (leb (length ws) marks))
 
-    pub listed : length ws ≤ 1927 → length ws ≤ length old → (n : ℕ) (out : List ℕ) → Listed (switch-places ws) old n out → Answers (switch-list.Count n) out
+    pub listed : length ws ≤ marks → length ws ≤ length old → (n : ℕ) (out : List ℕ) → Listed (switch-places ws) old n out → Answers (switch-list.Count n) out
     unfolding listing-by some-trees room-for
-    listed words lent n out k =
-        let room : room-for (length ws) (length old) ≡ true = rw (le-leb (length ws) 1927 words, le-leb (length ws) (length old) lent) in
+    listed marked lent n out k =
+        let room : room-for (length ws) marks (length old) ≡ true = rw (le-leb (length ws) marks marked, le-leb (length ws) (length old) lent) in
         answers-by true true (ap some-trees (complete .1)) room (record { answer = switch-list.Count n; out = out })
         (ap (λ (i : ℕ). record { answer = switch-list.Count i; out = switch-places ws ++ drop (length (switch-places ws)) old }) (sym (k .count))
         ∙ ap (λ (l : List ℕ). record { answer = switch-list.Count n; out = l }) (sym (k .places)))

@@ -17,27 +17,27 @@ use Rattle.switches.specs.declared.SwitchList.the-variants as switch-lis
 pub switches-few : (ws : List ℕ) → length (switch-places ws) ≤ length ws
 switches-few ws = omega (arith, ap length (places-end ws), places-few ws (length ws))
 
-module _ (ws old : List ℕ) (complete : Complete ws) (words : length ws ≤ 1927) (lent : length ws ≤ length old) where
-  listing-is : listing ws old ≡ record { answer = switch-list.Count (length (switch-places ws)); out = switch-places ws ++ drop (length (switch-places ws)) old }
+module _ (ws : List ℕ) (marks : ℕ) (old : List ℕ) (complete : Complete ws) (marked : length ws ≤ marks) (lent : length ws ≤ length old) where
+  listing-is : listing ws marks old ≡ record { answer = switch-list.Count (length (switch-places ws)); out = switch-places ws ++ drop (length (switch-places ws)) old }
   unfolding listing listing-by some-trees room-for
   listing-is =
-      let room : room-for (length ws) (length old) ≡ true = rw (le-leb (length ws) 1927 words, le-leb (length ws) (length old) lent) in
-      ap (λ (b : Bool). listing-by b (room-for (length ws) (length old)) (switch-places ws) old) (ap some-trees (complete .1))
+      let room : room-for (length ws) marks (length old) ≡ true = rw (le-leb (length ws) marks marked, le-leb (length ws) (length old) lent) in
+      ap (λ (b : Bool). listing-by b (room-for (length ws) marks (length old)) (switch-places ws) old) (ap some-trees (complete .1))
       ∙ ap (λ (b : Bool). listing-by true b (switch-places ws) old) room
 
-  pub listed-all : (n : ℕ) (out : List ℕ) → switch-list.Count n ≡ listing ws old .answer → out ≡ listing ws old .out → Listed (switch-places ws) old n out
+  pub listed-all : (n : ℕ) (out : List ℕ) → switch-list.Count n ≡ listing ws marks old .answer → out ≡ listing ws marks old .out → Listed (switch-places ws) old n out
   listed-all n out e f =
       let q : switch-list.Count n ≡ switch-list.Count (length (switch-places ws)) = e ∙ ap (λ (x : Listing). x .answer) listing-is in
       let c : n ≡ length (switch-places ws) = cc in
       record { count = c; places = f ∙ ap (λ (x : Listing). x .out) listing-is }
 
-  pub not-broken : switch-list.Broken ≡ listing ws old .answer → ⊥
+  pub not-broken : switch-list.Broken ≡ listing ws marks old .answer → ⊥
   not-broken e =
       let q : switch-list.Broken ≡ switch-list.Count (length (switch-places ws)) = e ∙ ap (λ (x : Listing). x .answer) listing-is in
       let z : _≡_ {A = ℕ} 0 1 = cc in
       omega arith
 
-  pub not-full : switch-list.NoRoom ≡ listing ws old .answer → ⊥
+  pub not-full : switch-list.NoRoom ≡ listing ws marks old .answer → ⊥
   not-full e =
       let q : switch-list.NoRoom ≡ switch-list.Count (length (switch-places ws)) = e ∙ ap (λ (x : Listing). x .answer) listing-is in
       let z : _≡_ {A = ℕ} 0 1 = cc in

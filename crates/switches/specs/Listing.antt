@@ -45,10 +45,11 @@ listing-by false room new old = record { answer = switch-list.Broken; out = old 
 listing-by true false new old = record { answer = switch-list.NoRoom; out = old }
 listing-by true true new old = record { answer = switch-list.Count (length new); out = new ++ drop (length new) old }
 
--- 1,927 words at most, and a place for each
-unfoldable pub room-for : ℕ → ℕ → Bool
-room-for words lent = leb words 1927 && leb words lent
+-- a mark and a place for each word
+unfoldable pub room-for : ℕ → ℕ → ℕ → Bool
+room-for words marks lent = leb words marks && leb words lent
 
-unfoldable pub listing : List ℕ → List ℕ → Listing
+-- by the words, how many marks are lent, and the places lent
+unfoldable pub listing : List ℕ → ℕ → List ℕ → Listing
 unfolding listing-by trees-in some-trees room-for switch-places
-listing ws old = listing-by (some-trees (trees-in ws)) (room-for (length ws) (length old)) (switch-places ws) old
+listing ws marks old = listing-by (some-trees (trees-in ws)) (room-for (length ws) marks (length old)) (switch-places ws) old

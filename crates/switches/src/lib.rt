@@ -19,15 +19,12 @@ const KINDS: u64 = 64;
 // The least kind with arms: Branch, Select and Select with a default come last.
 const BRANCH: u64 = 26;
 
-// So many words at most, which the array of marks holds.
-const MOST_WORDS: usize = 1927;
-
 pub enum SwitchList {
     // How many places were written.
     Count(usize),
     // A word lacks operands.
     Broken,
-    // Too many words, or fewer places than words.
+    // Fewer marks or places than words.
     NoRoom,
 }
 
@@ -106,31 +103,21 @@ fn list(tokens: &[u64], marks: &[u64], places: &mut [u64]) -> usize
     n
 }
 
-// The same from the words alone.
-fn gather(tokens: &[u64], places: &mut [u64]) -> usize
-    requires { ⌜ Complete (now tokens) ⌝ }
-    requires { ⌜ (length (now tokens) ≤ 1927) × (length (now tokens) ≤ length (now places)) ⌝ }
-    ensures { λ r. ⌜ Listed (switch-places (now (tokens .entry))) (now (places .entry)) r (now (places .exit)) ⌝ }
-{
-    let mut marks = [0u64; MOST_WORDS];
-    mark_outside(tokens, true, &mut marks);
-    list(tokens, &marks, places)
-}
-
-// The places of the switches outside arms, in front of what stood after as many.
-pub fn list_switches(tokens: &[u64], places: &mut [u64]) -> SwitchList
-    ensures { λ r. ⌜ (r ≡ listing (now (tokens .entry)) (now (places .entry)) .answer)
-        × (now (places .exit) ≡ listing (now (tokens .entry)) (now (places .entry)) .out) ⌝ }
+// The places of the switches outside arms, in front of what stood after as many. The marks are work space: what is left there is free.
+pub fn list_switches(tokens: &[u64], marks: &mut [u64], places: &mut [u64]) -> SwitchList
+    ensures { λ r. ⌜ (r ≡ listing (now (tokens .entry)) (length (now (marks .entry))) (now (places .entry)) .answer)
+        × (now (places .exit) ≡ listing (now (tokens .entry)) (length (now (marks .entry))) (now (places .entry)) .out) ⌝ }
 {
     let Trees::Count(_) = count_trees(tokens) else {
         return SwitchList::Broken;
     };
-    if tokens.len() > MOST_WORDS {
+    if marks.len() < tokens.len() {
         return SwitchList::NoRoom;
     }
     if places.len() < tokens.len() {
         return SwitchList::NoRoom;
     }
-    let n = gather(tokens, places);
+    mark_outside(tokens, true, marks);
+    let n = list(tokens, marks, places);
     SwitchList::Count(n)
 }
