@@ -93,10 +93,10 @@ unfoldable pub words-of : Outcome Arms-told → List ℕ
 words-of (ok t) = t .words
 words-of (refused i) = []
 
--- what a scope holds in front, at most 1,927 words
+-- what a scope holds in front, or more than are lent
 abbrev pub Holding-so : List ℕ → Holding → List ℕ → Type 0
-Holding-so hs (holding.Words n) held = (take n held ≡ hs) × (n ≤ length held) × (length hs ≤ 1927)
-Holding-so hs holding.TooMany held = 1927 < length hs
+Holding-so hs (holding.Words n) held = (take n held ≡ hs) × (n ≤ length held)
+Holding-so hs holding.TooMany held = length held < length hs
 
 unfoldable pub walk-refusal : Walked → ℕ
 walk-refusal (walked.Done next extracted) = 0

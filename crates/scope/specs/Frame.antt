@@ -27,16 +27,16 @@ use Rattle.scope.specs.Answers.{told-rows, inner, arms-of}
 abbrev pub most-rows : ℕ
 most-rows = 9223372036854775808
 
--- a thousand words for each scope that may still be opened, and the text
+-- a part for each scope that may still be opened, and the text
 pub record Lent (fuel : ℕ) (work text : List ℕ) : Type 0 where
-  pub words : 1927 * fuel ≤ length work
+  pub words : 7281 * fuel ≤ length work
   pub bytes : 131072 ≤ length text
 
 -- words whose columns may be scopes, with numbers from `next` on
 pub record Holds (rows : List Row) (next : ℕ) (held : List ℕ) : Type 0 where
   pub good : T (extractable rows next held)
   pub pass : T (symbols-pass (is-number rows) held)
-  pub few : length held ≤ 1927
+  pub few : length held ≤ 7281
 
 -- some places are a group of the words'
 pub record Is-group (held group : List ℕ) : Type 0 where
@@ -74,7 +74,7 @@ pub record Ready (ws : List ℕ) (k first : ℕ) (places held starts members end
   pub held-is : held ≡ held-words ws k first places
   pub starts-are : starts ≡ take (length starts) (starts-of held)
   pub grouped : Members held members ends
-  pub statements : (numbers : List ℕ) → stmts-count ws k first places numbers ≤ 1927
+  pub statements : (numbers : List ℕ) → stmts-count ws k first places numbers ≤ 2048
   pub last : first + ((length starts - k) + length places) ≡ reciprocals-first ws k first places + length places
 
 -- the rest of the scope: its groups, and then its statements in order

@@ -46,8 +46,14 @@ use tokens::count_trees;
 use tokens::operand_count;
 use treelist::list_trees;
 
-// The most words of a scope.
+// The most words of a scope's input, and of what its rounds leave.
 const MOST: usize = 1927;
+
+// The most words that a scope holds: nine parts of as many are the work area.
+const PART: usize = 7281;
+
+// The most statements of a scope.
+const MOST_STMTS: usize = 2048;
 
 // The largest number that a scope may start with.
 const MOST_NUMBER: u64 = 2147483648;
@@ -91,7 +97,7 @@ enum Walked {
 enum Holding {
     // How many words are held.
     Words(usize),
-    // More than 1,927 would be.
+    // More than are lent would be.
     TooMany,
 }
 
@@ -147,12 +153,12 @@ fn hold_all(tokens: &[u64], places: &[u64], number: u64, held: &mut [u64]) -> Ho
     }
 }
 
-// The switches of words, at the front of `places`. That they can't be listed never comes up.
-fn list_all(held: &[u64], places: &mut [u64]) -> usize
-    requires { ⌜ T (some-trees (trees-in (now held))) × (length (now held) ≤ 1927) × (1927 ≤ length (now places)) ⌝ }
+// The switches of words, at the front of `places`. The marks are for the work. That they can't be listed never comes up.
+fn list_all(held: &[u64], marks: &mut [u64], places: &mut [u64]) -> usize
+    requires { ⌜ T (some-trees (trees-in (now held))) × (length (now held) ≤ length (now marks)) × (length (now held) ≤ length (now places)) ⌝ }
     ensures { λ r. ⌜ (take r (now (places .exit)) ≡ switch-places (now (held .entry))) × (r ≤ length (now (places .exit))) ⌝ }
 {
-    let listed = list_switches(held, places);
+    let listed = list_switches(held, marks, places);
     match listed {
         SwitchList::Count(n) => n,
         SwitchList::Broken => 0,
@@ -174,14 +180,19 @@ fn group_listed(held: &[u64], places: &[u64], members: &mut [u64], ends: &mut [u
     }
 }
 
-// The groups of the switches of words: all members at the front of `members`, and where each group ends among them at the front of `ends`.
-fn group_all(held: &[u64], members: &mut [u64], ends: &mut [u64]) -> Found
-    requires { ⌜ T (some-trees (trees-in (now held))) × (length (now held) ≤ 1927) ⌝ }
-    requires { ⌜ (1927 ≤ length (now members)) × (1927 ≤ length (now ends)) ⌝ }
+// The groups of the switches of words: all members at the front of `members`, and where each group ends among them at the front of `ends`. Before the groups are
+// made, `members` is for the work, and the switches stand in `switches`.
+fn group_all(
+    held: &[u64],
+    switches: &mut [u64],
+    members: &mut [u64],
+    ends: &mut [u64],
+) -> Found
+    requires { ⌜ T (some-trees (trees-in (now held))) × (length (now held) ≤ length (now switches)) ⌝ }
+    requires { ⌜ (length (now held) ≤ length (now members)) × (length (now held) ≤ length (now ends)) ⌝ }
     ensures { λ r. ⌜ Grouping-so (now (held .entry)) (r .members) (r .groups) (now (members .exit)) (now (ends .exit)) ⌝ }
 {
-    let mut switches = [0u64; MOST];
-    let count = list_all(held, &mut switches);
+    let count = list_all(held, members, switches);
     let groups = group_listed(held, &switches[..count], members, ends);
     Found {
         members: count,
@@ -227,7 +238,7 @@ fn group_begin(ends: &[u64], g: usize) -> usize
 
 // How many arms each switch of a group has.
 fn count_arms(held: &[u64], group: &[u64]) -> usize
-    requires { ⌜ Is-group (now held) (now group) × (length (now held) ≤ 1927) × T (some-trees (trees-in (now held))) ⌝ }
+    requires { ⌜ Is-group (now held) (now group) × T (some-trees (trees-in (now held))) ⌝ }
     ensures { λ r. ⌜ r ≡ arm-count (now (held .entry)) (getD (now (group .entry)) 0 0) ⌝ }
 {
     let opener = group[0] as usize;
@@ -579,7 +590,7 @@ fn write_scope(
     ensures { λ r. ⌜ (r ≡ scope-answer (grouped-scope (rows-in (now (rows .entry))) fuel row (now (tokens .entry)) results first (now (places .entry))) at)
         × (now (table .exit) ≡ scope-table (grouped-scope (rows-in (now (rows .entry))) fuel row (now (tokens .entry)) results first (now (places .entry))) at (now (table .entry))) ⌝ }
 {
-    let mut taken = [0u64; MOST];
+    let mut taken = [0u64; MOST_STMTS];
     let made = starts.len() - results;
     let count = made + places.len() + ends.len();
     let ordered = order_stmts(
@@ -647,6 +658,7 @@ fn scope_grouped(
     starts: &[u64],
     members: &[u64],
     ends: &[u64],
+    numbers: &mut [u64],
     fuel: usize,
     row: u64,
     text: &mut [u8],
@@ -654,13 +666,12 @@ fn scope_grouped(
     table: &mut [u64],
 ) -> Scoped
     requires { ⌜ Lent fuel (now work) (now text) × Holds (rows-in (now rows)) (reciprocals-first (now tokens) results first (now places) + length (now places)) (now held) ⌝ }
-    requires { ⌜ Ready (now tokens) results first (now places) (now held) (now starts) (now members) (now ends) ⌝ }
+    requires { ⌜ Ready (now tokens) results first (now places) (now held) (now starts) (now members) (now ends) × (length (now members) ≤ length (now numbers)) ⌝ }
     requires { ⌜ at + told-rows (grouped-scope (rows-in (now rows)) fuel row (now tokens) results first (now places)) ≤ most-rows ⌝ }
     ensures { λ r. ⌜ (r ≡ scope-answer (grouped-scope (rows-in (now (rows .entry))) fuel row (now (tokens .entry)) results first (now (places .entry))) at)
         × (now (table .exit) ≡ scope-table (grouped-scope (rows-in (now (rows .entry))) fuel row (now (tokens .entry)) results first (now (places .entry))) at (now (table .entry))) ⌝ }
 {
-    let mut numbers = [0u64; MOST];
-    let mut sizes = [0u64; MOST];
+    let mut sizes = [0u64; MOST_STMTS];
     let next = first + (starts.len() - results + places.len()) as u64;
     let walked = walk(
         rows,
@@ -671,7 +682,7 @@ fn scope_grouped(
         fuel,
         next,
         text,
-        &mut numbers,
+        numbers,
         &mut sizes,
     );
     let Walked::Done(after, extracted) = walked else {
@@ -702,7 +713,8 @@ fn scope_grouped(
     )
 }
 
-// The scope from what it holds on: where its trees begin there, and its groups.
+// The scope from what it holds on: where its trees begin there, its groups, and whether its statements are too many. What is lent for members, ends and numbers is
+// for the work.
 fn scope_held(
     rows: &[u64],
     work: &mut [u64],
@@ -712,6 +724,9 @@ fn scope_held(
     first: u64,
     places: &[u64],
     held: &[u64],
+    members: &mut [u64],
+    ends: &mut [u64],
+    numbers: &mut [u64],
     fuel: usize,
     row: u64,
     text: &mut [u8],
@@ -719,18 +734,20 @@ fn scope_held(
     table: &mut [u64],
 ) -> Scoped
     requires { ⌜ Lent fuel (now work) (now text) × Left (rows-in (now rows)) (now tokens) results first (now places) ⌝ }
-    requires { ⌜ (trees-in (now tokens) ≡ some trees) × (now held ≡ held-words (now tokens) results first (now places)) × (length (now held) ≤ 1927) ⌝ }
-    requires { ⌜ at + told-rows (grouped-scope (rows-in (now rows)) fuel row (now tokens) results first (now places)) ≤ most-rows ⌝ }
-    ensures { λ r. ⌜ (r ≡ scope-answer (grouped-scope (rows-in (now (rows .entry))) fuel row (now (tokens .entry)) results first (now (places .entry))) at)
-        × (now (table .exit) ≡ scope-table (grouped-scope (rows-in (now (rows .entry))) fuel row (now (tokens .entry)) results first (now (places .entry))) at (now (table .entry))) ⌝ }
+    requires { ⌜ (trees-in (now tokens) ≡ some trees) × (now held ≡ held-words (now tokens) results first (now places)) × (length (now held) ≤ 7281) ⌝ }
+    requires { ⌜ (length (now held) ≤ length (now members)) × (length (now held) ≤ length (now ends)) × (length (now held) ≤ length (now numbers)) ⌝ }
+    requires { ⌜ at + told-rows (fused-scope (inner (rows-in (now rows)) fuel) row (now tokens) results first (now places)) ≤ most-rows ⌝ }
+    ensures { λ r. ⌜ (r ≡ scope-answer (fused-scope (inner (rows-in (now (rows .entry))) fuel) row (now (tokens .entry)) results first (now (places .entry))) at)
+        × (now (table .exit) ≡ scope-table (fused-scope (inner (rows-in (now (rows .entry))) fuel) row (now (tokens .entry)) results first (now (places .entry))) at (now (table .entry))) ⌝ }
 {
     let mut starts = [0u64; MOST];
-    let mut members = [0u64; MOST];
-    let mut ends = [0u64; MOST];
     list_trees(held, &mut starts);
-    let found = group_all(held, &mut members, &mut ends);
+    let found = group_all(held, numbers, members, ends);
     let m = found.members;
     let g = found.groups;
+    if trees - results + places.len() + g > MOST_STMTS {
+        return Scoped::Refused(TOO_MUCH);
+    }
     scope_grouped(
         rows,
         work,
@@ -742,6 +759,120 @@ fn scope_held(
         &starts[..trees],
         &members[..m],
         &ends[..g],
+        numbers,
+        fuel,
+        row,
+        text,
+        at,
+        table,
+    )
+}
+
+// The scope after its rounds, where it holds more than its input can have. Apart from the others, since few scopes need as much.
+fn scope_large(
+    rows: &[u64],
+    work: &mut [u64],
+    tokens: &[u64],
+    results: usize,
+    trees: usize,
+    first: u64,
+    places: &[u64],
+    fuel: usize,
+    row: u64,
+    text: &mut [u8],
+    at: usize,
+    table: &mut [u64],
+) -> Scoped
+    requires { ⌜ Lent fuel (now work) (now text) × Left (rows-in (now rows)) (now tokens) results first (now places) ⌝ }
+    requires { ⌜ trees-in (now tokens) ≡ some trees ⌝ }
+    requires { ⌜ at + told-rows (fused-scope (inner (rows-in (now rows)) fuel) row (now tokens) results first (now places)) ≤ most-rows ⌝ }
+    ensures { λ r. ⌜ (r ≡ scope-answer (fused-scope (inner (rows-in (now (rows .entry))) fuel) row (now (tokens .entry)) results first (now (places .entry))) at)
+        × (now (table .exit) ≡ scope-table (fused-scope (inner (rows-in (now (rows .entry))) fuel) row (now (tokens .entry)) results first (now (places .entry))) at (now (table .entry))) ⌝ }
+{
+    let mut held = [0u64; PART];
+    let number = first + (trees - results) as u64;
+    let holding = hold_all(tokens, places, number, &mut held);
+    let Holding::Words(n) = holding else {
+        return Scoped::Refused(TOO_MUCH);
+    };
+    let mut members = [0u64; PART];
+    let mut ends = [0u64; PART];
+    let mut numbers = [0u64; PART];
+    scope_held(
+        rows,
+        work,
+        tokens,
+        results,
+        trees,
+        first,
+        places,
+        &held[..n],
+        &mut members,
+        &mut ends,
+        &mut numbers,
+        fuel,
+        row,
+        text,
+        at,
+        table,
+    )
+}
+
+// The scope after its rounds, with room for as much as its input can have.
+fn scope_small(
+    rows: &[u64],
+    work: &mut [u64],
+    tokens: &[u64],
+    results: usize,
+    trees: usize,
+    first: u64,
+    places: &[u64],
+    fuel: usize,
+    row: u64,
+    text: &mut [u8],
+    at: usize,
+    table: &mut [u64],
+) -> Scoped
+    requires { ⌜ Lent fuel (now work) (now text) × Left (rows-in (now rows)) (now tokens) results first (now places) ⌝ }
+    requires { ⌜ trees-in (now tokens) ≡ some trees ⌝ }
+    requires { ⌜ at + told-rows (fused-scope (inner (rows-in (now rows)) fuel) row (now tokens) results first (now places)) ≤ most-rows ⌝ }
+    ensures { λ r. ⌜ (r ≡ scope-answer (fused-scope (inner (rows-in (now (rows .entry))) fuel) row (now (tokens .entry)) results first (now (places .entry))) at)
+        × (now (table .exit) ≡ scope-table (fused-scope (inner (rows-in (now (rows .entry))) fuel) row (now (tokens .entry)) results first (now (places .entry))) at (now (table .entry))) ⌝ }
+{
+    let mut held = [0u64; MOST];
+    let number = first + (trees - results) as u64;
+    let holding = hold_all(tokens, places, number, &mut held);
+    let Holding::Words(n) = holding else {
+        return scope_large(
+            rows,
+            work,
+            tokens,
+            results,
+            trees,
+            first,
+            places,
+            fuel,
+            row,
+            text,
+            at,
+            table,
+        );
+    };
+    let mut members = [0u64; MOST];
+    let mut ends = [0u64; MOST];
+    let mut numbers = [0u64; MOST];
+    scope_held(
+        rows,
+        work,
+        tokens,
+        results,
+        trees,
+        first,
+        places,
+        &held[..n],
+        &mut members,
+        &mut ends,
+        &mut numbers,
         fuel,
         row,
         text,
@@ -771,15 +902,9 @@ fn scope_listed(
         × (now (table .exit) ≡ scope-table (fused-scope (inner (rows-in (now (rows .entry))) fuel) row (take used (now (work .entry))) results first (now (places .entry))) at (now (table .entry))) ⌝ }
 {
     let mut tokens = [0u64; MOST];
-    let mut held = [0u64; MOST];
     put(&work[..used], 0, &mut tokens);
     let trees = tree_count(&tokens[..used]);
-    let number = first + (trees - results) as u64;
-    let holding = hold_all(&tokens[..used], places, number, &mut held);
-    let Holding::Words(n) = holding else {
-        return Scoped::Refused(TOO_MUCH);
-    };
-    scope_held(
+    scope_small(
         rows,
         &mut work[used..],
         &tokens[..used],
@@ -787,7 +912,6 @@ fn scope_listed(
         trees,
         first,
         places,
-        &held[..n],
         fuel,
         row,
         text,
