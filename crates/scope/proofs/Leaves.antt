@@ -37,6 +37,7 @@ use Rattle.columns.specs.declared.Column.{Column}
 use Rattle.columns.specs.declared.Column.the-variants as column-enum
 use Rattle.holding.specs.Holding.{whole-there, room-to-hold, Holding as Held-so, holding-by, holding}
 use Rattle.holding.specs.declared.Held.{Held}
+use Rattle.holding.proofs.Front.{held-front, held-length}
 use Rattle.holding.specs.declared.Held.the-variants as held-enum
 use Rattle.scopeplaces.specs.Parts.{place-groups, joined-groups, ends-from, words-held}
 use Rattle.scopesound.proofs.Columns.{Fused, group-fused, members-count}
@@ -114,9 +115,9 @@ module _ (ws places : List ℕ) (number : ℕ) (old : List ℕ) (complete : T (s
   unfolding room-to-hold
   roomy = rw (le-leb (length ws) 1927 few, le-leb number 4294967296 low, le-leb (length places) 4294967296 (omega arith), le-leb 1927 (length old) lent)
 
-  held-by : holding ws places number old ≡ holding-by true true (leb (length hs) 1927) hs old
+  held-by : holding ws places number old ≡ holding-by true true (leb (length hs) (length old)) ws hs old
   unfolding holding
-  held-by = ap₂ (λ (a b : Bool). holding-by a b (leb (length hs) 1927) hs old) whole roomy
+  held-by = ap₂ (λ (a b : Bool). holding-by a b (leb (length hs) (length old)) ws hs old) whole roomy
 
   module _ (r : Held) (out : List ℕ) (given : (r ≡ holding ws places number old .answer) × (out ≡ holding ws places number old .out)) where
     abbrev Held-by : Held → Type 0
@@ -125,13 +126,13 @@ module _ (ws places : List ℕ) (number : ℕ) (old : List ℕ) (complete : T (s
     Held-by held-enum.Broken = ⊥
     Held-by held-enum.NoRoom = ⊥
 
-    by-few : (b : Bool) → leb (length hs) 1927 ≡ b → out ≡ holding-by true true b hs old .out → Held-by (holding-by true true b hs old .answer)
+    by-few : (b : Bool) → leb (length hs) (length old) ≡ b → out ≡ holding-by true true b ws hs old .out → Held-by (holding-by true true b ws hs old .answer)
     unfolding holding-by
-    by-few true q e = (ap (take (length hs)) e ∙ take-at hs (drop (length hs) old) (length hs) refl, omega (arith, ap length e, length-append hs (drop (length hs) old)), leb-true (length hs) 1927 q)
-    by-few false q e = leb-false (length hs) 1927 q
+    by-few true q e = (ap (take (length hs)) e ∙ held-front ws hs old (leb-true (length hs) (length old) q), omega (arith, ap length e, held-length ws hs old, leb-true (length hs) (length old) q))
+    by-few false q e = omega (arith, ap length e, held-length ws hs old, leb-false (length hs) (length old) q)
 
     held-answer : Held-by r
-    held-answer = subst Held-by (sym (given .0 ∙ ap (λ (x : Held-so). x .answer) held-by)) (by-few (leb (length hs) 1927) refl (given .1 ∙ ap (λ (x : Held-so). x .out) held-by))
+    held-answer = subst Held-by (sym (given .0 ∙ ap (λ (x : Held-so). x .answer) held-by)) (by-few (leb (length hs) (length old)) refl (given .1 ∙ ap (λ (x : Held-so). x .out) held-by))
 
     pub held-words-are : (n : ℕ) → r ≡ held-enum.Words n → Holding-so hs (holding-enum.Words n) out
     held-words-are n e = subst Held-by e held-answer
