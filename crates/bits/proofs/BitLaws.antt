@@ -75,34 +75,34 @@ zero-bit k = rw (div-eq-of-lt (pow-pos k)) refl
 
 -- ---- places
 
-pub inside-of : (n row column : ℕ) → column < 1984 → word-of row column < n → inside n row column ≡ true
+pub inside-of : (n row column : ℕ) → column < 2048 → word-of row column < n → inside n row column ≡ true
 unfolding inside
-inside-of n row column c h = rw (lt-ltb column 1984 c, lt-ltb (word-of row column) n h) refl
+inside-of n row column c h = rw (lt-ltb column 2048 c, lt-ltb (word-of row column) n h) refl
 
-pub outside-column : (n row column : ℕ) → 1984 ≤ column → false ≡ inside n row column
+pub outside-column : (n row column : ℕ) → 2048 ≤ column → false ≡ inside n row column
 unfolding inside
-outside-column n row column h = rw (le-ltb column 1984 h) refl
+outside-column n row column h = rw (le-ltb column 2048 h) refl
 
-pub inside-word : (n row column : ℕ) → column < 1984 → ltb (word-of row column) n ≡ inside n row column
+pub inside-word : (n row column : ℕ) → column < 2048 → ltb (word-of row column) n ≡ inside n row column
 unfolding inside
-inside-word n row column h = rw (lt-ltb column 1984 h) refl
+inside-word n row column h = rw (lt-ltb column 2048 h) refl
 
-pub outside-word : (n row column : ℕ) → column < 1984 → n ≤ word-of row column → false ≡ inside n row column
+pub outside-word : (n row column : ℕ) → column < 2048 → n ≤ word-of row column → false ≡ inside n row column
 outside-word n row column c h = rw (sym (inside-word n row column c), le-ltb (word-of row column) n h) refl
 
 -- as the code tests it: the words of the rows before taken away
-pub inside-rest : (n row column : ℕ) → column < 1984 → 31 * row ≤ n → ltb (column / 64) (n - 31 * row) ≡ inside n row column
-inside-rest n row column c h = go (ltb (column / 64) (n - 31 * row)) refl
+pub inside-rest : (n row column : ℕ) → column < 2048 → 32 * row ≤ n → ltb (column / 64) (n - 32 * row) ≡ inside n row column
+inside-rest n row column c h = go (ltb (column / 64) (n - 32 * row)) refl
   where
-    go : (b : Bool) → ltb (column / 64) (n - 31 * row) ≡ b → b ≡ inside n row column
-    go true e = let l = ltb-true (column / 64) (n - 31 * row) e in sym (inside-of n row column c (omega arith))
-    go false e = let l = ltb-false (column / 64) (n - 31 * row) e in outside-word n row column c (omega arith)
+    go : (b : Bool) → ltb (column / 64) (n - 32 * row) ≡ b → b ≡ inside n row column
+    go true e = let l = ltb-true (column / 64) (n - 32 * row) e in sym (inside-of n row column c (omega arith))
+    go false e = let l = ltb-false (column / 64) (n - 32 * row) e in outside-word n row column c (omega arith)
 
-pub is-in : (n row column : ℕ) → inside n row column ≡ true → (column < 1984) × (word-of row column < n)
+pub is-in : (n row column : ℕ) → inside n row column ≡ true → (column < 2048) × (word-of row column < n)
 unfolding inside
 is-in n row column e =
-    let t : T (ltb column 1984 && ltb (word-of row column) n) = subst T (sym e) tt in
-    (ltb→lt column 1984 (and-left (ltb column 1984) (ltb (word-of row column) n) t), ltb→lt (word-of row column) n (and-right (ltb column 1984) (ltb (word-of row column) n) t))
+    let t : T (ltb column 2048 && ltb (word-of row column) n) = subst T (sym e) tt in
+    (ltb→lt column 2048 (and-left (ltb column 2048) (ltb (word-of row column) n) t), ltb→lt (word-of row column) n (and-right (ltb column 2048) (ltb (word-of row column) n) t))
 
 pub yes-inside : (table : List ℕ) (row column : ℕ) → inside (length table) row column ≡ true → bit (getD table (word-of row column) 0) (column % 64) ≡ yes table row column
 unfolding yes
@@ -140,7 +140,7 @@ made-yes table row column e =
     sym (yes-inside (with-yes table row column) row column (rw (with-length table row column) e))
     ∙ rw (sym (with-inside table row column e), getD-set-same table (word-of row column) w 0 (i .1)) (bit-made (getD table (word-of row column) 0) (column % 64))
 
-same-place : (r c row column : ℕ) → c < 1984 → column < 1984 → word-of r c ≡ word-of row column → c % 64 ≡ column % 64 → (r ≡ row) × (c ≡ column)
+same-place : (r c row column : ℕ) → c < 2048 → column < 2048 → word-of r c ≡ word-of row column → c % 64 ≡ column % 64 → (r ≡ row) × (c ≡ column)
 same-place r c row column h k e f = (omega arith, omega arith)
 
 -- every other place is as before

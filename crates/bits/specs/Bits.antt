@@ -1,4 +1,4 @@
--- A table of yes or no in words: 1,984 places a row, 31 words of 64 bits. Assumes nothing.
+-- A table of yes or no in words: 2,048 places a row, 32 words of 64 bits. Assumes nothing.
 use Prim.Native.Nat.{ℕ, _+_, _*_, _/_, _%_, _^_}
 use mathlib.Core.Bool.{Bool, _&&_, cond}
 use mathlib.Core.List.{List}
@@ -12,11 +12,11 @@ bit w k = eqb (w / 2 ^ k % 2) 1
 
 -- the word that a place is in
 abbrev pub word-of : ℕ → ℕ → ℕ
-word-of row column = 31 * row + column / 64
+word-of row column = 32 * row + column / 64
 
 -- whether a place is in a table of so many words
 unfoldable pub inside : ℕ → ℕ → ℕ → Bool
-inside words row column = ltb column 1984 && ltb (word-of row column) words
+inside words row column = ltb column 2048 && ltb (word-of row column) words
 
 -- whether a place is yes; outside the table it isn't
 unfoldable pub yes : List ℕ → ℕ → ℕ → Bool

@@ -1,13 +1,13 @@
-// A table of yes or no in lent words: a row has 1,984 places, 64 in each of its 31 words, the lowest bit of the first word first. Each function takes any words
+// A table of yes or no in lent words: a row has 2,048 places, 64 in each of its 32 words, the lowest bit of the first word first. Each function takes any words
 // and numbers at all; a place outside the table is no.
 ghost use mathlib.Core.Path.{_≡_};
 ghost use lib.ListN.{length};
 ghost use Rattle.bits.specs.Bits.{inside, yes, with-yes};
 
-const COLUMNS: usize = 1984;
+const COLUMNS: usize = 2048;
 
 // Words in a row, and places in a word.
-const WORDS: usize = 31;
+const WORDS: usize = 32;
 
 const PLACES: usize = 64;
 

@@ -27,14 +27,14 @@ use treelist::list_trees;
 const MOST: usize = 1024;
 
 // The words of a row of a table of bits, and of a table with a row for each of the most bindings.
-const ROW: usize = 31;
+const ROW: usize = 32;
 
-const BITS: usize = 31744;
+const BITS: usize = 32768;
 
 // The same for few bindings, so that most lists needn't clear the large table.
 const FEW: usize = 64;
 
-const FEW_BITS: usize = 1984;
+const FEW_BITS: usize = 2048;
 
 // The most words of a tree: a reciprocal has two besides its divisor's.
 const TREE: usize = 1026;
@@ -208,7 +208,7 @@ fn order_in(
 ) -> Ordered
     requires { ⌜ Ready (now tokens) (now settled) (now starts) (now places) results ⌝ }
     requires { ⌜ (count ≡ (length (now starts) - results) + length (now places)) × (count ≤ length (now taken)) ⌝ }
-    requires { ⌜ now bits ≡ replicate (31 * count) 0 ⌝ }
+    requires { ⌜ now bits ≡ replicate (32 * count) 0 ⌝ }
     ensures { λ r. ⌜ In-order (final-order results (now (places .entry)) (now (tokens .entry)) count) count (now (taken .entry)) (now (taken .exit)) r ⌝ }
 {
     let mut waiting = [0u64; MOST];

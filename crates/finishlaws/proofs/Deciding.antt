@@ -25,22 +25,22 @@ use Rattle.finishlaws.proofs.Ordering.{bindings-count, marked-ring, mar
 
 module _ (bits waiting stack taken : List ℕ) (count : ℕ) (few : count ≤ 1024) (more : 1024 ≤ length waiting) (deep : 1024 ≤ length stack)
     (lent : count ≤ length taken) where
-  roomy : 31 * count ≤ length bits → room bits count waiting stack taken ≡ true
+  roomy : 32 * count ≤ length bits → room bits count waiting stack taken ≡ true
   unfolding room
   roomy wide =
-      rw (le-leb count 1927 (omega arith))
-      (rw (le-leb (31 * count) (length bits) wide)
+      rw (le-leb count 2048 (omega arith))
+      (rw (le-leb (32 * count) (length bits) wide)
       (rw (le-leb count (length waiting) (omega arith)) (rw (le-leb count (length stack) (omega arith)) (rw (le-leb count (length taken) lent) refl))))
 
   pub ordered-so :
-      (k : ℕ) (places ws : List ℕ) (zeros : List ℕ) → zeros ≡ replicate (31 * count) 0 → bits ≡ marks (binding-run k places ws) count zeros → (r : Ordered) (new-waiting new-stack new : List ℕ)
+      (k : ℕ) (places ws : List ℕ) (zeros : List ℕ) → zeros ≡ replicate (32 * count) 0 → bits ≡ marks (binding-run k places ws) count zeros → (r : Ordered) (new-waiting new-stack new : List ℕ)
       → length new ≡ length taken → Orders bits count waiting stack taken r new-waiting new-stack new → In-order (final-order k places ws count) count taken new r
   unfolding final-order
   ordered-so k places ws zeros z e r new-waiting new-stack new l o =
-      let zeros-long : length zeros ≡ 31 * count = ap length z ∙ length-replicate (31 * count) 0 in
-      let wide : 31 * count ≤ length bits = omega (arith, ap length e, marks-long (binding-run k places ws) count zeros, zeros-long) in
+      let zeros-long : length zeros ≡ 32 * count = ap length z ∙ length-replicate (32 * count) 0 in
+      let wide : 32 * count ≤ length bits = omega (arith, ap length e, marks-long (binding-run k places ws) count zeros, zeros-long) in
       let enough = roomy wide in
-      let same : positions-taken (table-of bits count) ≡ positions-taken (table-of (marks (binding-run k places ws) count (replicate (31 * count) 0)) count) =
+      let same : positions-taken (table-of bits count) ≡ positions-taken (table-of (marks (binding-run k places ws) count (replicate (32 * count) 0)) count) =
       ap (λ (t : List ℕ). positions-taken (table-of t count)) (e ∙ ap (λ (t : List ℕ). marks (binding-run k places ws) count t) z) in
       record {
         answer-is =
@@ -99,17 +99,17 @@ module _ {ws settled starts places : List ℕ} {k : ℕ} (ready : Ready ws settl
   abbrev order-of : ℕ → List ℕ
   order-of words = positions-taken (table-of (marks (binding-run k places ws) count (replicate words 0)) count)
 
-  order-is : (words : ℕ) → words ≡ 31 * count → order-of words ≡ order
+  order-is : (words : ℕ) → words ≡ 32 * count → order-of words ≡ order
   unfolding final-order
   order-is words z = ap order-of z
 
-  ring-by : (lent words : ℕ) → words ≡ 31 * count → (length order ≡ count → ⊥) → final-rows lent k places ws ≡ refused (by 11)
+  ring-by : (lent words : ℕ) → words ≡ 32 * count → (length order ≡ count → ⊥) → final-rows lent k places ws ≡ refused (by 11)
   ring-by lent words z h =
       ring-rows lent k m places ws (ready .complete) (there-is ready)
       (marked-ring k m places ws (ready .complete) (there-is ready) (ready .enough) count many few words z (λ e. h (ap length (sym (order-is words z)) ∙ e)))
 
   all-by :
-      (lent words : ℕ) → words ≡ 31 * count → length order ≡ count
+      (lent words : ℕ) → words ≡ 32 * count → length order ≡ count
       → final-rows lent k places ws ≡ lent-rows lent (entries k places ws (reverse order) (length (reverse order) + k)) (m - k)
   all-by lent words z h =
       let c = ready .complete in
@@ -120,14 +120,14 @@ module _ {ws settled starts places : List ℕ} {k : ℕ} (ready : Ready ws settl
       (λ q i. omega (arith, n, marked-positions k m places ws c t (ready .enough) count many few words z q i)) (ready .enough)
       ∙ ap (λ (l : List ℕ). lent-rows lent (entries k places ws (reverse l) (length (reverse l) + k)) (m - k)) e
 
-  positions-by : (words : ℕ) → words ≡ 31 * count → (q : ℕ) → q < length (reverse order) → getD (reverse order) q 0 < count
+  positions-by : (words : ℕ) → words ≡ 32 * count → (q : ℕ) → q < length (reverse order) → getD (reverse order) q 0 < count
   positions-by words z =
       subst (λ (l : List ℕ). (q : ℕ) → q < length (reverse l) → getD (reverse l) q 0 < count) (order-is words z)
       (marked-positions k m places ws (ready .complete) (there-is ready) (ready .enough) count many few words z)
 
   module _ (old new : List ℕ) (r : Ordered) (o : In-order (final-order k places ws count) count old new r) where
     pub settled-ring : (lent n : ℕ) → r ≡ ordered.Ring n → final-rows lent k places ws ≡ refused (by 11)
-    settled-ring lent n e = ring-by lent (31 * count) refl (ring-means order count n (sym e ∙ o .answer-is))
+    settled-ring lent n e = ring-by lent (32 * count) refl (ring-means order count n (sym e ∙ o .answer-is))
 
     pub settled-never : r ≡ ordered.Broken → ⊥
     settled-never e = never-broken order count (sym e ∙ o .answer-is)
@@ -142,10 +142,10 @@ module _ {ws settled starts places : List ℕ} {k : ℕ} (ready : Ready ws settl
       pub settled-all :
           (lent : ℕ) → final-rows lent k places ws ≡ lent-rows lent (entries k places ws (take count new) (length (take count new) + k)) (m - k)
       settled-all lent =
-          all-by lent (31 * count) refl all-taken ∙ ap (λ (l : List ℕ). lent-rows lent (entries k places ws l (length l + k)) (m - k)) (sym taken-is-front)
+          all-by lent (32 * count) refl all-taken ∙ ap (λ (l : List ℕ). lent-rows lent (entries k places ws l (length l + k)) (m - k)) (sym taken-is-front)
 
       pub settled-positions : Positions (take count new) ((m - k) + length places)
       settled-positions =
           subst (λ (n : ℕ). Positions (take count new) n) many
           (subst (λ (l : List ℕ). Positions l count) (sym taken-is-front)
-          (record { below = positions-by (31 * count) refl; few = omega (arith, length-reverse order, all-taken) }))
+          (record { below = positions-by (32 * count) refl; few = omega (arith, length-reverse order, all-taken) }))

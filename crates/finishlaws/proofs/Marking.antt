@@ -65,7 +65,7 @@ module _ (f : ℕ → List ℕ) where
 
   -- from a table that is all no
   module _ (t : List ℕ) (none : (j i : ℕ) → yes t j i ≡ false) where
-    pub marks-yes : (n : ℕ) → 31 * n ≤ length t → (j i : ℕ) → j < n → i < 1984 → yes (marks f n t) j i ≡ holds-name (f j) i
+    pub marks-yes : (n : ℕ) → 32 * n ≤ length t → (j i : ℕ) → j < n → i < 2048 → yes (marks f n t) j i ≡ holds-name (f j) i
     unfolding marks
     marks-yes zero g j i h k = absurd (omega arith)
     marks-yes (suc n) g j i h k = go (ltb j n) refl (λ i. marks-yes n (omega arith) j _ i k)
@@ -116,5 +116,5 @@ module _ (n : ℕ) where
       go false e = refl
 
 pub marked-yes :
-    (f : ℕ → List ℕ) (words n : ℕ) → words ≡ 31 * n → (j i : ℕ) → j < n → i < 1984 → yes (marks f n (replicate words 0)) j i ≡ holds-name (f j) i
+    (f : ℕ → List ℕ) (words n : ℕ) → words ≡ 32 * n → (j i : ℕ) → j < n → i < 2048 → yes (marks f n (replicate words 0)) j i ≡ holds-name (f j) i
 marked-yes f words n e = marks-yes f (replicate words 0) (λ j i. zero-row words j i) n (omega (arith, length-replicate {A = ℕ} words 0, e))

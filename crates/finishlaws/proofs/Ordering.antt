@@ -63,7 +63,7 @@ module _ (k m : ℕ) (places ws : List ℕ) (complete : trees-in ws ≡ some m) 
   pub bindings-count : length bindings ≡ count
   bindings-count = omega (arith, binds-count 0 (drop k F), length-drop k F, final-count k m places ws complete there)
 
-  module _ (words : ℕ) (wide : words ≡ 31 * count) where
+  module _ (words : ℕ) (wide : words ≡ 32 * count) where
     abbrev bits : List ℕ
     bits = marks (binding-run k places ws) count (replicate words 0)
 

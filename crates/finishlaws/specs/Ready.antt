@@ -63,10 +63,10 @@ unfoldable pub binding-run : ℕ → List ℕ → List ℕ → ℕ → List ℕ
 unfolding final-run
 binding-run k places ws j = final-run k places ws (k + j)
 
--- the positions of the bindings in the order in which they are taken, the latest first, by a table with a row of 31 words for each
+-- the positions of the bindings in the order in which they are taken, the latest first, by a table with a row of 32 words for each
 unfoldable pub final-order : ℕ → List ℕ → List ℕ → ℕ → List ℕ
 unfolding marks binding-run table-of positions-taken
-final-order k places ws count = positions-taken (table-of (marks (binding-run k places ws) count (replicate (31 * count) 0)) count)
+final-order k places ws count = positions-taken (table-of (marks (binding-run k places ws) count (replicate (32 * count) 0)) count)
 
 pub record In-order (order : List ℕ) (count : ℕ) (old new : List ℕ) (answer : Ordered) : Type 0 where
   pub answer-is : answer ≡ order-answer true count order

@@ -10,7 +10,7 @@ use Rattle.order.specs.Needs.{table-of, rows-from, columns, order-answer
 use Rattle.order.specs.declared.Ordered.the-variants as ordered
 
 row : ℕ → List ℕ
-row w = w ∷ replicate 30 0
+row w = w ∷ replicate 31 0
 
 -- two bindings free of others: the second comes first (01, M2)
 two-free : order-written true (positions-taken (table-of (row 0 ++ row 0) 2)) (7 ∷ 7 ∷ 7 ∷ []) ≡ 1 ∷ 0 ∷ 7 ∷ []

@@ -15,8 +15,8 @@ use Rattle.order.specs.declared.Ordered.the-variants as ordered
 module _ (needs : List ℕ) (count : ℕ) (waiting stack taken : List ℕ) where
   -- what is lent is long enough
   pub record Enough : Type 0 where
-    pub few : count ≤ 1927
-    pub rows : 31 * count ≤ length needs
+    pub few : count ≤ 2048
+    pub rows : 32 * count ≤ length needs
     pub wide : count ≤ length waiting
     pub deep : count ≤ length stack
     pub long : count ≤ length taken
@@ -26,13 +26,13 @@ module _ (needs : List ℕ) (count : ℕ) (waiting stack taken : List ℕ) where
   is-enough t =
       let b = leb count (length stack) && leb count (length taken) in
       let c = leb count (length waiting) && b in
-      let d = leb (31 * count) (length needs) && c in
-      let u = and-right (leb count 1927) d t in
-      let v = and-right (leb (31 * count) (length needs)) c u in
+      let d = leb (32 * count) (length needs) && c in
+      let u = and-right (leb count 2048) d t in
+      let v = and-right (leb (32 * count) (length needs)) c u in
       let w = and-right (leb count (length waiting)) b v in
       record {
-        few = leb→le count 1927 (and-left (leb count 1927) d t);
-        rows = leb→le (31 * count) (length needs) (and-left (leb (31 * count) (length needs)) c u);
+        few = leb→le count 2048 (and-left (leb count 2048) d t);
+        rows = leb→le (32 * count) (length needs) (and-left (leb (32 * count) (length needs)) c u);
         wide = leb→le count (length waiting) (and-left (leb count (length waiting)) b v);
         deep = leb→le count (length stack) (and-left (leb count (length stack)) (leb count (length taken)) w);
         long = leb→le count (length taken) (and-right (leb count (length stack)) (leb count (length taken)) w);
@@ -49,7 +49,7 @@ module _ (needs : List ℕ) (count : ℕ) (waiting stack taken : List ℕ) where
   there-is : Enough → room needs count waiting stack taken ≡ true
   unfolding room
   there-is h =
-      rw (le-leb count 1927 (h .few), le-leb (31 * count) (length needs) (h .rows), le-leb count (length waiting) (h .wide), le-leb count (length stack) (h .deep), le-leb count (length taken) (h .long))
+      rw (le-leb count 2048 (h .few), le-leb (32 * count) (length needs) (h .rows), le-leb count (length waiting) (h .wide), le-leb count (length stack) (h .deep), le-leb count (length taken) (h .long))
       refl
 
   module _ (h : Enough) (new-waiting new-stack new : List ℕ) (n : ℕ) (t : Taken (positions-taken (table-of needs count)) taken new n) where

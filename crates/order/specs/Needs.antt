@@ -27,10 +27,10 @@ unfoldable pub table-of : List ℕ → ℕ → List (List ℕ)
 unfolding rows-from
 table-of needs count = rows-from needs count 0 count
 
--- whether what is lent is long enough: at most 1,927 statements, a row of 31 words and a place in each list for each
+-- whether what is lent is long enough: at most 2,048 statements, a row of 32 words and a place in each list for each
 unfoldable pub room : List ℕ → ℕ → List ℕ → List ℕ → List ℕ → Bool
 room needs count waiting stack taken =
-    leb count 1927 && (leb (31 * count) (length needs) && (leb count (length waiting) && (leb count (length stack) && leb count (length taken))))
+    leb count 2048 && (leb (32 * count) (length needs) && (leb count (length waiting) && (leb count (length stack) && leb count (length taken))))
 
 abbrev pub all-or-ring : Bool → ℕ → Ordered
 all-or-ring true n = ordered.All

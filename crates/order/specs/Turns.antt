@@ -59,7 +59,7 @@ pub record Lowered (needs : List ℕ) (count i : ℕ) (old-waiting old-stack : L
 
 -- a place for each statement
 pub record Room (count : ℕ) (waiting stack taken : List ℕ) : Type 0 where
-  pub few : count ≤ 1927
+  pub few : count ≤ 2048
   pub waiting-long : count ≤ length waiting
   pub stack-long : count ≤ length stack
   pub taken-long : count ≤ length taken

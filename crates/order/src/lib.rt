@@ -11,11 +11,11 @@ ghost use Rattle.order.specs.Needs.{columns, table-of, Orders};
 ghost use Rattle.order.specs.Turns.{joins, Pushed, Met, Begun, Lowered, Counted, Room, Taken};
 use bits::get;
 
-// The most statements: a row of the table has as many places and more.
-const MOST: usize = 1927;
+// The most statements: a row of the table has as many places.
+const MOST: usize = 2048;
 
 // Words of a row of the table.
-const WORDS: usize = 31;
+const WORDS: usize = 32;
 
 pub enum Ordered {
     All,

@@ -161,7 +161,7 @@ module _ (first lets : ℕ) (numbers ends : List ℕ) where
 
     -- from a table that is all no
     module _ (t : List ℕ) (blank : (j q : ℕ) → yes t j q ≡ false) where
-      pub marks-yes : (n : ℕ) → 31 * n ≤ length t → (j q : ℕ) → j < n → q < 1984 → yes (marks n t) j q ≡ any (names-place q) (run j)
+      pub marks-yes : (n : ℕ) → 32 * n ≤ length t → (j q : ℕ) → j < n → q < 2048 → yes (marks n t) j q ≡ any (names-place q) (run j)
       unfolding marks-by
       marks-yes zero g j q h k = absurd (omega arith)
       marks-yes (suc n) g j q h k = go (ltb j n) refl (λ i. marks-yes n (omega arith) j _ i k)

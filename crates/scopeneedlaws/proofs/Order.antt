@@ -281,12 +281,12 @@ module _ (ws : List ℕ) (k first : ℕ) (places : List ℕ) (m : ℕ) (complete
 
     -- ---- the table
 
-    module _ (few : stmts-count ws k first places (all-numbers (l .groups)) ≤ 1927) where
+    module _ (few : stmts-count ws k first places (all-numbers (l .groups)) ≤ 2048) where
       abbrev count : ℕ
       count = stmts-count ws k first places numbers
 
       abbrev zeros : List ℕ
-      zeros = replicate (31 * count) 0
+      zeros = replicate (32 * count) 0
 
       abbrev bits : List ℕ
       bits = needs-table ws k first places numbers count zeros
@@ -299,11 +299,11 @@ module _ (ws : List ℕ) (k first : ℕ) (places : List ℕ) (m : ℕ) (complete
       bit-at j i h g =
           let c = stmts-long in
           ap (λ (t : List ℕ). yes t j i) bits-are
-          ∙ (marks-yes first lets numbers (ends-from 0 gs) run zeros (zero-row zeros (31 * count) refl) count (omega (arith, length-replicate {A = ℕ} (31 * count) 0)) j i (omega arith) (omega (arith, few)) ∙ read-bits j i h g)
+          ∙ (marks-yes first lets numbers (ends-from 0 gs) run zeros (zero-row zeros (32 * count) refl) count (omega (arith, length-replicate {A = ℕ} (32 * count) 0)) j i (omega arith) (omega (arith, few)) ∙ read-bits j i h g)
 
       -- the table of bits is that of the needs
       pub table-is :
-          table-of (needs-table ws k first places (all-numbers (l .groups)) (stmts-count ws k first places (all-numbers (l .groups))) (replicate (31 * stmts-count ws k first places (all-numbers (l .groups))) 0)) (stmts-count ws k first places (all-numbers (l .groups)))
+          table-of (needs-table ws k first places (all-numbers (l .groups)) (stmts-count ws k first places (all-numbers (l .groups))) (replicate (32 * stmts-count ws k first places (all-numbers (l .groups))) 0)) (stmts-count ws k first places (all-numbers (l .groups)))
           ≡ needs (scope-stmts k first (read numbered ws) (map (numbered-at ws) places) (l .groups)) (scope-stmts k first (read numbered ws) (map (numbered-at ws) places) (l .groups))
       table-is =
           ap (table-of bits) (sym stmts-long)

@@ -42,7 +42,7 @@ module _ (lets : ℕ) (numbers ends : List ℕ) (n row : ℕ) (table : List ℕ)
     match-there g e = ap (λ (k : ℕ). with-yes table row (lets + k)) e ∙ rw (lt-ltb (place-of n 0 numbers) (length numbers) here) refl
 
     -- past the places of a row
-    pub match-outside : 1984 ≤ lets → table ≡ with-match lets numbers ends n row table
+    pub match-outside : 2048 ≤ lets → table ≡ with-match lets numbers ends n row table
     match-outside h =
         let g = group-of (place-of n 0 numbers) 0 ends in
         with-outside table row (lets + g) (sym (outside-column (length table) row (lets + g) (omega (arith, h)))) ∙ match-there g refl

@@ -22,7 +22,7 @@ const MATCH_NAME: u64 = 128;
 const NAMES: u64 = 192;
 
 // The places in a row of the table.
-const COLUMNS: usize = 1984;
+const COLUMNS: usize = 2048;
 
 // A word is kind + KINDS * operands; the least kind with arms is a Branch.
 const KINDS: u64 = 64;

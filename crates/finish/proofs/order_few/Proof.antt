@@ -14,9 +14,9 @@ order-few-spec =
     (λ c. search needs)
     (λ c.
     let start = c .before .before .before .before .before .before in
-    zeros-many (31 * start .args .count) 1984 (omega (arith, start .pre .1 .1)))
+    zeros-many (32 * start .args .count) 2048 (omega (arith, start .pre .1 .1)))
     (λ c κs.
     let start = c .before .before .before .before .before .before .before in
-    (start .pre .0, (start .pre .1 .0, zeros-front (31 * start .args .count) 1984 (omega (arith, start .pre .1 .1)))))
+    (start .pre .0, (start .pre .1 .0, zeros-front (32 * start .args .count) 2048 (omega (arith, start .pre .1 .1)))))
     (λ c. search needs)
     (λ c. search needs))

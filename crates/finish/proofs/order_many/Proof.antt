@@ -14,9 +14,9 @@ order-many-spec =
     (λ c. search needs)
     (λ c.
     let start = c .before .before .before .before .before .before in
-    zeros-many (31 * start .args .count) 31744 (omega (arith, start .pre .0 .numbers, start .pre .1 .0)))
+    zeros-many (32 * start .args .count) 32768 (omega (arith, start .pre .0 .numbers, start .pre .1 .0)))
     (λ c κs.
     let start = c .before .before .before .before .before .before .before in
-    (start .pre .0, (start .pre .1, zeros-front (31 * start .args .count) 31744 (omega (arith, start .pre .0 .numbers, start .pre .1 .0)))))
+    (start .pre .0, (start .pre .1, zeros-front (32 * start .args .count) 32768 (omega (arith, start .pre .0 .numbers, start .pre .1 .0)))))
     (λ c. search needs)
     (λ c. search needs))
