@@ -10,14 +10,17 @@ use lib.Dec.{T}
 use lib.ListN.{length, getD, length-append, length-drop, length-map, List·getD-append}
 use lib.Seq.{getD-append-add}
 use Rattle.tree.specs.Tree.{Tree, Op, nil}
+use Rattle.tree.specs.Facts.{size}
 use Rattle.tree.specs.Tokens.{tokens, all-tokens, read, numbered, trees-in}
 use Rattle.tree.proofs.TokenLaws.{complete-length, complete-within}
-use Rattle.tree.proofs.TokenCode.{coded, all-coded, unnumbered, tokens-complete}
+use Rattle.tree.proofs.TokenCode.{coded, all-coded, unnumbered, tokens-complete, tokens-length}
 use Rattle.words.specs.Words.{number, rewritten-words, Complete}
 use Rattle.renaming.specs.Places.{numbered-at}
 use Rattle.renaming.specs.Rounds.{next-number, bind-each-on}
 use Rattle.renaming.proofs.Coded.{is-alone, none-fit, one-fits, first-fits, rest-fits, read-fits, read-again, bind-on-fits}
+use Rattle.renaming.proofs.Extraction.{Every}
 use Rattle.reciprocals.proofs.Parts.{settle-tree, settled-reciprocals, bound-are-settled, All-there}
+use Rattle.reciprocal.specs.Bindings.{all-there}
 use Rattle.reciprocal.proofs.There.{tested-there}
 use Rattle.reciprocal.proofs.Made.{settled-long}
 use Rattle.finishlaws.proofs.Trees.{divisors-fit}
@@ -27,6 +30,7 @@ use Rattle.fusion.specs.Switchless.{switchless, with-switches}
 use Rattle.fusion.specs.Words.{steps-at}
 use Rattle.scopeplaces.specs.Parts.{place-groups, joined-groups, trees-held, words-held, reciprocals-first, lets-count, held-words, settled-trees, steps-from, fused-run}
 use Rattle.scopeplaces.specs.Whole.{stmts-count, tree-run}
+use Rattle.scopeplaces.proofs.Small.{Small, small-at, place-small, divisors-small, held-small}
 use Rattle.scopeparts.specs.Prepared.{Prepared, run-number, reciprocal-run, settled-run, fused-by}
 
 -- ---- within the code
@@ -79,7 +83,45 @@ module _ (t : Tree) (h : T (coded is-alone t)) where
   run-read : read numbered (tokens number t) ≡ t ∷ []
   run-read = sym (ap (read numbered) (one-run t)) ∙ read-again (t ∷ []) alone
 
--- ---- what is held
+-- ---- what is held, read back
+
+module _ (ws : List ℕ) (k first : ℕ) (places : List ℕ) (there : All-there ws places) where
+  abbrev from : ℕ
+  from = reciprocals-first ws k first places
+
+  abbrev divisors : List Tree
+  divisors = map (numbered-at ws) places
+
+  settled-fit : Fits (map (settle-tree divisors from) (read numbered ws) ++ settled-reciprocals divisors from)
+  settled-fit = subst Fits (bound-are-settled divisors from (read numbered ws)) (bind-each-fits divisors from (read numbered ws) (divisors-fit ws places there) (read-fits ws))
+
+  held-fit : Fits (trees-held ws from places)
+  unfolding trees-held
+  held-fit = with-fits (map (settle-tree divisors from) (read numbered ws)) (settled-reciprocals divisors from) settled-fit
+
+  held-written : held-words ws k first places ≡ all-tokens unnumbered (trees-held ws from places)
+  unfolding held-words words-held
+  held-written = refl
+
+  held-whole : Complete (held-words ws k first places)
+  held-whole = (length (trees-held ws from places), ap trees-in held-written ∙ tokens-complete unnumbered is-alone (trees-held ws from places) held-fit)
+
+  held-again : read numbered (held-words ws k first places) ≡ trees-held ws from places
+  held-again = ap (read numbered) held-written ∙ read-again (trees-held ws from places) held-fit
+
+  -- a reciprocal has two nodes besides its divisor's
+  each-small : length ws ≤ 1927 → Every (Small 1929) (read numbered (held-words ws k first places))
+  each-small few =
+      subst (λ (l : List Tree). Every (Small 1929) l) (sym held-again) (held-small 1927 ws few places (divisors-small 1927 ws (omega arith) few places) from)
+
+-- so that none is larger at any place
+pub held-places-small :
+    (ws : List ℕ) (k first : ℕ) (places held : List ℕ) → T (all-there ws places) → length ws ≤ 1927 → held ≡ held-words ws k first places → (p : ℕ) → size (numbered-at held p) ≤ 1929
+held-places-small ws k first places held there few e p =
+    subst (λ (hs : List ℕ). size (numbered-at hs p) ≤ 1929) (sym e)
+    (place-small 1929 (held-words ws k first places) (omega arith) (each-small ws k first places (tested-there ws places there) few) p)
+
+-- ---- of a scope
 
 module _ {ws : List ℕ} {k first : ℕ} {places held starts members ends numbers : List ℕ} (p : Prepared ws k first places held starts members ends numbers) where
   pub places-there : All-there ws places
@@ -111,21 +153,12 @@ module _ {ws : List ℕ} {k first : ℕ} {places held starts members ends number
   unfolding lets-count
   lets-are = omega (arith, length-drop k (read numbered ws), read-count)
 
-  all-fit : Fits (S ++ R)
-  all-fit = subst Fits (bound-are-settled ds n (read numbered ws)) (bind-each-fits ds n (read numbered ws) (divisors-fit ws places places-there) (read-fits ws))
-
-  held-fit : Fits (S ++ with-switches R)
-  held-fit = with-fits S R all-fit
-
-  held-written : held ≡ all-tokens unnumbered (S ++ with-switches R)
-  unfolding held-words words-held trees-held
-  held-written = p .held-is
-
   held-read : read numbered held ≡ S ++ with-switches R
-  held-read = ap (read numbered) held-written ∙ read-again (S ++ with-switches R) held-fit
+  unfolding trees-held
+  held-read = ap (read numbered) (p .held-is) ∙ held-again ws k first places places-there
 
   pub held-complete : Complete held
-  held-complete = (length (S ++ with-switches R), ap trees-in held-written ∙ tokens-complete unnumbered is-alone (S ++ with-switches R) held-fit)
+  held-complete = subst Complete (sym (p .held-is)) (held-whole ws k first places places-there)
 
   settled-count : length S ≡ m
   settled-count = length-map (read numbered ws) (settle-tree ds n) ∙ read-count
@@ -146,7 +179,7 @@ module _ {ws : List ℕ} {k first : ℕ} {places held starts members ends number
   unfolding stmts-count
   count-is = omega (arith, lets-are, ap (λ (hs : List ℕ). length (place-groups hs)) (p .held-is))
 
-  pub places-few : length places ≤ 1927
+  pub places-few : length places ≤ 2048
   places-few = omega (arith, count-is, p .statements)
 
   settled-before : (i : ℕ) → i < m → getD (settled-trees ws k first places) i (Op 0 nil) ≡ getD S i (Op 0 nil)
@@ -160,6 +193,14 @@ module _ {ws : List ℕ} {k first : ℕ} {places held starts members ends number
 
   pub held-many : length starts ≤ length (read numbered held)
   held-many = omega (arith, ap length held-read, length-append S (with-switches R), settled-count)
+
+  pub held-run-short : (i : ℕ) → length (run-number held i) ≤ 1929
+  unfolding run-number
+  held-run-short i =
+      let hs = held-words ws k first places in
+      let l = tokens-length unnumbered (getD (read numbered held) i (Op 0 nil)) in
+      let e = ap (λ (l : List ℕ). size (getD (read numbered l) i (Op 0 nil))) (p .held-is) in
+      omega (arith, l, e, small-at 1929 (read numbered hs) (omega arith) (each-small ws k first places places-there (p .few)) i)
 
   -- ---- a reciprocal
 
@@ -183,7 +224,7 @@ module _ {ws : List ℕ} {k first : ℕ} {places held starts members ends number
     in-code =
         let l = length-append S R in
         subst (λ (l : List Tree). T (coded is-alone (getD l i (Op 0 nil)))) (sym settled-are)
-        (fits-at (S ++ R) all-fit i (omega (arith, l, settled-count, last-count, h)))
+        (fits-at (S ++ R) (settled-fit ws k first places places-there) i (omega (arith, l, settled-count, last-count, h)))
 
     pub settled-whole : trees-in (settled-run ws k first places i) ≡ some 1
     unfolding settled-run

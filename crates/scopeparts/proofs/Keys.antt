@@ -29,7 +29,7 @@ use Rattle.scopeneeds.proofs.Arms.{key-inside, key-stands}
 use Rattle.scopeplaces.specs.Overlay.{overlay}
 use Rattle.scopeplaces.specs.Parts.{place-groups, joined-groups, group-at, group-start, group-end, opener, steps-from, key-run, match-head}
 use Rattle.scopeparts.specs.Prepared.{most, Prepared, Grouped, Fusable, fused-by, begin-of}
-use Rattle.scopeparts.proofs.Held.{held-complete, rewritten-one}
+use Rattle.scopeparts.proofs.Held.{held-complete, held-places-small, rewritten-one}
 use Rattle.scopeparts.proofs.Groups.{ends-count, end-is, begin-is, group-long, group-inside, group-part, opener-is, group-switches, opener-switch, members-there}
 use Rattle.scopeparts.proofs.Taking.{put-front, stands-as}
 
@@ -48,7 +48,7 @@ rest-is : (e : ℕ) (l : List ℕ) → take (length l - e) (drop e l) ≡ drop e
 rest-is e l = take-all (length l - e) (drop e l) (omega (arith, length-drop e l))
 
 pub grouped : {ws : List ℕ} {k first : ℕ} {places held starts members ends numbers : List ℕ} → Prepared ws k first places held starts members ends numbers → Grouped held members ends numbers
-grouped p = record { complete = held-complete p; short = p .short; members-are = p .members-are; ends-are = p .ends-are; numbered = p .numbered; small = p .small }
+grouped {ws} {k} {first} {places} {held} p = record { complete = held-complete p; short = p .short; members-are = p .members-are; ends-are = p .ends-are; numbered = p .numbered; small = p .small; trees-small = held-places-small ws k first places held (p .there) (p .few) (p .held-is) }
 
 module _ {held members ends numbers : List ℕ} (G : Grouped held members ends numbers) (g : ℕ) (h : g < length ends) where
   abbrev gs : List (List ℕ)
@@ -155,7 +155,7 @@ module _ {held members ends numbers : List ℕ} (G : Grouped held members ends n
       key-stands-there old out l f =
           let w = long-part (s - k) k held (omega (arith, stop-inside, es)) in
           let y = ap length key-words in
-          put-front (words-at held k) old out (s - k) (omega (arith, w, y)) (omega (arith, w, y, stop-inside, G .short, l)) (f ∙ ap (λ (x : List ℕ). overlay 0 x old) key-words)
+          put-front (words-at held k) old out (s - k) (omega (arith, w, y)) (omega (arith, w, y, es, G .trees-small k, l)) (f ∙ ap (λ (x : List ℕ). overlay 0 x old) key-words)
 
       pub key-complete : (out : List ℕ) (n : ℕ) → Stands (words-at held (getD members b 0 + 1)) out n → Complete (take n out)
       key-complete out n t = (1, ap trees-in (t .words) ∙ key-one)
@@ -205,7 +205,7 @@ module _ {held members ends numbers : List ℕ} (G : Grouped held members ends n
     w-is : w ≡ getD held q 0
     w-is = ap (λ (i : ℕ). getD held i 0) first-member
 
-    pub kind-there : (26 ≤ getD held (getD members b 0) 0 % 64) × ((1 ≤ getD held (getD members b 0) 0 / 64) × (getD held (getD members b 0) 0 / 64 ≤ 1927))
+    pub kind-there : (26 ≤ getD held (getD members b 0) 0 % 64) × ((1 ≤ getD held (getD members b 0) 0 / 64) × (getD held (getD members b 0) 0 / 64 ≤ 7281))
     kind-there =
         let a = has-key held q (switching .1) in
         let o = operation-takes (getD held q 0) (omega (arith, a .1)) in
@@ -216,7 +216,7 @@ module _ {held members ends numbers : List ℕ} (G : Grouped held members ends n
         let m = length-drop (suc q) held in
         (omega (arith, w-is, a .1), (omega (arith, w-is, a .0, o), omega (arith, w-is, o, n, l, v, m, G .short)))
 
-    pub part-few : getD ends g 0 - b ≤ 1927
+    pub part-few : getD ends g 0 - b ≤ 7281
     part-few = omega (arith, part-long, group-switches held g group-there .0 .1, G .short)
 
     pub head-is :

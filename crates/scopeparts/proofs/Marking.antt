@@ -161,19 +161,19 @@ module _ {ws : List ℕ} {k first : ℕ} {places held starts members ends number
 
   -- ---- the order
 
-  order-is : stmts-order ws k first places numbers ≡ reverse (positions-taken (table-of (needs-table ws k first places numbers (stmts-count ws k first places numbers) (replicate (31 * stmts-count ws k first places numbers) 0)) (stmts-count ws k first places numbers)))
+  order-is : stmts-order ws k first places numbers ≡ reverse (positions-taken (table-of (needs-table ws k first places numbers (stmts-count ws k first places numbers) (replicate (32 * stmts-count ws k first places numbers) 0)) (stmts-count ws k first places numbers)))
   unfolding stmts-order
   order-is = refl
 
-  module _ (bits waiting stack taken : List ℕ) (count : ℕ) (ec : count ≡ stmts-count ws k first places numbers) (more : 1927 ≤ length waiting) (deep : 1927 ≤ length stack) (lent : 1927 ≤ length taken) where
-    few : count ≤ 1927
+  module _ (bits waiting stack taken : List ℕ) (count : ℕ) (ec : count ≡ stmts-count ws k first places numbers) (more : 2048 ≤ length waiting) (deep : 2048 ≤ length stack) (lent : 2048 ≤ length taken) where
+    few : count ≤ 2048
     few = omega (arith, ec, p .statements)
 
-    roomy : 31 * count ≤ length bits → room bits count waiting stack taken ≡ true
+    roomy : 32 * count ≤ length bits → room bits count waiting stack taken ≡ true
     unfolding room
     roomy wide =
-        rw (le-leb count 1927 few)
-        (rw (le-leb (31 * count) (length bits) wide)
+        rw (le-leb count 2048 few)
+        (rw (le-leb (32 * count) (length bits) wide)
         (rw (le-leb count (length waiting) (omega (arith, few))) (rw (le-leb count (length stack) (omega (arith, few))) (rw (le-leb count (length taken) (omega (arith, few))) refl))))
 
     told-as : (order taken' : List ℕ) → taken' ≡ reverse order → order-answer true count order ≡ order-told taken' (stmts-count ws k first places numbers)
@@ -189,18 +189,18 @@ module _ {ws : List ℕ} {k first : ℕ} {places held starts members ends number
         ap₂ (λ (a : List ℕ) (n : ℕ). a ++ drop n taken) (sym e) l
 
     pub ordered-so :
-        (zeros : List ℕ) → zeros ≡ replicate (31 * count) 0 → bits ≡ needs-table ws k first places numbers count zeros → (r : Ordered) (new-waiting new-stack new : List ℕ)
+        (zeros : List ℕ) → zeros ≡ replicate (32 * count) 0 → bits ≡ needs-table ws k first places numbers count zeros → (r : Ordered) (new-waiting new-stack new : List ℕ)
         → Orders bits count waiting stack taken r new-waiting new-stack new
         → (r ≡ order-told (stmts-order ws k first places numbers) (stmts-count ws k first places numbers))
         × (new ≡ stmts-order ws k first places numbers ++ drop (length (stmts-order ws k first places numbers)) taken)
     ordered-so zeros z e r new-waiting new-stack new o =
-        let zeros-long : length zeros ≡ 31 * count = ap length z ∙ length-replicate (31 * count) 0 in
-        let wide : 31 * count ≤ length bits = omega (arith, ap length e, needs-long p count zeros, zeros-long) in
+        let zeros-long : length zeros ≡ 32 * count = ap length z ∙ length-replicate (32 * count) 0 in
+        let wide : 32 * count ≤ length bits = omega (arith, ap length e, needs-long p count zeros, zeros-long) in
         let enough = roomy wide in
         let same : positions-taken (table-of bits count)
-        ≡ positions-taken (table-of (needs-table ws k first places numbers (stmts-count ws k first places numbers) (replicate (31 * stmts-count ws k first places numbers) 0)) (stmts-count ws k first places numbers)) =
+        ≡ positions-taken (table-of (needs-table ws k first places numbers (stmts-count ws k first places numbers) (replicate (32 * stmts-count ws k first places numbers) 0)) (stmts-count ws k first places numbers)) =
         ap (λ (t : List ℕ). positions-taken (table-of t count)) (e ∙ ap (λ (t : List ℕ). needs-table ws k first places numbers count t) z)
-        ∙ ap (λ (c : ℕ). positions-taken (table-of (needs-table ws k first places numbers c (replicate (31 * c) 0)) c)) ec in
+        ∙ ap (λ (c : ℕ). positions-taken (table-of (needs-table ws k first places numbers c (replicate (32 * c) 0)) c)) ec in
         let turned : stmts-order ws k first places numbers ≡ reverse (positions-taken (table-of bits count)) = order-is ∙ ap reverse (sym same) in (
           o .answer-is ∙ (ap (λ (b : Bool). order-answer b count (positions-taken (table-of bits count))) enough ∙ told-as (positions-taken (table-of bits count)) (stmts-order ws k first places numbers) turned),
           o .taken-is ∙ (ap (λ (b : Bool). order-written b (positions-taken (table-of bits count)) taken) enough ∙ written-as (positions-taken (table-of bits count)) (stmts-order ws k first places numbers) turned),
@@ -236,4 +236,4 @@ pub order-positions :
     (ws : List ℕ) (k first : ℕ) (places numbers : List ℕ) (q : ℕ) → q < length (stmts-order ws k first places numbers)
     → getD (stmts-order ws k first places numbers) q 0 < stmts-count ws k first places numbers
 unfolding stmts-order
-order-positions ws k first places numbers q h = taken-below (needs-table ws k first places numbers (stmts-count ws k first places numbers) (replicate (31 * stmts-count ws k first places numbers) 0)) (stmts-count ws k first places numbers) q h
+order-positions ws k first places numbers q h = taken-below (needs-table ws k first places numbers (stmts-count ws k first places numbers) (replicate (32 * stmts-count ws k first places numbers) 0)) (stmts-count ws k first places numbers) q h

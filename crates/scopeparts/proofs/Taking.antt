@@ -89,10 +89,10 @@ module _ (held starts : List ℕ) (i : ℕ) (complete : Complete held) (are : st
     part-is = let z : end - getD starts i 0 ≡ length (run-number held i) = omega arith in ap (λ (n : ℕ). take n (drop (getD starts i 0) held)) z ∙ words-there-are
 
     pub held-stands :
-        (old out : List ℕ) → length held ≤ length old → out ≡ overlay 0 (take (end - getD starts i 0) (drop (getD starts i 0) held)) old
+        (old out : List ℕ) → length (run-number held i) ≤ length old → out ≡ overlay 0 (take (end - getD starts i 0) (drop (getD starts i 0) held)) old
         → Stands (run-number held i) out (end - getD starts i 0)
     held-stands old out h f =
-        put-front (run-number held i) old out (end - getD starts i 0) (omega arith) (omega (arith, run-within, h)) (f ∙ ap (λ (l : List ℕ). overlay 0 l old) part-is)
+        put-front (run-number held i) old out (end - getD starts i 0) (omega arith) h (f ∙ ap (λ (l : List ℕ). overlay 0 l old) part-is)
 
 -- ---- a reciprocal
 

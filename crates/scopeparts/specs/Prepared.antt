@@ -7,6 +7,7 @@ use mathlib.Core.List.{List, [], _∷_, _++_, map}
 use lib.ListN.{length, getD, take}
 use lib.Dec.{T, eqb}
 use Rattle.tree.specs.Tree.{Op, nil}
+use Rattle.tree.specs.Facts.{size}
 use Rattle.tree.specs.Tokens.{tokens, read, numbered, trees-in}
 use Rattle.words.specs.Words.{number, rewritten-words, Complete}
 use Rattle.renaming.specs.Places.{numbered-at}
@@ -34,26 +35,27 @@ pub record Prepared (ws : List ℕ) (k first : ℕ) (places held starts members 
   pub few : length ws ≤ 1927
   pub low : first ≤ 2147483648
   pub held-is : held ≡ held-words ws k first places
-  pub short : length held ≤ 1927
+  pub short : length held ≤ 7281
   pub starts-are : starts ≡ take (length starts) (starts-of held)
   pub members-are : members ≡ joined-groups (place-groups held)
   pub ends-are : ends ≡ ends-from 0 (place-groups held)
   pub numbered : length numbers ≡ length members
   pub small : (i : ℕ) → i < length numbers → getD numbers i 0 ≤ most
-  pub statements : stmts-count ws k first places numbers ≤ 1927
+  pub statements : stmts-count ws k first places numbers ≤ 2048
 
 -- the same where it doesn't matter how the ends are given
 abbrev pub Readied : List ℕ → ℕ → ℕ → List ℕ → List ℕ → List ℕ → List ℕ → List ℕ → Type 0
 Readied ws k first places held starts members numbers = (ends : List ℕ) × Prepared ws k first places held starts members ends numbers
 
--- the part of it that speaks of the groups only
+-- The part of it that speaks of the groups only. Where `held` comes from isn't said, but that the tree at each of its places, a key too, has room where one tree has.
 pub record Grouped (held members ends numbers : List ℕ) : Type 0 where
   pub complete : Complete held
-  pub short : length held ≤ 1927
+  pub short : length held ≤ 7281
   pub members-are : members ≡ joined-groups (place-groups held)
   pub ends-are : ends ≡ ends-from 0 (place-groups held)
   pub numbered : length numbers ≡ length members
   pub small : (i : ℕ) → i < length numbers → getD numbers i 0 ≤ most
+  pub trees-small : (p : ℕ) → size (numbered-at held p) ≤ 1929
 
 -- ---- the words of one tree
 

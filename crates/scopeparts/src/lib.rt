@@ -29,15 +29,15 @@ use tokens::Run;
 use tokens::end_of;
 
 // The most statements.
-const MOST: usize = 1927;
+const MOST: usize = 2048;
 
 // The words of a row of a table of bits, and of a table with a row for each of the most statements.
-const ROW: usize = 31;
+const ROW: usize = 32;
 
-const BITS: usize = 59737;
+const BITS: usize = 65536;
 
 // Of a table for 64 statements, so that most scopes needn't clear the large one.
-const FEW_BITS: usize = 1984;
+const FEW_BITS: usize = 2048;
 
 // The most words of a tree: a reciprocal has two besides its divisor's.
 const TREE: usize = 1929;
@@ -54,9 +54,9 @@ const MATCH: u64 = 4;
 
 // The tree of number i among some words, at the front of `tree`. That it lacks words never comes up.
 fn take_held(held: &[u64], starts: &[u64], i: usize, tree: &mut [u64]) -> usize
-    requires { ⌜ Complete (now held) × (length (now held) ≤ 1927) ⌝ }
+    requires { ⌜ Complete (now held) × (length (now held) ≤ 7281) ⌝ }
     requires { ⌜ (now starts ≡ take (length (now starts)) (starts-of (now held))) × (i < length (now starts)) ⌝ }
-    requires { ⌜ 1929 ≤ length (now tree) ⌝ }
+    requires { ⌜ length (run-number (now held) i) ≤ length (now tree) ⌝ }
     ensures { λ r. ⌜ Stands (run-number (now (held .entry)) i) (now (tree .exit)) r ⌝ }
 {
     let at = starts[i] as usize;
@@ -349,8 +349,8 @@ fn order_with(
     taken: &mut [u64],
 ) -> Ordered
     requires { ⌜ Prepared (now tokens) results first (now places) (now held) (now starts) (now members) (now ends) (now numbers) ⌝ }
-    requires { ⌜ (count ≡ stmts-count (now tokens) results first (now places) (now numbers)) × (1927 ≤ length (now taken)) ⌝ }
-    requires { ⌜ now bits ≡ replicate (31 * count) 0 ⌝ }
+    requires { ⌜ (count ≡ stmts-count (now tokens) results first (now places) (now numbers)) × (2048 ≤ length (now taken)) ⌝ }
+    requires { ⌜ now bits ≡ replicate (32 * count) 0 ⌝ }
     ensures { λ r. ⌜ (r ≡ order-told (stmts-order (now (tokens .entry)) results first (now (places .entry)) (now (numbers .entry))) (stmts-count (now (tokens .entry)) results first (now (places .entry)) (now (numbers .entry))))
         × (now (taken .exit) ≡ stmts-order (now (tokens .entry)) results first (now (places .entry)) (now (numbers .entry))
         ++ drop (length (stmts-order (now (tokens .entry)) results first (now (places .entry)) (now (numbers .entry)))) (now (taken .entry))) ⌝ }
@@ -390,7 +390,7 @@ fn order_in(
     taken: &mut [u64],
 ) -> Ordered
     requires { ⌜ Prepared (now tokens) results first (now places) (now held) (now starts) (now members) (now ends) (now numbers) ⌝ }
-    requires { ⌜ (count ≡ stmts-count (now tokens) results first (now places) (now numbers)) × (1927 ≤ length (now taken)) ⌝ }
+    requires { ⌜ (count ≡ stmts-count (now tokens) results first (now places) (now numbers)) × (2048 ≤ length (now taken)) ⌝ }
     requires { ⌜ now bits ≡ replicate (length (now bits)) 0 ⌝ }
     ensures { λ r. ⌜ (r ≡ order-told (stmts-order (now (tokens .entry)) results first (now (places .entry)) (now (numbers .entry))) (stmts-count (now (tokens .entry)) results first (now (places .entry)) (now (numbers .entry))))
         × (now (taken .exit) ≡ stmts-order (now (tokens .entry)) results first (now (places .entry)) (now (numbers .entry))
@@ -444,7 +444,7 @@ pub fn order_stmts(
     taken: &mut [u64],
 ) -> Ordered
     requires { ⌜ Prepared (now tokens) results first (now places) (now held) (now starts) (now members) (now ends) (now numbers) ⌝ }
-    requires { ⌜ 1927 ≤ length (now taken) ⌝ }
+    requires { ⌜ 2048 ≤ length (now taken) ⌝ }
     ensures { λ r. ⌜ (r ≡ order-told (stmts-order (now (tokens .entry)) results first (now (places .entry)) (now (numbers .entry))) (stmts-count (now (tokens .entry)) results first (now (places .entry)) (now (numbers .entry))))
         × (now (taken .exit) ≡ stmts-order (now (tokens .entry)) results first (now (places .entry)) (now (numbers .entry))
         ++ drop (length (stmts-order (now (tokens .entry)) results first (now (places .entry)) (now (numbers .entry)))) (now (taken .entry))) ⌝ }

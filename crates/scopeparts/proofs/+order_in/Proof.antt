@@ -16,7 +16,7 @@ use Rattle.scopeparts.proofs.+order_in.{statement}
 use Rattle.scopeparts.proofs.+order_in.Tie.{close}
 
 abbrev μ-order-in : Measures 9 order-in-kinds.ps ℕ
-μ-order-in κs a = 31 * (a .1 .1 .1 .1 .1 .1 .1 .1 .1 .0) - length (a .1 .1 .1 .1 .1 .1 .1 .1 .1 .1 .0 .now)
+μ-order-in κs a = 32 * (a .1 .1 .1 .1 .1 .1 .1 .1 .1 .0) - length (a .1 .1 .1 .1 .1 .1 .1 .1 .1 .1 .0 .now)
 
 abbrev order-in-at : ℕ → In 9 order-in-kinds.ps
 order-in-at t = and 9 order-in-kinds.ps (is 9 order-in-kinds.ps μ-order-in t) order-in.Pre
@@ -29,17 +29,17 @@ pub +order-in-spec : {M : Type 1} → statement M
     (order-in-at t)
     order-in.Post
     (λ c. let start = c .before .before .before .before .before .before .before .before .before in omega (arith, start .pre .1 .0 .statements, start .pre .1 .1 .0 .0))
-    (λ c. sym (length-replicate {A = ℕ} 59737 0))
+    (λ c. sym (length-replicate {A = ℕ} 65536 0))
     (λ c κs.
     let start = c .before .before .before .before .before .before .before .before .before .before .before .before in
-    (omega (arith, start .pre .0, start .pre .1 .0 .statements, start .pre .1 .1 .0 .0, c .before .before .if1 .taken, length-replicate {A = ℕ} 59737 0), (start .pre .1 .0, (start .pre .1 .1 .0, zeros-own 59737))))
+    (omega (arith, start .pre .0, start .pre .1 .0 .statements, start .pre .1 .1 .0 .0, c .before .before .if1 .taken, length-replicate {A = ℕ} 65536 0), (start .pre .1 .0, (start .pre .1 .1 .0, zeros-own 65536))))
     (λ c. search needs)
     (λ c. search needs)
     (λ c. search needs)
-    (λ c. let start = c .before .before .before .before .before .before .before .before .before .before .before in sym (length-take-le (31 * start .args .count) (start .args .bits .now) (c .before .if1 .left)))
+    (λ c. let start = c .before .before .before .before .before .before .before .before .before .before .before in sym (length-take-le (32 * start .args .count) (start .args .bits .now) (c .before .if1 .left)))
     (λ c κs.
     let start = c .before .before .before .before .before .before .before .before .before .before .before .before in
-    (start .pre .1 .0, (start .pre .1 .1 .0, own-front (start .args .bits .now) (start .pre .1 .1 .1) (31 * start .args .count) (c .before .before .if1 .left))))
+    (start .pre .1 .0, (start .pre .1 .1 .0, own-front (start .args .bits .now) (start .pre .1 .1 .1) (32 * start .args .count) (c .before .before .if1 .left))))
     (λ c. search needs)
     (λ c. search needs)
     (λ c. search needs)

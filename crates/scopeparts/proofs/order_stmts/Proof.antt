@@ -15,6 +15,6 @@ order-stmts-spec =
     (λ c. let p = c .before .before .before .before .before .before .before .before .pre .0 in omega (arith, trees-few p, places-few p))
     (λ c. let p = c .before .before .before .before .before .before .before .before .pre .0 in omega (arith, counted p, p .statements))
     (λ c. search needs)
-    (λ c κs. let start = c .before .before .before .before .before .before .before .before .before .before in (start .pre .0, ((counted (start .pre .0), start .pre .1), zeros-own 1984)))
+    (λ c κs. let start = c .before .before .before .before .before .before .before .before .before .before in (start .pre .0, ((counted (start .pre .0), start .pre .1), zeros-own 2048)))
     (λ c. search needs)
     (λ c. search needs))
