@@ -58,7 +58,7 @@ per-match = 10923
 pub record Scope-bound (from : ℕ) (a : Told) : Type 0 where
   pub low : from ≤ most-number
   pub forth : from ≤ a .next
-  pub most : a .next ≤ most-number + 1927
+  pub most : a .next ≤ most-number + 2048
   pub made : from + a .extracted ≤ a .next
   pub few : a .steps ≤ 2048
   pub rows : length (a .words) + per-number * from ≤ per-scope + per-number * a .next
@@ -67,14 +67,14 @@ pub record Scope-bound (from : ℕ) (a : Told) : Type 0 where
 pub record Arms-bound (from n : ℕ) (a : Arms-told) : Type 0 where
   pub low : 1 ≤ n → from ≤ most-number
   pub forth : from ≤ a .next
-  pub most : (x : ℕ) → from ≤ x → most-number + 1927 ≤ x → a .next ≤ x
+  pub most : (x : ℕ) → from ≤ x → most-number + 2048 ≤ x → a .next ≤ x
   pub made : from + a .extracted ≤ a .next
   pub rows : length (a .words) + per-number * from ≤ suc per-scope * n + per-number * a .next
 
 -- the first n groups, from the number after lets and reciprocals
 pub record Walk-bound (gs : List (List ℕ)) (from n : ℕ) (l : Walk) : Type 0 where
   pub forth : from ≤ l .next
-  pub most : (x : ℕ) → from ≤ x → most-number + 1927 ≤ x → l .next ≤ x
+  pub most : (x : ℕ) → from ≤ x → most-number + 2048 ≤ x → l .next ≤ x
   pub made : from + l .extracted ≤ l .next
   pub arms-many : length (l .arms) ≡ n
   pub numbers-many : length (l .numbers) ≡ group-start gs n
@@ -378,7 +378,7 @@ module _ (rows : List Row) (good : ℕ → Bool) (k first : ℕ) (vs : List ℕ)
               record {
                 low = low;
                 forth = omega (arith, d, forth);
-                most = w .most (most-number + 1927) (omega (arith, f, low)) (omega arith);
+                most = w .most (most-number + 2048) (omega (arith, f, low)) (omega arith);
                 made = omega (arith, made, d, g, h);
                 few = stmts-few room (l .numbers);
                 rows = omega (arith, a, b, c, d, i, results, paid);
@@ -462,11 +462,11 @@ pub arms-next-most : (from n : ℕ) (a : Arms-told) → Arms-bound from n a → 
 arms-next-most from n a b low = b .most (most-number + 4096) low (omega arith)
 
 module _ (gs : List (List ℕ)) (from n : ℕ) (l : Walk) (b : Walk-bound gs from n l) where
-  pub walk-next-most : from ≤ most-number + 1927 → l .next ≤ most-number + 1927
-  walk-next-most low = b .most (most-number + 1927) low (omega arith)
+  pub walk-next-most : from ≤ most-number + 2048 → l .next ≤ most-number + 2048
+  walk-next-most low = b .most (most-number + 2048) low (omega arith)
 
   -- each member's number is a word's to hold
-  pub numbers-small : from ≤ most-number + 1927 → Every (λ (j : ℕ). j ≤ 549755813888) (l .numbers)
+  pub numbers-small : from ≤ most-number + 2048 → Every (λ (j : ℕ). j ≤ 549755813888) (l .numbers)
   numbers-small low =
       let q = walk-next-most low in
       every-so (λ (j : ℕ). (from ≤ j) × (j < l .next)) (λ (j : ℕ). j ≤ 549755813888) (λ j h. (let c = h .1 in omega (arith, c, q))) (l .numbers) (b .numbers-between)
