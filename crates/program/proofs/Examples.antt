@@ -3,7 +3,7 @@
 use Prim.Native.Nat.{ℕ, zero, suc, _+_}
 use mathlib.Core.Path.{_≡_, refl}
 use mathlib.Core.Bool.{true, false}
-use mathlib.Core.List.{List, [], _∷_}
+use mathlib.Core.List.{List, [], _∷_, _++_}
 use lib.ListN.{length}
 use Rattle.tree.specs.Outcome.{Outcome, ok, refused, by, _>>=_}
 use Rattle.tree.specs.Bytes.{bytes}
@@ -14,8 +14,8 @@ use Rattle.tree.specs.Layout.{table-words}
 use Rattle.tree.specs.Tokens.{word}
 use Rattle.cse.specs.Answer.{rows}
 use Rattle.cse.specs.AnswerRows.{result-row, let-row}
-use Rattle.cse.specs.Extract.{extract-all, reciprocals}
-use Rattle.cse.specs.Scope.{held, fuse-held, cse-scope, answer}
+use Rattle.cse.specs.Extract.{Binding, State, extract-all, reciprocals}
+use Rattle.cse.specs.Scope.{held, has-room, fuse-held, cse-scope, answer}
 use Rattle.cse.specs.Demand.{well-scoped}
 use Rattle.cse.specs.Call.{extract-call}
 use Rattle.cselaws.proofs.BoundSwitches.{no-switch-bound}
@@ -62,13 +62,43 @@ numbers-held n d =
     fuse-held (λ n l. cse-scope 1 true n l) 0 (record { results = copies n (v "a"); lets = record { name = xname 0; expr = num 1 ⊘ d } ∷ []; next = 1 }) >>= λ a.
     ok (a .next)
 
--- divisors in one another, the innermost first in text order, and a switch in it: each reciprocal holds the switch
-abbrev divided : ℕ → Tree
-divided zero = Op Neg (Op Select (num 1 ◂ num 2 ◂ nil) ◂ nil)
-divided (suc n) = num (10 + n) ⊘ divided n
+-- a state with so many bindings that read nothing, and one switch
+abbrev bindings : ℕ → List Binding
+bindings zero = []
+bindings (suc n) = record { name = xname n; expr = num 2 } ∷ bindings n
 
-abbrev twice-divided : ℕ → List Tree
-twice-divided n = v "p" ⊘ divided n ∷ v "q" ⊘ divided n ∷ []
+abbrev bound : ℕ → State
+bound n = record { results = Op Select (num 1 ◂ num 2 ◂ nil) ∷ []; lets = bindings n; next = n }
+
+-- sums of a tree with itself
+abbrev doubled : ℕ → Tree
+doubled zero = num 2
+doubled (suc n) = doubled n ⊕ doubled n
+
+-- divisors in one another, the innermost first in text order, and a switch in it with one arm: each reciprocal holds the switch
+abbrev divided : Tree → ℕ → Tree
+divided arm zero = Op Neg (Op Select (num 1 ◂ arm ◂ nil) ◂ nil)
+divided arm (suc n) = num (10 + (n + n)) ⊘ divided arm n
+
+abbrev twice-divided : Tree → ℕ → List Tree
+twice-divided arm n = v "p" ⊘ divided arm n ∷ v "q" ⊘ divided arm n ∷ []
+
+-- with an arm of 255 occurrences
+abbrev many : ℕ → List Tree
+many n = twice-divided (doubled 7) n
+
+-- The same where the arm is divided by numbers that are divisors outside too, and stand between the others in text order: in each reciprocal other divisions of the
+-- arm are replaced, so that each has a switch of its own, and the arm's scope is given them all.
+abbrev over : ℕ → Tree
+over zero = doubled 7
+over (suc n) = over n ⊘ num (11 + (n + n))
+
+abbrev outside : ℕ → List Tree
+outside zero = []
+outside (suc n) = v "r" ⊘ num (11 + (n + n)) ∷ outside n
+
+abbrev different : ℕ → List Tree
+different n = twice-divided (over n) n ++ outside n
 
 -- a switch in a divisor: 3 / select(1, 7 / 2)
 abbrev in-divisor : Tree
@@ -89,14 +119,23 @@ pub record Examples : Type 0 where
   one-scope : numbers-in 1 ≡ refused (by 23)
   eight-deep : (answer true (nested 8 ∷ []) >>= λ a. ok (rows a)) ≡ ok 50
   nine-deep : answer true (nested 9 ∷ []) ≡ refused (by 23)
-  rows-enough : numbers-held 1927 (num 2) ≡ ok 1
-  a-row-too-few : numbers-held 1928 (num 2) ≡ refused (by 23)
-  a-switch-held : numbers-held 1922 (Op Select (num 1 ◂ num 2 ◂ nil)) ≡ ok 2
-  no-row-for-a-switch : numbers-held 1923 (Op Select (num 1 ◂ num 2 ◂ nil)) ≡ refused (by 23)
-  some-divisors : (answer true (twice-divided 38) >>= λ a. ok (rows a)) ≡ ok 1843
-  rows-for-many : rows-for (twice-divided 39) ≡ ok (168, 1962)
-  many-divisors-flat : (answer false (twice-divided 39) >>= λ a. ok (a .extracted)) ≡ ok 0
-  many-divisors : answer true (twice-divided 39) ≡ refused (by 23)
+  input-enough : (cse-scope 1 true 0 (copies 1927 (v "a")) >>= λ a. ok (a .next)) ≡ ok 0
+  input-too-large : cse-scope 1 true 0 (copies 1928 (v "a")) ≡ refused (by 23)
+  last-number : (cse-scope 1 true 2147483648 (v "a" ∷ []) >>= λ a. ok (a .next)) ≡ ok 2147483648
+  number-too-large : cse-scope 1 true 2147483649 (v "a" ∷ []) ≡ refused (by 23)
+  rows-enough : numbers-held 7281 (num 2) ≡ ok 1
+  a-row-too-few : numbers-held 7282 (num 2) ≡ refused (by 23)
+  a-switch-held : numbers-held 7276 (Op Select (num 1 ◂ num 2 ◂ nil)) ≡ ok 2
+  no-row-for-a-switch : numbers-held 7277 (Op Select (num 1 ◂ num 2 ◂ nil)) ≡ refused (by 23)
+  room-for-statements : has-room 0 (bound 2047) ≡ true
+  a-statement-too-many : fuse-held (λ n l. cse-scope 1 true n l) 0 (bound 2048) ≡ refused (by 23)
+  some-divisors : (answer true (many 24) >>= λ a. ok (rows a)) ≡ ok 1089
+  rows-for-many : rows-for (many 25) ≡ ok (620, 7516)
+  many-divisors-flat : (answer false (many 25) >>= λ a. ok (a .extracted)) ≡ ok 0
+  many-divisors : answer true (many 25) ≡ refused (by 23)
+  some-switches : (answer true (different 7) >>= λ a. ok (rows a)) ≡ ok 2108
+  rows-for-switches : rows-for (different 8) ≡ ok (608, 2618)
+  many-switches : answer true (different 8) ≡ refused (by 23)
   divided-once : no-switch-bound (v "p" ⊘ Op Select (num 1 ◂ num 2 ◂ num 3 ◂ nil) ∷ []) ≡ true
   divided-twice : no-switch-bound (v "p" ⊘ in-divisor ∷ v "q" ⊘ in-divisor ∷ v "r" ⊘ num 2 ∷ []) ≡ false
   work-too-short : extract-call false 65535 131072 few (1 ∷ []) 9 ≡ refused (by 8)
@@ -118,7 +157,7 @@ pub record Examples : Type 0 where
   no-earlier-node : csesheet (bytes "Sym,a\r\nRoot,1") ≡ bytes "refused 5 1\n"
 
 pub examples : Examples
-unfolding cse-scope fuse-held answer no-switch-bound well-scoped rows by-calls csesheet csescoped extract-call print-call
+unfolding cse-scope has-room fuse-held answer no-switch-bound well-scoped rows by-calls csesheet csescoped extract-call print-call
 examples =
     record {
       mixed-scoped = refl;
@@ -131,14 +170,23 @@ examples =
       one-scope = refl;
       eight-deep = refl;
       nine-deep = refl;
+      input-enough = refl;
+      input-too-large = refl;
+      last-number = refl;
+      number-too-large = refl;
       rows-enough = refl;
       a-row-too-few = refl;
       a-switch-held = refl;
       no-row-for-a-switch = refl;
+      room-for-statements = refl;
+      a-statement-too-many = refl;
       some-divisors = refl;
       rows-for-many = refl;
       many-divisors-flat = refl;
       many-divisors = refl;
+      some-switches = refl;
+      rows-for-switches = refl;
+      many-switches = refl;
       divided-once = refl;
       divided-twice = refl;
       work-too-short = refl;

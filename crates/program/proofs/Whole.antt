@@ -27,7 +27,6 @@ use Rattle.cselaws.proofs.BoundSwitches.{no-switch-bound}
 use Rattle.cselaws.proofs.RoomEnough as room
 use Rattle.cselaws.proofs.PlainBound as plain
 use Rattle.cselaws.proofs.ScopeRoom as scopes
-use Rattle.cselaws.proofs.ScopeRoom.{by-held}
 use Rattle.tree.proofs.Logic.{and-left, and-right}
 use Rattle.cselaws.proofs.ScopedCount.{Tally, over-lets, each-one, inverse-one}
 use Rattle.cselaws.proofs.Both as both
@@ -71,14 +70,10 @@ plain-none-bound es h p = plain.plain-none-bound es (passes-formed es h) (passes
 pub plain-refused-by-10-or-11 : (es : List Tree) → T (passes es) → Plain-divisors es → (i : Refusal) → answer true es ≡ refused i → (i ≡ by 10) ⊎ (i ≡ by 11)
 plain-refused-by-10-or-11 es h p = scoped-refused-by-10-or-11 es h (plain-none-bound es h p)
 
--- for a list that passes 9 more than nine open scopes would change nothing
+-- For a list that passes 9 more than nine open scopes would change nothing: 23 arises only where a scope's input, its first number, what it holds for fusion or its
+-- statements are more than it has room for.
 pub nine-scopes : (fuel : ℕ) → scopes-open ≤ fuel → (scoped : Bool) (es : List Tree) → T (passes es) → answer scoped es ≡ (cse-scope fuel scoped 0 es >>= λ a. ok (as-answer a))
 nine-scopes fuel m scoped es h = scopes.answer-by-more fuel m scoped es (passes-limits es h)
-
--- and however many can be open, 23 arises only where a scope would hold more than 1,024 occurrences for fusion or begin at a number past 2^31: a scope needs no other
--- test
-pub scoped-by-held : (fuel : ℕ) → scopes-open ≤ fuel → (es : List Tree) → T (passes es) → answer true es ≡ (by-held fuel 0 es >>= λ a. ok (as-answer a))
-scoped-by-held fuel m es h = scopes.answer-by-held fuel m es (passes-limits es h)
 
 -- in a flat answer each statement binds some `__xi`, and where i is not below the extraction count, to 1 / d
 pub flat-reciprocals : (es : List Tree) → T (passes es) → (a : Answer) → answer false es ≡ ok a → flat-shaped a

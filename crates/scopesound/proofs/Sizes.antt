@@ -10,67 +10,27 @@ use borrow.Author.Tests.{ltb-true, ltb-false, lt-ltb, le-ltb}
 use lib.ListN.{length, getD, take, drop, replicate, length-append, List·getD-eq-default}
 use lib.Dec.{ltb}
 use Rattle.tree.specs.Tree.{Tree, Op, nil}
-use Rattle.tree.specs.Facts.{total, size}
-use Rattle.tree.specs.Tokens.{read, numbered, trees-at, trees-in}
-use Rattle.tree.proofs.TokenLaws.{sizes, read-size, trees-length}
+use Rattle.tree.specs.Facts.{size}
+use Rattle.tree.specs.Tokens.{numbered, trees-at, trees-in}
+use Rattle.tree.proofs.TokenLaws.{trees-length}
 use Rattle.tree.proofs.TokenCode.{unnumbered, tokens-length}
 use Rattle.cse.specs.Order.{positions-taken}
 use Rattle.cselaws.proofs.OrderLaws.{taken-ok}
 use Rattle.order.specs.Needs.{rows-from, table-of}
 use Rattle.renaming.specs.Places.{numbered-at}
-use Rattle.renaming.proofs.Extraction.{Every, every-append}
-use Rattle.reciprocals.proofs.Parts.{settle-tree, reciprocal, settled-reciprocals, All-there}
+use Rattle.renaming.proofs.Extraction.{Every}
+use Rattle.reciprocals.proofs.Parts.{All-there}
 use Rattle.switchplaces.specs.Switches.{key-place}
 use Rattle.switchplaces.proofs.Words.{ends-within}
 use Rattle.fusion.specs.Settled.{fused-tree}
-use Rattle.fusion.specs.Whole.{settled-roots}
-use Rattle.fusion.proofs.Sizes.{fused-size, settled-size}
-use Rattle.scopeplaces.specs.Parts.{place-groups, group-at, group-start, group-end, opener, reciprocals-first, lets-count, held-words, settled-trees, steps-from, fused-run, key-run, name-rows, names-run, match-run, let-run, value-run}
+use Rattle.fusion.proofs.Sizes.{fused-size}
+use Rattle.scopeplaces.specs.Parts.{place-groups, group-at, group-start, group-end, opener, lets-count, held-words, settled-trees, steps-from, fused-run, key-run, name-rows, names-run, match-run, let-run, value-run}
 use Rattle.scopeplaces.specs.Whole.{stmts-count, tree-run, needs-table, stmts-order, stmt-run, stmts-runs, values-runs}
+use Rattle.scopeplaces.proofs.Small.{Small, default-small, small-at, settled-small}
 use Rattle.scopesound.proofs.Held.{there-within}
 use Rattle.scopesound.proofs.Sums.{sum-first, sum-each, first-more, first-none, first-entries, each-reversed, runs-length, first-most, different-most}
 
 -- ---- trees
-
-abbrev Small : ℕ → Tree → Type 0
-Small c t = size t ≤ c
-
-default-small : size (Op 0 nil) ≡ 1
-unfolding size
-default-small = refl
-
-small-at : (c : ℕ) (l : List Tree) → 1 ≤ c → Every (Small c) l → (i : ℕ) → size (getD l i (Op 0 nil)) ≤ c
-small-at c [] h e i = omega (arith, default-small, h)
-small-at c (t ∷ l) h e zero = e .0
-small-at c (t ∷ l) h e (suc i) = small-at c l h (e .1) i
-
-sizes-cons : (t : Tree) (l : List Tree) → sizes (t ∷ l) ≡ size t + sizes l
-unfolding sizes total
-sizes-cons t l = refl
-
-small-sum : (l : List Tree) (c : ℕ) → sizes l ≤ c → Every (Small c) l
-small-sum [] c h = tt
-small-sum (t ∷ l) c h = (omega (arith, sizes-cons t l, h), small-sum l c (omega (arith, sizes-cons t l, h)))
-
-read-small : (ws : List ℕ) → Every (Small (length ws)) (read numbered ws)
-read-small ws = small-sum (read numbered ws) (length ws) (omega (arith, read-size numbered ws))
-
-all-settled : (c : ℕ) (ds : List Tree) (n : ℕ) (l : List Tree) → Every (Small c) l → Every (Small c) (map (settle-tree ds n) l)
-all-settled c ds n [] e = tt
-all-settled c ds n (t ∷ l) e = ((let s = settled-size ds n t in let f = e .0 in omega arith), all-settled c ds n l (e .1))
-
-more-small : (c d : ℕ) → c ≤ d → (l : List Tree) → Every (Small c) l → Every (Small d) l
-more-small c d h [] e = tt
-more-small c d h (t ∷ l) e = ((let f = e .0 in omega arith), more-small c d h l (e .1))
-
-reciprocal-size : (d : Tree) → size (reciprocal d) ≡ 2 + size d
-unfolding size
-reciprocal-size d = omega arith
-
-all-reciprocals : (c : ℕ) (ds : List Tree) (n : ℕ) → Every (Small c) ds → Every (Small (2 + c)) (settled-reciprocals ds n)
-all-reciprocals c [] n e = tt
-all-reciprocals c (d ∷ ds) n e =
-    ((let s = settled-size ds (suc n) (reciprocal d) in let r = reciprocal-size d in let f = e .0 in omega arith), all-reciprocals c ds (suc n) (e .1))
 
 module _ (ws : List ℕ) (m : ℕ) (complete : trees-in ws ≡ some m) where
   pub place-size : (i : ℕ) → i < length ws → size (numbered-at ws i) ≤ length ws
@@ -93,15 +53,6 @@ module _ (ws : List ℕ) (m : ℕ) (complete : trees-in ws ≡ some m) where
   divisors-small (p ∷ l) h = (place-size p (there-within ws p (h .0 .0) (h .0 .1)), divisors-small l (h .1))
 
   module _ (k first : ℕ) (places : List ℕ) (there : All-there ws places) where
-    settled-small : Every (Small (2 + length ws)) (settled-trees ws k first places)
-    unfolding settled-trees settled-roots
-    settled-small =
-        let n = reciprocals-first ws k first places in
-        let ds = map (numbered-at ws) places in
-        every-append (Small (2 + length ws)) (map (settle-tree ds n) (read numbered ws)) (settled-reciprocals ds n)
-        (more-small (length ws) (2 + length ws) (omega arith) (map (settle-tree ds n) (read numbered ws)) (all-settled (length ws) ds n (read numbered ws) (read-small ws)))
-        (all-reciprocals (length ws) ds n (divisors-small places there))
-
     fused-length : (hs : List ℕ) (gs : List (List ℕ)) (numbers : List ℕ) (t : Tree) → length (fused-run hs gs numbers t) ≤ size t
     unfolding fused-run
     fused-length hs gs numbers t =
@@ -114,7 +65,8 @@ module _ (ws : List ℕ) (m : ℕ) (complete : trees-in ws ≡ some m) where
     tree-run-length numbers i =
         let hs = held-words ws k first places in
         let t = getD (settled-trees ws k first places) i (Op 0 nil) in
-        omega (arith, fused-length hs (place-groups hs) numbers t, small-at (2 + length ws) (settled-trees ws k first places) (omega arith) settled-small i)
+        let e = settled-small (length ws) ws (omega arith) places (divisors-small places there) k first in
+        omega (arith, fused-length hs (place-groups hs) numbers t, small-at (2 + length ws) (settled-trees ws k first places) (omega arith) e i)
 
 -- ---- a match's rows
 
