@@ -12,7 +12,7 @@ use Rattle.kept.specs.Sound.{extractable}
 use Rattle.switchplaces.specs.Switches.{arm-count}
 use Rattle.switchplaces.specs.Columns.{column-words}
 use Rattle.scopeplaces.specs.Whole.{Told, Arms-told, arms-told, group-told, scope-told}
-use Rattle.scope.specs.Answers.{scope-answer, scope-table, told-rows, inner, arm-told, arms-answer}
+use Rattle.scope.specs.Answers.{Arms-wrote, scope-answer, scope-table, told-rows, inner, arm-told, arms-answer}
 use Rattle.scope.specs.Frame.{most-rows, Lent, Holds, Is-group, Arm-fits, Arms-fit}
 use Rattle.scope.specs.declared.Scoped.{Scoped}
 use Rattle.scope.specs.declared.Scoped.the-variants as scoped
@@ -119,15 +119,17 @@ told-rows-small rows fuel row next ws g p = go (scope-told rows fuel row next ws
     go (ok t) e = told-small rows fuel row next ws g p t e .rows
     go (refused i) e = omega arith
 
--- from the start they fit
-pub measure-fits : (rows : List Row) (fuel next : ℕ) (held group : List ℕ) → Holds rows next held → Is-group held group → Arms-fit rows fuel held group next 0
-measure-fits rows fuel next held group h g n r l e =
+-- from a low place on they fit
+pub measure-fits : (rows : List Row) (fuel next : ℕ) (held group : List ℕ) → Holds rows next held → Is-group held group → (at : ℕ) → at ≤ 288230376151711744 → Arms-fit rows fuel held group next at
+measure-fits rows fuel next held group h g at low n r l e =
     let s = arms-small rows fuel next held group h g n (omega arith) r e in
     let later = holds-later rows next (r .next) held (s .grows) h in
     let t = told-rows-small rows fuel 35 (r .next) (column-words held group n) (column-good rows (r .next) held group later g n l) (column-passes rows (r .next) held group later g n l) in
     omega (arith, s .rows, t, arms-few rows next held group h g)
 
-pub group-is : (rows : List Row) (fuel next : ℕ) (held group : List ℕ) (r : Armed)
-    → r ≡ arms-answer (arms-told (inner rows fuel) held group (next + length group) (arm-count held (getD group 0 0))) 0 → r ≡ arms-answer (group-told (inner rows fuel) held group next) 0
+pub group-is : (rows : List Row) (fuel next : ℕ) (held group : List ℕ) (at : ℕ) (old new : List ℕ) (r : Armed)
+    → (r ≡ arms-answer (arms-told (inner rows fuel) held group (next + length group) (arm-count held (getD group 0 0))) at)
+    × Arms-wrote (arms-told (inner rows fuel) held group (next + length group) (arm-count held (getD group 0 0))) at old new
+    → (r ≡ arms-answer (group-told (inner rows fuel) held group next) at) × Arms-wrote (group-told (inner rows fuel) held group next) at old new
 unfolding group-told
-group-is rows fuel next held group r e = e
+group-is rows fuel next held group at old new r e = e

@@ -87,28 +87,29 @@ module _ (rows : List Row) (fuel row : ℕ) (ws : List ℕ) (k first : ℕ) (pla
   pub ends-short : length ends ≤ 2048
   ends-short = omega (arith, few-stmts, ap length (rd .grouped .ends-are), ends-count 0 gs)
 
-  module _ (w : Walked) (numbers sizes : List ℕ) (given : (w ≡ walk-answer (groups-told rows fuel (first + lets) held)) × Walk-wrote (groups-told rows fuel (first + lets) held) numbers sizes) where
+  module _ (w : Walked) (numbers stops old kept : List ℕ) (given : (w ≡ walk-answer (groups-told rows fuel (first + lets) held)) × Walk-wrote (groups-told rows fuel (first + lets) held) numbers stops old kept) where
     pub record Walk-done (after extracted : ℕ) : Type 0 where
       pub walk : Walk
       pub told : groups-told rows fuel from held ≡ ok walk
       pub after-is : after ≡ walk .next
       pub extracted-is : extracted ≡ walk .extracted
       pub numbers-are : take (length (walk .numbers)) numbers ≡ walk .numbers
-      pub sizes-are : take (length (walk .arms)) sizes ≡ map length (walk .arms)
+      pub stops-are : take (length (walk .arms)) stops ≡ ends-from 0 (walk .arms)
+      pub kept-is : kept ≡ overlay 0 (joined-groups (walk .arms)) old
 
     abbrev By : Walked → Type 0
     By (walked-enum.Done after extracted) = Walk-done after extracted
     By (walked-enum.Refused q) = (i : Refusal) × (groups-told rows fuel from held ≡ refused i) × (i .number ≡ q)
 
-    by-outcome : (o : Outcome Walk) → groups-told rows fuel from held ≡ o → Walk-wrote o numbers sizes → By (walk-answer o)
+    by-outcome : (o : Outcome Walk) → groups-told rows fuel from held ≡ o → Walk-wrote o numbers stops old kept → By (walk-answer o)
     unfolding walk-answer
-    by-outcome (ok l) e x = record { walk = l; told = e; after-is = refl; extracted-is = refl; numbers-are = x .0; sizes-are = x .1 }
+    by-outcome (ok l) e x = record { walk = l; told = e; after-is = refl; extracted-is = refl; numbers-are = x .0; stops-are = x .1; kept-is = x .2 }
     by-outcome (refused i) e x = (i, e, refl)
 
     by-answer : By w
     by-answer =
         let s = ap (λ (n : ℕ). groups-told rows fuel n held) (rd .last) in
-        subst By (sym (given .0 ∙ ap walk-answer s)) (by-outcome (groups-told rows fuel from held) refl (subst (λ (o : Outcome Walk). Walk-wrote o numbers sizes) s (given .1)))
+        subst By (sym (given .0 ∙ ap walk-answer s)) (by-outcome (groups-told rows fuel from held) refl (subst (λ (o : Outcome Walk). Walk-wrote o numbers stops old kept) s (given .1)))
 
     pub walk-refused : (q : ℕ) → w ≡ walked-enum.Refused q → (z : ℕ) → z ≡ walk-refusal w → (at : ℕ) (old : List ℕ) → Scope-done (grouped-scope rows fuel row ws k first places) at old (scoped.Refused z) old
     unfolding grouped-scope walk-refusal
@@ -135,9 +136,9 @@ module _ (rows : List Row) (fuel row : ℕ) (ws : List ℕ) (k first : ℕ) (pla
       numbers-here : take (length members) numbers ≡ d .walk .numbers
       numbers-here = ap (λ (n : ℕ). take n numbers) (sym numbers-many) ∙ d .numbers-are
 
-      pub numbered-so : Numbered rows fuel from held (take (length members) numbers) (take (length ends) sizes) after extracted
+      pub numbered-so : Numbered rows fuel from held (take (length members) numbers) (take (length ends) stops) kept after extracted
       numbered-so = record {
-        sized = record { walk = d .walk; told = d .told; numbers-are = numbers-here; sizes-are = ap (λ (n : ℕ). take n sizes) (sym arms-many) ∙ d .sizes-are };
+        sized = record { walk = d .walk; old = old; told = d .told; numbers-are = numbers-here; stops-are = ap (λ (n : ℕ). take n stops) (sym arms-many) ∙ d .stops-are; kept-is = d .kept-is };
         after-is = d .after-is;
         extracted-is = d .extracted-is;
       }

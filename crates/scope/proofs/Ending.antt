@@ -82,9 +82,9 @@ order-inside ws k first places numbers q h =
 
 -- ---- the end
 
-module _ (rows : List Row) (fuel : ℕ) (ws : List ℕ) (k first : ℕ) (places held starts members ends numbers sizes : List ℕ) (after extracted row : ℕ)
+module _ (rows : List Row) (fuel : ℕ) (ws : List ℕ) (k first : ℕ) (places held starts members ends numbers stops kept : List ℕ) (after extracted row : ℕ)
     (h : Holds rows (reciprocals-first ws k first places + length places) held) (p : Prepared ws k first places held starts members ends numbers)
-    (nb : Numbered rows fuel (reciprocals-first ws k first places + length places) held numbers sizes after extracted) where
+    (nb : Numbered rows fuel (reciprocals-first ws k first places + length places) held numbers stops kept after extracted) where
   abbrev order : List ℕ
   order = stmts-order ws k first places numbers
 
@@ -101,7 +101,7 @@ module _ (rows : List Row) (fuel : ℕ) (ws : List ℕ) (k first : ℕ) (places 
   walk = record { numbers = numbers; arms = arms; next = after; extracted = extracted }
 
   walk-is : nb .sized .walk ≡ walk
-  walk-is = λ i. record { numbers = sym (nb .sized .numbers-are) i; arms = sym (arms-are rows fuel ws k first places held starts members ends numbers sizes h p (nb .sized)) i; next = sym (nb .after-is) i; extracted = sym (nb .extracted-is) i }
+  walk-is = λ i. record { numbers = sym (nb .sized .numbers-are) i; arms = sym (arms-are rows fuel ws k first places held starts members ends numbers stops kept h p (nb .sized)) i; next = sym (nb .after-is) i; extracted = sym (nb .extracted-is) i }
 
   outcome-is : outcome ≡ ordered-scope row ws k first places walk
   unfolding grouped-scope

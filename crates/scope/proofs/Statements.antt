@@ -3,8 +3,9 @@ use Prim.Native.Nat.{ℕ, zero, suc, _+_, _-_, _*_, _≤_, _<_}
 use native.Mathlib.Omega.{arith}
 use mathlib.Core.Path.{_≡_, refl, sym, _∙_, ap, ap₂, subst}
 use mathlib.Core.Bool.{Bool, true, false, cond}
-use mathlib.Core.List.{List, [], _∷_, _++_, map}
-use lib.ListN.{length, getD, take, drop, length-append, List·getD-map}
+use mathlib.Core.List.{List, [], _∷_, _++_}
+use lib.ListN.{length, getD, take, drop, length-append, take-append-drop}
+use lib.Seq.{take-at, length-take-le}
 use lib.Dec.{T, ltb, lt→ltb}
 use borrow.Author.Tests.{lt-ltb, le-ltb}
 use Rattle.tree.specs.Outcome.{Refusal, Outcome, ok, refused}
@@ -14,19 +15,20 @@ use Rattle.finishlaws.specs.Entries.{runs}
 use Rattle.switchplaces.proofs.GroupColumns.{every-at}
 use Rattle.kept.proofs.Steps.{ready-of}
 use Rattle.scopeplaces.specs.Overlay.{overlay}
-use Rattle.scopeplaces.specs.Parts.{place-groups, group-at, group-start, match-run, let-run, reciprocals-first, lets-count, held-words}
+use Rattle.scopeplaces.specs.Parts.{place-groups, joined-groups, group-at, group-start, group-end, match-run, let-run, reciprocals-first, lets-count, held-words}
 use Rattle.scopeplaces.specs.Whole.{Told, Arms-told, Walk, walked, tree-run, stmts-count, stmt-run, stmts-runs}
-use Rattle.tables.proofs.Laws.{overlay-none, overlay-append}
+use Rattle.tables.proofs.Laws.{overlay-none, overlay-length, overlay-append, overlay-before, overlay-front}
 use Rattle.scopesound.proofs.Columns.{group-fused}
 use Rattle.scopesound.proofs.Sums.{runs-within}
-use Rattle.scopesound.proofs.Bounds.{Walk-bound, walk-bound}
-use Rattle.scopeparts.specs.Prepared.{Prepared, Readied, Grouped}
-use Rattle.scopeparts.proofs.Groups.{ends-count}
-use Rattle.scopeparts.proofs.Held.{lets-are, count-is, trees-few, places-few}
+use Rattle.scopesound.proofs.Bounds.{per-match, per-number, Walk-bound, walk-bound}
+use Rattle.scopeparts.specs.Prepared.{Prepared, Readied, Grouped, begin-of}
+use Rattle.scopeparts.proofs.Groups.{ends-count, end-is, begin-is, group-long, group-inside, group-part}
+use Rattle.scopeparts.proofs.Held.{lets-are, count-is, trees-few, places-few, first-number}
 use Rattle.scopeparts.proofs.Keys.{grouped as all-grouped}
 use Rattle.scope.specs.Answers.{inner, arms-of, words-of}
 use Rattle.scope.specs.Frame.{most-rows, Lent, Holds, groups-told, Sized, group-again, Group-sized, scope-arms}
 use Rattle.scope.proofs.Sound.{words-ok, holds-later}
+use Rattle.scope.proofs.Walking.{joined-low}
 use Rattle.scope.proofs.WalkLaws.{Walked-at, walked-at, starts-grow}
 
 pub by-test : {A : Type 0} (b : Bool) (x y : A) → b ≡ true → cond b x y ≡ x
@@ -37,9 +39,33 @@ pub by-no-test : {A : Type 0} (b : Bool) (x y : A) → b ≡ false → cond b x 
 by-no-test true x y e = absurd (let z : _≡_ {A = ℕ} 0 1 = cc in omega arith)
 by-no-test false x y e = refl
 
-module _ (rows : List Row) (fuel : ℕ) (ws : List ℕ) (k first : ℕ) (places held starts members ends numbers sizes : List ℕ)
+-- words laid over the front of others, up to a place where both go on
+overlay-taken : (n : ℕ) (ws old : List ℕ) → n ≤ length ws → n ≤ length old → take n (overlay 0 ws old) ≡ take n ws
+overlay-taken n ws old h l =
+    let a = take n ws in
+    let b = drop n ws in
+    let e : length a ≡ n = length-take-le n ws h in
+    let rest = overlay (0 + length a) b old in
+    let long : length rest ≡ length old = overlay-length (0 + length a) b old in
+    ap (λ (z : List ℕ). take n (overlay 0 z old)) (sym (take-append-drop n ws))
+    ∙ (ap (take n) (overlay-before 0 a b old ∙ overlay-front a rest (omega (arith, e, long))) ∙ take-at a (drop (length a) rest) n e)
+
+-- what begins alike has the same part there
+part-same : (f n : ℕ) (x y : List ℕ) → take (f + n) x ≡ take (f + n) y → take n (drop f x) ≡ take n (drop f y)
+part-same f n x y e = sym (drop-of f n x) ∙ (ap (drop f) e ∙ drop-of f n y)
+  where
+    none : (k : ℕ) → _≡_ {A = List ℕ} (take k []) []
+    none zero = refl
+    none (suc k) = refl
+
+    drop-of : (f n : ℕ) (z : List ℕ) → drop f (take (f + n) z) ≡ take n (drop f z)
+    drop-of zero n z = ap (λ (k : ℕ). take k z) (let e : 0 + n ≡ n = omega arith in e)
+    drop-of (suc f) n [] = ap (λ (k : ℕ). drop (suc f) (take k [])) (let e : suc f + n ≡ suc (f + n) = omega arith in e) ∙ sym (none n)
+    drop-of (suc f) n (w ∷ z) = ap (λ (k : ℕ). drop (suc f) (take k (w ∷ z))) (let e : suc f + n ≡ suc (f + n) = omega arith in e) ∙ drop-of f n z
+
+module _ (rows : List Row) (fuel : ℕ) (ws : List ℕ) (k first : ℕ) (places held starts members ends numbers stops kept : List ℕ)
     (h : Holds rows (reciprocals-first ws k first places + length places) held) (p : Prepared ws k first places held starts members ends numbers)
-    (sz : Sized rows fuel (reciprocals-first ws k first places + length places) held numbers sizes) where
+    (sz : Sized rows fuel (reciprocals-first ws k first places + length places) held numbers stops kept) where
   abbrev from : ℕ
   from = reciprocals-first ws k first places + length places
 
@@ -101,23 +127,58 @@ module _ (rows : List Row) (fuel : ℕ) (ws : List ℕ) (k first : ℕ) (places 
     unfolding group-again
     again = subst (λ (z : List ℕ). group-again rows fuel held z g ≡ ok (at-g .arms)) (sym (sz .numbers-are)) (at-g .told)
 
-    pub size-in : g < length sizes
-    size-in = omega (arith, inside, ap length (sz .sizes-are), map-long (sz .walk .arms), bound (length gs) (sz .walk) (omega arith) all-told .arms-many)
-      where
-        map-long : (z : List (List ℕ)) → length (map length z) ≡ length z
-        map-long [] = refl
-        map-long (y ∷ z) = ap suc (map-long z)
+    abbrev all-arms : List (List ℕ)
+    all-arms = sz .walk .arms
 
-    size-of : getD sizes g 0 ≡ length (at-g .arms .words)
-    size-of = ap (λ (z : List ℕ). getD z g 0) (sz .sizes-are) ∙ (at-map (sz .walk .arms) g ∙ ap length (at-g .rows))
-      where
-        at-map : (z : List (List ℕ)) (i : ℕ) → getD (map length z) i 0 ≡ length (getD z i [])
-        at-map [] i = refl
-        at-map (y ∷ z) zero = refl
-        at-map (y ∷ z) (suc i) = at-map z i
+    arms-many : length all-arms ≡ length gs
+    arms-many = bound (length gs) (sz .walk) (omega arith) all-told .arms-many
 
-    pub group-sized : Group-sized rows fuel held numbers g (getD sizes g 0)
-    group-sized = record { arms = at-g .arms; told = again; size-is = size-of }
+    pub stop-in : g < length stops
+    stop-in = omega (arith, inside, ap length (sz .stops-are), ends-count 0 all-arms, arms-many)
+
+    arms-there : g < length all-arms
+    arms-there = omega (arith, inside, arms-many)
+
+    stop-is : getD stops g 0 ≡ group-end all-arms g
+    stop-is = ap (λ (z : List ℕ). getD z g 0) (sz .stops-are) ∙ end-is all-arms g arms-there
+
+    module _ (begin : ℕ) (begins : begin ≡ begin-of stops g) where
+      begin-at : begin ≡ group-start all-arms g
+      begin-at = begins ∙ (ap (λ (z : List ℕ). begin-of z g) (sz .stops-are) ∙ begin-is all-arms g arms-there)
+
+      rows-at : length (group-at all-arms g) ≡ length (at-g .arms .words)
+      unfolding group-at
+      rows-at = ap length (at-g .rows)
+
+      pub stop-over : begin ≤ getD stops g 0
+      stop-over = omega (arith, begin-at, stop-is, group-long all-arms g arms-there)
+
+      low : getD stops g 0 ≤ 288230376151711744
+      low =
+          let b = bound (length gs) (sz .walk) (omega arith) all-told in
+          let first-low : from ≤ 4294967296 = omega (arith, first-number p, lets-are p, count-is p, p .statements, p .low) in
+          omega (arith, stop-is, group-inside all-arms g arms-there, joined-low all-arms, b .rows, b .most 4294967296 first-low (omega arith))
+
+      stands : begin + (getD stops g 0 - begin) ≤ length kept → take (getD stops g 0 - begin) (drop begin kept) ≡ at-g .arms .words
+      unfolding group-at
+      stands within =
+          let size = getD stops g 0 - begin in
+          let last : begin + size ≡ group-end all-arms g = omega (arith, stop-over, stop-is) in
+          let long : size ≡ group-end all-arms g - group-start all-arms g = omega (arith, begin-at, stop-is) in
+          part-same begin size kept (joined-groups all-arms)
+          (ap (take (begin + size)) (sz .kept-is)
+          ∙ overlay-taken (begin + size) (joined-groups all-arms) (sz .old)
+          (omega (arith, last, group-inside all-arms g arms-there)) (omega (arith, within, ap length (sz .kept-is), overlay-length 0 (joined-groups all-arms) (sz .old))))
+          ∙ (ap₂ (λ (k : ℕ) (b : ℕ). take k (drop b (joined-groups all-arms))) long begin-at ∙ (group-part all-arms g arms-there ∙ at-g .rows))
+
+      pub group-sized : Group-sized rows fuel held numbers g begin (getD stops g 0 - begin) kept
+      group-sized = record {
+        arms = at-g .arms;
+        told = again;
+        size-is = omega (arith, rows-at, begin-at, stop-is, group-long all-arms g arms-there);
+        low = omega (arith, stop-over, low);
+        here = stands;
+      }
 
     pub number-holds : Holds rows (getD numbers (group-start gs g) 0) held
     number-holds =

@@ -4,23 +4,24 @@ use Prim.Native.Nat.{ℕ, zero, suc, _+_, _-_, _≤_, _<_}
 use native.Mathlib.Nat.{add-zero, add-assoc}
 use native.Mathlib.Omega.{arith}
 use mathlib.Core.Path.{_≡_, refl, sym, _∙_, ap, ap₂, subst}
-use mathlib.Core.List.{List, [], _∷_, _++_, map, append-assoc}
+use mathlib.Core.List.{List, [], _∷_, _++_, append-assoc}
 use lib.ListN.{length, getD, take, drop, set, length-append, List·getD-append}
 use lib.Seq.{take-at, length-take-le, getD-append-add}
 use Rattle.tree.specs.Outcome.{Refusal, Outcome, ok, refused, _>>=_}
 use Rattle.fusion.specs.Words.{numbers-from}
 use Rattle.fusion.proofs.Members.{numbers-count}
 use Rattle.scopeplaces.specs.Overlay.{overlay}
-use Rattle.scopeplaces.specs.Parts.{group-at, group-start}
+use Rattle.scopeplaces.specs.Parts.{joined-groups, ends-from, group-at, group-start}
 use Rattle.scopeplaces.specs.Whole.{Told, Arms-told, Walk, arms-told, group-told, walked}
-use Rattle.tables.proofs.Laws.{overlay-fits, overlay-word}
-use Rattle.scope.specs.Answers.{arms-answer, walk-answer, Walk-wrote, refusal-number}
+use Rattle.tables.proofs.Laws.{overlay-none, overlay-fits, overlay-word, overlay-append}
+use Rattle.scope.specs.Answers.{arms-answer, Arms-wrote, walk-answer, Walk-wrote, refusal-number}
 use Rattle.scope.specs.declared.Armed.{Armed}
 use Rattle.scope.specs.declared.Armed.the-variants as armed
 use Rattle.scope.specs.declared.Walked.{Walked}
 use Rattle.scope.specs.declared.Walked.the-variants as walked-enum
 use Rattle.scope.proofs.ArmLaws.{got, never-ok, Or, first, second, lt-or-eq}
 use Rattle.scopesound.proofs.Bounds.{start-next}
+use Rattle.scopeparts.proofs.Groups.{ends-count}
 
 -- ---- words in front grow
 
@@ -31,13 +32,22 @@ front-grows xs new old at e f fits =
     ∙ (ap (λ (l : List ℕ). l ++ (new ++ drop (at + length new) old)) (ap (λ (k : ℕ). take k old) e ∙ f) ∙ sym (append-assoc xs new (drop (at + length new) old))) in
     ap (take (length (xs ++ new))) s ∙ take-at (xs ++ new) (drop (at + length new) old) (length (xs ++ new)) refl
 
-map-more : (l : List (List ℕ)) (x : List ℕ) → map length (l ++ (x ∷ [])) ≡ map length l ++ (length x ∷ [])
-map-more [] x = refl
-map-more (y ∷ l) x = ap (λ (k : List ℕ). length y ∷ k) (map-more l x)
+append-none : (x : List ℕ) → x ++ [] ≡ x
+append-none [] = refl
+append-none (w ∷ x) = ap (λ (k : List ℕ). w ∷ k) (append-none x)
 
-map-long : (l : List (List ℕ)) → length (map length l) ≡ length l
-map-long [] = refl
-map-long (y ∷ l) = ap suc (map-long l)
+-- the rows of some groups' arms, and those of one more
+pub joined-more : (l : List (List ℕ)) (x : List ℕ) → joined-groups (l ++ (x ∷ [])) ≡ joined-groups l ++ x
+unfolding joined-groups
+joined-more [] x = append-none x
+joined-more (y ∷ l) x = ap (λ (k : List ℕ). y ++ k) (joined-more l x) ∙ sym (append-assoc y (joined-groups l) x)
+
+ends-more : (n : ℕ) (l : List (List ℕ)) (x : List ℕ) → ends-from n (l ++ (x ∷ [])) ≡ ends-from n l ++ ((n + (length (joined-groups l) + length x)) ∷ [])
+unfolding ends-from joined-groups
+ends-more n [] x = ap (λ (k : ℕ). k ∷ []) (omega arith)
+ends-more n (y ∷ l) x =
+    ap (λ (k : List ℕ). (n + length y) ∷ k)
+    (ends-more (n + length y) l x ∙ ap (λ (k : ℕ). ends-from (n + length y) l ++ (k ∷ [])) (omega (arith, length-append y (joined-groups l))))
 
 module _ (scope : ℕ → List ℕ → Outcome Told) (hs : List ℕ) (gs : List (List ℕ)) where
   abbrev pub with-group : ℕ → Walk → Arms-told → Walk
@@ -85,9 +95,9 @@ module _ (scope : ℕ → List ℕ → Outcome Told) (hs : List ℕ) (gs : List 
 
   -- ---- the loop
 
-  module _ (next : ℕ) where
+  module _ (next : ℕ) (old : List ℕ) where
     -- after the first n groups
-    pub record Walk-so (n number extracted start : ℕ) (numbers sizes : List ℕ) : Type 0 where
+    pub record Walk-so (n number extracted start to : ℕ) (numbers stops kept : List ℕ) : Type 0 where
       pub done : Walk
       pub told : walked scope hs gs next n ≡ ok done
       pub number-is : number ≡ done .next
@@ -95,23 +105,36 @@ module _ (scope : ℕ → List ℕ → Outcome Told) (hs : List ℕ) (gs : List 
       pub start-is : start ≡ length (done .numbers)
       pub arms-many : n ≡ length (done .arms)
       pub numbers-are : take (length (done .numbers)) numbers ≡ done .numbers
-      pub sizes-are : take (length (map length (done .arms))) sizes ≡ map length (done .arms)
+      pub to-is : to ≡ length (joined-groups (done .arms))
+      pub stops-are : take (length (ends-from 0 (done .arms))) stops ≡ ends-from 0 (done .arms)
+      pub kept-is : kept ≡ overlay 0 (joined-groups (done .arms)) old
 
-    pub walk-begin : (numbers sizes : List ℕ) → Walk-so 0 next 0 0 numbers sizes
-    unfolding walked
-    walk-begin numbers sizes =
-        record { done = record { numbers = []; arms = []; next = next; extracted = 0 }; told = refl; number-is = refl; extracted-is = refl; start-is = refl; arms-many = refl; numbers-are = refl; sizes-are = refl }
+    pub walk-begin : (numbers stops : List ℕ) → Walk-so 0 next 0 0 0 numbers stops old
+    unfolding walked joined-groups ends-from
+    walk-begin numbers stops =
+        record {
+          done = record { numbers = []; arms = []; next = next; extracted = 0 };
+          told = refl;
+          number-is = refl;
+          extracted-is = refl;
+          start-is = refl;
+          arms-many = refl;
+          numbers-are = refl;
+          to-is = refl;
+          stops-are = refl;
+          kept-is = sym (overlay-none 0 old);
+        }
 
-    module _ (n number extracted start : ℕ) (numbers sizes : List ℕ) (so : Walk-so n number extracted start numbers sizes) (r : Armed)
-        (given : r ≡ arms-answer (group-told scope hs (group-at gs n) number) 0) where
+    module _ (n number extracted start to : ℕ) (numbers stops kept : List ℕ) (so : Walk-so n number extracted start to numbers stops kept) (r : Armed) (kept' : List ℕ)
+        (given : (r ≡ arms-answer (group-told scope hs (group-at gs n) number) to) × Arms-wrote (group-told scope hs (group-at gs n) number) to kept kept') where
       abbrev Step-by : Armed → Type 0
-      Step-by (armed.Rows size after more) =
-          (count : ℕ) → count ≡ length (group-at gs n) → (end : ℕ) → end ≡ start + count → start + count ≤ length numbers → n < length sizes
-          → (numbers' : List ℕ) → numbers' ≡ overlay start (numbers-from number count) numbers → Walk-so (n + 1) after (extracted + more) end numbers' (set sizes n size)
+      Step-by (armed.Rows place after more) =
+          (count : ℕ) → count ≡ length (group-at gs n) → (end : ℕ) → end ≡ start + count → start + count ≤ length numbers → n < length stops
+          → (numbers' : List ℕ) → numbers' ≡ overlay start (numbers-from number count) numbers → Walk-so (n + 1) after (extracted + more) end place numbers' (set stops n place) kept'
       Step-by (armed.Refused q) = (i : Refusal) × (walked scope hs gs next (suc n) ≡ refused i) × (i .number ≡ q)
 
-      step-ok : (a : Arms-told) → group-told scope hs (group-at gs n) number ≡ ok a → Step-by (armed.Rows (0 + length (a .words)) (a .next) (a .extracted))
-      step-ok a e count c end f fits inside numbers' p =
+      step-ok : (a : Arms-told) → group-told scope hs (group-at gs n) number ≡ ok a → kept' ≡ overlay to (a .words) kept → Step-by (armed.Rows (to + length (a .words)) (a .next) (a .extracted))
+      step-ok a e w count c end f fits inside numbers' p =
           let d = so .done in
           let nums = numbers-from (d .next) (length (group-at gs n)) in
           let k : length nums ≡ count = numbers-count (d .next) (length (group-at gs n)) ∙ sym c in
@@ -126,41 +149,48 @@ module _ (scope : ℕ → List ℕ → Outcome Told) (hs : List ℕ) (gs : List 
             numbers-are =
                 ap (take (length (d .numbers ++ nums))) (p ∙ ap (λ (l : List ℕ). overlay start l numbers) same)
                 ∙ front-grows (d .numbers) nums numbers start (so .start-is) (so .numbers-are) (omega (arith, k, fits));
-            sizes-are =
-                let m = map length (d .arms) in
-                let size = 0 + length (a .words) in
-                let z : map length (d .arms ++ (a .words ∷ [])) ≡ m ++ (size ∷ []) = map-more (d .arms) (a .words) ∙ ap (λ (j : ℕ). m ++ (j ∷ [])) (omega arith) in
-                ap₂ (λ (l : List ℕ) (s : List ℕ). take (length l) s) z (sym (overlay-word n size sizes))
-                ∙ (front-grows m (size ∷ []) sizes n (so .arms-many ∙ sym (map-long (d .arms))) (so .sizes-are) (omega (arith, inside)) ∙ sym z);
+            to-is = omega (arith, so .to-is, ap length (joined-more (d .arms) (a .words)), length-append (joined-groups (d .arms)) (a .words));
+            stops-are =
+                let m = ends-from 0 (d .arms) in
+                let place = to + length (a .words) in
+                let z : ends-from 0 (d .arms ++ (a .words ∷ [])) ≡ m ++ (place ∷ []) = ends-more 0 (d .arms) (a .words) ∙ ap (λ (j : ℕ). m ++ (j ∷ [])) (omega (arith, so .to-is)) in
+                ap₂ (λ (l : List ℕ) (s : List ℕ). take (length l) s) z (sym (overlay-word n place stops))
+                ∙ (front-grows m (place ∷ []) stops n (so .arms-many ∙ sym (ends-count 0 (d .arms))) (so .stops-are) (omega (arith, inside)) ∙ sym z);
+            kept-is =
+                let j = joined-groups (d .arms) in
+                let z : to ≡ 0 + length j = omega (arith, so .to-is) in
+                w
+                ∙ (ap₂ (λ (k : ℕ) (t : List ℕ). overlay k (a .words) t) z (so .kept-is)
+                ∙ (sym (overlay-append 0 j (a .words) old) ∙ ap (λ (l : List ℕ). overlay 0 l old) (sym (joined-more (d .arms) (a .words)))));
           }
 
-      step-by-outcome : (o : Outcome Arms-told) → group-told scope hs (group-at gs n) number ≡ o → Step-by (arms-answer o 0)
+      step-by-outcome : (o : Outcome Arms-told) → group-told scope hs (group-at gs n) number ≡ o → Arms-wrote o to kept kept' → Step-by (arms-answer o to)
       unfolding arms-answer
-      step-by-outcome (ok a) e = step-ok a e
-      step-by-outcome (refused i) e = (i, walked-stop next n (so .done) i (so .told) (subst (λ (j : ℕ). group-told scope hs (group-at gs n) j ≡ refused i) (so .number-is) e), refl)
+      step-by-outcome (ok a) e w = step-ok a e w
+      step-by-outcome (refused i) e w = (i, walked-stop next n (so .done) i (so .told) (subst (λ (j : ℕ). group-told scope hs (group-at gs n) j ≡ refused i) (so .number-is) e), refl)
 
       step-by : Step-by r
-      step-by = subst Step-by (sym given) (step-by-outcome (group-told scope hs (group-at gs n) number) refl)
+      step-by = subst Step-by (sym (given .0)) (step-by-outcome (group-told scope hs (group-at gs n) number) refl (given .1))
 
-      pub walk-goes-on : (size after more : ℕ) → r ≡ armed.Rows size after more → Step-by (armed.Rows size after more)
-      walk-goes-on size after more e = subst Step-by e step-by
+      pub walk-goes-on : (place after more : ℕ) → r ≡ armed.Rows place after more → Step-by (armed.Rows place after more)
+      walk-goes-on place after more e = subst Step-by e step-by
 
-      pub walk-ends-refused : (count : ℕ) → n < count → (q : ℕ) → r ≡ armed.Refused q → (z : ℕ) → z ≡ refusal-number r → (numbers' sizes' : List ℕ)
-          → (walked-enum.Refused z ≡ walk-answer (walked scope hs gs next count)) × Walk-wrote (walked scope hs gs next count) numbers' sizes'
+      pub walk-ends-refused : (count : ℕ) → n < count → (q : ℕ) → r ≡ armed.Refused q → (z : ℕ) → z ≡ refusal-number r → (numbers' stops' last : List ℕ)
+          → (walked-enum.Refused z ≡ walk-answer (walked scope hs gs next count)) × Walk-wrote (walked scope hs gs next count) numbers' stops' old last
       unfolding refusal-number walk-answer
-      walk-ends-refused count h q e z f numbers' sizes' =
+      walk-ends-refused count h q e z f numbers' stops' last =
           let m = subst Step-by e step-by in
           let s : walked scope hs gs next count ≡ refused (m .0) = subst (λ (k : ℕ). walked scope hs gs next k ≡ refused (m .0)) (omega arith) (walked-stopped next (suc n) (count - suc n) (m .0) (m .1)) in
           let y : z ≡ m .0 .number = f ∙ (ap refusal-number e ∙ sym (m .2)) in
-          subst (λ (o : Outcome Walk). (walked-enum.Refused z ≡ walk-answer o) × Walk-wrote o numbers' sizes') (sym s) (ap (λ (k : ℕ). walked-enum.Refused k) y, tt)
+          subst (λ (o : Outcome Walk). (walked-enum.Refused z ≡ walk-answer o) × Walk-wrote o numbers' stops' old last) (sym s) (ap (λ (k : ℕ). walked-enum.Refused k) y, tt)
 
-    pub walk-all : (n number extracted start : ℕ) (numbers sizes : List ℕ) → Walk-so n number extracted start numbers sizes → (count : ℕ) → n ≡ count
-        → (walked-enum.Done number extracted ≡ walk-answer (walked scope hs gs next count)) × Walk-wrote (walked scope hs gs next count) numbers sizes
+    pub walk-all : (n number extracted start to : ℕ) (numbers stops kept : List ℕ) → Walk-so n number extracted start to numbers stops kept → (count : ℕ) → n ≡ count
+        → (walked-enum.Done number extracted ≡ walk-answer (walked scope hs gs next count)) × Walk-wrote (walked scope hs gs next count) numbers stops old kept
     unfolding walk-answer
-    walk-all n number extracted start numbers sizes so count e =
+    walk-all n number extracted start to numbers stops kept so count e =
         let s : walked scope hs gs next count ≡ ok (so .done) = subst (λ (k : ℕ). walked scope hs gs next k ≡ ok (so .done)) e (so .told) in
-        subst (λ (o : Outcome Walk). (walked-enum.Done number extracted ≡ walk-answer o) × Walk-wrote o numbers sizes) (sym s)
-        (ap₂ walked-enum.Done (so .number-is) (so .extracted-is), (so .numbers-are, ap (λ (k : ℕ). take k sizes) (sym (map-long (so .done .arms))) ∙ so .sizes-are))
+        subst (λ (o : Outcome Walk). (walked-enum.Done number extracted ≡ walk-answer o) × Walk-wrote o numbers stops old kept) (sym s)
+        (ap₂ walked-enum.Done (so .number-is) (so .extracted-is), (so .numbers-are, ap (λ (k : ℕ). take k stops) (sym (ends-count 0 (so .done .arms))) ∙ so .stops-are, so .kept-is))
 
 -- ---- one group of those walked
 

@@ -2,8 +2,8 @@
 use Prim.Native.Nat.{ℕ, zero, suc, _+_, _-_, _*_, _≤_, _<_}
 use native.Mathlib.Omega.{arith}
 use mathlib.Core.Path.{_≡_, refl, sym, _∙_, ap, subst}
-use mathlib.Core.List.{List, [], _∷_, _++_, map}
-use lib.ListN.{length, getD, take, drop}
+use mathlib.Core.List.{List, [], _∷_}
+use lib.ListN.{length, getD, take, drop, length-append}
 use lib.Dec.{T}
 use Rattle.tree.specs.Outcome.{Outcome, ok, refused}
 use Rattle.tree.specs.Rows.{Row}
@@ -13,13 +13,20 @@ use Rattle.scopeplaces.specs.Whole.{Told, Arms-told, Walk, walked, group-told}
 use Rattle.kept.proofs.Steps.{ready-of}
 use Rattle.scopesound.proofs.Columns.{groups-count}
 use Rattle.scopesound.proofs.Counting.{switches-few}
-use Rattle.scopesound.proofs.Bounds.{Walk-bound, walk-bound}
-use Rattle.scope.specs.Answers.{inner, arms-answer}
+use Rattle.scopesound.proofs.Sums.{sum-each}
+use Rattle.scopesound.proofs.Bounds.{per-match, per-number, Walk-bound, walk-bound}
+use Rattle.scope.specs.Answers.{inner, arms-answer, Arms-wrote}
 use Rattle.scope.specs.Frame.{Lent, Holds, Is-group, Members}
 use Rattle.scope.specs.declared.Armed.{Armed}
 use Rattle.scopeparts.proofs.Groups.{ends-count, end-is, group-long, group-inside, group-part}
 use Rattle.scope.proofs.Sound.{words-ok, all-few, holds-later}
 use Rattle.scope.proofs.WalkLaws.{Walk-so}
+
+-- all rows of arms are paid for
+pub joined-low : (l : List (List ℕ)) → length (joined-groups l) ≤ sum-each (λ (run : List ℕ). per-match + length run) l
+unfolding joined-groups sum-each
+joined-low [] = omega arith
+joined-low (x ∷ l) = (let r = joined-low l in let a = length-append x (joined-groups l) in omega arith)
 
 module _ (rows : List Row) (fuel next : ℕ) (held members ends : List ℕ) (h : Holds rows next held) (m : Members held members ends) (low : next ≤ 4294967296) where
   abbrev gs : List (List ℕ)
@@ -33,7 +40,7 @@ module _ (rows : List Row) (fuel next : ℕ) (held members ends : List ℕ) (h :
       let r = ready-of rows next held (h .good) in
       omega (arith, ends-many, groups-count held (r .trees) (r .complete), switches-few rows held (words-ok rows next held h) (r .trees) (r .complete), h .few)
 
-  module _ (n number extracted start : ℕ) (numbers sizes : List ℕ) (so : Walk-so (inner rows fuel) held gs next n number extracted start numbers sizes) where
+  module _ (old : List ℕ) (n number extracted start to : ℕ) (numbers stops kept : List ℕ) (so : Walk-so (inner rows fuel) held gs next old n number extracted start to numbers stops kept) where
     pub so-bound : n ≤ length ends → Walk-bound gs next n (so .done)
     so-bound l = walk-bound rows (is-number rows) fuel next held (h .good) (h .pass) (words-ok rows next held h) n (omega (arith, ends-many)) (so .done) (so .told)
 
@@ -45,6 +52,10 @@ module _ (rows : List Row) (fuel next : ℕ) (held members ends : List ℕ) (h :
 
     pub made-low : n ≤ length ends → extracted ≤ 4294967296
     made-low l = let b = so-bound l in omega (arith, so .extracted-is, so .number-is, number-low l, b .made)
+
+    -- the rows kept so far
+    pub to-low : n ≤ length ends → to ≤ 288230376151711744
+    to-low l = let b = so-bound l in omega (arith, so .to-is, joined-low (so .done .arms), b .rows, b .most 4294967296 low (omega arith))
 
     module _ (l : n < length ends) where
       inside : n < length gs
@@ -71,9 +82,12 @@ module _ (rows : List Row) (fuel next : ℕ) (held members ends : List ℕ) (h :
       pub group-here : Is-group held (take (getD ends n 0 - start) (drop start members))
       group-here = record { number = n; there = inside; is = members-here }
 
-      pub answer-here : (r : Armed) → r ≡ arms-answer (group-told (inner rows fuel) held (take (getD ends n 0 - start) (drop start members)) number) 0
-          → r ≡ arms-answer (group-told (inner rows fuel) held (group-at gs n) number) 0
-      answer-here r e = subst (λ (z : List ℕ). r ≡ arms-answer (group-told (inner rows fuel) held z number) 0) members-here e
+      pub answer-here : (r : Armed) (new : List ℕ)
+          → (r ≡ arms-answer (group-told (inner rows fuel) held (take (getD ends n 0 - start) (drop start members)) number) to)
+          × Arms-wrote (group-told (inner rows fuel) held (take (getD ends n 0 - start) (drop start members)) number) to kept new
+          → (r ≡ arms-answer (group-told (inner rows fuel) held (group-at gs n) number) to) × Arms-wrote (group-told (inner rows fuel) held (group-at gs n) number) to kept new
+      answer-here r new e =
+          subst (λ (z : List ℕ). (r ≡ arms-answer (group-told (inner rows fuel) held z number) to) × Arms-wrote (group-told (inner rows fuel) held z number) to kept new) members-here e
 
       pub count-here : getD ends n 0 - start ≡ length (group-at gs n)
       count-here = omega (arith, end-long)

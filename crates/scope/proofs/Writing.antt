@@ -26,7 +26,7 @@ pub match-is : (hs : List ℕ) (gs : List (List ℕ)) (numbers arms : List ℕ) 
 unfolding match-run head-run
 match-is hs gs numbers arms g = ap (λ (l : List ℕ). match-head hs gs numbers g ∷ l) (sym (append-assoc (key-run hs gs numbers g) (names-run hs gs numbers g) arms))
 
-module _ (rows : List Row) (fuel : ℕ) (held members ends numbers : List ℕ) (g size at : ℕ) where
+module _ (rows : List Row) (fuel : ℕ) (held members ends numbers : List ℕ) (g from size : ℕ) (kept : List ℕ) (at : ℕ) where
   abbrev gs : List (List ℕ)
   gs = place-groups held
 
@@ -42,7 +42,7 @@ module _ (rows : List Row) (fuel : ℕ) (held members ends numbers : List ℕ) (
   abbrev head : List ℕ
   head = head-run held gs numbers g
 
-  module _ (h : Holds rows first held) (gr : Grouped held members ends numbers) (sz : Group-sized rows fuel held numbers g size) (l : g < length ends) (fits : at + length run ≤ most-rows) where
+  module _ (h : Holds rows first held) (gr : Grouped held members ends numbers) (sz : Group-sized rows fuel held numbers g from size kept) (l : g < length ends) (fits : at + length run ≤ most-rows) where
     arms-are : arms-rows ≡ sz .arms .words
     unfolding words-of
     arms-are = ap words-of (sz .told)
@@ -166,3 +166,19 @@ module _ (rows : List Row) (fuel : ℕ) (held members ends numbers : List ℕ) (
           ∙ (overlay-append at head arms-rows old
           ∙ (ap₂ (λ (k : ℕ) (t : List ℕ). overlay k arms-rows t) (sym bodied) (sym headed) ∙ overlay-past body arms-rows table past))),
     )
+
+    -- where the arms' rows are kept they are copied
+    pub kept-low : from + size ≤ 9223372036854775808
+    kept-low = sz .low
+
+    pub match-kept : (old table new : List ℕ) → table ≡ overlay at head old → (body : ℕ) → body ≡ at + length head → from + size ≤ length kept
+        → new ≡ overlay body (take ((from + size) - from) (drop from kept)) table → (body + size ≡ at + length run) × (new ≡ overlay at run old)
+    match-kept old table new headed body bodied within copied =
+        let same : (from + size) - from ≡ size = omega arith in
+        let part : take ((from + size) - from) (drop from kept) ≡ sz .arms .words = ap (λ (k : ℕ). take k (drop from kept)) same ∙ sz .here within in (
+          omega (arith, bodied, run-long),
+          copied
+              ∙ (ap (λ (z : List ℕ). overlay body z table) part
+              ∙ (ap₂ (λ (k : ℕ) (t : List ℕ). overlay k (sz .arms .words) t) bodied headed
+              ∙ (sym (overlay-append at head (sz .arms .words) old) ∙ ap (λ (z : List ℕ). overlay at z old) (ap (λ (z : List ℕ). head ++ z) (sym arms-are) ∙ sym (match-is held gs numbers arms-rows g))))),
+        )

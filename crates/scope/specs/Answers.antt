@@ -2,7 +2,7 @@
 use Prim.Native.Nat.{ℕ, suc, _+_, _≤_, _<_}
 use mathlib.Core.Path.{_≡_}
 use mathlib.Core.Bool.{true}
-use mathlib.Core.List.{List, [], _∷_, map}
+use mathlib.Core.List.{List, [], _∷_}
 use lib.ListN.{length, take}
 use Rattle.tree.specs.Outcome.{Refusal, Outcome, ok, refused, _>>=_}
 use Rattle.tree.specs.Rows.{Row}
@@ -12,6 +12,7 @@ use Rattle.switchplaces.specs.Columns.{column-words}
 use Rattle.renaming.specs.Places.{divisors-to-bind}
 use Rattle.rounds.specs.Rounds.{all-rounds}
 use Rattle.scopeplaces.specs.Overlay.{overlay}
+use Rattle.scopeplaces.specs.Parts.{joined-groups, ends-from}
 use Rattle.scopeplaces.specs.Whole.{Told, Arms-told, Walk, scope-told}
 use Rattle.scope.specs.declared.Scoped.{Scoped}
 use Rattle.scope.specs.declared.Scoped.the-variants as scoped
@@ -78,10 +79,12 @@ unfoldable pub walk-answer : Outcome Walk → Walked
 walk-answer (ok l) = walked.Done (l .next) (l .extracted)
 walk-answer (refused i) = walked.Refused (i .number)
 
--- the numbers of all members stand in front, and so do the numbers of rows of each group's arms; where the groups are refused both are free
-abbrev pub Walk-wrote : Outcome Walk → List ℕ → List ℕ → Type 0
-Walk-wrote (ok l) numbers sizes = (take (length (l .numbers)) numbers ≡ l .numbers) × (take (length (l .arms)) sizes ≡ map length (l .arms))
-Walk-wrote (refused i) numbers sizes = Unit {0}
+-- The numbers of all members stand in front, and so do the places where each group's arms end among the rows of all, which are laid over what is kept. Where the groups
+-- are refused all are free.
+abbrev pub Walk-wrote : Outcome Walk → List ℕ → List ℕ → List ℕ → List ℕ → Type 0
+Walk-wrote (ok l) numbers stops old kept =
+    (take (length (l .numbers)) numbers ≡ l .numbers) × (take (length (l .arms)) stops ≡ ends-from 0 (l .arms)) × (kept ≡ overlay 0 (joined-groups (l .arms)) old)
+Walk-wrote (refused i) numbers stops old kept = Unit {0}
 
 -- the rows of the groups' arms
 unfoldable pub arms-of : Outcome Walk → List (List ℕ)

@@ -2,10 +2,10 @@
 -- numbered. Assumes nothing.
 use Prim.Native.Nat.{ℕ, suc, _+_, _-_, _*_, _≤_, _<_}
 use mathlib.Core.Path.{_≡_}
-use mathlib.Core.List.{List, map}
+use mathlib.Core.List.{List}
 use mathlib.Core.Bool.{true}
 use mathlib.Core.Option.{some}
-use lib.ListN.{length, getD, take}
+use lib.ListN.{length, getD, take, drop}
 use lib.Dec.{T}
 use Rattle.tree.specs.Outcome.{Outcome, ok, _>>=_}
 use Rattle.tree.specs.Rows.{Row}
@@ -18,6 +18,7 @@ use Rattle.treelist.specs.Starts.{starts-of}
 use Rattle.reciprocal.specs.Bindings.{all-there}
 use Rattle.switchplaces.specs.Switches.{arm-count}
 use Rattle.switchplaces.specs.Columns.{column-words}
+use Rattle.scopeplaces.specs.Overlay.{overlay}
 use Rattle.scopeplaces.specs.Parts.{place-groups, joined-groups, ends-from, group-at, group-start, reciprocals-first, lets-count, held-words}
 use Rattle.cse.specs.Scope.{most-number}
 use Rattle.scopeplaces.specs.Whole.{Told, Arms-told, Walk, arms-told, group-told, walked, ordered-scope, stmts-count}
@@ -83,16 +84,18 @@ unfolding groups-told held-words reciprocals-first ordered-scope
 grouped-scope rows fuel row ws k first places =
     groups-told rows fuel (reciprocals-first ws k first places + length places) (held-words ws k first places) >>= λ l. ordered-scope row ws k first places l
 
--- the members' numbers and how many rows each group's arms are
-pub record Sized (rows : List Row) (fuel next : ℕ) (held numbers sizes : List ℕ) : Type 0 where
+-- the members' numbers, where each group's arms end among the rows of all, and these laid over some words
+pub record Sized (rows : List Row) (fuel next : ℕ) (held numbers stops kept : List ℕ) : Type 0 where
   pub walk : Walk
+  pub old : List ℕ
   pub told : groups-told rows fuel next held ≡ ok walk
   pub numbers-are : numbers ≡ walk .numbers
-  pub sizes-are : sizes ≡ map length (walk .arms)
+  pub stops-are : stops ≡ ends-from 0 (walk .arms)
+  pub kept-is : kept ≡ overlay 0 (joined-groups (walk .arms)) old
 
 -- and the next number and the extraction count after them
-pub record Numbered (rows : List Row) (fuel next : ℕ) (held numbers sizes : List ℕ) (after extracted : ℕ) : Type 0 where
-  pub sized : Sized rows fuel next held numbers sizes
+pub record Numbered (rows : List Row) (fuel next : ℕ) (held numbers stops kept : List ℕ) (after extracted : ℕ) : Type 0 where
+  pub sized : Sized rows fuel next held numbers stops kept
   pub after-is : after ≡ sized .walk .next
   pub extracted-is : extracted ≡ sized .walk .extracted
 
@@ -101,11 +104,13 @@ unfoldable pub group-again : List Row → ℕ → List ℕ → List ℕ → ℕ 
 unfolding group-told group-at group-start place-groups
 group-again rows fuel held numbers g = group-told (inner rows fuel) held (group-at (place-groups held) g) (getD numbers (group-start (place-groups held) g) 0)
 
--- they are done, and this many rows
-pub record Group-sized (rows : List Row) (fuel : ℕ) (held numbers : List ℕ) (g size : ℕ) : Type 0 where
+-- they are done and this many rows, which stand in what is kept, if they all do, from a place on
+pub record Group-sized (rows : List Row) (fuel : ℕ) (held numbers : List ℕ) (g from size : ℕ) (kept : List ℕ) : Type 0 where
   pub arms : Arms-told
   pub told : group-again rows fuel held numbers g ≡ ok arms
   pub size-is : size ≡ length (arms .words)
+  pub low : from + size ≤ most-rows
+  pub here : from + size ≤ length kept → take size (drop from kept) ≡ arms .words
 
 -- the rows of all groups' arms
 unfoldable pub scope-arms : List Row → ℕ → List ℕ → ℕ → ℕ → List ℕ → List (List ℕ)

@@ -1,6 +1,6 @@
 // One scope of the scoped form on words, `cse_scope` of the source (01, "Scoped fusion"): rounds, reciprocals, switches outside arms fused by group into matches, each
 // arm a scope of its own, and the statements in the order of their needs. An arm's scope works in the part of the work area after its caller's words. Arms are
-// measured first, which finds every refusal before anything is written, and scoped again where their rows are written.
+// done first, which finds every refusal before anything is written, and their rows are kept; those that don't fit are made again where they are written.
 ghost use mathlib.Core.Path.{_≡_};
 ghost use mathlib.Core.Option.{some};
 ghost use mathlib.Core.List.{[], _∷_, _++_};
@@ -54,6 +54,9 @@ const PART: usize = 7281;
 
 // The most statements of a scope.
 const MOST_STMTS: usize = 2048;
+
+// The rows of arms that a scope keeps.
+const KEPT: usize = 2048;
 
 // The largest number that a scope may start with.
 const MOST_NUMBER: u64 = 2147483648;
@@ -327,7 +330,7 @@ fn arms(
     Armed::Rows(end, number, extracted)
 }
 
-// The arms of a group without their rows written: a table of no rows takes none.
+// The arms of a group, their rows laid over what is kept from a place on, those past its end dropped.
 fn measure(
     rows: &[u64],
     work: &mut [u64],
@@ -336,14 +339,16 @@ fn measure(
     fuel: usize,
     next: u64,
     text: &mut [u8],
+    at: usize,
+    kept: &mut [u64],
 ) -> Armed
     requires { ⌜ Lent fuel (now work) (now text) × Holds (rows-in (now rows)) next (now held) ⌝ }
-    requires { ⌜ Is-group (now held) (now group) × (next ≤ 4294967296) ⌝ }
-    ensures { λ r. ⌜ r ≡ arms-answer (group-told (inner (rows-in (now (rows .entry))) fuel) (now (held .entry)) (now (group .entry)) next) 0 ⌝ }
+    requires { ⌜ Is-group (now held) (now group) × (next ≤ 4294967296) × (at ≤ 288230376151711744) ⌝ }
+    ensures { λ r. ⌜ (r ≡ arms-answer (group-told (inner (rows-in (now (rows .entry))) fuel) (now (held .entry)) (now (group .entry)) next) at)
+        × Arms-wrote (group-told (inner (rows-in (now (rows .entry))) fuel) (now (held .entry)) (now (group .entry)) next) at (now (kept .entry)) (now (kept .exit)) ⌝ }
 {
-    let mut none = [0u64; 0];
     let first = next + group.len() as u64;
-    arms(rows, work, held, group, fuel, first, text, 0, &mut none)
+    arms(rows, work, held, group, fuel, first, text, at, kept)
 }
 
 // The numbers of a group's members.
@@ -358,7 +363,8 @@ fn number_members(first: u64, count: usize, at: usize, numbers: &mut [u64])
     }
 }
 
-// The groups in order: their members take numbers, and their arms are measured.
+// The groups in order: their members take numbers, and their arms are done. The arms' rows stand one after another in what is kept, and `stops` says where each group's
+// end there.
 fn walk(
     rows: &[u64],
     work: &mut [u64],
@@ -369,36 +375,49 @@ fn walk(
     next: u64,
     text: &mut [u8],
     numbers: &mut [u64],
-    sizes: &mut [u64],
+    stops: &mut [u64],
+    kept: &mut [u64],
 ) -> Walked
     requires { ⌜ Lent fuel (now work) (now text) × Holds (rows-in (now rows)) next (now held) ⌝ }
     requires { ⌜ Members (now held) (now members) (now ends) × (next ≤ 4294967296) ⌝ }
-    requires { ⌜ (length (now members) ≤ length (now numbers)) × (length (now ends) ≤ length (now sizes)) ⌝ }
+    requires { ⌜ (length (now members) ≤ length (now numbers)) × (length (now ends) ≤ length (now stops)) ⌝ }
     ensures { λ r. ⌜ (r ≡ walk-answer (groups-told (rows-in (now (rows .entry))) fuel next (now (held .entry))))
-        × Walk-wrote (groups-told (rows-in (now (rows .entry))) fuel next (now (held .entry))) (now (numbers .exit)) (now (sizes .exit)) ⌝ }
+        × Walk-wrote (groups-told (rows-in (now (rows .entry))) fuel next (now (held .entry))) (now (numbers .exit)) (now (stops .exit)) (now (kept .entry)) (now (kept .exit)) ⌝ }
 {
     let mut number = next;
     let mut extracted = 0;
     let mut start = 0;
+    let mut to = 0;
     let mut g = 0;
     while g < ends.len() {
         let end = ends[g] as usize;
         number_members(number, end - start, start, numbers);
-        let armed = measure(rows, work, held, &members[start..end], fuel, number, text);
-        let Armed::Rows(size, after, more) = armed else {
+        let armed = measure(
+            rows,
+            work,
+            held,
+            &members[start..end],
+            fuel,
+            number,
+            text,
+            to,
+            kept,
+        );
+        let Armed::Rows(place, after, more) = armed else {
             return Walked::Refused(refusal_of(armed));
         };
-        sizes[g] = size as u64;
+        stops[g] = place as u64;
         number = after;
         extracted += more;
         start = end;
+        to = place;
         g += 1;
     }
     Walked::Done(number, extracted)
 }
 
-// The rows of the match of group g: those before its arms, and its arms', which are scoped again unless none of their rows has a place in the table. That they are
-// refused now never comes up.
+// The rows of the match of group g: those before its arms, and its arms', which stand in what is kept or else are made again, unless none of them has a place in the
+// table. That they are refused now never comes up.
 fn write_match(
     rows: &[u64],
     work: &mut [u64],
@@ -407,20 +426,26 @@ fn write_match(
     ends: &[u64],
     numbers: &[u64],
     g: usize,
+    from: usize,
     size: usize,
+    kept: &[u64],
     fuel: usize,
     text: &mut [u8],
     at: usize,
     table: &mut [u64],
 ) -> usize
     requires { ⌜ Lent fuel (now work) (now text) × Holds (rows-in (now rows)) (getD (now numbers) (group-start (place-groups (now held)) g) 0) (now held) ⌝ }
-    requires { ⌜ Grouped (now held) (now members) (now ends) (now numbers) × Group-sized (rows-in (now rows)) fuel (now held) (now numbers) g size ⌝ }
+    requires { ⌜ Grouped (now held) (now members) (now ends) (now numbers) × Group-sized (rows-in (now rows)) fuel (now held) (now numbers) g from size (now kept) ⌝ }
     requires { ⌜ (g < length (now ends)) × (at + length (match-run (now held) (place-groups (now held)) (now numbers) (words-of (group-again (rows-in (now rows)) fuel (now held) (now numbers) g)) g) ≤ most-rows) ⌝ }
     ensures { λ r. ⌜ (r ≡ at + length (match-run (now (held .entry)) (place-groups (now (held .entry))) (now (numbers .entry)) (words-of (group-again (rows-in (now (rows .entry))) fuel (now (held .entry)) (now (numbers .entry)) g)) g))
         × (now (table .exit) ≡ overlay at (match-run (now (held .entry)) (place-groups (now (held .entry))) (now (numbers .entry)) (words-of (group-again (rows-in (now (rows .entry))) fuel (now (held .entry)) (now (numbers .entry)) g)) g) (now (table .entry))) ⌝ }
 {
     let body = write_match_head(held, members, ends, numbers, g, at, table);
     if body >= table.len() {
+        return body + size;
+    }
+    if from + size <= kept.len() {
+        put(&kept[from..from + size], body, table);
         return body + size;
     }
     let start = group_begin(ends, g);
@@ -456,7 +481,8 @@ fn write_stmt(
     members: &[u64],
     ends: &[u64],
     numbers: &[u64],
-    sizes: &[u64],
+    stops: &[u64],
+    kept: &[u64],
     p: usize,
     fuel: usize,
     text: &mut [u8],
@@ -464,7 +490,7 @@ fn write_stmt(
     table: &mut [u64],
 ) -> usize
     requires { ⌜ Lent fuel (now work) (now text) × Holds (rows-in (now rows)) (reciprocals-first (now tokens) results first (now places) + length (now places)) (now held) ⌝ }
-    requires { ⌜ Prepared (now tokens) results first (now places) (now held) (now starts) (now members) (now ends) (now numbers) × Sized (rows-in (now rows)) fuel (reciprocals-first (now tokens) results first (now places) + length (now places)) (now held) (now numbers) (now sizes) ⌝ }
+    requires { ⌜ Prepared (now tokens) results first (now places) (now held) (now starts) (now members) (now ends) (now numbers) × Sized (rows-in (now rows)) fuel (reciprocals-first (now tokens) results first (now places) + length (now places)) (now held) (now numbers) (now stops) (now kept) ⌝ }
     requires { ⌜ (p < stmts-count (now tokens) results first (now places) (now numbers)) × (at + length (stmt-run (now tokens) results first (now places) (now numbers) (scope-arms (rows-in (now rows)) fuel (now tokens) results first (now places)) p) ≤ most-rows) ⌝ }
     ensures { λ r. ⌜ (r ≡ at + length (stmt-run (now (tokens .entry)) results first (now (places .entry)) (now (numbers .entry)) (scope-arms (rows-in (now (rows .entry))) fuel (now (tokens .entry)) results first (now (places .entry))) p))
         × (now (table .exit) ≡ overlay at (stmt-run (now (tokens .entry)) results first (now (places .entry)) (now (numbers .entry)) (scope-arms (rows-in (now (rows .entry))) fuel (now (tokens .entry)) results first (now (places .entry))) p) (now (table .entry))) ⌝ }
@@ -486,7 +512,8 @@ fn write_stmt(
         );
     }
     let g = p - lets;
-    let size = sizes[g] as usize;
+    let from = group_begin(stops, g);
+    let size = stops[g] as usize - from;
     write_match(
         rows,
         work,
@@ -495,7 +522,9 @@ fn write_stmt(
         ends,
         numbers,
         g,
+        from,
         size,
+        kept,
         fuel,
         text,
         at,
@@ -516,7 +545,8 @@ fn write_stmts(
     members: &[u64],
     ends: &[u64],
     numbers: &[u64],
-    sizes: &[u64],
+    stops: &[u64],
+    kept: &[u64],
     taken: &[u64],
     fuel: usize,
     text: &mut [u8],
@@ -524,7 +554,7 @@ fn write_stmts(
     table: &mut [u64],
 ) -> usize
     requires { ⌜ Lent fuel (now work) (now text) × Holds (rows-in (now rows)) (reciprocals-first (now tokens) results first (now places) + length (now places)) (now held) ⌝ }
-    requires { ⌜ Prepared (now tokens) results first (now places) (now held) (now starts) (now members) (now ends) (now numbers) × Sized (rows-in (now rows)) fuel (reciprocals-first (now tokens) results first (now places) + length (now places)) (now held) (now numbers) (now sizes) ⌝ }
+    requires { ⌜ Prepared (now tokens) results first (now places) (now held) (now starts) (now members) (now ends) (now numbers) × Sized (rows-in (now rows)) fuel (reciprocals-first (now tokens) results first (now places) + length (now places)) (now held) (now numbers) (now stops) (now kept) ⌝ }
     requires { ⌜ Positions (now taken) (stmts-count (now tokens) results first (now places) (now numbers)) × (at + length (stmts-runs (now tokens) results first (now places) (now numbers) (scope-arms (rows-in (now rows)) fuel (now tokens) results first (now places)) (now taken) (length (now taken))) ≤ most-rows) ⌝ }
     ensures { λ r. ⌜ (r ≡ at + length (stmts-runs (now (tokens .entry)) results first (now (places .entry)) (now (numbers .entry)) (scope-arms (rows-in (now (rows .entry))) fuel (now (tokens .entry)) results first (now (places .entry))) (now (taken .entry)) (length (now (taken .entry)))))
         × (now (table .exit) ≡ overlay at (stmts-runs (now (tokens .entry)) results first (now (places .entry)) (now (numbers .entry)) (scope-arms (rows-in (now (rows .entry))) fuel (now (tokens .entry)) results first (now (places .entry))) (now (taken .entry)) (length (now (taken .entry)))) (now (table .entry))) ⌝ }
@@ -545,7 +575,8 @@ fn write_stmts(
             members,
             ends,
             numbers,
-            sizes,
+            stops,
+            kept,
             p,
             fuel,
             text,
@@ -570,7 +601,8 @@ fn write_scope(
     members: &[u64],
     ends: &[u64],
     numbers: &[u64],
-    sizes: &[u64],
+    stops: &[u64],
+    kept: &[u64],
     fuel: usize,
     row: u64,
     after: u64,
@@ -580,7 +612,7 @@ fn write_scope(
     table: &mut [u64],
 ) -> Scoped
     requires { ⌜ Lent fuel (now work) (now text) × Holds (rows-in (now rows)) (reciprocals-first (now tokens) results first (now places) + length (now places)) (now held) ⌝ }
-    requires { ⌜ Prepared (now tokens) results first (now places) (now held) (now starts) (now members) (now ends) (now numbers) × Numbered (rows-in (now rows)) fuel (reciprocals-first (now tokens) results first (now places) + length (now places)) (now held) (now numbers) (now sizes) after extracted ⌝ }
+    requires { ⌜ Prepared (now tokens) results first (now places) (now held) (now starts) (now members) (now ends) (now numbers) × Numbered (rows-in (now rows)) fuel (reciprocals-first (now tokens) results first (now places) + length (now places)) (now held) (now numbers) (now stops) (now kept) after extracted ⌝ }
     requires { ⌜ at + told-rows (grouped-scope (rows-in (now rows)) fuel row (now tokens) results first (now places)) ≤ most-rows ⌝ }
     ensures { λ r. ⌜ (r ≡ scope-answer (grouped-scope (rows-in (now (rows .entry))) fuel row (now (tokens .entry)) results first (now (places .entry))) at)
         × (now (table .exit) ≡ scope-table (grouped-scope (rows-in (now (rows .entry))) fuel row (now (tokens .entry)) results first (now (places .entry))) at (now (table .entry))) ⌝ }
@@ -614,7 +646,8 @@ fn write_scope(
                 members,
                 ends,
                 numbers,
-                sizes,
+                stops,
+                kept,
                 &taken[..count],
                 fuel,
                 text,
@@ -666,7 +699,8 @@ fn scope_grouped(
     ensures { λ r. ⌜ (r ≡ scope-answer (grouped-scope (rows-in (now (rows .entry))) fuel row (now (tokens .entry)) results first (now (places .entry))) at)
         × (now (table .exit) ≡ scope-table (grouped-scope (rows-in (now (rows .entry))) fuel row (now (tokens .entry)) results first (now (places .entry))) at (now (table .entry))) ⌝ }
 {
-    let mut sizes = [0u64; MOST_STMTS];
+    let mut stops = [0u64; MOST_STMTS];
+    let mut kept = [0u64; KEPT];
     let next = first + (starts.len() - results + places.len()) as u64;
     let walked = walk(
         rows,
@@ -678,7 +712,8 @@ fn scope_grouped(
         next,
         text,
         numbers,
-        &mut sizes,
+        &mut stops,
+        &mut kept,
     );
     let Walked::Done(after, extracted) = walked else {
         return Scoped::Refused(walk_refusal(walked));
@@ -697,7 +732,8 @@ fn scope_grouped(
         members,
         ends,
         &numbers[..m],
-        &sizes[..g],
+        &stops[..g],
+        &kept,
         fuel,
         row,
         after,

@@ -13,9 +13,9 @@ use Rattle.scopeplaces.specs.Parts.{place-groups, group-at, group-start, recipr
 use Rattle.scope.proofs.Asking.{measure-fits, group-is}
 use Rattle.scope.proofs.Sound.{holds-later, group-few, all-few}
 use Rattle.scope.proofs.WalkLaws.{Walk-so, walk-begin, walk-goes-on, walk-ends-refused, walk-all}
-use Rattle.scope.proofs.Walking.{ends-many, ends-few, so-bound, number-low, number-holds, made-low, start-at, end-at, end-long, end-within, members-here, group-here, answer-here, count-here}
-use Rattle.scope.proofs.Writing.{match-is, head-fits, all-fits, begins, ends-at, ends-within, some-member, begin-within, first-small, members-few, part-is, start-under, start-within, number-small, part-group, part-holds, part-fits, match-done, match-never, match-past}
-use Rattle.scope.proofs.Statements.{rows-as, readied, grouped, lets-few, let-is, let-there, group-there, size-in, group-sized, number-holds as member-holds, match-is as stmt-match-is, Stmts-so, stmts-begin, entry-fits, stmts-on, stmts-end}
+use Rattle.scope.proofs.Walking.{ends-many, ends-few, so-bound, number-low, to-low, number-holds, made-low, start-at, end-at, end-long, end-within, members-here, group-here, answer-here, count-here}
+use Rattle.scope.proofs.Writing.{match-is, head-fits, all-fits, begins, ends-at, ends-within, some-member, begin-within, first-small, members-few, part-is, start-under, start-within, number-small, part-group, part-holds, part-fits, match-done, match-never, match-past, kept-low, match-kept}
+use Rattle.scope.proofs.Statements.{rows-as, readied, grouped, lets-few, let-is, let-there, group-there, stop-in, stop-over, group-sized, number-holds as member-holds, match-is as stmt-match-is, Stmts-so, stmts-begin, entry-fits, stmts-on, stmts-end}
 use Rattle.scopeparts.proofs.Held.{lets-are, count-is, trees-few, places-few}
 use mathlib.Core.List.{List}
 use Rattle.scopeplaces.specs.Overlay.{overlay}
@@ -107,7 +107,7 @@ abbrev μ-arm : Measures 6 arm-kinds.ps ℕ
 abbrev μ-arms : Measures 6 arms-kinds.ps ℕ
 μ-arms κs a = 16 * (a .1 .1 .1 .1 .0) + 2
 
-abbrev μ-measure : Measures 5 measure-kinds.ps ℕ
+abbrev μ-measure : Measures 6 measure-kinds.ps ℕ
 μ-measure κs a = 16 * (a .1 .1 .1 .1 .0) + 3
 
 abbrev μ-scope : Measures 4 scope-kinds.ps ℕ
@@ -128,20 +128,20 @@ abbrev μ-scope-listed : Measures 5 scope-listed-kinds.ps ℕ
 abbrev μ-scope-small : Measures 6 scope-small-kinds.ps ℕ
 μ-scope-small κs a = 16 * (a .1 .1 .1 .1 .1 .1 .1 .0) + 12
 
-abbrev μ-walk : Measures 8 walk-kinds.ps ℕ
+abbrev μ-walk : Measures 9 walk-kinds.ps ℕ
 μ-walk κs a = 16 * (a .1 .1 .1 .1 .1 .0) + 4
 
-abbrev μ-write-match : Measures 8 write-match-kinds.ps ℕ
-μ-write-match κs a = 16 * (a .1 .1 .1 .1 .1 .1 .1 .1 .0) + 5
+abbrev μ-write-match : Measures 9 write-match-kinds.ps ℕ
+μ-write-match κs a = 16 * (a .1 .1 .1 .1 .1 .1 .1 .1 .1 .1 .0) + 5
 
-abbrev μ-write-scope : Measures 12 write-scope-kinds.ps ℕ
-μ-write-scope κs a = 16 * (a .1 .1 .1 .1 .1 .1 .1 .1 .1 .1 .1 .1 .0) + 8
+abbrev μ-write-scope : Measures 13 write-scope-kinds.ps ℕ
+μ-write-scope κs a = 16 * (a .1 .1 .1 .1 .1 .1 .1 .1 .1 .1 .1 .1 .1 .0) + 8
 
-abbrev μ-write-stmt : Measures 12 write-stmt-kinds.ps ℕ
-μ-write-stmt κs a = 16 * (a .1 .1 .1 .1 .1 .1 .1 .1 .1 .1 .1 .1 .1 .0) + 6
+abbrev μ-write-stmt : Measures 13 write-stmt-kinds.ps ℕ
+μ-write-stmt κs a = 16 * (a .1 .1 .1 .1 .1 .1 .1 .1 .1 .1 .1 .1 .1 .1 .0) + 6
 
-abbrev μ-write-stmts : Measures 13 write-stmts-kinds.ps ℕ
-μ-write-stmts κs a = 16 * (a .1 .1 .1 .1 .1 .1 .1 .1 .1 .1 .1 .1 .1 .0) + 7
+abbrev μ-write-stmts : Measures 14 write-stmts-kinds.ps ℕ
+μ-write-stmts κs a = 16 * (a .1 .1 .1 .1 .1 .1 .1 .1 .1 .1 .1 .1 .1 .1 .0) + 7
 
 abbrev arm-at : ℕ → In 6 arm-kinds.ps
 arm-at t = and 6 arm-kinds.ps (is 6 arm-kinds.ps μ-arm t) arm.Pre
@@ -155,11 +155,11 @@ arms-at t = and 6 arms-kinds.ps (is 6 arms-kinds.ps μ-arms t) arms.Pre
 abbrev arms-below : ℕ → In 6 arms-kinds.ps
 arms-below t = and 6 arms-kinds.ps (falls 6 arms-kinds.ps _<_ μ-arms t) arms.Pre
 
-abbrev measure-at : ℕ → In 5 measure-kinds.ps
-measure-at t = and 5 measure-kinds.ps (is 5 measure-kinds.ps μ-measure t) measure.Pre
+abbrev measure-at : ℕ → In 6 measure-kinds.ps
+measure-at t = and 6 measure-kinds.ps (is 6 measure-kinds.ps μ-measure t) measure.Pre
 
-abbrev measure-below : ℕ → In 5 measure-kinds.ps
-measure-below t = and 5 measure-kinds.ps (falls 5 measure-kinds.ps _<_ μ-measure t) measure.Pre
+abbrev measure-below : ℕ → In 6 measure-kinds.ps
+measure-below t = and 6 measure-kinds.ps (falls 6 measure-kinds.ps _<_ μ-measure t) measure.Pre
 
 abbrev scope-at : ℕ → In 4 scope-kinds.ps
 scope-at t = and 4 scope-kinds.ps (is 4 scope-kinds.ps μ-scope t) scope.Pre
@@ -219,43 +219,43 @@ abbrev scope-small-below : ℕ → In 6 scope-small-kinds.ps
 scope-small-below t =
     and 6 scope-small-kinds.ps (falls 6 scope-small-kinds.ps _<_ μ-scope-small t) scope-small.Pre
 
-abbrev walk-at : ℕ → In 8 walk-kinds.ps
-walk-at t = and 8 walk-kinds.ps (is 8 walk-kinds.ps μ-walk t) walk.Pre
+abbrev walk-at : ℕ → In 9 walk-kinds.ps
+walk-at t = and 9 walk-kinds.ps (is 9 walk-kinds.ps μ-walk t) walk.Pre
 
-abbrev walk-below : ℕ → In 8 walk-kinds.ps
-walk-below t = and 8 walk-kinds.ps (falls 8 walk-kinds.ps _<_ μ-walk t) walk.Pre
+abbrev walk-below : ℕ → In 9 walk-kinds.ps
+walk-below t = and 9 walk-kinds.ps (falls 9 walk-kinds.ps _<_ μ-walk t) walk.Pre
 
-abbrev write-match-at : ℕ → In 8 write-match-kinds.ps
+abbrev write-match-at : ℕ → In 9 write-match-kinds.ps
 write-match-at t =
-    and 8 write-match-kinds.ps (is 8 write-match-kinds.ps μ-write-match t) write-match.Pre
+    and 9 write-match-kinds.ps (is 9 write-match-kinds.ps μ-write-match t) write-match.Pre
 
-abbrev write-match-below : ℕ → In 8 write-match-kinds.ps
+abbrev write-match-below : ℕ → In 9 write-match-kinds.ps
 write-match-below t =
-    and 8 write-match-kinds.ps (falls 8 write-match-kinds.ps _<_ μ-write-match t) write-match.Pre
+    and 9 write-match-kinds.ps (falls 9 write-match-kinds.ps _<_ μ-write-match t) write-match.Pre
 
-abbrev write-scope-at : ℕ → In 12 write-scope-kinds.ps
+abbrev write-scope-at : ℕ → In 13 write-scope-kinds.ps
 write-scope-at t =
-    and 12 write-scope-kinds.ps (is 12 write-scope-kinds.ps μ-write-scope t) write-scope.Pre
+    and 13 write-scope-kinds.ps (is 13 write-scope-kinds.ps μ-write-scope t) write-scope.Pre
 
-abbrev write-scope-below : ℕ → In 12 write-scope-kinds.ps
+abbrev write-scope-below : ℕ → In 13 write-scope-kinds.ps
 write-scope-below t =
-    and 12 write-scope-kinds.ps (falls 12 write-scope-kinds.ps _<_ μ-write-scope t) write-scope.Pre
+    and 13 write-scope-kinds.ps (falls 13 write-scope-kinds.ps _<_ μ-write-scope t) write-scope.Pre
 
-abbrev write-stmt-at : ℕ → In 12 write-stmt-kinds.ps
+abbrev write-stmt-at : ℕ → In 13 write-stmt-kinds.ps
 write-stmt-at t =
-    and 12 write-stmt-kinds.ps (is 12 write-stmt-kinds.ps μ-write-stmt t) write-stmt.Pre
+    and 13 write-stmt-kinds.ps (is 13 write-stmt-kinds.ps μ-write-stmt t) write-stmt.Pre
 
-abbrev write-stmt-below : ℕ → In 12 write-stmt-kinds.ps
+abbrev write-stmt-below : ℕ → In 13 write-stmt-kinds.ps
 write-stmt-below t =
-    and 12 write-stmt-kinds.ps (falls 12 write-stmt-kinds.ps _<_ μ-write-stmt t) write-stmt.Pre
+    and 13 write-stmt-kinds.ps (falls 13 write-stmt-kinds.ps _<_ μ-write-stmt t) write-stmt.Pre
 
-abbrev write-stmts-at : ℕ → In 13 write-stmts-kinds.ps
+abbrev write-stmts-at : ℕ → In 14 write-stmts-kinds.ps
 write-stmts-at t =
-    and 13 write-stmts-kinds.ps (is 13 write-stmts-kinds.ps μ-write-stmts t) write-stmts.Pre
+    and 14 write-stmts-kinds.ps (is 14 write-stmts-kinds.ps μ-write-stmts t) write-stmts.Pre
 
-abbrev write-stmts-below : ℕ → In 13 write-stmts-kinds.ps
+abbrev write-stmts-below : ℕ → In 14 write-stmts-kinds.ps
 write-stmts-below t =
-    and 13 write-stmts-kinds.ps (falls 13 write-stmts-kinds.ps _<_ μ-write-stmts t) write-stmts.Pre
+    and 14 write-stmts-kinds.ps (falls 14 write-stmts-kinds.ps _<_ μ-write-stmts t) write-stmts.Pre
 
 arm-returns : (t : ℕ) → arm-lts.Need-returns (
   column-reads.Asked,
@@ -295,8 +295,7 @@ arm-scope-requires : (t : ℕ) → arm-lts.Need-scope-requires (
   put-word-reads.Asked,
   put-word-reads.Learnt,
 ) (arm-at t) arm.Post
-arm-scope-requires t c κs = let s = c .before .before .before .before .before .before .before .before .before .before .before .before .before .before in let a = s .args in let x = c .before .before .before .before .before .column in
-    (omega (arith, s .pre .0), (column-scoped (rows-in (a .rows .now)) (a .fuel) (a .next) (a .held .now) (a .group .now) (s .pre .1 .0 .1) (s .pre .1 .1 .0 .0) (a .a) (s .pre .1 .1 .0 .1) (a .at) (s .pre .1 .1 .1) (x .result) _ (x .ensures .0), ((lent-on (a .fuel) (a .work .now) (a .text .now) _ _ (s .pre .1 .0 .0) (x .kept .1 .1 .1 .0) refl, x .ensures .1), column-fits (rows-in (a .rows .now)) (a .fuel) (a .next) (a .held .now) (a .group .now) (s .pre .1 .0 .1) (s .pre .1 .1 .0 .0) (a .a) (s .pre .1 .1 .0 .1) (a .at) (s .pre .1 .1 .1) (x .result) _ (x .ensures .0))))
+arm-scope-requires t c κs = let s = c .before .before .before .before .before .before .before .before .before .before .before .before .before .before in let a = s .args in let x = c .before .before .before .before .before .column in (omega (arith, s .pre .0), (column-scoped (rows-in (a .rows .now)) (a .fuel) (a .next) (a .held .now) (a .group .now) (s .pre .1 .0 .1) (s .pre .1 .1 .0 .0) (a .a) (s .pre .1 .1 .0 .1) (a .at) (s .pre .1 .1 .1) (x .result) _ (x .ensures .0), ((lent-on (a .fuel) (a .work .now) (a .text .now) _ _ (s .pre .1 .0 .0) (x .kept .1 .1 .1 .0) refl, x .ensures .1), column-fits (rows-in (a .rows .now)) (a .fuel) (a .next) (a .held .now) (a .group .now) (s .pre .1 .0 .1) (s .pre .1 .1 .0 .0) (a .a) (s .pre .1 .1 .0 .1) (a .at) (s .pre .1 .1 .1) (x .result) _ (x .ensures .0))))
 
 arm-enum-known-told : (t : ℕ) → arm-lts.Need-enum-known-told (
   column-reads.Asked,
@@ -472,8 +471,7 @@ arms-arm-requires : (t : ℕ) → arms-lts.Need-arm-requires (
   refusal-of-reads.Asked,
   refusal-of-reads.Learnt,
 ) (arms-at t) arms.Post arms-Inv-loop arms-μ-loop
-arms-arm-requires t c κs = let s = c .before .before .before .before .before .before .before .before .before .before .before .before in let a = s .args in let l = c .before .before .before .before .loop in let e = c .before .before .before .before .before .count-arms .ensures in
-    (omega (arith, s .pre .0), ((lent-on (a .fuel) (a .work .now) (a .text .now) _ _ (s .pre .1 .0 .0) (l .inv .2) (l .inv .3), so-holds (rows-in (a .rows .now)) (a .fuel) (a .next) (a .held .now) (a .group .now) (s .pre .1 .0 .1) (s .pre .1 .1 .0) (a .at) (a .table .now) _ _ _ _ _ (l .inv .1) (omega (arith, e, c .before .before .before .loop-test .taken))), ((s .pre .1 .1 .0, omega (arith, e, c .before .before .before .loop-test .taken)), so-fits (rows-in (a .rows .now)) (a .fuel) (a .next) (a .held .now) (a .group .now) (s .pre .1 .0 .1) (s .pre .1 .1 .0) (a .at) (a .table .now) _ _ _ _ _ (l .inv .1) (omega (arith, e, c .before .before .before .loop-test .taken)) (s .pre .1 .1 .1 .0))))
+arms-arm-requires t c κs = let s = c .before .before .before .before .before .before .before .before .before .before .before .before in let a = s .args in let l = c .before .before .before .before .loop in let e = c .before .before .before .before .before .count-arms .ensures in (omega (arith, s .pre .0), ((lent-on (a .fuel) (a .work .now) (a .text .now) _ _ (s .pre .1 .0 .0) (l .inv .2) (l .inv .3), so-holds (rows-in (a .rows .now)) (a .fuel) (a .next) (a .held .now) (a .group .now) (s .pre .1 .0 .1) (s .pre .1 .1 .0) (a .at) (a .table .now) _ _ _ _ _ (l .inv .1) (omega (arith, e, c .before .before .before .loop-test .taken))), ((s .pre .1 .1 .0, omega (arith, e, c .before .before .before .loop-test .taken)), so-fits (rows-in (a .rows .now)) (a .fuel) (a .next) (a .held .now) (a .group .now) (s .pre .1 .0 .1) (s .pre .1 .1 .0) (a .at) (a .table .now) _ _ _ _ _ (l .inv .1) (omega (arith, e, c .before .before .before .loop-test .taken)) (s .pre .1 .1 .1 .0))))
 
 arms-enum-known-armed : (t : ℕ) → arms-lts.Need-enum-known-armed (
   count-arms-reads.Asked,
@@ -627,17 +625,11 @@ arms-returns-2 t c = let s = c .before .before .before .before .before .before .
 
 measure-add-first :
     (t : ℕ) → measure-lts.Need-add-first (arms-below t, arms.Post) (measure-at t) measure.Post
-measure-add-first t c = let s = c .before .before .before .before .before in let a = s .args in omega (arith, s .pre .1 .1 .1, group-few (rows-in (a .rows .now)) (a .next) (a .held .now) (a .group .now) (s .pre .1 .0 .1) (s .pre .1 .1 .0))
-
-measure-slice-aggregate-arms : (t : ℕ) → measure-lts.Need-slice-aggregate-arms (
-  arms-below t,
-  arms.Post,
-) (measure-at t) measure.Post
-measure-slice-aggregate-arms t c = search needs
+measure-add-first t c = let s = c .before .before .before .before .before .before in let a = s .args in omega (arith, s .pre .1 .1 .1, group-few (rows-in (a .rows .now)) (a .next) (a .held .now) (a .group .now) (s .pre .1 .0 .1) (s .pre .1 .1 .0))
 
 measure-arms-requires :
     (t : ℕ) → measure-lts.Need-arms-requires (arms-below t, arms.Post) (measure-at t) measure.Post
-measure-arms-requires t c κs = let s = c .before .before .before .before .before .before .before .before in let a = s .args in (omega (arith, s .pre .0), ((s .pre .1 .0 .0, (holds-later (rows-in (a .rows .now)) (a .next) (a .next + length (a .group .now)) (a .held .now) (omega arith) (s .pre .1 .0 .1))), (s .pre .1 .1 .0, (measure-fits (rows-in (a .rows .now)) (a .fuel) (a .next + length (a .group .now)) (a .held .now) (a .group .now) (holds-later (rows-in (a .rows .now)) (a .next) (a .next + length (a .group .now)) (a .held .now) (omega arith) (s .pre .1 .0 .1)) (s .pre .1 .1 .0), omega arith))))
+measure-arms-requires t c κs = let s = c .before .before .before .before .before .before .before .before .before in let a = s .args in (omega (arith, s .pre .0), ((s .pre .1 .0 .0, (holds-later (rows-in (a .rows .now)) (a .next) (a .next + length (a .group .now)) (a .held .now) (omega arith) (s .pre .1 .0 .1))), (s .pre .1 .1 .0, (measure-fits (rows-in (a .rows .now)) (a .fuel) (a .next + length (a .group .now)) (a .held .now) (a .group .now) (holds-later (rows-in (a .rows .now)) (a .next) (a .next + length (a .group .now)) (a .held .now) (omega arith) (s .pre .1 .0 .1)) (s .pre .1 .1 .0) (a .at) (s .pre .1 .1 .2), omega (arith, s .pre .1 .1 .2)))))
 
 measure-same-length :
     (t : ℕ) → measure-lts.Need-same-length (arms-below t, arms.Post) (measure-at t) measure.Post
@@ -647,9 +639,13 @@ measure-same-length-2 :
     (t : ℕ) → measure-lts.Need-same-length-2 (arms-below t, arms.Post) (measure-at t) measure.Post
 measure-same-length-2 t c = search needs
 
+measure-same-length-3 :
+    (t : ℕ) → measure-lts.Need-same-length-3 (arms-below t, arms.Post) (measure-at t) measure.Post
+measure-same-length-3 t c = search needs
+
 measure-returns :
     (t : ℕ) → measure-lts.Need-returns (arms-below t, arms.Post) (measure-at t) measure.Post
-measure-returns t c = let s = c .before .before .before .before .before .before .before .before .before .before .before .before .before .before in let a = s .args in group-is (rows-in (a .rows .now)) (a .fuel) (a .next) (a .held .now) (a .group .now) _ (c .before .before .before .before .before .arms .ensures .0)
+measure-returns t c = let s = c .before .before .before .before .before .before .before .before .before .before .before .before .before .before .before .before in let a = s .args in group-is (rows-in (a .rows .now)) (a .fuel) (a .next) (a .held .now) (a .group .now) (a .at) _ _ _ (c .before .before .before .before .before .before .arms .ensures)
 
 scope-returns : (t : ℕ) → scope-lts.Need-returns (
   tree-count-reads.Asked,
@@ -901,6 +897,16 @@ scope-grouped-slice-aggregate-walk : (t : ℕ) → scope-grouped-lts.Need-slice-
 ) (scope-grouped-at t) scope-grouped.Post
 scope-grouped-slice-aggregate-walk t c = search needs
 
+scope-grouped-slice-aggregate-walk-2 : (t : ℕ) → scope-grouped-lts.Need-slice-aggregate-walk-2 (
+  walk-below t,
+  walk.Post,
+  walk-refusal-reads.Asked,
+  walk-refusal-reads.Learnt,
+  write-scope-below t,
+  write-scope.Post,
+) (scope-grouped-at t) scope-grouped.Post
+scope-grouped-slice-aggregate-walk-2 t c = search needs
+
 scope-grouped-walk-requires : (t : ℕ) → scope-grouped-lts.Need-walk-requires (
   walk-below t,
   walk.Post,
@@ -909,7 +915,7 @@ scope-grouped-walk-requires : (t : ℕ) → scope-grouped-lts.Need-walk-requires
   write-scope-below t,
   write-scope.Post,
 ) (scope-grouped-at t) scope-grouped.Post
-scope-grouped-walk-requires t c κs = let s = c .before .before .before .before .before .before .before .before .before .before .before .before .before .before .before in let a = s .args in (omega (arith, s .pre .0), ((s .pre .1 .0 .0, holds-from (rows-in (a .rows .now)) (a .fuel) (a .row) (a .tokens .now) (a .results) (a .first) (a .places .now) (a .held .now) (a .starts .now) (a .members .now) (a .ends .now) (s .pre .1 .0 .1) (s .pre .1 .1 .0 .0)), ((s .pre .1 .1 .0 .0 .grouped, omega (arith, from-low (rows-in (a .rows .now)) (a .fuel) (a .row) (a .tokens .now) (a .results) (a .first) (a .places .now) (a .held .now) (a .starts .now) (a .members .now) (a .ends .now) (s .pre .1 .0 .1) (s .pre .1 .1 .0 .0))), (s .pre .1 .1 .0 .1, omega (arith, ends-short (rows-in (a .rows .now)) (a .fuel) (a .row) (a .tokens .now) (a .results) (a .first) (a .places .now) (a .held .now) (a .starts .now) (a .members .now) (a .ends .now) (s .pre .1 .0 .1) (s .pre .1 .1 .0 .0))))))
+scope-grouped-walk-requires t c κs = let s = c .before .before .before .before .before .before .before .before .before .before .before .before .before .before .before .before in let a = s .args in (omega (arith, s .pre .0), ((s .pre .1 .0 .0, holds-from (rows-in (a .rows .now)) (a .fuel) (a .row) (a .tokens .now) (a .results) (a .first) (a .places .now) (a .held .now) (a .starts .now) (a .members .now) (a .ends .now) (s .pre .1 .0 .1) (s .pre .1 .1 .0 .0)), ((s .pre .1 .1 .0 .0 .grouped, omega (arith, from-low (rows-in (a .rows .now)) (a .fuel) (a .row) (a .tokens .now) (a .results) (a .first) (a .places .now) (a .held .now) (a .starts .now) (a .members .now) (a .ends .now) (s .pre .1 .0 .1) (s .pre .1 .1 .0 .0))), (s .pre .1 .1 .0 .1, omega (arith, ends-short (rows-in (a .rows .now)) (a .fuel) (a .row) (a .tokens .now) (a .results) (a .first) (a .places .now) (a .held .now) (a .starts .now) (a .members .now) (a .ends .now) (s .pre .1 .0 .1) (s .pre .1 .1 .0 .0))))))
 
 scope-grouped-enum-known-walked : (t : ℕ) → scope-grouped-lts.Need-enum-known-walked (
   walk-below t,
@@ -979,7 +985,7 @@ scope-grouped-returns : (t : ℕ) → scope-grouped-lts.Need-returns (
   write-scope-below t,
   write-scope.Post,
 ) (scope-grouped-at t) scope-grouped.Post
-scope-grouped-returns t c = let s = c .before .before .before .before .before .before .before .before .before .before .before .before .before .before .before .before .before .before .before .before .before .before .before .before .before .before in let a = s .args in walk-refused (rows-in (a .rows .now)) (a .fuel) (a .row) (a .tokens .now) (a .results) (a .first) (a .places .now) (a .held .now) (a .starts .now) (a .members .now) (a .ends .now) (s .pre .1 .0 .1) (s .pre .1 .1 .0 .0) (c .before .before .before .before .before .before .before .before .before .before .walk .result) _ _ (c .before .before .before .before .before .before .before .before .before .before .walk .ensures) _ (c .before .enum-told .given .1) _ (c .walk-refusal .ensures) (a .at) (a .table .now)
+scope-grouped-returns t c = let s = c .before .before .before .before .before .before .before .before .before .before .before .before .before .before .before .before .before .before .before .before .before .before .before .before .before .before .before .before in let a = s .args in walk-refused (rows-in (a .rows .now)) (a .fuel) (a .row) (a .tokens .now) (a .results) (a .first) (a .places .now) (a .held .now) (a .starts .now) (a .members .now) (a .ends .now) (s .pre .1 .0 .1) (s .pre .1 .1 .0 .0) (c .before .before .before .before .before .before .before .before .before .before .before .walk .result) _ _ _ _ (c .before .before .before .before .before .before .before .before .before .before .before .walk .ensures) _ (c .before .enum-told .given .1) _ (c .walk-refusal .ensures) (a .at) (a .table .now)
 
 scope-grouped-slice-reshare-prefix-write-scope :
     (t : ℕ) → scope-grouped-lts.Need-slice-reshare-prefix-write-scope (
@@ -990,7 +996,7 @@ scope-grouped-slice-reshare-prefix-write-scope :
       write-scope-below t,
       write-scope.Post,
     ) (scope-grouped-at t) scope-grouped.Post
-scope-grouped-slice-reshare-prefix-write-scope t c = let s = c .before .before .before .before .before .before .before .before .before .before .before .before .before .before .before .before .before .before .before .before .before .before .before .before .before .before .before in omega (arith, s .pre .1 .1 .0 .1, c .before .before .before .before .before .before .before .before .before .before .before .walk .kept .1 .1 .1 .1 .1 .1 .1 .1 .0)
+scope-grouped-slice-reshare-prefix-write-scope t c = let s = c .before .before .before .before .before .before .before .before .before .before .before .before .before .before .before .before .before .before .before .before .before .before .before .before .before .before .before .before .before in omega (arith, s .pre .1 .1 .0 .1, c .before .before .before .before .before .before .before .before .before .before .before .before .walk .kept .1 .1 .1 .1 .1 .1 .1 .1 .0)
 
 scope-grouped-slice-aggregate-write-scope :
     (t : ℕ) → scope-grouped-lts.Need-slice-aggregate-write-scope (
@@ -1001,9 +1007,9 @@ scope-grouped-slice-aggregate-write-scope :
       write-scope-below t,
       write-scope.Post,
     ) (scope-grouped-at t) scope-grouped.Post
-scope-grouped-slice-aggregate-write-scope t c = let s = c .before .before .before .before .before .before .before .before .before .before .before .before .before .before .before .before .before .before .before .before .before .before .before .before .before .before .before .before in sym (length-take-le _ _ (omega (arith, s .pre .1 .1 .0 .1, c .before .before .before .before .before .before .before .before .before .before .before .before .walk .kept .1 .1 .1 .1 .1 .1 .1 .1 .0)))
+scope-grouped-slice-aggregate-write-scope t c = let s = c .before .before .before .before .before .before .before .before .before .before .before .before .before .before .before .before .before .before .before .before .before .before .before .before .before .before .before .before .before .before in sym (length-take-le _ _ (omega (arith, s .pre .1 .1 .0 .1, c .before .before .before .before .before .before .before .before .before .before .before .before .before .walk .kept .1 .1 .1 .1 .1 .1 .1 .1 .0)))
 
-scope-grouped-array-share-prefix-sizes : (t : ℕ) → scope-grouped-lts.Need-array-share-prefix-sizes (
+scope-grouped-array-share-prefix-stops : (t : ℕ) → scope-grouped-lts.Need-array-share-prefix-stops (
   walk-below t,
   walk.Post,
   walk-refusal-reads.Asked,
@@ -1011,7 +1017,7 @@ scope-grouped-array-share-prefix-sizes : (t : ℕ) → scope-grouped-lts.Need-ar
   write-scope-below t,
   write-scope.Post,
 ) (scope-grouped-at t) scope-grouped.Post
-scope-grouped-array-share-prefix-sizes t c = let s = c .before .before .before .before .before .before .before .before .before .before .before .before .before .before .before .before .before .before .before .before .before .before .before .before .before .before .before .before in let a = s .args in omega (arith, ends-short (rows-in (a .rows .now)) (a .fuel) (a .row) (a .tokens .now) (a .results) (a .first) (a .places .now) (a .held .now) (a .starts .now) (a .members .now) (a .ends .now) (s .pre .1 .0 .1) (s .pre .1 .1 .0 .0), c .before .before .before .before .before .before .before .before .before .before .before .before .walk .kept .1 .1 .1 .1 .1 .1 .1 .1 .1 .0)
+scope-grouped-array-share-prefix-stops t c = let s = c .before .before .before .before .before .before .before .before .before .before .before .before .before .before .before .before .before .before .before .before .before .before .before .before .before .before .before .before .before .before in let a = s .args in omega (arith, ends-short (rows-in (a .rows .now)) (a .fuel) (a .row) (a .tokens .now) (a .results) (a .first) (a .places .now) (a .held .now) (a .starts .now) (a .members .now) (a .ends .now) (s .pre .1 .0 .1) (s .pre .1 .1 .0 .0), c .before .before .before .before .before .before .before .before .before .before .before .before .before .walk .kept .1 .1 .1 .1 .1 .1 .1 .1 .1 .0)
 
 scope-grouped-slice-aggregate-write-scope-2 :
     (t : ℕ) → scope-grouped-lts.Need-slice-aggregate-write-scope-2 (
@@ -1022,7 +1028,18 @@ scope-grouped-slice-aggregate-write-scope-2 :
       write-scope-below t,
       write-scope.Post,
     ) (scope-grouped-at t) scope-grouped.Post
-scope-grouped-slice-aggregate-write-scope-2 t c = let s = c .before .before .before .before .before .before .before .before .before .before .before .before .before .before .before .before .before .before .before .before .before .before .before .before .before .before .before .before .before in let a = s .args in sym (length-take-le _ _ (omega (arith, ends-short (rows-in (a .rows .now)) (a .fuel) (a .row) (a .tokens .now) (a .results) (a .first) (a .places .now) (a .held .now) (a .starts .now) (a .members .now) (a .ends .now) (s .pre .1 .0 .1) (s .pre .1 .1 .0 .0), c .before .before .before .before .before .before .before .before .before .before .before .before .before .walk .kept .1 .1 .1 .1 .1 .1 .1 .1 .1 .0)))
+scope-grouped-slice-aggregate-write-scope-2 t c = let s = c .before .before .before .before .before .before .before .before .before .before .before .before .before .before .before .before .before .before .before .before .before .before .before .before .before .before .before .before .before .before .before in let a = s .args in sym (length-take-le _ _ (omega (arith, ends-short (rows-in (a .rows .now)) (a .fuel) (a .row) (a .tokens .now) (a .results) (a .first) (a .places .now) (a .held .now) (a .starts .now) (a .members .now) (a .ends .now) (s .pre .1 .0 .1) (s .pre .1 .1 .0 .0), c .before .before .before .before .before .before .before .before .before .before .before .before .before .before .walk .kept .1 .1 .1 .1 .1 .1 .1 .1 .1 .0)))
+
+scope-grouped-slice-aggregate-write-scope-3 :
+    (t : ℕ) → scope-grouped-lts.Need-slice-aggregate-write-scope-3 (
+      walk-below t,
+      walk.Post,
+      walk-refusal-reads.Asked,
+      walk-refusal-reads.Learnt,
+      write-scope-below t,
+      write-scope.Post,
+    ) (scope-grouped-at t) scope-grouped.Post
+scope-grouped-slice-aggregate-write-scope-3 t c = search needs
 
 scope-grouped-write-scope-requires : (t : ℕ) → scope-grouped-lts.Need-write-scope-requires (
   walk-below t,
@@ -1032,7 +1049,7 @@ scope-grouped-write-scope-requires : (t : ℕ) → scope-grouped-lts.Need-write-
   write-scope-below t,
   write-scope.Post,
 ) (scope-grouped-at t) scope-grouped.Post
-scope-grouped-write-scope-requires t c κs = let s = c .before .before .before .before .before .before .before .before .before .before .before .before .before .before .before .before .before .before .before .before .before .before .before .before .before .before .before .before .before .before .before in let a = s .args in (omega (arith, s .pre .0), ((lent-on (a .fuel) (a .work .now) (a .text .now) _ _ (s .pre .1 .0 .0) (c .before .before .before .before .before .before .before .before .before .before .before .before .before .before .before .walk .kept .1 .0) (c .before .before .before .before .before .before .before .before .before .before .before .before .before .before .before .walk .kept .1 .1 .1 .1 .1 .1 .1 .0), s .pre .1 .0 .1), ((prepared-so (rows-in (a .rows .now)) (a .fuel) (a .row) (a .tokens .now) (a .results) (a .first) (a .places .now) (a .held .now) (a .starts .now) (a .members .now) (a .ends .now) (s .pre .1 .0 .1) (s .pre .1 .1 .0 .0) (c .before .before .before .before .before .before .before .before .before .before .before .before .before .before .before .walk .result) _ _ (c .before .before .before .before .before .before .before .before .before .before .before .before .before .before .before .walk .ensures) _ _ (c .before .before .before .before .before .before .walked .given .1), numbered-so (rows-in (a .rows .now)) (a .fuel) (a .row) (a .tokens .now) (a .results) (a .first) (a .places .now) (a .held .now) (a .starts .now) (a .members .now) (a .ends .now) (s .pre .1 .0 .1) (s .pre .1 .1 .0 .0) (c .before .before .before .before .before .before .before .before .before .before .before .before .before .before .before .walk .result) _ _ (c .before .before .before .before .before .before .before .before .before .before .before .before .before .before .before .walk .ensures) _ _ (c .before .before .before .before .before .before .walked .given .1)), s .pre .1 .1 .1)))
+scope-grouped-write-scope-requires t c κs = let s = c .before .before .before .before .before .before .before .before .before .before .before .before .before .before .before .before .before .before .before .before .before .before .before .before .before .before .before .before .before .before .before .before .before .before in let a = s .args in (omega (arith, s .pre .0), ((lent-on (a .fuel) (a .work .now) (a .text .now) _ _ (s .pre .1 .0 .0) (c .before .before .before .before .before .before .before .before .before .before .before .before .before .before .before .before .before .walk .kept .1 .0) (c .before .before .before .before .before .before .before .before .before .before .before .before .before .before .before .before .before .walk .kept .1 .1 .1 .1 .1 .1 .1 .0), s .pre .1 .0 .1), ((prepared-so (rows-in (a .rows .now)) (a .fuel) (a .row) (a .tokens .now) (a .results) (a .first) (a .places .now) (a .held .now) (a .starts .now) (a .members .now) (a .ends .now) (s .pre .1 .0 .1) (s .pre .1 .1 .0 .0) (c .before .before .before .before .before .before .before .before .before .before .before .before .before .before .before .before .before .walk .result) _ _ _ _ (c .before .before .before .before .before .before .before .before .before .before .before .before .before .before .before .before .before .walk .ensures) _ _ (c .before .before .before .before .before .before .before .walked .given .1), numbered-so (rows-in (a .rows .now)) (a .fuel) (a .row) (a .tokens .now) (a .results) (a .first) (a .places .now) (a .held .now) (a .starts .now) (a .members .now) (a .ends .now) (s .pre .1 .0 .1) (s .pre .1 .1 .0 .0) (c .before .before .before .before .before .before .before .before .before .before .before .before .before .before .before .before .before .walk .result) _ _ _ _ (c .before .before .before .before .before .before .before .before .before .before .before .before .before .before .before .before .before .walk .ensures) _ _ (c .before .before .before .before .before .before .before .walked .given .1)), s .pre .1 .1 .1)))
 
 scope-grouped-same-length-4 : (t : ℕ) → scope-grouped-lts.Need-same-length-4 (
   walk-below t,
@@ -1865,10 +1882,10 @@ scope-small-returns-2 : (t : ℕ) → scope-small-lts.Need-returns-2 (
 scope-small-returns-2 t c = c .before .before .before .before .before .before .before .before .before .scope-held .ensures
 
 abbrev walk-Inv-loop : walk-lts.InvT-loop
-walk-Inv-loop rows work₀ held members ends fuel next text₀ numbers₀ sizes₀ number₀ extracted₀ start₀ g₀ work text numbers sizes number extracted start g = (g ≤ length ends) × Walk-so (inner (rows-in rows) fuel) held (place-groups held) next g number extracted start numbers sizes × (length work ≡ length work₀) × (length text ≡ length text₀) × (length numbers ≡ length numbers₀) × (length sizes ≡ length sizes₀)
+walk-Inv-loop rows work₀ held members ends fuel next text₀ numbers₀ stops₀ kept₀ number₀ extracted₀ start₀ to₀ g₀ work text numbers stops kept number extracted start to g = (g ≤ length ends) × Walk-so (inner (rows-in rows) fuel) held (place-groups held) next kept₀ g number extracted start to numbers stops kept × (length work ≡ length work₀) × (length text ≡ length text₀) × (length numbers ≡ length numbers₀) × (length stops ≡ length stops₀) × (length kept ≡ length kept₀)
 
 abbrev walk-μ-loop : walk-lts.MeasureT-loop
-walk-μ-loop rows work₀ held members ends fuel next text₀ numbers₀ sizes₀ number₀ extracted₀ start₀ g₀ work text numbers sizes number extracted start g = length ends - g
+walk-μ-loop rows work₀ held members ends fuel next text₀ numbers₀ stops₀ kept₀ number₀ extracted₀ start₀ to₀ g₀ work text numbers stops kept number extracted start to g = length ends - g
 
 walk-loop-holds : (t : ℕ) → walk-lts.Need-loop-holds (
   number-members-reads.Asked,
@@ -1878,7 +1895,7 @@ walk-loop-holds : (t : ℕ) → walk-lts.Need-loop-holds (
   refusal-of-reads.Asked,
   refusal-of-reads.Learnt,
 ) (walk-at t) walk.Post walk-Inv-loop walk-μ-loop
-walk-loop-holds t c = let s = c .before .before .before .before .before .before .before .before in let a = s .args in (omega arith, walk-begin (inner (rows-in (a .rows .now)) (a .fuel)) (a .held .now) (place-groups (a .held .now)) (a .next) _ _, refl, refl, refl, refl)
+walk-loop-holds t c = let s = c .before .before .before .before .before .before .before .before .before in let a = s .args in (omega arith, walk-begin (inner (rows-in (a .rows .now)) (a .fuel)) (a .held .now) (place-groups (a .held .now)) (a .next) _ _ _, refl, refl, refl, refl, refl)
 
 walk-mul-end : (t : ℕ) → walk-lts.Need-mul-end (
   number-members-reads.Asked,
@@ -1908,7 +1925,7 @@ walk-sub-number-members : (t : ℕ) → walk-lts.Need-sub-number-members (
   refusal-of-reads.Asked,
   refusal-of-reads.Learnt,
 ) (walk-at t) walk.Post walk-Inv-loop walk-μ-loop
-walk-sub-number-members t c = let s = c .before .before .before .before .before .before .before .before .before .before .before in let a = s .args in omega (arith, end-long (rows-in (a .rows .now)) (a .fuel) (a .next) (a .held .now) (a .members .now) (a .ends .now) (s .pre .1 .0 .1) (s .pre .1 .1 .0 .0) (s .pre .1 .1 .0 .1) _ _ _ _ _ _ (c .before .before .loop .inv .1) (c .before .loop-test .taken))
+walk-sub-number-members t c = let s = c .before .before .before .before .before .before .before .before .before .before .before .before in let a = s .args in omega (arith, end-long (rows-in (a .rows .now)) (a .fuel) (a .next) (a .held .now) (a .members .now) (a .ends .now) (s .pre .1 .0 .1) (s .pre .1 .1 .0 .0) (s .pre .1 .1 .0 .1) _ _ _ _ _ _ _ _ _ (c .before .before .loop .inv .1) (c .before .loop-test .taken))
 
 walk-number-members-requires : (t : ℕ) → walk-lts.Need-number-members-requires (
   number-members-reads.Asked,
@@ -1918,7 +1935,7 @@ walk-number-members-requires : (t : ℕ) → walk-lts.Need-number-members-requir
   refusal-of-reads.Asked,
   refusal-of-reads.Learnt,
 ) (walk-at t) walk.Post walk-Inv-loop walk-μ-loop
-walk-number-members-requires t c κs = let s = c .before .before .before .before .before .before .before .before .before .before .before .before in let a = s .args in (omega (arith, end-long (rows-in (a .rows .now)) (a .fuel) (a .next) (a .held .now) (a .members .now) (a .ends .now) (s .pre .1 .0 .1) (s .pre .1 .1 .0 .0) (s .pre .1 .1 .0 .1) _ _ _ _ _ _ (c .before .before .before .loop .inv .1) (c .before .before .loop-test .taken), end-within (rows-in (a .rows .now)) (a .fuel) (a .next) (a .held .now) (a .members .now) (a .ends .now) (s .pre .1 .0 .1) (s .pre .1 .1 .0 .0) (s .pre .1 .1 .0 .1) _ _ _ _ _ _ (c .before .before .before .loop .inv .1) (c .before .before .loop-test .taken), s .pre .1 .1 .1 .0, c .before .before .before .loop .inv .4), omega (arith, number-low (rows-in (a .rows .now)) (a .fuel) (a .next) (a .held .now) (a .members .now) (a .ends .now) (s .pre .1 .0 .1) (s .pre .1 .1 .0 .0) (s .pre .1 .1 .0 .1) _ _ _ _ _ _ (c .before .before .before .loop .inv .1) (c .before .before .before .loop .inv .0), end-long (rows-in (a .rows .now)) (a .fuel) (a .next) (a .held .now) (a .members .now) (a .ends .now) (s .pre .1 .0 .1) (s .pre .1 .1 .0 .0) (s .pre .1 .1 .0 .1) _ _ _ _ _ _ (c .before .before .before .loop .inv .1) (c .before .before .loop-test .taken), end-within (rows-in (a .rows .now)) (a .fuel) (a .next) (a .held .now) (a .members .now) (a .ends .now) (s .pre .1 .0 .1) (s .pre .1 .1 .0 .0) (s .pre .1 .1 .0 .1) _ _ _ _ _ _ (c .before .before .before .loop .inv .1) (c .before .before .loop-test .taken), all-few (rows-in (a .rows .now)) (a .next) (a .held .now) (s .pre .1 .0 .1), ap length (s .pre .1 .1 .0 .0 .members-are)))
+walk-number-members-requires t c κs = let s = c .before .before .before .before .before .before .before .before .before .before .before .before .before in let a = s .args in (omega (arith, end-long (rows-in (a .rows .now)) (a .fuel) (a .next) (a .held .now) (a .members .now) (a .ends .now) (s .pre .1 .0 .1) (s .pre .1 .1 .0 .0) (s .pre .1 .1 .0 .1) _ _ _ _ _ _ _ _ _ (c .before .before .before .loop .inv .1) (c .before .before .loop-test .taken), end-within (rows-in (a .rows .now)) (a .fuel) (a .next) (a .held .now) (a .members .now) (a .ends .now) (s .pre .1 .0 .1) (s .pre .1 .1 .0 .0) (s .pre .1 .1 .0 .1) _ _ _ _ _ _ _ _ _ (c .before .before .before .loop .inv .1) (c .before .before .loop-test .taken), s .pre .1 .1 .1 .0, c .before .before .before .loop .inv .4), omega (arith, number-low (rows-in (a .rows .now)) (a .fuel) (a .next) (a .held .now) (a .members .now) (a .ends .now) (s .pre .1 .0 .1) (s .pre .1 .1 .0 .0) (s .pre .1 .1 .0 .1) _ _ _ _ _ _ _ _ _ (c .before .before .before .loop .inv .1) (c .before .before .before .loop .inv .0), end-long (rows-in (a .rows .now)) (a .fuel) (a .next) (a .held .now) (a .members .now) (a .ends .now) (s .pre .1 .0 .1) (s .pre .1 .1 .0 .0) (s .pre .1 .1 .0 .1) _ _ _ _ _ _ _ _ _ (c .before .before .before .loop .inv .1) (c .before .before .loop-test .taken), end-within (rows-in (a .rows .now)) (a .fuel) (a .next) (a .held .now) (a .members .now) (a .ends .now) (s .pre .1 .0 .1) (s .pre .1 .1 .0 .0) (s .pre .1 .1 .0 .1) _ _ _ _ _ _ _ _ _ (c .before .before .before .loop .inv .1) (c .before .before .loop-test .taken), all-few (rows-in (a .rows .now)) (a .next) (a .held .now) (s .pre .1 .0 .1), ap length (s .pre .1 .1 .0 .0 .members-are)))
 
 walk-mul-measure : (t : ℕ) → walk-lts.Need-mul-measure (
   number-members-reads.Asked,
@@ -1928,7 +1945,7 @@ walk-mul-measure : (t : ℕ) → walk-lts.Need-mul-measure (
   refusal-of-reads.Asked,
   refusal-of-reads.Learnt,
 ) (walk-at t) walk.Post walk-Inv-loop walk-μ-loop
-walk-mul-measure t c = let s = c .before .before .before .before .before .before .before .before .before .before .before .before .before .before .before .before in let a = s .args in omega (arith, end-long (rows-in (a .rows .now)) (a .fuel) (a .next) (a .held .now) (a .members .now) (a .ends .now) (s .pre .1 .0 .1) (s .pre .1 .1 .0 .0) (s .pre .1 .1 .0 .1) _ _ _ _ _ _ (c .before .before .before .before .before .before .before .loop .inv .1) (c .before .before .before .before .before .before .loop-test .taken), end-within (rows-in (a .rows .now)) (a .fuel) (a .next) (a .held .now) (a .members .now) (a .ends .now) (s .pre .1 .0 .1) (s .pre .1 .1 .0 .0) (s .pre .1 .1 .0 .1) _ _ _ _ _ _ (c .before .before .before .before .before .before .before .loop .inv .1) (c .before .before .before .before .before .before .loop-test .taken), s .good .1 .1 .1 .0)
+walk-mul-measure t c = let s = c .before .before .before .before .before .before .before .before .before .before .before .before .before .before .before .before .before in let a = s .args in omega (arith, end-long (rows-in (a .rows .now)) (a .fuel) (a .next) (a .held .now) (a .members .now) (a .ends .now) (s .pre .1 .0 .1) (s .pre .1 .1 .0 .0) (s .pre .1 .1 .0 .1) _ _ _ _ _ _ _ _ _ (c .before .before .before .before .before .before .before .loop .inv .1) (c .before .before .before .before .before .before .loop-test .taken), end-within (rows-in (a .rows .now)) (a .fuel) (a .next) (a .held .now) (a .members .now) (a .ends .now) (s .pre .1 .0 .1) (s .pre .1 .1 .0 .0) (s .pre .1 .1 .0 .1) _ _ _ _ _ _ _ _ _ (c .before .before .before .before .before .before .before .loop .inv .1) (c .before .before .before .before .before .before .loop-test .taken), s .good .1 .1 .1 .0)
 
 walk-sub-measure : (t : ℕ) → walk-lts.Need-sub-measure (
   number-members-reads.Asked,
@@ -1938,7 +1955,7 @@ walk-sub-measure : (t : ℕ) → walk-lts.Need-sub-measure (
   refusal-of-reads.Asked,
   refusal-of-reads.Learnt,
 ) (walk-at t) walk.Post walk-Inv-loop walk-μ-loop
-walk-sub-measure t c = let s = c .before .before .before .before .before .before .before .before .before .before .before .before .before .before .before .before in let a = s .args in omega (arith, end-long (rows-in (a .rows .now)) (a .fuel) (a .next) (a .held .now) (a .members .now) (a .ends .now) (s .pre .1 .0 .1) (s .pre .1 .1 .0 .0) (s .pre .1 .1 .0 .1) _ _ _ _ _ _ (c .before .before .before .before .before .before .before .loop .inv .1) (c .before .before .before .before .before .before .loop-test .taken))
+walk-sub-measure t c = let s = c .before .before .before .before .before .before .before .before .before .before .before .before .before .before .before .before .before in let a = s .args in omega (arith, end-long (rows-in (a .rows .now)) (a .fuel) (a .next) (a .held .now) (a .members .now) (a .ends .now) (s .pre .1 .0 .1) (s .pre .1 .1 .0 .0) (s .pre .1 .1 .0 .1) _ _ _ _ _ _ _ _ _ (c .before .before .before .before .before .before .before .loop .inv .1) (c .before .before .before .before .before .before .loop-test .taken))
 
 walk-part-measure-start : (t : ℕ) → walk-lts.Need-part-measure-start (
   number-members-reads.Asked,
@@ -1948,7 +1965,7 @@ walk-part-measure-start : (t : ℕ) → walk-lts.Need-part-measure-start (
   refusal-of-reads.Asked,
   refusal-of-reads.Learnt,
 ) (walk-at t) walk.Post walk-Inv-loop walk-μ-loop
-walk-part-measure-start t c = let s = c .before .before .before .before .before .before .before .before .before .before .before .before .before .before .before .before in let a = s .args in omega (arith, end-long (rows-in (a .rows .now)) (a .fuel) (a .next) (a .held .now) (a .members .now) (a .ends .now) (s .pre .1 .0 .1) (s .pre .1 .1 .0 .0) (s .pre .1 .1 .0 .1) _ _ _ _ _ _ (c .before .before .before .before .before .before .before .loop .inv .1) (c .before .before .before .before .before .before .loop-test .taken), end-within (rows-in (a .rows .now)) (a .fuel) (a .next) (a .held .now) (a .members .now) (a .ends .now) (s .pre .1 .0 .1) (s .pre .1 .1 .0 .0) (s .pre .1 .1 .0 .1) _ _ _ _ _ _ (c .before .before .before .before .before .before .before .loop .inv .1) (c .before .before .before .before .before .before .loop-test .taken))
+walk-part-measure-start t c = let s = c .before .before .before .before .before .before .before .before .before .before .before .before .before .before .before .before .before in let a = s .args in omega (arith, end-long (rows-in (a .rows .now)) (a .fuel) (a .next) (a .held .now) (a .members .now) (a .ends .now) (s .pre .1 .0 .1) (s .pre .1 .1 .0 .0) (s .pre .1 .1 .0 .1) _ _ _ _ _ _ _ _ _ (c .before .before .before .before .before .before .before .loop .inv .1) (c .before .before .before .before .before .before .loop-test .taken), end-within (rows-in (a .rows .now)) (a .fuel) (a .next) (a .held .now) (a .members .now) (a .ends .now) (s .pre .1 .0 .1) (s .pre .1 .1 .0 .0) (s .pre .1 .1 .0 .1) _ _ _ _ _ _ _ _ _ (c .before .before .before .before .before .before .before .loop .inv .1) (c .before .before .before .before .before .before .loop-test .taken))
 
 walk-part-measure-end : (t : ℕ) → walk-lts.Need-part-measure-end (
   number-members-reads.Asked,
@@ -1958,7 +1975,7 @@ walk-part-measure-end : (t : ℕ) → walk-lts.Need-part-measure-end (
   refusal-of-reads.Asked,
   refusal-of-reads.Learnt,
 ) (walk-at t) walk.Post walk-Inv-loop walk-μ-loop
-walk-part-measure-end t c = let s = c .before .before .before .before .before .before .before .before .before .before .before .before .before .before .before .before in let a = s .args in end-within (rows-in (a .rows .now)) (a .fuel) (a .next) (a .held .now) (a .members .now) (a .ends .now) (s .pre .1 .0 .1) (s .pre .1 .1 .0 .0) (s .pre .1 .1 .0 .1) _ _ _ _ _ _ (c .before .before .before .before .before .before .before .loop .inv .1) (c .before .before .before .before .before .before .loop-test .taken)
+walk-part-measure-end t c = let s = c .before .before .before .before .before .before .before .before .before .before .before .before .before .before .before .before .before in let a = s .args in end-within (rows-in (a .rows .now)) (a .fuel) (a .next) (a .held .now) (a .members .now) (a .ends .now) (s .pre .1 .0 .1) (s .pre .1 .1 .0 .0) (s .pre .1 .1 .0 .1) _ _ _ _ _ _ _ _ _ (c .before .before .before .before .before .before .before .loop .inv .1) (c .before .before .before .before .before .before .loop-test .taken)
 
 walk-measure-requires : (t : ℕ) → walk-lts.Need-measure-requires (
   number-members-reads.Asked,
@@ -1968,7 +1985,7 @@ walk-measure-requires : (t : ℕ) → walk-lts.Need-measure-requires (
   refusal-of-reads.Asked,
   refusal-of-reads.Learnt,
 ) (walk-at t) walk.Post walk-Inv-loop walk-μ-loop
-walk-measure-requires t c κs = let s = c .before .before .before .before .before .before .before .before .before .before .before .before .before .before .before .before .before .before in let a = s .args in (omega (arith, s .pre .0), ((lent-on (a .fuel) (a .work .now) (a .text .now) _ _ (s .pre .1 .0 .0) (c .before .before .before .before .before .before .before .before .before .loop .inv .2) (c .before .before .before .before .before .before .before .before .before .loop .inv .3), number-holds (rows-in (a .rows .now)) (a .fuel) (a .next) (a .held .now) (a .members .now) (a .ends .now) (s .pre .1 .0 .1) (s .pre .1 .1 .0 .0) (s .pre .1 .1 .0 .1) _ _ _ _ _ _ (c .before .before .before .before .before .before .before .before .before .loop .inv .1) (c .before .before .before .before .before .before .before .before .before .loop .inv .0)), (group-here (rows-in (a .rows .now)) (a .fuel) (a .next) (a .held .now) (a .members .now) (a .ends .now) (s .pre .1 .0 .1) (s .pre .1 .1 .0 .0) (s .pre .1 .1 .0 .1) _ _ _ _ _ _ (c .before .before .before .before .before .before .before .before .before .loop .inv .1) (c .before .before .before .before .before .before .before .before .loop-test .taken), number-low (rows-in (a .rows .now)) (a .fuel) (a .next) (a .held .now) (a .members .now) (a .ends .now) (s .pre .1 .0 .1) (s .pre .1 .1 .0 .0) (s .pre .1 .1 .0 .1) _ _ _ _ _ _ (c .before .before .before .before .before .before .before .before .before .loop .inv .1) (c .before .before .before .before .before .before .before .before .before .loop .inv .0))))
+walk-measure-requires t c κs = let s = c .before .before .before .before .before .before .before .before .before .before .before .before .before .before .before .before .before .before .before .before in let a = s .args in (omega (arith, s .pre .0), ((lent-on (a .fuel) (a .work .now) (a .text .now) _ _ (s .pre .1 .0 .0) (c .before .before .before .before .before .before .before .before .before .before .loop .inv .2) (c .before .before .before .before .before .before .before .before .before .before .loop .inv .3), number-holds (rows-in (a .rows .now)) (a .fuel) (a .next) (a .held .now) (a .members .now) (a .ends .now) (s .pre .1 .0 .1) (s .pre .1 .1 .0 .0) (s .pre .1 .1 .0 .1) _ _ _ _ _ _ _ _ _ (c .before .before .before .before .before .before .before .before .before .before .loop .inv .1) (c .before .before .before .before .before .before .before .before .before .before .loop .inv .0)), (group-here (rows-in (a .rows .now)) (a .fuel) (a .next) (a .held .now) (a .members .now) (a .ends .now) (s .pre .1 .0 .1) (s .pre .1 .1 .0 .0) (s .pre .1 .1 .0 .1) _ _ _ _ _ _ _ _ _ (c .before .before .before .before .before .before .before .before .before .before .loop .inv .1) (c .before .before .before .before .before .before .before .before .before .loop-test .taken), number-low (rows-in (a .rows .now)) (a .fuel) (a .next) (a .held .now) (a .members .now) (a .ends .now) (s .pre .1 .0 .1) (s .pre .1 .1 .0 .0) (s .pre .1 .1 .0 .1) _ _ _ _ _ _ _ _ _ (c .before .before .before .before .before .before .before .before .before .before .loop .inv .1) (c .before .before .before .before .before .before .before .before .before .before .loop .inv .0), to-low (rows-in (a .rows .now)) (a .fuel) (a .next) (a .held .now) (a .members .now) (a .ends .now) (s .pre .1 .0 .1) (s .pre .1 .1 .0 .0) (s .pre .1 .1 .0 .1) _ _ _ _ _ _ _ _ _ (c .before .before .before .before .before .before .before .before .before .before .loop .inv .1) (c .before .before .before .before .before .before .before .before .before .before .loop .inv .0))))
 
 walk-enum-known-armed : (t : ℕ) → walk-lts.Need-enum-known-armed (
   number-members-reads.Asked,
@@ -2040,6 +2057,16 @@ walk-same-length-4 : (t : ℕ) → walk-lts.Need-same-length-4 (
 ) (walk-at t) walk.Post walk-Inv-loop walk-μ-loop
 walk-same-length-4 t c = search needs
 
+walk-same-length-5 : (t : ℕ) → walk-lts.Need-same-length-5 (
+  number-members-reads.Asked,
+  number-members-reads.Learnt,
+  measure-below t,
+  measure.Post,
+  refusal-of-reads.Asked,
+  refusal-of-reads.Learnt,
+) (walk-at t) walk.Post walk-Inv-loop walk-μ-loop
+walk-same-length-5 t c = search needs
+
 walk-returns : (t : ℕ) → walk-lts.Need-returns (
   number-members-reads.Asked,
   number-members-reads.Learnt,
@@ -2049,9 +2076,9 @@ walk-returns : (t : ℕ) → walk-lts.Need-returns (
   refusal-of-reads.Learnt,
 ) (walk-at t) walk.Post walk-Inv-loop walk-μ-loop
 unfolding groups-told
-walk-returns t c = let s = c .before .before .before .before .before .before .before .before .before .before .before .before .before .before .before .before .before .before .before .before .before .before .before .before .before .before in let a = s .args in walk-ends-refused (inner (rows-in (a .rows .now)) (a .fuel)) (a .held .now) (place-groups (a .held .now)) (a .next) _ _ _ _ _ _ (c .before .before .before .before .before .before .before .before .before .before .before .before .before .before .before .before .before .loop .inv .1) (c .before .before .before .before .before .before .before .measure .result) (answer-here (rows-in (a .rows .now)) (a .fuel) (a .next) (a .held .now) (a .members .now) (a .ends .now) (s .pre .1 .0 .1) (s .pre .1 .1 .0 .0) (s .pre .1 .1 .0 .1) _ _ _ _ _ _ (c .before .before .before .before .before .before .before .before .before .before .before .before .before .before .before .before .before .loop .inv .1) (c .before .before .before .before .before .before .before .before .before .before .before .before .before .before .before .before .loop-test .taken) (c .before .before .before .before .before .before .before .measure .result) (c .before .before .before .before .before .before .before .measure .ensures)) (length (place-groups (a .held .now))) (omega (arith, c .before .before .before .before .before .before .before .before .before .before .before .before .before .before .before .before .loop-test .taken, ends-many (rows-in (a .rows .now)) (a .fuel) (a .next) (a .held .now) (a .members .now) (a .ends .now) (s .pre .1 .0 .1) (s .pre .1 .1 .0 .0) (s .pre .1 .1 .0 .1))) _ (c .before .enum-told .given .1) _ (c .refusal-of .ensures) _ _
+walk-returns t c = let s = c .before .before .before .before .before .before .before .before .before .before .before .before .before .before .before .before .before .before .before .before .before .before .before .before .before .before .before .before .before .before in let a = s .args in walk-ends-refused (inner (rows-in (a .rows .now)) (a .fuel)) (a .held .now) (place-groups (a .held .now)) (a .next) _ _ _ _ _ _ _ _ _ (c .before .before .before .before .before .before .before .before .before .before .before .before .before .before .before .before .before .before .before .before .loop .inv .1) (c .before .before .before .before .before .before .before .before .before .measure .result) _ (answer-here (rows-in (a .rows .now)) (a .fuel) (a .next) (a .held .now) (a .members .now) (a .ends .now) (s .pre .1 .0 .1) (s .pre .1 .1 .0 .0) (s .pre .1 .1 .0 .1) _ _ _ _ _ _ _ _ _ (c .before .before .before .before .before .before .before .before .before .before .before .before .before .before .before .before .before .before .before .before .loop .inv .1) (c .before .before .before .before .before .before .before .before .before .before .before .before .before .before .before .before .before .before .before .loop-test .taken) (c .before .before .before .before .before .before .before .before .before .measure .result) _ (c .before .before .before .before .before .before .before .before .before .measure .ensures)) (length (place-groups (a .held .now))) (omega (arith, c .before .before .before .before .before .before .before .before .before .before .before .before .before .before .before .before .before .before .before .loop-test .taken, ends-many (rows-in (a .rows .now)) (a .fuel) (a .next) (a .held .now) (a .members .now) (a .ends .now) (s .pre .1 .0 .1) (s .pre .1 .1 .0 .0) (s .pre .1 .1 .0 .1))) _ (c .before .enum-told .given .1) _ (c .refusal-of .ensures) _ _ _
 
-walk-mul-sizes : (t : ℕ) → walk-lts.Need-mul-sizes (
+walk-mul-stops : (t : ℕ) → walk-lts.Need-mul-stops (
   number-members-reads.Asked,
   number-members-reads.Learnt,
   measure-below t,
@@ -2059,9 +2086,9 @@ walk-mul-sizes : (t : ℕ) → walk-lts.Need-mul-sizes (
   refusal-of-reads.Asked,
   refusal-of-reads.Learnt,
 ) (walk-at t) walk.Post walk-Inv-loop walk-μ-loop
-walk-mul-sizes t c = let s = c .before .before .before .before .before .before .before .before .before .before .before .before .before .before .before .before .before .before .before .before .before .before .before .before .before .before in omega (arith, s .good .1 .1 .1 .1 .1 .1 .1 .1 .1 .0, c .before .before .before .before .before .before .before .before .before .before .before .before .before .before .before .before .before .loop .inv .5, s .pre .1 .1 .1 .1, c .before .before .before .before .before .before .before .before .before .before .before .before .before .before .before .before .loop-test .taken)
+walk-mul-stops t c = let s = c .before .before .before .before .before .before .before .before .before .before .before .before .before .before .before .before .before .before .before .before .before .before .before .before .before .before .before .before .before .before in omega (arith, s .good .1 .1 .1 .1 .1 .1 .1 .1 .1 .0, c .before .before .before .before .before .before .before .before .before .before .before .before .before .before .before .before .before .before .before .before .loop .inv .5, s .pre .1 .1 .1 .1, c .before .before .before .before .before .before .before .before .before .before .before .before .before .before .before .before .before .before .before .loop-test .taken)
 
-walk-slice-write-sizes : (t : ℕ) → walk-lts.Need-slice-write-sizes (
+walk-slice-write-stops : (t : ℕ) → walk-lts.Need-slice-write-stops (
   number-members-reads.Asked,
   number-members-reads.Learnt,
   measure-below t,
@@ -2069,7 +2096,7 @@ walk-slice-write-sizes : (t : ℕ) → walk-lts.Need-slice-write-sizes (
   refusal-of-reads.Asked,
   refusal-of-reads.Learnt,
 ) (walk-at t) walk.Post walk-Inv-loop walk-μ-loop
-walk-slice-write-sizes t c = let s = c .before .before .before .before .before .before .before .before .before .before .before .before .before .before .before .before .before .before .before .before .before .before .before .before .before .before in omega (arith, c .before .before .before .before .before .before .before .before .before .before .before .before .before .before .before .before .before .loop .inv .5, s .pre .1 .1 .1 .1, c .before .before .before .before .before .before .before .before .before .before .before .before .before .before .before .before .loop-test .taken)
+walk-slice-write-stops t c = let s = c .before .before .before .before .before .before .before .before .before .before .before .before .before .before .before .before .before .before .before .before .before .before .before .before .before .before .before .before .before .before in omega (arith, c .before .before .before .before .before .before .before .before .before .before .before .before .before .before .before .before .before .before .before .before .loop .inv .5, s .pre .1 .1 .1 .1, c .before .before .before .before .before .before .before .before .before .before .before .before .before .before .before .before .before .before .before .loop-test .taken)
 
 walk-add-extracted : (t : ℕ) → walk-lts.Need-add-extracted (
   number-members-reads.Asked,
@@ -2079,7 +2106,7 @@ walk-add-extracted : (t : ℕ) → walk-lts.Need-add-extracted (
   refusal-of-reads.Asked,
   refusal-of-reads.Learnt,
 ) (walk-at t) walk.Post walk-Inv-loop walk-μ-loop
-walk-add-extracted t c = let s = c .before .before .before .before .before .before .before .before .before .before .before .before .before .before .before .before .before .before .before .before .before .before .before .before .before .before in let a = s .args in let z = (walk-goes-on (inner (rows-in (a .rows .now)) (a .fuel)) (a .held .now) (place-groups (a .held .now)) (a .next) _ _ _ _ _ _ (c .before .before .before .before .before .before .before .before .before .before .before .before .before .before .before .before .before .loop .inv .1) (c .before .before .before .before .before .before .before .measure .result) (answer-here (rows-in (a .rows .now)) (a .fuel) (a .next) (a .held .now) (a .members .now) (a .ends .now) (s .pre .1 .0 .1) (s .pre .1 .1 .0 .0) (s .pre .1 .1 .0 .1) _ _ _ _ _ _ (c .before .before .before .before .before .before .before .before .before .before .before .before .before .before .before .before .before .loop .inv .1) (c .before .before .before .before .before .before .before .before .before .before .before .before .before .before .before .before .loop-test .taken) (c .before .before .before .before .before .before .before .measure .result) (c .before .before .before .before .before .before .before .measure .ensures)) _ _ _ (c .before .armed .given .1) _ (count-here (rows-in (a .rows .now)) (a .fuel) (a .next) (a .held .now) (a .members .now) (a .ends .now) (s .pre .1 .0 .1) (s .pre .1 .1 .0 .0) (s .pre .1 .1 .0 .1) _ _ _ _ _ _ (c .before .before .before .before .before .before .before .before .before .before .before .before .before .before .before .before .before .loop .inv .1) (c .before .before .before .before .before .before .before .before .before .before .before .before .before .before .before .before .loop-test .taken)) (getD (a .ends .now) (c .before .before .before .before .before .before .before .before .before .before .before .before .before .before .before .before .before .loop .g) 0) (omega (arith, end-long (rows-in (a .rows .now)) (a .fuel) (a .next) (a .held .now) (a .members .now) (a .ends .now) (s .pre .1 .0 .1) (s .pre .1 .1 .0 .0) (s .pre .1 .1 .0 .1) _ _ _ _ _ _ (c .before .before .before .before .before .before .before .before .before .before .before .before .before .before .before .before .before .loop .inv .1) (c .before .before .before .before .before .before .before .before .before .before .before .before .before .before .before .before .loop-test .taken))) (omega (arith, end-long (rows-in (a .rows .now)) (a .fuel) (a .next) (a .held .now) (a .members .now) (a .ends .now) (s .pre .1 .0 .1) (s .pre .1 .1 .0 .0) (s .pre .1 .1 .0 .1) _ _ _ _ _ _ (c .before .before .before .before .before .before .before .before .before .before .before .before .before .before .before .before .before .loop .inv .1) (c .before .before .before .before .before .before .before .before .before .before .before .before .before .before .before .before .loop-test .taken), end-within (rows-in (a .rows .now)) (a .fuel) (a .next) (a .held .now) (a .members .now) (a .ends .now) (s .pre .1 .0 .1) (s .pre .1 .1 .0 .0) (s .pre .1 .1 .0 .1) _ _ _ _ _ _ (c .before .before .before .before .before .before .before .before .before .before .before .before .before .before .before .before .before .loop .inv .1) (c .before .before .before .before .before .before .before .before .before .before .before .before .before .before .before .before .loop-test .taken), s .pre .1 .1 .1 .0, c .before .before .before .before .before .before .before .before .before .before .before .before .before .before .before .before .before .loop .inv .4)) (omega (arith, c .before .before .before .before .before .before .before .before .before .before .before .before .before .before .before .before .before .loop .inv .5, s .pre .1 .1 .1 .1, c .before .before .before .before .before .before .before .before .before .before .before .before .before .before .before .before .loop-test .taken)) _ (c .before .before .before .before .before .before .before .before .before .before .before .before .before .number-members .ensures)) in omega (arith, made-low (rows-in (a .rows .now)) (a .fuel) (a .next) (a .held .now) (a .members .now) (a .ends .now) (s .pre .1 .0 .1) (s .pre .1 .1 .0 .0) (s .pre .1 .1 .0 .1) _ _ _ _ _ _ z (omega (arith, c .before .before .before .before .before .before .before .before .before .before .before .before .before .before .before .before .loop-test .taken)))
+walk-add-extracted t c = let s = c .before .before .before .before .before .before .before .before .before .before .before .before .before .before .before .before .before .before .before .before .before .before .before .before .before .before .before .before .before .before in let a = s .args in let z = (walk-goes-on (inner (rows-in (a .rows .now)) (a .fuel)) (a .held .now) (place-groups (a .held .now)) (a .next) _ _ _ _ _ _ _ _ _ (c .before .before .before .before .before .before .before .before .before .before .before .before .before .before .before .before .before .before .before .before .loop .inv .1) (c .before .before .before .before .before .before .before .before .before .measure .result) _ (answer-here (rows-in (a .rows .now)) (a .fuel) (a .next) (a .held .now) (a .members .now) (a .ends .now) (s .pre .1 .0 .1) (s .pre .1 .1 .0 .0) (s .pre .1 .1 .0 .1) _ _ _ _ _ _ _ _ _ (c .before .before .before .before .before .before .before .before .before .before .before .before .before .before .before .before .before .before .before .before .loop .inv .1) (c .before .before .before .before .before .before .before .before .before .before .before .before .before .before .before .before .before .before .before .loop-test .taken) (c .before .before .before .before .before .before .before .before .before .measure .result) _ (c .before .before .before .before .before .before .before .before .before .measure .ensures)) _ _ _ (c .before .armed .given .1) _ (count-here (rows-in (a .rows .now)) (a .fuel) (a .next) (a .held .now) (a .members .now) (a .ends .now) (s .pre .1 .0 .1) (s .pre .1 .1 .0 .0) (s .pre .1 .1 .0 .1) _ _ _ _ _ _ _ _ _ (c .before .before .before .before .before .before .before .before .before .before .before .before .before .before .before .before .before .before .before .before .loop .inv .1) (c .before .before .before .before .before .before .before .before .before .before .before .before .before .before .before .before .before .before .before .loop-test .taken)) (getD (a .ends .now) (c .before .before .before .before .before .before .before .before .before .before .before .before .before .before .before .before .before .before .before .before .loop .g) 0) (omega (arith, end-long (rows-in (a .rows .now)) (a .fuel) (a .next) (a .held .now) (a .members .now) (a .ends .now) (s .pre .1 .0 .1) (s .pre .1 .1 .0 .0) (s .pre .1 .1 .0 .1) _ _ _ _ _ _ _ _ _ (c .before .before .before .before .before .before .before .before .before .before .before .before .before .before .before .before .before .before .before .before .loop .inv .1) (c .before .before .before .before .before .before .before .before .before .before .before .before .before .before .before .before .before .before .before .loop-test .taken))) (omega (arith, end-long (rows-in (a .rows .now)) (a .fuel) (a .next) (a .held .now) (a .members .now) (a .ends .now) (s .pre .1 .0 .1) (s .pre .1 .1 .0 .0) (s .pre .1 .1 .0 .1) _ _ _ _ _ _ _ _ _ (c .before .before .before .before .before .before .before .before .before .before .before .before .before .before .before .before .before .before .before .before .loop .inv .1) (c .before .before .before .before .before .before .before .before .before .before .before .before .before .before .before .before .before .before .before .loop-test .taken), end-within (rows-in (a .rows .now)) (a .fuel) (a .next) (a .held .now) (a .members .now) (a .ends .now) (s .pre .1 .0 .1) (s .pre .1 .1 .0 .0) (s .pre .1 .1 .0 .1) _ _ _ _ _ _ _ _ _ (c .before .before .before .before .before .before .before .before .before .before .before .before .before .before .before .before .before .before .before .before .loop .inv .1) (c .before .before .before .before .before .before .before .before .before .before .before .before .before .before .before .before .before .before .before .loop-test .taken), s .pre .1 .1 .1 .0, c .before .before .before .before .before .before .before .before .before .before .before .before .before .before .before .before .before .before .before .before .loop .inv .4)) (omega (arith, c .before .before .before .before .before .before .before .before .before .before .before .before .before .before .before .before .before .before .before .before .loop .inv .5, s .pre .1 .1 .1 .1, c .before .before .before .before .before .before .before .before .before .before .before .before .before .before .before .before .before .before .before .loop-test .taken)) _ (c .before .before .before .before .before .before .before .before .before .before .before .before .before .before .before .before .number-members .ensures)) in omega (arith, made-low (rows-in (a .rows .now)) (a .fuel) (a .next) (a .held .now) (a .members .now) (a .ends .now) (s .pre .1 .0 .1) (s .pre .1 .1 .0 .0) (s .pre .1 .1 .0 .1) _ _ _ _ _ _ _ _ _ z (omega (arith, c .before .before .before .before .before .before .before .before .before .before .before .before .before .before .before .before .before .before .before .loop-test .taken)))
 
 walk-add-g : (t : ℕ) → walk-lts.Need-add-g (
   number-members-reads.Asked,
@@ -2089,7 +2116,7 @@ walk-add-g : (t : ℕ) → walk-lts.Need-add-g (
   refusal-of-reads.Asked,
   refusal-of-reads.Learnt,
 ) (walk-at t) walk.Post walk-Inv-loop walk-μ-loop
-walk-add-g t c = let s = c .before .before .before .before .before .before .before .before .before .before .before .before .before .before .before .before .before .before .before .before .before .before .before .before .before .before in let a = s .args in omega (arith, c .before .before .before .before .before .before .before .before .before .before .before .before .before .before .before .before .loop-test .taken, ends-few (rows-in (a .rows .now)) (a .fuel) (a .next) (a .held .now) (a .members .now) (a .ends .now) (s .pre .1 .0 .1) (s .pre .1 .1 .0 .0) (s .pre .1 .1 .0 .1))
+walk-add-g t c = let s = c .before .before .before .before .before .before .before .before .before .before .before .before .before .before .before .before .before .before .before .before .before .before .before .before .before .before .before .before .before .before in let a = s .args in omega (arith, c .before .before .before .before .before .before .before .before .before .before .before .before .before .before .before .before .before .before .before .loop-test .taken, ends-few (rows-in (a .rows .now)) (a .fuel) (a .next) (a .held .now) (a .members .now) (a .ends .now) (s .pre .1 .0 .1) (s .pre .1 .1 .0 .0) (s .pre .1 .1 .0 .1))
 
 walk-loop-less : (t : ℕ) → walk-lts.Need-loop-less (
   number-members-reads.Asked,
@@ -2109,17 +2136,7 @@ walk-loop-again : (t : ℕ) → walk-lts.Need-loop-again (
   refusal-of-reads.Asked,
   refusal-of-reads.Learnt,
 ) (walk-at t) walk.Post walk-Inv-loop walk-μ-loop
-walk-loop-again t c = let s = c .before .before .before .before .before .before .before .before .before .before .before .before .before .before .before .before .before .before .before .before .before .before .before .before .before .before in let a = s .args in (omega (arith, c .before .before .before .before .before .before .before .before .before .before .before .before .before .before .before .before .loop-test .taken), (walk-goes-on (inner (rows-in (a .rows .now)) (a .fuel)) (a .held .now) (place-groups (a .held .now)) (a .next) _ _ _ _ _ _ (c .before .before .before .before .before .before .before .before .before .before .before .before .before .before .before .before .before .loop .inv .1) (c .before .before .before .before .before .before .before .measure .result) (answer-here (rows-in (a .rows .now)) (a .fuel) (a .next) (a .held .now) (a .members .now) (a .ends .now) (s .pre .1 .0 .1) (s .pre .1 .1 .0 .0) (s .pre .1 .1 .0 .1) _ _ _ _ _ _ (c .before .before .before .before .before .before .before .before .before .before .before .before .before .before .before .before .before .loop .inv .1) (c .before .before .before .before .before .before .before .before .before .before .before .before .before .before .before .before .loop-test .taken) (c .before .before .before .before .before .before .before .measure .result) (c .before .before .before .before .before .before .before .measure .ensures)) _ _ _ (c .before .armed .given .1) _ (count-here (rows-in (a .rows .now)) (a .fuel) (a .next) (a .held .now) (a .members .now) (a .ends .now) (s .pre .1 .0 .1) (s .pre .1 .1 .0 .0) (s .pre .1 .1 .0 .1) _ _ _ _ _ _ (c .before .before .before .before .before .before .before .before .before .before .before .before .before .before .before .before .before .loop .inv .1) (c .before .before .before .before .before .before .before .before .before .before .before .before .before .before .before .before .loop-test .taken)) (getD (a .ends .now) (c .before .before .before .before .before .before .before .before .before .before .before .before .before .before .before .before .before .loop .g) 0) (omega (arith, end-long (rows-in (a .rows .now)) (a .fuel) (a .next) (a .held .now) (a .members .now) (a .ends .now) (s .pre .1 .0 .1) (s .pre .1 .1 .0 .0) (s .pre .1 .1 .0 .1) _ _ _ _ _ _ (c .before .before .before .before .before .before .before .before .before .before .before .before .before .before .before .before .before .loop .inv .1) (c .before .before .before .before .before .before .before .before .before .before .before .before .before .before .before .before .loop-test .taken))) (omega (arith, end-long (rows-in (a .rows .now)) (a .fuel) (a .next) (a .held .now) (a .members .now) (a .ends .now) (s .pre .1 .0 .1) (s .pre .1 .1 .0 .0) (s .pre .1 .1 .0 .1) _ _ _ _ _ _ (c .before .before .before .before .before .before .before .before .before .before .before .before .before .before .before .before .before .loop .inv .1) (c .before .before .before .before .before .before .before .before .before .before .before .before .before .before .before .before .loop-test .taken), end-within (rows-in (a .rows .now)) (a .fuel) (a .next) (a .held .now) (a .members .now) (a .ends .now) (s .pre .1 .0 .1) (s .pre .1 .1 .0 .0) (s .pre .1 .1 .0 .1) _ _ _ _ _ _ (c .before .before .before .before .before .before .before .before .before .before .before .before .before .before .before .before .before .loop .inv .1) (c .before .before .before .before .before .before .before .before .before .before .before .before .before .before .before .before .loop-test .taken), s .pre .1 .1 .1 .0, c .before .before .before .before .before .before .before .before .before .before .before .before .before .before .before .before .before .loop .inv .4)) (omega (arith, c .before .before .before .before .before .before .before .before .before .before .before .before .before .before .before .before .before .loop .inv .5, s .pre .1 .1 .1 .1, c .before .before .before .before .before .before .before .before .before .before .before .before .before .before .before .before .loop-test .taken)) _ (c .before .before .before .before .before .before .before .before .before .before .before .before .before .number-members .ensures)), c .before .before .before .before .before .before .before .measure .kept .1 .0 ∙ c .before .before .before .before .before .before .before .before .before .before .before .before .before .before .before .before .before .loop .inv .2, c .before .before .before .before .before .before .before .measure .kept .1 .1 .1 .1 .1 .1 .0 ∙ c .before .before .before .before .before .before .before .before .before .before .before .before .before .before .before .before .before .loop .inv .3, c .before .before .before .before .before .before .before .before .before .before .before .before .before .number-members .kept .1 .1 .1 .0 ∙ c .before .before .before .before .before .before .before .before .before .before .before .before .before .before .before .before .before .loop .inv .4, length-set (c .before .before .before .before .before .before .before .before .before .before .before .before .before .before .before .before .before .loop .sizes) (c .before .before .before .before .before .before .before .before .before .before .before .before .before .before .before .before .before .loop .g) (c .before .armed .given .0 .0) ∙ c .before .before .before .before .before .before .before .before .before .before .before .before .before .before .before .before .before .loop .inv .5)
-
-walk-same-length-5 : (t : ℕ) → walk-lts.Need-same-length-5 (
-  number-members-reads.Asked,
-  number-members-reads.Learnt,
-  measure-below t,
-  measure.Post,
-  refusal-of-reads.Asked,
-  refusal-of-reads.Learnt,
-) (walk-at t) walk.Post walk-Inv-loop walk-μ-loop
-walk-same-length-5 t c = search needs
+walk-loop-again t c = let s = c .before .before .before .before .before .before .before .before .before .before .before .before .before .before .before .before .before .before .before .before .before .before .before .before .before .before .before .before .before .before in let a = s .args in (omega (arith, c .before .before .before .before .before .before .before .before .before .before .before .before .before .before .before .before .before .before .before .loop-test .taken), (walk-goes-on (inner (rows-in (a .rows .now)) (a .fuel)) (a .held .now) (place-groups (a .held .now)) (a .next) _ _ _ _ _ _ _ _ _ (c .before .before .before .before .before .before .before .before .before .before .before .before .before .before .before .before .before .before .before .before .loop .inv .1) (c .before .before .before .before .before .before .before .before .before .measure .result) _ (answer-here (rows-in (a .rows .now)) (a .fuel) (a .next) (a .held .now) (a .members .now) (a .ends .now) (s .pre .1 .0 .1) (s .pre .1 .1 .0 .0) (s .pre .1 .1 .0 .1) _ _ _ _ _ _ _ _ _ (c .before .before .before .before .before .before .before .before .before .before .before .before .before .before .before .before .before .before .before .before .loop .inv .1) (c .before .before .before .before .before .before .before .before .before .before .before .before .before .before .before .before .before .before .before .loop-test .taken) (c .before .before .before .before .before .before .before .before .before .measure .result) _ (c .before .before .before .before .before .before .before .before .before .measure .ensures)) _ _ _ (c .before .armed .given .1) _ (count-here (rows-in (a .rows .now)) (a .fuel) (a .next) (a .held .now) (a .members .now) (a .ends .now) (s .pre .1 .0 .1) (s .pre .1 .1 .0 .0) (s .pre .1 .1 .0 .1) _ _ _ _ _ _ _ _ _ (c .before .before .before .before .before .before .before .before .before .before .before .before .before .before .before .before .before .before .before .before .loop .inv .1) (c .before .before .before .before .before .before .before .before .before .before .before .before .before .before .before .before .before .before .before .loop-test .taken)) (getD (a .ends .now) (c .before .before .before .before .before .before .before .before .before .before .before .before .before .before .before .before .before .before .before .before .loop .g) 0) (omega (arith, end-long (rows-in (a .rows .now)) (a .fuel) (a .next) (a .held .now) (a .members .now) (a .ends .now) (s .pre .1 .0 .1) (s .pre .1 .1 .0 .0) (s .pre .1 .1 .0 .1) _ _ _ _ _ _ _ _ _ (c .before .before .before .before .before .before .before .before .before .before .before .before .before .before .before .before .before .before .before .before .loop .inv .1) (c .before .before .before .before .before .before .before .before .before .before .before .before .before .before .before .before .before .before .before .loop-test .taken))) (omega (arith, end-long (rows-in (a .rows .now)) (a .fuel) (a .next) (a .held .now) (a .members .now) (a .ends .now) (s .pre .1 .0 .1) (s .pre .1 .1 .0 .0) (s .pre .1 .1 .0 .1) _ _ _ _ _ _ _ _ _ (c .before .before .before .before .before .before .before .before .before .before .before .before .before .before .before .before .before .before .before .before .loop .inv .1) (c .before .before .before .before .before .before .before .before .before .before .before .before .before .before .before .before .before .before .before .loop-test .taken), end-within (rows-in (a .rows .now)) (a .fuel) (a .next) (a .held .now) (a .members .now) (a .ends .now) (s .pre .1 .0 .1) (s .pre .1 .1 .0 .0) (s .pre .1 .1 .0 .1) _ _ _ _ _ _ _ _ _ (c .before .before .before .before .before .before .before .before .before .before .before .before .before .before .before .before .before .before .before .before .loop .inv .1) (c .before .before .before .before .before .before .before .before .before .before .before .before .before .before .before .before .before .before .before .loop-test .taken), s .pre .1 .1 .1 .0, c .before .before .before .before .before .before .before .before .before .before .before .before .before .before .before .before .before .before .before .before .loop .inv .4)) (omega (arith, c .before .before .before .before .before .before .before .before .before .before .before .before .before .before .before .before .before .before .before .before .loop .inv .5, s .pre .1 .1 .1 .1, c .before .before .before .before .before .before .before .before .before .before .before .before .before .before .before .before .before .before .before .loop-test .taken)) _ (c .before .before .before .before .before .before .before .before .before .before .before .before .before .before .before .before .number-members .ensures)), c .before .before .before .before .before .before .before .before .before .measure .kept .1 .0 ∙ c .before .before .before .before .before .before .before .before .before .before .before .before .before .before .before .before .before .before .before .before .loop .inv .2, c .before .before .before .before .before .before .before .before .before .measure .kept .1 .1 .1 .1 .1 .1 .0 ∙ c .before .before .before .before .before .before .before .before .before .before .before .before .before .before .before .before .before .before .before .before .loop .inv .3, c .before .before .before .before .before .before .before .before .before .before .before .before .before .before .before .before .number-members .kept .1 .1 .1 .0 ∙ c .before .before .before .before .before .before .before .before .before .before .before .before .before .before .before .before .before .before .before .before .loop .inv .4, length-set (c .before .before .before .before .before .before .before .before .before .before .before .before .before .before .before .before .before .before .before .before .loop .stops) (c .before .before .before .before .before .before .before .before .before .before .before .before .before .before .before .before .before .before .before .before .loop .g) (c .before .armed .given .0 .0) ∙ c .before .before .before .before .before .before .before .before .before .before .before .before .before .before .before .before .before .before .before .before .loop .inv .5, c .before .before .before .before .before .before .before .before .before .measure .kept .1 .1 .1 .1 .1 .1 .1 .1 .0 ∙ c .before .before .before .before .before .before .before .before .before .before .before .before .before .before .before .before .before .before .before .before .loop .inv .6)
 
 walk-same-length-6 : (t : ℕ) → walk-lts.Need-same-length-6 (
   number-members-reads.Asked,
@@ -2151,6 +2168,26 @@ walk-same-length-8 : (t : ℕ) → walk-lts.Need-same-length-8 (
 ) (walk-at t) walk.Post walk-Inv-loop walk-μ-loop
 walk-same-length-8 t c = search needs
 
+walk-same-length-9 : (t : ℕ) → walk-lts.Need-same-length-9 (
+  number-members-reads.Asked,
+  number-members-reads.Learnt,
+  measure-below t,
+  measure.Post,
+  refusal-of-reads.Asked,
+  refusal-of-reads.Learnt,
+) (walk-at t) walk.Post walk-Inv-loop walk-μ-loop
+walk-same-length-9 t c = search needs
+
+walk-same-length-10 : (t : ℕ) → walk-lts.Need-same-length-10 (
+  number-members-reads.Asked,
+  number-members-reads.Learnt,
+  measure-below t,
+  measure.Post,
+  refusal-of-reads.Asked,
+  refusal-of-reads.Learnt,
+) (walk-at t) walk.Post walk-Inv-loop walk-μ-loop
+walk-same-length-10 t c = search needs
+
 walk-returns-2 : (t : ℕ) → walk-lts.Need-returns-2 (
   number-members-reads.Asked,
   number-members-reads.Learnt,
@@ -2160,31 +2197,37 @@ walk-returns-2 : (t : ℕ) → walk-lts.Need-returns-2 (
   refusal-of-reads.Learnt,
 ) (walk-at t) walk.Post walk-Inv-loop walk-μ-loop
 unfolding groups-told
-walk-returns-2 t c = let s = c .before .before .before .before .before .before .before .before .before .before in let a = s .args in walk-all (inner (rows-in (a .rows .now)) (a .fuel)) (a .held .now) (place-groups (a .held .now)) (a .next) _ _ _ _ _ _ (c .before .loop .inv .1) (length (place-groups (a .held .now))) (omega (arith, c .before .loop .inv .0, c .loop-test .left, ends-many (rows-in (a .rows .now)) (a .fuel) (a .next) (a .held .now) (a .members .now) (a .ends .now) (s .pre .1 .0 .1) (s .pre .1 .1 .0 .0) (s .pre .1 .1 .0 .1)))
+walk-returns-2 t c = let s = c .before .before .before .before .before .before .before .before .before .before .before in let a = s .args in walk-all (inner (rows-in (a .rows .now)) (a .fuel)) (a .held .now) (place-groups (a .held .now)) (a .next) _ _ _ _ _ _ _ _ _ (c .before .loop .inv .1) (length (place-groups (a .held .now))) (omega (arith, c .before .loop .inv .0, c .loop-test .left, ends-many (rows-in (a .rows .now)) (a .fuel) (a .next) (a .held .now) (a .members .now) (a .ends .now) (s .pre .1 .0 .1) (s .pre .1 .1 .0 .0) (s .pre .1 .1 .0 .1)))
 
 write-match-write-match-head-requires : (t : ℕ) → write-match-lts.Need-write-match-head-requires (
   write-match-head-reads.Asked,
   write-match-head-reads.Learnt,
+  put-reads.Asked,
+  put-reads.Learnt,
   group-begin-reads.Asked,
   group-begin-reads.Learnt,
   arms-below t,
   arms.Post,
 ) (write-match-at t) write-match.Post
-write-match-write-match-head-requires t c κs = let s = c .before .before .before .before .before .before .before .before .before in let a = s .args in (s .pre .1 .1 .0 .0, (s .pre .1 .1 .1 .0, head-fits (rows-in (a .rows .now)) (a .fuel) (a .held .now) (a .members .now) (a .ends .now) (a .numbers .now) (a .g) (a .size) (a .at) (s .pre .1 .0 .1) (s .pre .1 .1 .0 .0) (s .pre .1 .1 .0 .1) (s .pre .1 .1 .1 .0) (s .pre .1 .1 .1 .1)))
+write-match-write-match-head-requires t c κs = let s = c .before .before .before .before .before .before .before .before .before .before in let a = s .args in (s .pre .1 .1 .0 .0, (s .pre .1 .1 .1 .0, head-fits (rows-in (a .rows .now)) (a .fuel) (a .held .now) (a .members .now) (a .ends .now) (a .numbers .now) (a .g) (a .from) (a .size) (a .kept .now) (a .at) (s .pre .1 .0 .1) (s .pre .1 .1 .0 .0) (s .pre .1 .1 .0 .1) (s .pre .1 .1 .1 .0) (s .pre .1 .1 .1 .1)))
 
 write-match-add-result : (t : ℕ) → write-match-lts.Need-add-result (
   write-match-head-reads.Asked,
   write-match-head-reads.Learnt,
+  put-reads.Asked,
+  put-reads.Learnt,
   group-begin-reads.Asked,
   group-begin-reads.Learnt,
   arms-below t,
   arms.Post,
 ) (write-match-at t) write-match.Post
-write-match-add-result t c = let s = c .before .before .before .before .before .before .before .before .before .before .before .before .before in let a = s .args in omega (arith, c .before .before .before .write-match-head .ensures .0, all-fits (rows-in (a .rows .now)) (a .fuel) (a .held .now) (a .members .now) (a .ends .now) (a .numbers .now) (a .g) (a .size) (a .at) (s .pre .1 .0 .1) (s .pre .1 .1 .0 .0) (s .pre .1 .1 .0 .1) (s .pre .1 .1 .1 .0) (s .pre .1 .1 .1 .1))
+write-match-add-result t c = let s = c .before .before .before .before .before .before .before .before .before .before .before .before .before .before in let a = s .args in omega (arith, c .before .before .before .write-match-head .ensures .0, all-fits (rows-in (a .rows .now)) (a .fuel) (a .held .now) (a .members .now) (a .ends .now) (a .numbers .now) (a .g) (a .from) (a .size) (a .kept .now) (a .at) (s .pre .1 .0 .1) (s .pre .1 .1 .0 .0) (s .pre .1 .1 .0 .1) (s .pre .1 .1 .1 .0) (s .pre .1 .1 .1 .1))
 
 write-match-same-length : (t : ℕ) → write-match-lts.Need-same-length (
   write-match-head-reads.Asked,
   write-match-head-reads.Learnt,
+  put-reads.Asked,
+  put-reads.Learnt,
   group-begin-reads.Asked,
   group-begin-reads.Learnt,
   arms-below t,
@@ -2195,26 +2238,152 @@ write-match-same-length t c = search needs
 write-match-returns : (t : ℕ) → write-match-lts.Need-returns (
   write-match-head-reads.Asked,
   write-match-head-reads.Learnt,
+  put-reads.Asked,
+  put-reads.Learnt,
   group-begin-reads.Asked,
   group-begin-reads.Learnt,
   arms-below t,
   arms.Post,
 ) (write-match-at t) write-match.Post
-write-match-returns t c = let s = c .before .before .before .before .before .before .before .before .before .before .before .before .before in let a = s .args in match-past (rows-in (a .rows .now)) (a .fuel) (a .held .now) (a .members .now) (a .ends .now) (a .numbers .now) (a .g) (a .size) (a .at) (s .pre .1 .0 .1) (s .pre .1 .1 .0 .0) (s .pre .1 .1 .0 .1) (s .pre .1 .1 .1 .0) (s .pre .1 .1 .1 .1) (a .table .now) _ (c .before .before .before .write-match-head .ensures .1) (c .before .before .before .write-match-head .result) (c .before .before .before .write-match-head .ensures .0) (omega (arith, c .if1 .taken))
+write-match-returns t c = let s = c .before .before .before .before .before .before .before .before .before .before .before .before .before .before in let a = s .args in match-past (rows-in (a .rows .now)) (a .fuel) (a .held .now) (a .members .now) (a .ends .now) (a .numbers .now) (a .g) (a .from) (a .size) (a .kept .now) (a .at) (s .pre .1 .0 .1) (s .pre .1 .1 .0 .0) (s .pre .1 .1 .0 .1) (s .pre .1 .1 .1 .0) (s .pre .1 .1 .1 .1) (a .table .now) _ (c .before .before .before .write-match-head .ensures .1) (c .before .before .before .write-match-head .result) (c .before .before .before .write-match-head .ensures .0) (omega (arith, c .if1 .taken))
+
+write-match-add-if2 : (t : ℕ) → write-match-lts.Need-add-if2 (
+  write-match-head-reads.Asked,
+  write-match-head-reads.Learnt,
+  put-reads.Asked,
+  put-reads.Learnt,
+  group-begin-reads.Asked,
+  group-begin-reads.Learnt,
+  arms-below t,
+  arms.Post,
+) (write-match-at t) write-match.Post
+write-match-add-if2 t c = let s = c .before .before .before .before .before .before .before .before .before .before .before .before .before .before in let a = s .args in omega (arith, kept-low (rows-in (a .rows .now)) (a .fuel) (a .held .now) (a .members .now) (a .ends .now) (a .numbers .now) (a .g) (a .from) (a .size) (a .kept .now) (a .at) (s .pre .1 .0 .1) (s .pre .1 .1 .0 .0) (s .pre .1 .1 .0 .1) (s .pre .1 .1 .1 .0) (s .pre .1 .1 .1 .1))
+
+write-match-add-put : (t : ℕ) → write-match-lts.Need-add-put (
+  write-match-head-reads.Asked,
+  write-match-head-reads.Learnt,
+  put-reads.Asked,
+  put-reads.Learnt,
+  group-begin-reads.Asked,
+  group-begin-reads.Learnt,
+  arms-below t,
+  arms.Post,
+) (write-match-at t) write-match.Post
+write-match-add-put t c = let s = c .before .before .before .before .before .before .before .before .before .before .before .before .before .before .before in let a = s .args in omega (arith, kept-low (rows-in (a .rows .now)) (a .fuel) (a .held .now) (a .members .now) (a .ends .now) (a .numbers .now) (a .g) (a .from) (a .size) (a .kept .now) (a .at) (s .pre .1 .0 .1) (s .pre .1 .1 .0 .0) (s .pre .1 .1 .0 .1) (s .pre .1 .1 .1 .0) (s .pre .1 .1 .1 .1))
+
+write-match-mul-put : (t : ℕ) → write-match-lts.Need-mul-put (
+  write-match-head-reads.Asked,
+  write-match-head-reads.Learnt,
+  put-reads.Asked,
+  put-reads.Learnt,
+  group-begin-reads.Asked,
+  group-begin-reads.Learnt,
+  arms-below t,
+  arms.Post,
+) (write-match-at t) write-match.Post
+write-match-mul-put t c = let s = c .before .before .before .before .before .before .before .before .before .before .before .before .before .before .before in let a = s .args in omega (arith, kept-low (rows-in (a .rows .now)) (a .fuel) (a .held .now) (a .members .now) (a .ends .now) (a .numbers .now) (a .g) (a .from) (a .size) (a .kept .now) (a .at) (s .pre .1 .0 .1) (s .pre .1 .1 .0 .0) (s .pre .1 .1 .0 .1) (s .pre .1 .1 .1 .0) (s .pre .1 .1 .1 .1), c .if2 .taken, s .good .1 .1 .1 .1 .1 .1 .1 .1 .1 .0)
+
+write-match-sub-put : (t : ℕ) → write-match-lts.Need-sub-put (
+  write-match-head-reads.Asked,
+  write-match-head-reads.Learnt,
+  put-reads.Asked,
+  put-reads.Learnt,
+  group-begin-reads.Asked,
+  group-begin-reads.Learnt,
+  arms-below t,
+  arms.Post,
+) (write-match-at t) write-match.Post
+write-match-sub-put t c = let s = c .before .before .before .before .before .before .before .before .before .before .before .before .before .before .before in let a = s .args in omega arith
+
+write-match-part-put-start : (t : ℕ) → write-match-lts.Need-part-put-start (
+  write-match-head-reads.Asked,
+  write-match-head-reads.Learnt,
+  put-reads.Asked,
+  put-reads.Learnt,
+  group-begin-reads.Asked,
+  group-begin-reads.Learnt,
+  arms-below t,
+  arms.Post,
+) (write-match-at t) write-match.Post
+write-match-part-put-start t c = let s = c .before .before .before .before .before .before .before .before .before .before .before .before .before .before .before in let a = s .args in omega arith
+
+write-match-part-put-end : (t : ℕ) → write-match-lts.Need-part-put-end (
+  write-match-head-reads.Asked,
+  write-match-head-reads.Learnt,
+  put-reads.Asked,
+  put-reads.Learnt,
+  group-begin-reads.Asked,
+  group-begin-reads.Learnt,
+  arms-below t,
+  arms.Post,
+) (write-match-at t) write-match.Post
+write-match-part-put-end t c = let s = c .before .before .before .before .before .before .before .before .before .before .before .before .before .before .before in let a = s .args in omega (arith, c .if2 .taken)
+
+write-match-put-requires : (t : ℕ) → write-match-lts.Need-put-requires (
+  write-match-head-reads.Asked,
+  write-match-head-reads.Learnt,
+  put-reads.Asked,
+  put-reads.Learnt,
+  group-begin-reads.Asked,
+  group-begin-reads.Learnt,
+  arms-below t,
+  arms.Post,
+) (write-match-at t) write-match.Post
+write-match-put-requires t c κs = search needs
+
+write-match-add-result-2 : (t : ℕ) → write-match-lts.Need-add-result-2 (
+  write-match-head-reads.Asked,
+  write-match-head-reads.Learnt,
+  put-reads.Asked,
+  put-reads.Learnt,
+  group-begin-reads.Asked,
+  group-begin-reads.Learnt,
+  arms-below t,
+  arms.Post,
+) (write-match-at t) write-match.Post
+write-match-add-result-2 t c = let s = c .before .before .before .before .before .before .before .before .before .before .before .before .before .before .before .before .before .before .before .before in let a = s .args in omega (arith, c .before .before .before .before .before .before .before .before .before .write-match-head .ensures .0, all-fits (rows-in (a .rows .now)) (a .fuel) (a .held .now) (a .members .now) (a .ends .now) (a .numbers .now) (a .g) (a .from) (a .size) (a .kept .now) (a .at) (s .pre .1 .0 .1) (s .pre .1 .1 .0 .0) (s .pre .1 .1 .0 .1) (s .pre .1 .1 .1 .0) (s .pre .1 .1 .1 .1))
+
+write-match-same-length-2 : (t : ℕ) → write-match-lts.Need-same-length-2 (
+  write-match-head-reads.Asked,
+  write-match-head-reads.Learnt,
+  put-reads.Asked,
+  put-reads.Learnt,
+  group-begin-reads.Asked,
+  group-begin-reads.Learnt,
+  arms-below t,
+  arms.Post,
+) (write-match-at t) write-match.Post
+write-match-same-length-2 t c = search needs
+
+write-match-returns-2 : (t : ℕ) → write-match-lts.Need-returns-2 (
+  write-match-head-reads.Asked,
+  write-match-head-reads.Learnt,
+  put-reads.Asked,
+  put-reads.Learnt,
+  group-begin-reads.Asked,
+  group-begin-reads.Learnt,
+  arms-below t,
+  arms.Post,
+) (write-match-at t) write-match.Post
+write-match-returns-2 t c = let s = c .before .before .before .before .before .before .before .before .before .before .before .before .before .before .before .before .before .before .before .before in let a = s .args in match-kept (rows-in (a .rows .now)) (a .fuel) (a .held .now) (a .members .now) (a .ends .now) (a .numbers .now) (a .g) (a .from) (a .size) (a .kept .now) (a .at) (s .pre .1 .0 .1) (s .pre .1 .1 .0 .0) (s .pre .1 .1 .0 .1) (s .pre .1 .1 .1 .0) (s .pre .1 .1 .1 .1) (a .table .now) _ _ (c .before .before .before .before .before .before .before .before .before .write-match-head .ensures .1) (c .before .before .before .before .before .before .before .before .before .write-match-head .result) (c .before .before .before .before .before .before .before .before .before .write-match-head .ensures .0) (omega (arith, c .before .before .before .before .before .if2 .taken)) (c .before .before .put .ensures)
 
 write-match-group-begin-requires : (t : ℕ) → write-match-lts.Need-group-begin-requires (
   write-match-head-reads.Asked,
   write-match-head-reads.Learnt,
+  put-reads.Asked,
+  put-reads.Learnt,
   group-begin-reads.Asked,
   group-begin-reads.Learnt,
   arms-below t,
   arms.Post,
 ) (write-match-at t) write-match.Post
-write-match-group-begin-requires t c κs = let s = c .before .before .before .before .before .before .before .before .before .before .before .before .before in s .pre .1 .1 .1 .0
+write-match-group-begin-requires t c κs = let s = c .before .before .before .before .before .before .before .before .before .before .before .before .before .before .before in s .pre .1 .1 .1 .0
 
 write-match-mul-end : (t : ℕ) → write-match-lts.Need-mul-end (
   write-match-head-reads.Asked,
   write-match-head-reads.Learnt,
+  put-reads.Asked,
+  put-reads.Learnt,
   group-begin-reads.Asked,
   group-begin-reads.Learnt,
   arms-below t,
@@ -2225,6 +2394,8 @@ write-match-mul-end t c = search needs
 write-match-shared-slice-read-end : (t : ℕ) → write-match-lts.Need-shared-slice-read-end (
   write-match-head-reads.Asked,
   write-match-head-reads.Learnt,
+  put-reads.Asked,
+  put-reads.Learnt,
   group-begin-reads.Asked,
   group-begin-reads.Learnt,
   arms-below t,
@@ -2235,96 +2406,116 @@ write-match-shared-slice-read-end t c = search needs
 write-match-mul-first : (t : ℕ) → write-match-lts.Need-mul-first (
   write-match-head-reads.Asked,
   write-match-head-reads.Learnt,
+  put-reads.Asked,
+  put-reads.Learnt,
   group-begin-reads.Asked,
   group-begin-reads.Learnt,
   arms-below t,
   arms.Post,
 ) (write-match-at t) write-match.Post
-write-match-mul-first t c = let s = c .before .before .before .before .before .before .before .before .before .before .before .before .before .before .before in let a = s .args in omega (arith, start-within (rows-in (a .rows .now)) (a .fuel) (a .held .now) (a .members .now) (a .ends .now) (a .numbers .now) (a .g) (a .size) (a .at) (s .pre .1 .0 .1) (s .pre .1 .1 .0 .0) (s .pre .1 .1 .0 .1) (s .pre .1 .1 .1 .0) (s .pre .1 .1 .1 .1) (c .before .group-begin .result) (c .before .group-begin .ensures), s .good .1 .1 .1 .1 .1 .0)
+write-match-mul-first t c = let s = c .before .before .before .before .before .before .before .before .before .before .before .before .before .before .before .before .before in let a = s .args in omega (arith, start-within (rows-in (a .rows .now)) (a .fuel) (a .held .now) (a .members .now) (a .ends .now) (a .numbers .now) (a .g) (a .from) (a .size) (a .kept .now) (a .at) (s .pre .1 .0 .1) (s .pre .1 .1 .0 .0) (s .pre .1 .1 .0 .1) (s .pre .1 .1 .1 .0) (s .pre .1 .1 .1 .1) (c .before .group-begin .result) (c .before .group-begin .ensures), s .good .1 .1 .1 .1 .1 .0)
 
 write-match-shared-slice-read-first : (t : ℕ) → write-match-lts.Need-shared-slice-read-first (
   write-match-head-reads.Asked,
   write-match-head-reads.Learnt,
+  put-reads.Asked,
+  put-reads.Learnt,
   group-begin-reads.Asked,
   group-begin-reads.Learnt,
   arms-below t,
   arms.Post,
 ) (write-match-at t) write-match.Post
-write-match-shared-slice-read-first t c = let s = c .before .before .before .before .before .before .before .before .before .before .before .before .before .before .before .before in let a = s .args in start-within (rows-in (a .rows .now)) (a .fuel) (a .held .now) (a .members .now) (a .ends .now) (a .numbers .now) (a .g) (a .size) (a .at) (s .pre .1 .0 .1) (s .pre .1 .1 .0 .0) (s .pre .1 .1 .0 .1) (s .pre .1 .1 .1 .0) (s .pre .1 .1 .1 .1) (c .before .before .group-begin .result) (c .before .before .group-begin .ensures)
+write-match-shared-slice-read-first t c = let s = c .before .before .before .before .before .before .before .before .before .before .before .before .before .before .before .before .before .before in let a = s .args in start-within (rows-in (a .rows .now)) (a .fuel) (a .held .now) (a .members .now) (a .ends .now) (a .numbers .now) (a .g) (a .from) (a .size) (a .kept .now) (a .at) (s .pre .1 .0 .1) (s .pre .1 .1 .0 .0) (s .pre .1 .1 .0 .1) (s .pre .1 .1 .1 .0) (s .pre .1 .1 .1 .1) (c .before .before .group-begin .result) (c .before .before .group-begin .ensures)
 
 write-match-sub-first : (t : ℕ) → write-match-lts.Need-sub-first (
   write-match-head-reads.Asked,
   write-match-head-reads.Learnt,
+  put-reads.Asked,
+  put-reads.Learnt,
   group-begin-reads.Asked,
   group-begin-reads.Learnt,
   arms-below t,
   arms.Post,
 ) (write-match-at t) write-match.Post
-write-match-sub-first t c = let s = c .before .before .before .before .before .before .before .before .before .before .before .before .before .before .before .before in let a = s .args in start-under (rows-in (a .rows .now)) (a .fuel) (a .held .now) (a .members .now) (a .ends .now) (a .numbers .now) (a .g) (a .size) (a .at) (s .pre .1 .0 .1) (s .pre .1 .1 .0 .0) (s .pre .1 .1 .0 .1) (s .pre .1 .1 .1 .0) (s .pre .1 .1 .1 .1) (c .before .before .group-begin .result) (c .before .before .group-begin .ensures)
+write-match-sub-first t c = let s = c .before .before .before .before .before .before .before .before .before .before .before .before .before .before .before .before .before .before in let a = s .args in start-under (rows-in (a .rows .now)) (a .fuel) (a .held .now) (a .members .now) (a .ends .now) (a .numbers .now) (a .g) (a .from) (a .size) (a .kept .now) (a .at) (s .pre .1 .0 .1) (s .pre .1 .1 .0 .0) (s .pre .1 .1 .0 .1) (s .pre .1 .1 .1 .0) (s .pre .1 .1 .1 .1) (c .before .before .group-begin .result) (c .before .before .group-begin .ensures)
 
 write-match-add-first : (t : ℕ) → write-match-lts.Need-add-first (
   write-match-head-reads.Asked,
   write-match-head-reads.Learnt,
+  put-reads.Asked,
+  put-reads.Learnt,
   group-begin-reads.Asked,
   group-begin-reads.Learnt,
   arms-below t,
   arms.Post,
 ) (write-match-at t) write-match.Post
-write-match-add-first t c = let s = c .before .before .before .before .before .before .before .before .before .before .before .before .before .before .before .before in let a = s .args in omega (arith, number-small (rows-in (a .rows .now)) (a .fuel) (a .held .now) (a .members .now) (a .ends .now) (a .numbers .now) (a .g) (a .size) (a .at) (s .pre .1 .0 .1) (s .pre .1 .1 .0 .0) (s .pre .1 .1 .0 .1) (s .pre .1 .1 .1 .0) (s .pre .1 .1 .1 .1) (c .before .before .group-begin .result) (c .before .before .group-begin .ensures), start-under (rows-in (a .rows .now)) (a .fuel) (a .held .now) (a .members .now) (a .ends .now) (a .numbers .now) (a .g) (a .size) (a .at) (s .pre .1 .0 .1) (s .pre .1 .1 .0 .0) (s .pre .1 .1 .0 .1) (s .pre .1 .1 .1 .0) (s .pre .1 .1 .1 .1) (c .before .before .group-begin .result) (c .before .before .group-begin .ensures), ends-within (rows-in (a .rows .now)) (a .fuel) (a .held .now) (a .members .now) (a .ends .now) (a .numbers .now) (a .g) (a .size) (a .at) (s .pre .1 .0 .1) (s .pre .1 .1 .0 .0) (s .pre .1 .1 .0 .1) (s .pre .1 .1 .1 .0) (s .pre .1 .1 .1 .1), members-few (rows-in (a .rows .now)) (a .fuel) (a .held .now) (a .members .now) (a .ends .now) (a .numbers .now) (a .g) (a .size) (a .at) (s .pre .1 .0 .1) (s .pre .1 .1 .0 .0) (s .pre .1 .1 .0 .1) (s .pre .1 .1 .1 .0) (s .pre .1 .1 .1 .1))
+write-match-add-first t c = let s = c .before .before .before .before .before .before .before .before .before .before .before .before .before .before .before .before .before .before in let a = s .args in omega (arith, number-small (rows-in (a .rows .now)) (a .fuel) (a .held .now) (a .members .now) (a .ends .now) (a .numbers .now) (a .g) (a .from) (a .size) (a .kept .now) (a .at) (s .pre .1 .0 .1) (s .pre .1 .1 .0 .0) (s .pre .1 .1 .0 .1) (s .pre .1 .1 .1 .0) (s .pre .1 .1 .1 .1) (c .before .before .group-begin .result) (c .before .before .group-begin .ensures), start-under (rows-in (a .rows .now)) (a .fuel) (a .held .now) (a .members .now) (a .ends .now) (a .numbers .now) (a .g) (a .from) (a .size) (a .kept .now) (a .at) (s .pre .1 .0 .1) (s .pre .1 .1 .0 .0) (s .pre .1 .1 .0 .1) (s .pre .1 .1 .1 .0) (s .pre .1 .1 .1 .1) (c .before .before .group-begin .result) (c .before .before .group-begin .ensures), ends-within (rows-in (a .rows .now)) (a .fuel) (a .held .now) (a .members .now) (a .ends .now) (a .numbers .now) (a .g) (a .from) (a .size) (a .kept .now) (a .at) (s .pre .1 .0 .1) (s .pre .1 .1 .0 .0) (s .pre .1 .1 .0 .1) (s .pre .1 .1 .1 .0) (s .pre .1 .1 .1 .1), members-few (rows-in (a .rows .now)) (a .fuel) (a .held .now) (a .members .now) (a .ends .now) (a .numbers .now) (a .g) (a .from) (a .size) (a .kept .now) (a .at) (s .pre .1 .0 .1) (s .pre .1 .1 .0 .0) (s .pre .1 .1 .0 .1) (s .pre .1 .1 .1 .0) (s .pre .1 .1 .1 .1))
 
 write-match-mul-arms : (t : ℕ) → write-match-lts.Need-mul-arms (
   write-match-head-reads.Asked,
   write-match-head-reads.Learnt,
+  put-reads.Asked,
+  put-reads.Learnt,
   group-begin-reads.Asked,
   group-begin-reads.Learnt,
   arms-below t,
   arms.Post,
 ) (write-match-at t) write-match.Post
-write-match-mul-arms t c = let s = c .before .before .before .before .before .before .before .before .before .before .before .before .before .before .before .before .before in let a = s .args in omega (arith, start-under (rows-in (a .rows .now)) (a .fuel) (a .held .now) (a .members .now) (a .ends .now) (a .numbers .now) (a .g) (a .size) (a .at) (s .pre .1 .0 .1) (s .pre .1 .1 .0 .0) (s .pre .1 .1 .0 .1) (s .pre .1 .1 .1 .0) (s .pre .1 .1 .1 .1) (c .before .before .before .group-begin .result) (c .before .before .before .group-begin .ensures), ends-within (rows-in (a .rows .now)) (a .fuel) (a .held .now) (a .members .now) (a .ends .now) (a .numbers .now) (a .g) (a .size) (a .at) (s .pre .1 .0 .1) (s .pre .1 .1 .0 .0) (s .pre .1 .1 .0 .1) (s .pre .1 .1 .1 .0) (s .pre .1 .1 .1 .1), members-few (rows-in (a .rows .now)) (a .fuel) (a .held .now) (a .members .now) (a .ends .now) (a .numbers .now) (a .g) (a .size) (a .at) (s .pre .1 .0 .1) (s .pre .1 .1 .0 .0) (s .pre .1 .1 .0 .1) (s .pre .1 .1 .1 .0) (s .pre .1 .1 .1 .1))
+write-match-mul-arms t c = let s = c .before .before .before .before .before .before .before .before .before .before .before .before .before .before .before .before .before .before .before in let a = s .args in omega (arith, start-under (rows-in (a .rows .now)) (a .fuel) (a .held .now) (a .members .now) (a .ends .now) (a .numbers .now) (a .g) (a .from) (a .size) (a .kept .now) (a .at) (s .pre .1 .0 .1) (s .pre .1 .1 .0 .0) (s .pre .1 .1 .0 .1) (s .pre .1 .1 .1 .0) (s .pre .1 .1 .1 .1) (c .before .before .before .group-begin .result) (c .before .before .before .group-begin .ensures), ends-within (rows-in (a .rows .now)) (a .fuel) (a .held .now) (a .members .now) (a .ends .now) (a .numbers .now) (a .g) (a .from) (a .size) (a .kept .now) (a .at) (s .pre .1 .0 .1) (s .pre .1 .1 .0 .0) (s .pre .1 .1 .0 .1) (s .pre .1 .1 .1 .0) (s .pre .1 .1 .1 .1), members-few (rows-in (a .rows .now)) (a .fuel) (a .held .now) (a .members .now) (a .ends .now) (a .numbers .now) (a .g) (a .from) (a .size) (a .kept .now) (a .at) (s .pre .1 .0 .1) (s .pre .1 .1 .0 .0) (s .pre .1 .1 .0 .1) (s .pre .1 .1 .1 .0) (s .pre .1 .1 .1 .1))
 
 write-match-sub-arms : (t : ℕ) → write-match-lts.Need-sub-arms (
   write-match-head-reads.Asked,
   write-match-head-reads.Learnt,
+  put-reads.Asked,
+  put-reads.Learnt,
   group-begin-reads.Asked,
   group-begin-reads.Learnt,
   arms-below t,
   arms.Post,
 ) (write-match-at t) write-match.Post
-write-match-sub-arms t c = let s = c .before .before .before .before .before .before .before .before .before .before .before .before .before .before .before .before .before in let a = s .args in start-under (rows-in (a .rows .now)) (a .fuel) (a .held .now) (a .members .now) (a .ends .now) (a .numbers .now) (a .g) (a .size) (a .at) (s .pre .1 .0 .1) (s .pre .1 .1 .0 .0) (s .pre .1 .1 .0 .1) (s .pre .1 .1 .1 .0) (s .pre .1 .1 .1 .1) (c .before .before .before .group-begin .result) (c .before .before .before .group-begin .ensures)
+write-match-sub-arms t c = let s = c .before .before .before .before .before .before .before .before .before .before .before .before .before .before .before .before .before .before .before in let a = s .args in start-under (rows-in (a .rows .now)) (a .fuel) (a .held .now) (a .members .now) (a .ends .now) (a .numbers .now) (a .g) (a .from) (a .size) (a .kept .now) (a .at) (s .pre .1 .0 .1) (s .pre .1 .1 .0 .0) (s .pre .1 .1 .0 .1) (s .pre .1 .1 .1 .0) (s .pre .1 .1 .1 .1) (c .before .before .before .group-begin .result) (c .before .before .before .group-begin .ensures)
 
 write-match-part-arms-start : (t : ℕ) → write-match-lts.Need-part-arms-start (
   write-match-head-reads.Asked,
   write-match-head-reads.Learnt,
+  put-reads.Asked,
+  put-reads.Learnt,
   group-begin-reads.Asked,
   group-begin-reads.Learnt,
   arms-below t,
   arms.Post,
 ) (write-match-at t) write-match.Post
-write-match-part-arms-start t c = let s = c .before .before .before .before .before .before .before .before .before .before .before .before .before .before .before .before .before in let a = s .args in omega (arith, start-under (rows-in (a .rows .now)) (a .fuel) (a .held .now) (a .members .now) (a .ends .now) (a .numbers .now) (a .g) (a .size) (a .at) (s .pre .1 .0 .1) (s .pre .1 .1 .0 .0) (s .pre .1 .1 .0 .1) (s .pre .1 .1 .1 .0) (s .pre .1 .1 .1 .1) (c .before .before .before .group-begin .result) (c .before .before .before .group-begin .ensures), ends-within (rows-in (a .rows .now)) (a .fuel) (a .held .now) (a .members .now) (a .ends .now) (a .numbers .now) (a .g) (a .size) (a .at) (s .pre .1 .0 .1) (s .pre .1 .1 .0 .0) (s .pre .1 .1 .0 .1) (s .pre .1 .1 .1 .0) (s .pre .1 .1 .1 .1))
+write-match-part-arms-start t c = let s = c .before .before .before .before .before .before .before .before .before .before .before .before .before .before .before .before .before .before .before in let a = s .args in omega (arith, start-under (rows-in (a .rows .now)) (a .fuel) (a .held .now) (a .members .now) (a .ends .now) (a .numbers .now) (a .g) (a .from) (a .size) (a .kept .now) (a .at) (s .pre .1 .0 .1) (s .pre .1 .1 .0 .0) (s .pre .1 .1 .0 .1) (s .pre .1 .1 .1 .0) (s .pre .1 .1 .1 .1) (c .before .before .before .group-begin .result) (c .before .before .before .group-begin .ensures), ends-within (rows-in (a .rows .now)) (a .fuel) (a .held .now) (a .members .now) (a .ends .now) (a .numbers .now) (a .g) (a .from) (a .size) (a .kept .now) (a .at) (s .pre .1 .0 .1) (s .pre .1 .1 .0 .0) (s .pre .1 .1 .0 .1) (s .pre .1 .1 .1 .0) (s .pre .1 .1 .1 .1))
 
 write-match-part-arms-end : (t : ℕ) → write-match-lts.Need-part-arms-end (
   write-match-head-reads.Asked,
   write-match-head-reads.Learnt,
+  put-reads.Asked,
+  put-reads.Learnt,
   group-begin-reads.Asked,
   group-begin-reads.Learnt,
   arms-below t,
   arms.Post,
 ) (write-match-at t) write-match.Post
-write-match-part-arms-end t c = let s = c .before .before .before .before .before .before .before .before .before .before .before .before .before .before .before .before .before in let a = s .args in ends-within (rows-in (a .rows .now)) (a .fuel) (a .held .now) (a .members .now) (a .ends .now) (a .numbers .now) (a .g) (a .size) (a .at) (s .pre .1 .0 .1) (s .pre .1 .1 .0 .0) (s .pre .1 .1 .0 .1) (s .pre .1 .1 .1 .0) (s .pre .1 .1 .1 .1)
+write-match-part-arms-end t c = let s = c .before .before .before .before .before .before .before .before .before .before .before .before .before .before .before .before .before .before .before in let a = s .args in ends-within (rows-in (a .rows .now)) (a .fuel) (a .held .now) (a .members .now) (a .ends .now) (a .numbers .now) (a .g) (a .from) (a .size) (a .kept .now) (a .at) (s .pre .1 .0 .1) (s .pre .1 .1 .0 .0) (s .pre .1 .1 .0 .1) (s .pre .1 .1 .1 .0) (s .pre .1 .1 .1 .1)
 
 write-match-arms-requires : (t : ℕ) → write-match-lts.Need-arms-requires (
   write-match-head-reads.Asked,
   write-match-head-reads.Learnt,
+  put-reads.Asked,
+  put-reads.Learnt,
   group-begin-reads.Asked,
   group-begin-reads.Learnt,
   arms-below t,
   arms.Post,
 ) (write-match-at t) write-match.Post
-write-match-arms-requires t c κs = let s = c .before .before .before .before .before .before .before .before .before .before .before .before .before .before .before .before .before .before .before .before in let a = s .args in (omega (arith, s .pre .0), ((s .pre .1 .0 .0, part-holds (rows-in (a .rows .now)) (a .fuel) (a .held .now) (a .members .now) (a .ends .now) (a .numbers .now) (a .g) (a .size) (a .at) (s .pre .1 .0 .1) (s .pre .1 .1 .0 .0) (s .pre .1 .1 .0 .1) (s .pre .1 .1 .1 .0) (s .pre .1 .1 .1 .1) (c .before .before .before .before .before .before .group-begin .result) (c .before .before .before .before .before .before .group-begin .ensures)), (part-group (rows-in (a .rows .now)) (a .fuel) (a .held .now) (a .members .now) (a .ends .now) (a .numbers .now) (a .g) (a .size) (a .at) (s .pre .1 .0 .1) (s .pre .1 .1 .0 .0) (s .pre .1 .1 .0 .1) (s .pre .1 .1 .1 .0) (s .pre .1 .1 .1 .1) (c .before .before .before .before .before .before .group-begin .result) (c .before .before .before .before .before .before .group-begin .ensures), (subst (Arms-fit (rows-in (a .rows .now)) (a .fuel) (a .held .now) _ _) (sym (c .before .before .before .before .before .before .before .before .before .before .write-match-head .ensures .0)) (part-fits (rows-in (a .rows .now)) (a .fuel) (a .held .now) (a .members .now) (a .ends .now) (a .numbers .now) (a .g) (a .size) (a .at) (s .pre .1 .0 .1) (s .pre .1 .1 .0 .0) (s .pre .1 .1 .0 .1) (s .pre .1 .1 .1 .0) (s .pre .1 .1 .1 .1) (c .before .before .before .before .before .before .group-begin .result) (c .before .before .before .before .before .before .group-begin .ensures)), omega (arith, c .before .before .before .before .before .before .before .before .before .before .write-match-head .ensures .0, head-fits (rows-in (a .rows .now)) (a .fuel) (a .held .now) (a .members .now) (a .ends .now) (a .numbers .now) (a .g) (a .size) (a .at) (s .pre .1 .0 .1) (s .pre .1 .1 .0 .0) (s .pre .1 .1 .0 .1) (s .pre .1 .1 .1 .0) (s .pre .1 .1 .1 .1))))))
+write-match-arms-requires t c κs = let s = c .before .before .before .before .before .before .before .before .before .before .before .before .before .before .before .before .before .before .before .before .before .before in let a = s .args in (omega (arith, s .pre .0), ((s .pre .1 .0 .0, part-holds (rows-in (a .rows .now)) (a .fuel) (a .held .now) (a .members .now) (a .ends .now) (a .numbers .now) (a .g) (a .from) (a .size) (a .kept .now) (a .at) (s .pre .1 .0 .1) (s .pre .1 .1 .0 .0) (s .pre .1 .1 .0 .1) (s .pre .1 .1 .1 .0) (s .pre .1 .1 .1 .1) (c .before .before .before .before .before .before .group-begin .result) (c .before .before .before .before .before .before .group-begin .ensures)), (part-group (rows-in (a .rows .now)) (a .fuel) (a .held .now) (a .members .now) (a .ends .now) (a .numbers .now) (a .g) (a .from) (a .size) (a .kept .now) (a .at) (s .pre .1 .0 .1) (s .pre .1 .1 .0 .0) (s .pre .1 .1 .0 .1) (s .pre .1 .1 .1 .0) (s .pre .1 .1 .1 .1) (c .before .before .before .before .before .before .group-begin .result) (c .before .before .before .before .before .before .group-begin .ensures), (subst (Arms-fit (rows-in (a .rows .now)) (a .fuel) (a .held .now) _ _) (sym (c .before .before .before .before .before .before .before .before .before .before .before .write-match-head .ensures .0)) (part-fits (rows-in (a .rows .now)) (a .fuel) (a .held .now) (a .members .now) (a .ends .now) (a .numbers .now) (a .g) (a .from) (a .size) (a .kept .now) (a .at) (s .pre .1 .0 .1) (s .pre .1 .1 .0 .0) (s .pre .1 .1 .0 .1) (s .pre .1 .1 .1 .0) (s .pre .1 .1 .1 .1) (c .before .before .before .before .before .before .group-begin .result) (c .before .before .before .before .before .before .group-begin .ensures)), omega (arith, c .before .before .before .before .before .before .before .before .before .before .before .write-match-head .ensures .0, head-fits (rows-in (a .rows .now)) (a .fuel) (a .held .now) (a .members .now) (a .ends .now) (a .numbers .now) (a .g) (a .from) (a .size) (a .kept .now) (a .at) (s .pre .1 .0 .1) (s .pre .1 .1 .0 .0) (s .pre .1 .1 .0 .1) (s .pre .1 .1 .1 .0) (s .pre .1 .1 .1 .1))))))
 
 write-match-enum-known-armed : (t : ℕ) → write-match-lts.Need-enum-known-armed (
   write-match-head-reads.Asked,
   write-match-head-reads.Learnt,
+  put-reads.Asked,
+  put-reads.Learnt,
   group-begin-reads.Asked,
   group-begin-reads.Learnt,
   arms-below t,
@@ -2335,6 +2526,8 @@ write-match-enum-known-armed t c = search needs
 write-match-enum-told : (t : ℕ) → write-match-lts.Need-enum-told (
   write-match-head-reads.Asked,
   write-match-head-reads.Learnt,
+  put-reads.Asked,
+  put-reads.Learnt,
   group-begin-reads.Asked,
   group-begin-reads.Learnt,
   arms-below t,
@@ -2342,19 +2535,11 @@ write-match-enum-told : (t : ℕ) → write-match-lts.Need-enum-told (
 ) (write-match-at t) write-match.Post
 write-match-enum-told t c = search needs
 
-write-match-same-length-2 : (t : ℕ) → write-match-lts.Need-same-length-2 (
-  write-match-head-reads.Asked,
-  write-match-head-reads.Learnt,
-  group-begin-reads.Asked,
-  group-begin-reads.Learnt,
-  arms-below t,
-  arms.Post,
-) (write-match-at t) write-match.Post
-write-match-same-length-2 t c = search needs
-
 write-match-same-length-3 : (t : ℕ) → write-match-lts.Need-same-length-3 (
   write-match-head-reads.Asked,
   write-match-head-reads.Learnt,
+  put-reads.Asked,
+  put-reads.Learnt,
   group-begin-reads.Asked,
   group-begin-reads.Learnt,
   arms-below t,
@@ -2365,6 +2550,8 @@ write-match-same-length-3 t c = search needs
 write-match-same-length-4 : (t : ℕ) → write-match-lts.Need-same-length-4 (
   write-match-head-reads.Asked,
   write-match-head-reads.Learnt,
+  put-reads.Asked,
+  put-reads.Learnt,
   group-begin-reads.Asked,
   group-begin-reads.Learnt,
   arms-below t,
@@ -2372,19 +2559,11 @@ write-match-same-length-4 : (t : ℕ) → write-match-lts.Need-same-length-4 (
 ) (write-match-at t) write-match.Post
 write-match-same-length-4 t c = search needs
 
-write-match-returns-2 : (t : ℕ) → write-match-lts.Need-returns-2 (
-  write-match-head-reads.Asked,
-  write-match-head-reads.Learnt,
-  group-begin-reads.Asked,
-  group-begin-reads.Learnt,
-  arms-below t,
-  arms.Post,
-) (write-match-at t) write-match.Post
-write-match-returns-2 t c = let s = c .before .before .before .before .before .before .before .before .before .before .before .before .before .before .before .before .before .before .before .before .before .before .before .before .before .before .before .before .before in let a = s .args in absurd (match-never (rows-in (a .rows .now)) (a .fuel) (a .held .now) (a .members .now) (a .ends .now) (a .numbers .now) (a .g) (a .size) (a .at) (s .pre .1 .0 .1) (s .pre .1 .1 .0 .0) (s .pre .1 .1 .0 .1) (s .pre .1 .1 .1 .0) (s .pre .1 .1 .1 .1) (c .before .before .before .before .before .before .before .before .before .before .before .before .before .before .before .group-begin .result) (c .before .before .before .before .before .before .before .before .before .before .before .before .before .before .before .group-begin .ensures) (c .before .before .before .before .before .before .before .before .arms .result) (a .table .now) _ _ (c .before .before .before .before .before .before .before .before .before .before .before .before .before .before .before .before .before .before .before .write-match-head .ensures .1) (c .before .before .before .before .before .before .before .before .before .before .before .before .before .before .before .before .before .before .before .write-match-head .result) (c .before .before .before .before .before .before .before .before .before .before .before .before .before .before .before .before .before .before .before .write-match-head .ensures .0) (c .before .before .before .before .before .before .before .before .arms .ensures) _ (c .enum-told .given .1))
-
 write-match-same-length-5 : (t : ℕ) → write-match-lts.Need-same-length-5 (
   write-match-head-reads.Asked,
   write-match-head-reads.Learnt,
+  put-reads.Asked,
+  put-reads.Learnt,
   group-begin-reads.Asked,
   group-begin-reads.Learnt,
   arms-below t,
@@ -2392,9 +2571,23 @@ write-match-same-length-5 : (t : ℕ) → write-match-lts.Need-same-length-5 (
 ) (write-match-at t) write-match.Post
 write-match-same-length-5 t c = search needs
 
+write-match-returns-3 : (t : ℕ) → write-match-lts.Need-returns-3 (
+  write-match-head-reads.Asked,
+  write-match-head-reads.Learnt,
+  put-reads.Asked,
+  put-reads.Learnt,
+  group-begin-reads.Asked,
+  group-begin-reads.Learnt,
+  arms-below t,
+  arms.Post,
+) (write-match-at t) write-match.Post
+write-match-returns-3 t c = let s = c .before .before .before .before .before .before .before .before .before .before .before .before .before .before .before .before .before .before .before .before .before .before .before .before .before .before .before .before .before .before .before in let a = s .args in absurd (match-never (rows-in (a .rows .now)) (a .fuel) (a .held .now) (a .members .now) (a .ends .now) (a .numbers .now) (a .g) (a .from) (a .size) (a .kept .now) (a .at) (s .pre .1 .0 .1) (s .pre .1 .1 .0 .0) (s .pre .1 .1 .0 .1) (s .pre .1 .1 .1 .0) (s .pre .1 .1 .1 .1) (c .before .before .before .before .before .before .before .before .before .before .before .before .before .before .before .group-begin .result) (c .before .before .before .before .before .before .before .before .before .before .before .before .before .before .before .group-begin .ensures) (c .before .before .before .before .before .before .before .before .arms .result) (a .table .now) _ _ (c .before .before .before .before .before .before .before .before .before .before .before .before .before .before .before .before .before .before .before .before .write-match-head .ensures .1) (c .before .before .before .before .before .before .before .before .before .before .before .before .before .before .before .before .before .before .before .before .write-match-head .result) (c .before .before .before .before .before .before .before .before .before .before .before .before .before .before .before .before .before .before .before .before .write-match-head .ensures .0) (c .before .before .before .before .before .before .before .before .arms .ensures) _ (c .enum-told .given .1))
+
 write-match-same-length-6 : (t : ℕ) → write-match-lts.Need-same-length-6 (
   write-match-head-reads.Asked,
   write-match-head-reads.Learnt,
+  put-reads.Asked,
+  put-reads.Learnt,
   group-begin-reads.Asked,
   group-begin-reads.Learnt,
   arms-below t,
@@ -2405,6 +2598,8 @@ write-match-same-length-6 t c = search needs
 write-match-same-length-7 : (t : ℕ) → write-match-lts.Need-same-length-7 (
   write-match-head-reads.Asked,
   write-match-head-reads.Learnt,
+  put-reads.Asked,
+  put-reads.Learnt,
   group-begin-reads.Asked,
   group-begin-reads.Learnt,
   arms-below t,
@@ -2412,15 +2607,29 @@ write-match-same-length-7 : (t : ℕ) → write-match-lts.Need-same-length-7 (
 ) (write-match-at t) write-match.Post
 write-match-same-length-7 t c = search needs
 
-write-match-returns-3 : (t : ℕ) → write-match-lts.Need-returns-3 (
+write-match-same-length-8 : (t : ℕ) → write-match-lts.Need-same-length-8 (
   write-match-head-reads.Asked,
   write-match-head-reads.Learnt,
+  put-reads.Asked,
+  put-reads.Learnt,
   group-begin-reads.Asked,
   group-begin-reads.Learnt,
   arms-below t,
   arms.Post,
 ) (write-match-at t) write-match.Post
-write-match-returns-3 t c = let s = c .before .before .before .before .before .before .before .before .before .before .before .before .before .before .before .before .before .before .before .before .before .before .before .before .before .before .before .before .before .before in let a = s .args in match-done (rows-in (a .rows .now)) (a .fuel) (a .held .now) (a .members .now) (a .ends .now) (a .numbers .now) (a .g) (a .size) (a .at) (s .pre .1 .0 .1) (s .pre .1 .1 .0 .0) (s .pre .1 .1 .0 .1) (s .pre .1 .1 .1 .0) (s .pre .1 .1 .1 .1) (c .before .before .before .before .before .before .before .before .before .before .before .before .before .before .before .before .group-begin .result) (c .before .before .before .before .before .before .before .before .before .before .before .before .before .before .before .before .group-begin .ensures) (c .before .before .before .before .before .before .before .before .before .arms .result) (a .table .now) _ _ (c .before .before .before .before .before .before .before .before .before .before .before .before .before .before .before .before .before .before .before .before .write-match-head .ensures .1) (c .before .before .before .before .before .before .before .before .before .before .before .before .before .before .before .before .before .before .before .before .write-match-head .result) (c .before .before .before .before .before .before .before .before .before .before .before .before .before .before .before .before .before .before .before .before .write-match-head .ensures .0) (c .before .before .before .before .before .before .before .before .before .arms .ensures) _ _ _ (c .before .armed .given .1)
+write-match-same-length-8 t c = search needs
+
+write-match-returns-4 : (t : ℕ) → write-match-lts.Need-returns-4 (
+  write-match-head-reads.Asked,
+  write-match-head-reads.Learnt,
+  put-reads.Asked,
+  put-reads.Learnt,
+  group-begin-reads.Asked,
+  group-begin-reads.Learnt,
+  arms-below t,
+  arms.Post,
+) (write-match-at t) write-match.Post
+write-match-returns-4 t c = let s = c .before .before .before .before .before .before .before .before .before .before .before .before .before .before .before .before .before .before .before .before .before .before .before .before .before .before .before .before .before .before .before .before in let a = s .args in match-done (rows-in (a .rows .now)) (a .fuel) (a .held .now) (a .members .now) (a .ends .now) (a .numbers .now) (a .g) (a .from) (a .size) (a .kept .now) (a .at) (s .pre .1 .0 .1) (s .pre .1 .1 .0 .0) (s .pre .1 .1 .0 .1) (s .pre .1 .1 .1 .0) (s .pre .1 .1 .1 .1) (c .before .before .before .before .before .before .before .before .before .before .before .before .before .before .before .before .group-begin .result) (c .before .before .before .before .before .before .before .before .before .before .before .before .before .before .before .before .group-begin .ensures) (c .before .before .before .before .before .before .before .before .before .arms .result) (a .table .now) _ _ (c .before .before .before .before .before .before .before .before .before .before .before .before .before .before .before .before .before .before .before .before .before .write-match-head .ensures .1) (c .before .before .before .before .before .before .before .before .before .before .before .before .before .before .before .before .before .before .before .before .before .write-match-head .result) (c .before .before .before .before .before .before .before .before .before .before .before .before .before .before .before .before .before .before .before .before .before .write-match-head .ensures .0) (c .before .before .before .before .before .before .before .before .before .arms .ensures) _ _ _ (c .before .armed .given .1)
 
 write-scope-sub-made : (t : ℕ) → write-scope-lts.Need-sub-made (
   order-stmts-reads.Asked,
@@ -2430,7 +2639,7 @@ write-scope-sub-made : (t : ℕ) → write-scope-lts.Need-sub-made (
   write-values-reads.Asked,
   write-values-reads.Learnt,
 ) (write-scope-at t) write-scope.Post
-write-scope-sub-made t c = let s = c .before .before .before .before .before .before .before .before .before .before .before .before in s .pre .1 .1 .0 .0 .enough
+write-scope-sub-made t c = let s = c .before .before .before .before .before .before .before .before .before .before .before .before .before in s .pre .1 .1 .0 .0 .enough
 
 write-scope-add-count : (t : ℕ) → write-scope-lts.Need-add-count (
   order-stmts-reads.Asked,
@@ -2440,7 +2649,7 @@ write-scope-add-count : (t : ℕ) → write-scope-lts.Need-add-count (
   write-values-reads.Asked,
   write-values-reads.Learnt,
 ) (write-scope-at t) write-scope.Post
-write-scope-add-count t c = let s = c .before .before .before .before .before .before .before .before .before .before .before .before in let a = s .args in omega (arith, lets-few (rows-in (a .rows .now)) (a .fuel) (a .tokens .now) (a .results) (a .first) (a .places .now) (a .held .now) (a .starts .now) (a .members .now) (a .ends .now) (a .numbers .now) (a .sizes .now) (s .pre .1 .0 .1) (s .pre .1 .1 .0 .0) (s .pre .1 .1 .0 .1 .sized))
+write-scope-add-count t c = let s = c .before .before .before .before .before .before .before .before .before .before .before .before .before in let a = s .args in omega (arith, lets-few (rows-in (a .rows .now)) (a .fuel) (a .tokens .now) (a .results) (a .first) (a .places .now) (a .held .now) (a .starts .now) (a .members .now) (a .ends .now) (a .numbers .now) (a .stops .now) (a .kept .now) (s .pre .1 .0 .1) (s .pre .1 .1 .0 .0) (s .pre .1 .1 .0 .1 .sized))
 
 write-scope-add-count-2 : (t : ℕ) → write-scope-lts.Need-add-count-2 (
   order-stmts-reads.Asked,
@@ -2450,7 +2659,7 @@ write-scope-add-count-2 : (t : ℕ) → write-scope-lts.Need-add-count-2 (
   write-values-reads.Asked,
   write-values-reads.Learnt,
 ) (write-scope-at t) write-scope.Post
-write-scope-add-count-2 t c = let s = c .before .before .before .before .before .before .before .before .before .before .before .before in let a = s .args in omega (arith, statements-here (rows-in (a .rows .now)) (a .fuel) (a .tokens .now) (a .results) (a .first) (a .places .now) (a .held .now) (a .starts .now) (a .members .now) (a .ends .now) (a .numbers .now) (a .sizes .now) (a .after) (a .extracted) (a .row) (s .pre .1 .0 .1) (s .pre .1 .1 .0 .0) (s .pre .1 .1 .0 .1), s .pre .1 .1 .0 .0 .statements)
+write-scope-add-count-2 t c = let s = c .before .before .before .before .before .before .before .before .before .before .before .before .before in let a = s .args in omega (arith, statements-here (rows-in (a .rows .now)) (a .fuel) (a .tokens .now) (a .results) (a .first) (a .places .now) (a .held .now) (a .starts .now) (a .members .now) (a .ends .now) (a .numbers .now) (a .stops .now) (a .kept .now) (a .after) (a .extracted) (a .row) (s .pre .1 .0 .1) (s .pre .1 .1 .0 .0) (s .pre .1 .1 .0 .1), s .pre .1 .1 .0 .0 .statements)
 
 write-scope-slice-aggregate-order-stmts :
     (t : ℕ) → write-scope-lts.Need-slice-aggregate-order-stmts (
@@ -2471,7 +2680,7 @@ write-scope-order-stmts-requires : (t : ℕ) → write-scope-lts.Need-order-stmt
   write-values-reads.Asked,
   write-values-reads.Learnt,
 ) (write-scope-at t) write-scope.Post
-write-scope-order-stmts-requires t c κs = let s = c .before .before .before .before .before .before .before .before .before .before .before .before .before in (s .pre .1 .1 .0 .0, omega arith)
+write-scope-order-stmts-requires t c κs = let s = c .before .before .before .before .before .before .before .before .before .before .before .before .before .before in (s .pre .1 .1 .0 .0, omega arith)
 
 write-scope-enum-told : (t : ℕ) → write-scope-lts.Need-enum-told (
   order-stmts-reads.Asked,
@@ -2491,7 +2700,7 @@ write-scope-array-share-prefix-taken : (t : ℕ) → write-scope-lts.Need-array-
   write-values-reads.Asked,
   write-values-reads.Learnt,
 ) (write-scope-at t) write-scope.Post
-write-scope-array-share-prefix-taken t c = let s = c .before .before .before .before .before .before .before .before .before .before .before .before .before .before .before .before .before .before in let a = s .args in omega (arith, statements-here (rows-in (a .rows .now)) (a .fuel) (a .tokens .now) (a .results) (a .first) (a .places .now) (a .held .now) (a .starts .now) (a .members .now) (a .ends .now) (a .numbers .now) (a .sizes .now) (a .after) (a .extracted) (a .row) (s .pre .1 .0 .1) (s .pre .1 .1 .0 .0) (s .pre .1 .1 .0 .1), s .pre .1 .1 .0 .0 .statements)
+write-scope-array-share-prefix-taken t c = let s = c .before .before .before .before .before .before .before .before .before .before .before .before .before .before .before .before .before .before .before in let a = s .args in omega (arith, statements-here (rows-in (a .rows .now)) (a .fuel) (a .tokens .now) (a .results) (a .first) (a .places .now) (a .held .now) (a .starts .now) (a .members .now) (a .ends .now) (a .numbers .now) (a .stops .now) (a .kept .now) (a .after) (a .extracted) (a .row) (s .pre .1 .0 .1) (s .pre .1 .1 .0 .0) (s .pre .1 .1 .0 .1), s .pre .1 .1 .0 .0 .statements)
 
 write-scope-slice-aggregate-write-stmts :
     (t : ℕ) → write-scope-lts.Need-slice-aggregate-write-stmts (
@@ -2502,7 +2711,7 @@ write-scope-slice-aggregate-write-stmts :
       write-values-reads.Asked,
       write-values-reads.Learnt,
     ) (write-scope-at t) write-scope.Post
-write-scope-slice-aggregate-write-stmts t c = let s = c .before .before .before .before .before .before .before .before .before .before .before .before .before .before .before .before .before .before .before in let a = s .args in sym (length-take-le _ _ (omega (arith, statements-here (rows-in (a .rows .now)) (a .fuel) (a .tokens .now) (a .results) (a .first) (a .places .now) (a .held .now) (a .starts .now) (a .members .now) (a .ends .now) (a .numbers .now) (a .sizes .now) (a .after) (a .extracted) (a .row) (s .pre .1 .0 .1) (s .pre .1 .1 .0 .0) (s .pre .1 .1 .0 .1), s .pre .1 .1 .0 .0 .statements, c .before .before .before .before .before .order-stmts .kept .1 .1 .1 .1 .1 .1 .1 .1 .1 .0)))
+write-scope-slice-aggregate-write-stmts t c = let s = c .before .before .before .before .before .before .before .before .before .before .before .before .before .before .before .before .before .before .before .before in let a = s .args in sym (length-take-le _ _ (omega (arith, statements-here (rows-in (a .rows .now)) (a .fuel) (a .tokens .now) (a .results) (a .first) (a .places .now) (a .held .now) (a .starts .now) (a .members .now) (a .ends .now) (a .numbers .now) (a .stops .now) (a .kept .now) (a .after) (a .extracted) (a .row) (s .pre .1 .0 .1) (s .pre .1 .1 .0 .0) (s .pre .1 .1 .0 .1), s .pre .1 .1 .0 .0 .statements, c .before .before .before .before .before .order-stmts .kept .1 .1 .1 .1 .1 .1 .1 .1 .1 .0)))
 
 write-scope-write-stmts-requires : (t : ℕ) → write-scope-lts.Need-write-stmts-requires (
   order-stmts-reads.Asked,
@@ -2512,7 +2721,7 @@ write-scope-write-stmts-requires : (t : ℕ) → write-scope-lts.Need-write-stmt
   write-values-reads.Asked,
   write-values-reads.Learnt,
 ) (write-scope-at t) write-scope.Post
-write-scope-write-stmts-requires t c κs = let s = c .before .before .before .before .before .before .before .before .before .before .before .before .before .before .before .before .before .before .before .before .before in let a = s .args in (omega (arith, s .pre .0), (s .pre .1 .0, ((s .pre .1 .1 .0 .0, s .pre .1 .1 .0 .1 .sized), (positions (rows-in (a .rows .now)) (a .fuel) (a .tokens .now) (a .results) (a .first) (a .places .now) (a .held .now) (a .starts .now) (a .members .now) (a .ends .now) (a .numbers .now) (a .sizes .now) (a .after) (a .extracted) (a .row) (s .pre .1 .0 .1) (s .pre .1 .1 .0 .0) (s .pre .1 .1 .0 .1) (c .before .before .before .before .before .before .before .order-stmts .result) _ _ (c .before .before .before .before .before .before .before .order-stmts .ensures) (a .at) (a .table .now) (c .before .before .before .before .enum-told .given .1) _ (statements-here (rows-in (a .rows .now)) (a .fuel) (a .tokens .now) (a .results) (a .first) (a .places .now) (a .held .now) (a .starts .now) (a .members .now) (a .ends .now) (a .numbers .now) (a .sizes .now) (a .after) (a .extracted) (a .row) (s .pre .1 .0 .1) (s .pre .1 .1 .0 .0) (s .pre .1 .1 .0 .1)) (s .pre .1 .1 .1), stmts-fit (rows-in (a .rows .now)) (a .fuel) (a .tokens .now) (a .results) (a .first) (a .places .now) (a .held .now) (a .starts .now) (a .members .now) (a .ends .now) (a .numbers .now) (a .sizes .now) (a .after) (a .extracted) (a .row) (s .pre .1 .0 .1) (s .pre .1 .1 .0 .0) (s .pre .1 .1 .0 .1) (c .before .before .before .before .before .before .before .order-stmts .result) _ _ (c .before .before .before .before .before .before .before .order-stmts .ensures) (a .at) (a .table .now) (c .before .before .before .before .enum-told .given .1) _ (statements-here (rows-in (a .rows .now)) (a .fuel) (a .tokens .now) (a .results) (a .first) (a .places .now) (a .held .now) (a .starts .now) (a .members .now) (a .ends .now) (a .numbers .now) (a .sizes .now) (a .after) (a .extracted) (a .row) (s .pre .1 .0 .1) (s .pre .1 .1 .0 .0) (s .pre .1 .1 .0 .1)) (s .pre .1 .1 .1)))))
+write-scope-write-stmts-requires t c κs = let s = c .before .before .before .before .before .before .before .before .before .before .before .before .before .before .before .before .before .before .before .before .before .before in let a = s .args in (omega (arith, s .pre .0), (s .pre .1 .0, ((s .pre .1 .1 .0 .0, s .pre .1 .1 .0 .1 .sized), (positions (rows-in (a .rows .now)) (a .fuel) (a .tokens .now) (a .results) (a .first) (a .places .now) (a .held .now) (a .starts .now) (a .members .now) (a .ends .now) (a .numbers .now) (a .stops .now) (a .kept .now) (a .after) (a .extracted) (a .row) (s .pre .1 .0 .1) (s .pre .1 .1 .0 .0) (s .pre .1 .1 .0 .1) (c .before .before .before .before .before .before .before .order-stmts .result) _ _ (c .before .before .before .before .before .before .before .order-stmts .ensures) (a .at) (a .table .now) (c .before .before .before .before .enum-told .given .1) _ (statements-here (rows-in (a .rows .now)) (a .fuel) (a .tokens .now) (a .results) (a .first) (a .places .now) (a .held .now) (a .starts .now) (a .members .now) (a .ends .now) (a .numbers .now) (a .stops .now) (a .kept .now) (a .after) (a .extracted) (a .row) (s .pre .1 .0 .1) (s .pre .1 .1 .0 .0) (s .pre .1 .1 .0 .1)) (s .pre .1 .1 .1), stmts-fit (rows-in (a .rows .now)) (a .fuel) (a .tokens .now) (a .results) (a .first) (a .places .now) (a .held .now) (a .starts .now) (a .members .now) (a .ends .now) (a .numbers .now) (a .stops .now) (a .kept .now) (a .after) (a .extracted) (a .row) (s .pre .1 .0 .1) (s .pre .1 .1 .0 .0) (s .pre .1 .1 .0 .1) (c .before .before .before .before .before .before .before .order-stmts .result) _ _ (c .before .before .before .before .before .before .before .order-stmts .ensures) (a .at) (a .table .now) (c .before .before .before .before .enum-told .given .1) _ (statements-here (rows-in (a .rows .now)) (a .fuel) (a .tokens .now) (a .results) (a .first) (a .places .now) (a .held .now) (a .starts .now) (a .members .now) (a .ends .now) (a .numbers .now) (a .stops .now) (a .kept .now) (a .after) (a .extracted) (a .row) (s .pre .1 .0 .1) (s .pre .1 .1 .0 .0) (s .pre .1 .1 .0 .1)) (s .pre .1 .1 .1)))))
 
 write-scope-write-values-requires : (t : ℕ) → write-scope-lts.Need-write-values-requires (
   order-stmts-reads.Asked,
@@ -2522,9 +2731,9 @@ write-scope-write-values-requires : (t : ℕ) → write-scope-lts.Need-write-val
   write-values-reads.Asked,
   write-values-reads.Learnt,
 ) (write-scope-at t) write-scope.Post
-write-scope-write-values-requires t c κs = let s = c .before .before .before .before .before .before .before .before .before .before .before .before .before .before .before .before .before .before .before .before .before .before .before .before .before .before .before .before .before in let a = s .args in (readied (rows-in (a .rows .now)) (a .fuel) (a .tokens .now) (a .results) (a .first) (a .places .now) (a .held .now) (a .starts .now) (a .members .now) (a .ends .now) (a .numbers .now) (a .sizes .now) (s .pre .1 .0 .1) (s .pre .1 .1 .0 .0) (s .pre .1 .1 .0 .1 .sized), values-fit (rows-in (a .rows .now)) (a .fuel) (a .tokens .now) (a .results) (a .first) (a .places .now) (a .held .now) (a .starts .now) (a .members .now) (a .ends .now) (a .numbers .now) (a .sizes .now) (a .after) (a .extracted) (a .row) (s .pre .1 .0 .1) (s .pre .1 .1 .0 .0) (s .pre .1 .1 .0 .1) (c .before .before .before .before .before .before .before .before .before .before .before .before .before .before .before .order-stmts .result) _ _ (c .before .before .before .before .before .before .before .before .before .before .before .before .before .before .before .order-stmts .ensures) (a .at) (a .table .now) (c .before .before .before .before .before .before .before .before .before .before .before .before .enum-told .given .1) _ (statements-here (rows-in (a .rows .now)) (a .fuel) (a .tokens .now) (a .results) (a .first) (a .places .now) (a .held .now) (a .starts .now) (a .members .now) (a .ends .now) (a .numbers .now) (a .sizes .now) (a .after) (a .extracted) (a .row) (s .pre .1 .0 .1) (s .pre .1 .1 .0 .0) (s .pre .1 .1 .0 .1)) (s .pre .1 .1 .1) (c .before .before .before .before .before .before .before .write-stmts .result) (c .before .before .before .before .before .before .before .write-stmts .ensures .0))
+write-scope-write-values-requires t c κs = let s = c .before .before .before .before .before .before .before .before .before .before .before .before .before .before .before .before .before .before .before .before .before .before .before .before .before .before .before .before .before .before in let a = s .args in (readied (rows-in (a .rows .now)) (a .fuel) (a .tokens .now) (a .results) (a .first) (a .places .now) (a .held .now) (a .starts .now) (a .members .now) (a .ends .now) (a .numbers .now) (a .stops .now) (a .kept .now) (s .pre .1 .0 .1) (s .pre .1 .1 .0 .0) (s .pre .1 .1 .0 .1 .sized), values-fit (rows-in (a .rows .now)) (a .fuel) (a .tokens .now) (a .results) (a .first) (a .places .now) (a .held .now) (a .starts .now) (a .members .now) (a .ends .now) (a .numbers .now) (a .stops .now) (a .kept .now) (a .after) (a .extracted) (a .row) (s .pre .1 .0 .1) (s .pre .1 .1 .0 .0) (s .pre .1 .1 .0 .1) (c .before .before .before .before .before .before .before .before .before .before .before .before .before .before .before .order-stmts .result) _ _ (c .before .before .before .before .before .before .before .before .before .before .before .before .before .before .before .order-stmts .ensures) (a .at) (a .table .now) (c .before .before .before .before .before .before .before .before .before .before .before .before .enum-told .given .1) _ (statements-here (rows-in (a .rows .now)) (a .fuel) (a .tokens .now) (a .results) (a .first) (a .places .now) (a .held .now) (a .starts .now) (a .members .now) (a .ends .now) (a .numbers .now) (a .stops .now) (a .kept .now) (a .after) (a .extracted) (a .row) (s .pre .1 .0 .1) (s .pre .1 .1 .0 .0) (s .pre .1 .1 .0 .1)) (s .pre .1 .1 .1) (c .before .before .before .before .before .before .before .write-stmts .result) (c .before .before .before .before .before .before .before .write-stmts .ensures .0))
 
-write-scope-add-t42 : (t : ℕ) → write-scope-lts.Need-add-t42 (
+write-scope-add-t43 : (t : ℕ) → write-scope-lts.Need-add-t43 (
   order-stmts-reads.Asked,
   order-stmts-reads.Learnt,
   write-stmts-below t,
@@ -2532,7 +2741,7 @@ write-scope-add-t42 : (t : ℕ) → write-scope-lts.Need-add-t42 (
   write-values-reads.Asked,
   write-values-reads.Learnt,
 ) (write-scope-at t) write-scope.Post
-write-scope-add-t42 t c = let s = c .before .before .before .before .before .before .before .before .before .before .before .before .before .before .before .before .before .before .before .before .before .before .before .before .before .before .before .before .before .before .before .before in let a = s .args in omega (arith, extracted-low (rows-in (a .rows .now)) (a .fuel) (a .tokens .now) (a .results) (a .first) (a .places .now) (a .held .now) (a .starts .now) (a .members .now) (a .ends .now) (a .numbers .now) (a .sizes .now) (a .after) (a .extracted) (a .row) (s .pre .1 .0 .1) (s .pre .1 .1 .0 .0) (s .pre .1 .1 .0 .1), lets-few (rows-in (a .rows .now)) (a .fuel) (a .tokens .now) (a .results) (a .first) (a .places .now) (a .held .now) (a .starts .now) (a .members .now) (a .ends .now) (a .numbers .now) (a .sizes .now) (s .pre .1 .0 .1) (s .pre .1 .1 .0 .0) (s .pre .1 .1 .0 .1 .sized))
+write-scope-add-t43 t c = let s = c .before .before .before .before .before .before .before .before .before .before .before .before .before .before .before .before .before .before .before .before .before .before .before .before .before .before .before .before .before .before .before .before .before in let a = s .args in omega (arith, extracted-low (rows-in (a .rows .now)) (a .fuel) (a .tokens .now) (a .results) (a .first) (a .places .now) (a .held .now) (a .starts .now) (a .members .now) (a .ends .now) (a .numbers .now) (a .stops .now) (a .kept .now) (a .after) (a .extracted) (a .row) (s .pre .1 .0 .1) (s .pre .1 .1 .0 .0) (s .pre .1 .1 .0 .1), lets-few (rows-in (a .rows .now)) (a .fuel) (a .tokens .now) (a .results) (a .first) (a .places .now) (a .held .now) (a .starts .now) (a .members .now) (a .ends .now) (a .numbers .now) (a .stops .now) (a .kept .now) (s .pre .1 .0 .1) (s .pre .1 .1 .0 .0) (s .pre .1 .1 .0 .1 .sized))
 
 write-scope-enum-told-2 : (t : ℕ) → write-scope-lts.Need-enum-told-2 (
   order-stmts-reads.Asked,
@@ -2592,7 +2801,7 @@ write-scope-returns : (t : ℕ) → write-scope-lts.Need-returns (
   write-values-reads.Asked,
   write-values-reads.Learnt,
 ) (write-scope-at t) write-scope.Post
-write-scope-returns t c = let s = c .before .before .before .before .before .before .before .before .before .before .before .before .before .before .before .before .before .before .before .before .before .before .before .before .before .before .before .before .before .before .before .before in let a = s .args in all-done (rows-in (a .rows .now)) (a .fuel) (a .tokens .now) (a .results) (a .first) (a .places .now) (a .held .now) (a .starts .now) (a .members .now) (a .ends .now) (a .numbers .now) (a .sizes .now) (a .after) (a .extracted) (a .row) (s .pre .1 .0 .1) (s .pre .1 .1 .0 .0) (s .pre .1 .1 .0 .1) (c .before .before .before .before .before .before .before .before .before .before .before .before .before .before .before .before .before .before .order-stmts .result) _ _ (c .before .before .before .before .before .before .before .before .before .before .before .before .before .before .before .before .before .before .order-stmts .ensures) (a .at) (a .table .now) (c .before .before .before .before .before .before .before .before .before .before .before .before .before .before .before .enum-told .given .1) _ (statements-here (rows-in (a .rows .now)) (a .fuel) (a .tokens .now) (a .results) (a .first) (a .places .now) (a .held .now) (a .starts .now) (a .members .now) (a .ends .now) (a .numbers .now) (a .sizes .now) (a .after) (a .extracted) (a .row) (s .pre .1 .0 .1) (s .pre .1 .1 .0 .0) (s .pre .1 .1 .0 .1)) (s .pre .1 .1 .1) (c .before .before .before .before .before .before .before .before .before .before .write-stmts .result) _ (c .before .before .before .before .before .before .before .before .before .before .write-stmts .ensures) (c .before .before .write-values .result) _ (c .before .before .write-values .ensures) _ refl
+write-scope-returns t c = let s = c .before .before .before .before .before .before .before .before .before .before .before .before .before .before .before .before .before .before .before .before .before .before .before .before .before .before .before .before .before .before .before .before .before in let a = s .args in all-done (rows-in (a .rows .now)) (a .fuel) (a .tokens .now) (a .results) (a .first) (a .places .now) (a .held .now) (a .starts .now) (a .members .now) (a .ends .now) (a .numbers .now) (a .stops .now) (a .kept .now) (a .after) (a .extracted) (a .row) (s .pre .1 .0 .1) (s .pre .1 .1 .0 .0) (s .pre .1 .1 .0 .1) (c .before .before .before .before .before .before .before .before .before .before .before .before .before .before .before .before .before .before .order-stmts .result) _ _ (c .before .before .before .before .before .before .before .before .before .before .before .before .before .before .before .before .before .before .order-stmts .ensures) (a .at) (a .table .now) (c .before .before .before .before .before .before .before .before .before .before .before .before .before .before .before .enum-told .given .1) _ (statements-here (rows-in (a .rows .now)) (a .fuel) (a .tokens .now) (a .results) (a .first) (a .places .now) (a .held .now) (a .starts .now) (a .members .now) (a .ends .now) (a .numbers .now) (a .stops .now) (a .kept .now) (a .after) (a .extracted) (a .row) (s .pre .1 .0 .1) (s .pre .1 .1 .0 .0) (s .pre .1 .1 .0 .1)) (s .pre .1 .1 .1) (c .before .before .before .before .before .before .before .before .before .before .write-stmts .result) _ (c .before .before .before .before .before .before .before .before .before .before .write-stmts .ensures) (c .before .before .write-values .result) _ (c .before .before .write-values .ensures) _ refl
 
 write-scope-returns-2 : (t : ℕ) → write-scope-lts.Need-returns-2 (
   order-stmts-reads.Asked,
@@ -2602,7 +2811,7 @@ write-scope-returns-2 : (t : ℕ) → write-scope-lts.Need-returns-2 (
   write-values-reads.Asked,
   write-values-reads.Learnt,
 ) (write-scope-at t) write-scope.Post
-write-scope-returns-2 t c = let s = c .before .before .before .before .before .before .before .before .before .before .before .before .before .before .before .before .before in let a = s .args in ring-done (rows-in (a .rows .now)) (a .fuel) (a .tokens .now) (a .results) (a .first) (a .places .now) (a .held .now) (a .starts .now) (a .members .now) (a .ends .now) (a .numbers .now) (a .sizes .now) (a .after) (a .extracted) (a .row) (s .pre .1 .0 .1) (s .pre .1 .1 .0 .0) (s .pre .1 .1 .0 .1) (c .before .before .before .order-stmts .result) _ _ (c .before .before .before .order-stmts .ensures) (a .at) (a .table .now) _ (c .enum-told2 .given .1)
+write-scope-returns-2 t c = let s = c .before .before .before .before .before .before .before .before .before .before .before .before .before .before .before .before .before .before in let a = s .args in ring-done (rows-in (a .rows .now)) (a .fuel) (a .tokens .now) (a .results) (a .first) (a .places .now) (a .held .now) (a .starts .now) (a .members .now) (a .ends .now) (a .numbers .now) (a .stops .now) (a .kept .now) (a .after) (a .extracted) (a .row) (s .pre .1 .0 .1) (s .pre .1 .1 .0 .0) (s .pre .1 .1 .0 .1) (c .before .before .before .order-stmts .result) _ _ (c .before .before .before .order-stmts .ensures) (a .at) (a .table .now) _ (c .enum-told2 .given .1)
 
 write-scope-returns-3 : (t : ℕ) → write-scope-lts.Need-returns-3 (
   order-stmts-reads.Asked,
@@ -2612,35 +2821,43 @@ write-scope-returns-3 : (t : ℕ) → write-scope-lts.Need-returns-3 (
   write-values-reads.Asked,
   write-values-reads.Learnt,
 ) (write-scope-at t) write-scope.Post
-write-scope-returns-3 t c = let s = c .before .before .before .before .before .before .before .before .before .before .before .before .before .before .before .before .before in let a = s .args in absurd (never-broken (rows-in (a .rows .now)) (a .fuel) (a .tokens .now) (a .results) (a .first) (a .places .now) (a .held .now) (a .starts .now) (a .members .now) (a .ends .now) (a .numbers .now) (a .sizes .now) (a .after) (a .extracted) (a .row) (s .pre .1 .0 .1) (s .pre .1 .1 .0 .0) (s .pre .1 .1 .0 .1) (c .before .before .before .order-stmts .result) _ _ (c .before .before .before .order-stmts .ensures) (a .at) (a .table .now) (c .enum-told3 .given .1))
+write-scope-returns-3 t c = let s = c .before .before .before .before .before .before .before .before .before .before .before .before .before .before .before .before .before .before in let a = s .args in absurd (never-broken (rows-in (a .rows .now)) (a .fuel) (a .tokens .now) (a .results) (a .first) (a .places .now) (a .held .now) (a .starts .now) (a .members .now) (a .ends .now) (a .numbers .now) (a .stops .now) (a .kept .now) (a .after) (a .extracted) (a .row) (s .pre .1 .0 .1) (s .pre .1 .1 .0 .0) (s .pre .1 .1 .0 .1) (c .before .before .before .order-stmts .result) _ _ (c .before .before .before .order-stmts .ensures) (a .at) (a .table .now) (c .enum-told3 .given .1))
 
 write-stmt-sub-lets : (t : ℕ) → write-stmt-lts.Need-sub-lets (
   write-let-reads.Asked,
   write-let-reads.Learnt,
+  group-begin-reads.Asked,
+  group-begin-reads.Learnt,
   write-match-below t,
   write-match.Post,
 ) (write-stmt-at t) write-stmt.Post
-write-stmt-sub-lets t c = let s = c .before .before .before .before .before .before .before .before .before .before .before .before in s .pre .1 .1 .0 .0 .enough
+write-stmt-sub-lets t c = let s = c .before .before .before .before .before .before .before .before .before .before .before .before .before in s .pre .1 .1 .0 .0 .enough
 
 write-stmt-add-lets : (t : ℕ) → write-stmt-lts.Need-add-lets (
   write-let-reads.Asked,
   write-let-reads.Learnt,
+  group-begin-reads.Asked,
+  group-begin-reads.Learnt,
   write-match-below t,
   write-match.Post,
 ) (write-stmt-at t) write-stmt.Post
-write-stmt-add-lets t c = let s = c .before .before .before .before .before .before .before .before .before .before .before .before in let a = s .args in omega (arith, lets-few (rows-in (a .rows .now)) (a .fuel) (a .tokens .now) (a .results) (a .first) (a .places .now) (a .held .now) (a .starts .now) (a .members .now) (a .ends .now) (a .numbers .now) (a .sizes .now) (s .pre .1 .0 .1) (s .pre .1 .1 .0 .0) (s .pre .1 .1 .0 .1))
+write-stmt-add-lets t c = let s = c .before .before .before .before .before .before .before .before .before .before .before .before .before in let a = s .args in omega (arith, lets-few (rows-in (a .rows .now)) (a .fuel) (a .tokens .now) (a .results) (a .first) (a .places .now) (a .held .now) (a .starts .now) (a .members .now) (a .ends .now) (a .numbers .now) (a .stops .now) (a .kept .now) (s .pre .1 .0 .1) (s .pre .1 .1 .0 .0) (s .pre .1 .1 .0 .1))
 
 write-stmt-write-let-requires : (t : ℕ) → write-stmt-lts.Need-write-let-requires (
   write-let-reads.Asked,
   write-let-reads.Learnt,
+  group-begin-reads.Asked,
+  group-begin-reads.Learnt,
   write-match-below t,
   write-match.Post,
 ) (write-stmt-at t) write-stmt.Post
-write-stmt-write-let-requires t c κs = let s = c .before .before .before .before .before .before .before .before .before .before .before .before .before .before in let a = s .args in (readied (rows-in (a .rows .now)) (a .fuel) (a .tokens .now) (a .results) (a .first) (a .places .now) (a .held .now) (a .starts .now) (a .members .now) (a .ends .now) (a .numbers .now) (a .sizes .now) (s .pre .1 .0 .1) (s .pre .1 .1 .0 .0) (s .pre .1 .1 .0 .1), (let-there (rows-in (a .rows .now)) (a .fuel) (a .tokens .now) (a .results) (a .first) (a .places .now) (a .held .now) (a .starts .now) (a .members .now) (a .ends .now) (a .numbers .now) (a .sizes .now) (s .pre .1 .0 .1) (s .pre .1 .1 .0 .0) (s .pre .1 .1 .0 .1) (a .p) (c .before .if1 .taken), subst (λ (z : List ℕ). a .at + length z ≤ 9223372036854775808) (let-is (rows-in (a .rows .now)) (a .fuel) (a .tokens .now) (a .results) (a .first) (a .places .now) (a .held .now) (a .starts .now) (a .members .now) (a .ends .now) (a .numbers .now) (a .sizes .now) (s .pre .1 .0 .1) (s .pre .1 .1 .0 .0) (s .pre .1 .1 .0 .1) (a .p) (c .before .if1 .taken)) (s .pre .1 .1 .1 .1)))
+write-stmt-write-let-requires t c κs = let s = c .before .before .before .before .before .before .before .before .before .before .before .before .before .before .before in let a = s .args in (readied (rows-in (a .rows .now)) (a .fuel) (a .tokens .now) (a .results) (a .first) (a .places .now) (a .held .now) (a .starts .now) (a .members .now) (a .ends .now) (a .numbers .now) (a .stops .now) (a .kept .now) (s .pre .1 .0 .1) (s .pre .1 .1 .0 .0) (s .pre .1 .1 .0 .1), (let-there (rows-in (a .rows .now)) (a .fuel) (a .tokens .now) (a .results) (a .first) (a .places .now) (a .held .now) (a .starts .now) (a .members .now) (a .ends .now) (a .numbers .now) (a .stops .now) (a .kept .now) (s .pre .1 .0 .1) (s .pre .1 .1 .0 .0) (s .pre .1 .1 .0 .1) (a .p) (c .before .if1 .taken), subst (λ (z : List ℕ). a .at + length z ≤ 9223372036854775808) (let-is (rows-in (a .rows .now)) (a .fuel) (a .tokens .now) (a .results) (a .first) (a .places .now) (a .held .now) (a .starts .now) (a .members .now) (a .ends .now) (a .numbers .now) (a .stops .now) (a .kept .now) (s .pre .1 .0 .1) (s .pre .1 .1 .0 .0) (s .pre .1 .1 .0 .1) (a .p) (c .before .if1 .taken)) (s .pre .1 .1 .1 .1)))
 
 write-stmt-same-length : (t : ℕ) → write-stmt-lts.Need-same-length (
   write-let-reads.Asked,
   write-let-reads.Learnt,
+  group-begin-reads.Asked,
+  group-begin-reads.Learnt,
   write-match-below t,
   write-match.Post,
 ) (write-stmt-at t) write-stmt.Post
@@ -2649,38 +2866,68 @@ write-stmt-same-length t c = search needs
 write-stmt-returns : (t : ℕ) → write-stmt-lts.Need-returns (
   write-let-reads.Asked,
   write-let-reads.Learnt,
+  group-begin-reads.Asked,
+  group-begin-reads.Learnt,
   write-match-below t,
   write-match.Post,
 ) (write-stmt-at t) write-stmt.Post
-write-stmt-returns t c = let s = c .before .before .before .before .before .before .before .before .before .before .before .before .before .before .before .before .before in let a = s .args in rows-as _ _ (let-is (rows-in (a .rows .now)) (a .fuel) (a .tokens .now) (a .results) (a .first) (a .places .now) (a .held .now) (a .starts .now) (a .members .now) (a .ends .now) (a .numbers .now) (a .sizes .now) (s .pre .1 .0 .1) (s .pre .1 .1 .0 .0) (s .pre .1 .1 .0 .1) (a .p) (c .before .before .before .before .if1 .taken)) (a .at) (a .table .now) _ _ (c .before .before .write-let .ensures)
+write-stmt-returns t c = let s = c .before .before .before .before .before .before .before .before .before .before .before .before .before .before .before .before .before .before in let a = s .args in rows-as _ _ (let-is (rows-in (a .rows .now)) (a .fuel) (a .tokens .now) (a .results) (a .first) (a .places .now) (a .held .now) (a .starts .now) (a .members .now) (a .ends .now) (a .numbers .now) (a .stops .now) (a .kept .now) (s .pre .1 .0 .1) (s .pre .1 .1 .0 .0) (s .pre .1 .1 .0 .1) (a .p) (c .before .before .before .before .if1 .taken)) (a .at) (a .table .now) _ _ (c .before .before .write-let .ensures)
+
+write-stmt-group-begin-requires : (t : ℕ) → write-stmt-lts.Need-group-begin-requires (
+  write-let-reads.Asked,
+  write-let-reads.Learnt,
+  group-begin-reads.Asked,
+  group-begin-reads.Learnt,
+  write-match-below t,
+  write-match.Post,
+) (write-stmt-at t) write-stmt.Post
+write-stmt-group-begin-requires t c κs = let s = c .before .before .before .before .before .before .before .before .before .before .before .before .before .before in let a = s .args in stop-in (rows-in (a .rows .now)) (a .fuel) (a .tokens .now) (a .results) (a .first) (a .places .now) (a .held .now) (a .starts .now) (a .members .now) (a .ends .now) (a .numbers .now) (a .stops .now) (a .kept .now) (s .pre .1 .0 .1) (s .pre .1 .1 .0 .0) (s .pre .1 .1 .0 .1) (a .p) (s .pre .1 .1 .1 .0) (omega (arith, c .if1 .left))
 
 write-stmt-mul-size : (t : ℕ) → write-stmt-lts.Need-mul-size (
   write-let-reads.Asked,
   write-let-reads.Learnt,
+  group-begin-reads.Asked,
+  group-begin-reads.Learnt,
   write-match-below t,
   write-match.Post,
 ) (write-stmt-at t) write-stmt.Post
-write-stmt-mul-size t c = let s = c .before .before .before .before .before .before .before .before .before .before .before .before .before in let a = s .args in omega (arith, size-in (rows-in (a .rows .now)) (a .fuel) (a .tokens .now) (a .results) (a .first) (a .places .now) (a .held .now) (a .starts .now) (a .members .now) (a .ends .now) (a .numbers .now) (a .sizes .now) (s .pre .1 .0 .1) (s .pre .1 .1 .0 .0) (s .pre .1 .1 .0 .1) (a .p) (s .pre .1 .1 .1 .0) (omega (arith, c .if1 .left)), s .good .1 .1 .1 .1 .1 .1 .1 .1 .1 .1 .1 .0)
+write-stmt-mul-size t c = let s = c .before .before .before .before .before .before .before .before .before .before .before .before .before .before .before in let a = s .args in omega (arith, stop-in (rows-in (a .rows .now)) (a .fuel) (a .tokens .now) (a .results) (a .first) (a .places .now) (a .held .now) (a .starts .now) (a .members .now) (a .ends .now) (a .numbers .now) (a .stops .now) (a .kept .now) (s .pre .1 .0 .1) (s .pre .1 .1 .0 .0) (s .pre .1 .1 .0 .1) (a .p) (s .pre .1 .1 .1 .0) (omega (arith, c .before .if1 .left)), s .good .1 .1 .1 .1 .1 .1 .1 .1 .1 .1 .1 .0)
 
 write-stmt-shared-slice-read-size : (t : ℕ) → write-stmt-lts.Need-shared-slice-read-size (
   write-let-reads.Asked,
   write-let-reads.Learnt,
+  group-begin-reads.Asked,
+  group-begin-reads.Learnt,
   write-match-below t,
   write-match.Post,
 ) (write-stmt-at t) write-stmt.Post
-write-stmt-shared-slice-read-size t c = let s = c .before .before .before .before .before .before .before .before .before .before .before .before .before .before in let a = s .args in size-in (rows-in (a .rows .now)) (a .fuel) (a .tokens .now) (a .results) (a .first) (a .places .now) (a .held .now) (a .starts .now) (a .members .now) (a .ends .now) (a .numbers .now) (a .sizes .now) (s .pre .1 .0 .1) (s .pre .1 .1 .0 .0) (s .pre .1 .1 .0 .1) (a .p) (s .pre .1 .1 .1 .0) (omega (arith, c .before .if1 .left))
+write-stmt-shared-slice-read-size t c = let s = c .before .before .before .before .before .before .before .before .before .before .before .before .before .before .before .before in let a = s .args in stop-in (rows-in (a .rows .now)) (a .fuel) (a .tokens .now) (a .results) (a .first) (a .places .now) (a .held .now) (a .starts .now) (a .members .now) (a .ends .now) (a .numbers .now) (a .stops .now) (a .kept .now) (s .pre .1 .0 .1) (s .pre .1 .1 .0 .0) (s .pre .1 .1 .0 .1) (a .p) (s .pre .1 .1 .1 .0) (omega (arith, c .before .before .if1 .left))
+
+write-stmt-sub-size : (t : ℕ) → write-stmt-lts.Need-sub-size (
+  write-let-reads.Asked,
+  write-let-reads.Learnt,
+  group-begin-reads.Asked,
+  group-begin-reads.Learnt,
+  write-match-below t,
+  write-match.Post,
+) (write-stmt-at t) write-stmt.Post
+write-stmt-sub-size t c = let s = c .before .before .before .before .before .before .before .before .before .before .before .before .before .before .before .before in let a = s .args in stop-over (rows-in (a .rows .now)) (a .fuel) (a .tokens .now) (a .results) (a .first) (a .places .now) (a .held .now) (a .starts .now) (a .members .now) (a .ends .now) (a .numbers .now) (a .stops .now) (a .kept .now) (s .pre .1 .0 .1) (s .pre .1 .1 .0 .0) (s .pre .1 .1 .0 .1) (a .p) (s .pre .1 .1 .1 .0) (omega (arith, c .before .before .if1 .left)) (c .before .group-begin .result) (c .before .group-begin .ensures)
 
 write-stmt-write-match-requires : (t : ℕ) → write-stmt-lts.Need-write-match-requires (
   write-let-reads.Asked,
   write-let-reads.Learnt,
+  group-begin-reads.Asked,
+  group-begin-reads.Learnt,
   write-match-below t,
   write-match.Post,
 ) (write-stmt-at t) write-stmt.Post
-write-stmt-write-match-requires t c κs = let s = c .before .before .before .before .before .before .before .before .before .before .before .before .before .before .before .before .before in let a = s .args in (omega (arith, s .pre .0), ((s .pre .1 .0 .0, member-holds (rows-in (a .rows .now)) (a .fuel) (a .tokens .now) (a .results) (a .first) (a .places .now) (a .held .now) (a .starts .now) (a .members .now) (a .ends .now) (a .numbers .now) (a .sizes .now) (s .pre .1 .0 .1) (s .pre .1 .1 .0 .0) (s .pre .1 .1 .0 .1) (a .p) (s .pre .1 .1 .1 .0) (omega (arith, c .before .before .before .before .if1 .left))), ((grouped (rows-in (a .rows .now)) (a .fuel) (a .tokens .now) (a .results) (a .first) (a .places .now) (a .held .now) (a .starts .now) (a .members .now) (a .ends .now) (a .numbers .now) (a .sizes .now) (s .pre .1 .0 .1) (s .pre .1 .1 .0 .0) (s .pre .1 .1 .0 .1), group-sized (rows-in (a .rows .now)) (a .fuel) (a .tokens .now) (a .results) (a .first) (a .places .now) (a .held .now) (a .starts .now) (a .members .now) (a .ends .now) (a .numbers .now) (a .sizes .now) (s .pre .1 .0 .1) (s .pre .1 .1 .0 .0) (s .pre .1 .1 .0 .1) (a .p) (s .pre .1 .1 .1 .0) (omega (arith, c .before .before .before .before .if1 .left))), (group-there (rows-in (a .rows .now)) (a .fuel) (a .tokens .now) (a .results) (a .first) (a .places .now) (a .held .now) (a .starts .now) (a .members .now) (a .ends .now) (a .numbers .now) (a .sizes .now) (s .pre .1 .0 .1) (s .pre .1 .1 .0 .0) (s .pre .1 .1 .0 .1) (a .p) (s .pre .1 .1 .1 .0) (omega (arith, c .before .before .before .before .if1 .left)), subst (λ (z : List ℕ). a .at + length z ≤ most-rows) (stmt-match-is (rows-in (a .rows .now)) (a .fuel) (a .tokens .now) (a .results) (a .first) (a .places .now) (a .held .now) (a .starts .now) (a .members .now) (a .ends .now) (a .numbers .now) (a .sizes .now) (s .pre .1 .0 .1) (s .pre .1 .1 .0 .0) (s .pre .1 .1 .0 .1) (a .p) (s .pre .1 .1 .1 .0) (omega (arith, c .before .before .before .before .if1 .left))) (s .pre .1 .1 .1 .1)))))
+write-stmt-write-match-requires t c κs = let s = c .before .before .before .before .before .before .before .before .before .before .before .before .before .before .before .before .before .before .before in let a = s .args in (omega (arith, s .pre .0), ((s .pre .1 .0 .0, member-holds (rows-in (a .rows .now)) (a .fuel) (a .tokens .now) (a .results) (a .first) (a .places .now) (a .held .now) (a .starts .now) (a .members .now) (a .ends .now) (a .numbers .now) (a .stops .now) (a .kept .now) (s .pre .1 .0 .1) (s .pre .1 .1 .0 .0) (s .pre .1 .1 .0 .1) (a .p) (s .pre .1 .1 .1 .0) (omega (arith, c .before .before .before .before .before .if1 .left))), ((grouped (rows-in (a .rows .now)) (a .fuel) (a .tokens .now) (a .results) (a .first) (a .places .now) (a .held .now) (a .starts .now) (a .members .now) (a .ends .now) (a .numbers .now) (a .stops .now) (a .kept .now) (s .pre .1 .0 .1) (s .pre .1 .1 .0 .0) (s .pre .1 .1 .0 .1), group-sized (rows-in (a .rows .now)) (a .fuel) (a .tokens .now) (a .results) (a .first) (a .places .now) (a .held .now) (a .starts .now) (a .members .now) (a .ends .now) (a .numbers .now) (a .stops .now) (a .kept .now) (s .pre .1 .0 .1) (s .pre .1 .1 .0 .0) (s .pre .1 .1 .0 .1) (a .p) (s .pre .1 .1 .1 .0) (omega (arith, c .before .before .before .before .before .if1 .left)) (c .before .before .before .before .group-begin .result) (c .before .before .before .before .group-begin .ensures)), (group-there (rows-in (a .rows .now)) (a .fuel) (a .tokens .now) (a .results) (a .first) (a .places .now) (a .held .now) (a .starts .now) (a .members .now) (a .ends .now) (a .numbers .now) (a .stops .now) (a .kept .now) (s .pre .1 .0 .1) (s .pre .1 .1 .0 .0) (s .pre .1 .1 .0 .1) (a .p) (s .pre .1 .1 .1 .0) (omega (arith, c .before .before .before .before .before .if1 .left)), subst (λ (z : List ℕ). a .at + length z ≤ most-rows) (stmt-match-is (rows-in (a .rows .now)) (a .fuel) (a .tokens .now) (a .results) (a .first) (a .places .now) (a .held .now) (a .starts .now) (a .members .now) (a .ends .now) (a .numbers .now) (a .stops .now) (a .kept .now) (s .pre .1 .0 .1) (s .pre .1 .1 .0 .0) (s .pre .1 .1 .0 .1) (a .p) (s .pre .1 .1 .1 .0) (omega (arith, c .before .before .before .before .before .if1 .left))) (s .pre .1 .1 .1 .1)))))
 
 write-stmt-same-length-2 : (t : ℕ) → write-stmt-lts.Need-same-length-2 (
   write-let-reads.Asked,
   write-let-reads.Learnt,
+  group-begin-reads.Asked,
+  group-begin-reads.Learnt,
   write-match-below t,
   write-match.Post,
 ) (write-stmt-at t) write-stmt.Post
@@ -2689,6 +2936,8 @@ write-stmt-same-length-2 t c = search needs
 write-stmt-same-length-3 : (t : ℕ) → write-stmt-lts.Need-same-length-3 (
   write-let-reads.Asked,
   write-let-reads.Learnt,
+  group-begin-reads.Asked,
+  group-begin-reads.Learnt,
   write-match-below t,
   write-match.Post,
 ) (write-stmt-at t) write-stmt.Post
@@ -2697,6 +2946,8 @@ write-stmt-same-length-3 t c = search needs
 write-stmt-same-length-4 : (t : ℕ) → write-stmt-lts.Need-same-length-4 (
   write-let-reads.Asked,
   write-let-reads.Learnt,
+  group-begin-reads.Asked,
+  group-begin-reads.Learnt,
   write-match-below t,
   write-match.Post,
 ) (write-stmt-at t) write-stmt.Post
@@ -2705,22 +2956,24 @@ write-stmt-same-length-4 t c = search needs
 write-stmt-returns-2 : (t : ℕ) → write-stmt-lts.Need-returns-2 (
   write-let-reads.Asked,
   write-let-reads.Learnt,
+  group-begin-reads.Asked,
+  group-begin-reads.Learnt,
   write-match-below t,
   write-match.Post,
 ) (write-stmt-at t) write-stmt.Post
-write-stmt-returns-2 t c = let s = c .before .before .before .before .before .before .before .before .before .before .before .before .before .before .before .before .before .before .before .before .before .before .before .before in let a = s .args in rows-as _ _ (stmt-match-is (rows-in (a .rows .now)) (a .fuel) (a .tokens .now) (a .results) (a .first) (a .places .now) (a .held .now) (a .starts .now) (a .members .now) (a .ends .now) (a .numbers .now) (a .sizes .now) (s .pre .1 .0 .1) (s .pre .1 .1 .0 .0) (s .pre .1 .1 .0 .1) (a .p) (s .pre .1 .1 .1 .0) (omega (arith, c .before .before .before .before .before .before .before .before .before .before .before .if1 .left))) (a .at) (a .table .now) _ _ (c .before .before .before .before .before .before .write-match .ensures)
+write-stmt-returns-2 t c = let s = c .before .before .before .before .before .before .before .before .before .before .before .before .before .before .before .before .before .before .before .before .before .before .before .before .before .before in let a = s .args in rows-as _ _ (stmt-match-is (rows-in (a .rows .now)) (a .fuel) (a .tokens .now) (a .results) (a .first) (a .places .now) (a .held .now) (a .starts .now) (a .members .now) (a .ends .now) (a .numbers .now) (a .stops .now) (a .kept .now) (s .pre .1 .0 .1) (s .pre .1 .1 .0 .0) (s .pre .1 .1 .0 .1) (a .p) (s .pre .1 .1 .1 .0) (omega (arith, c .before .before .before .before .before .before .before .before .before .before .before .before .if1 .left))) (a .at) (a .table .now) _ _ (c .before .before .before .before .before .before .write-match .ensures)
 
 abbrev write-stmts-Inv-loop : write-stmts-lts.InvT-loop
-write-stmts-Inv-loop rows work₀ tokens results first places held starts members ends numbers sizes taken fuel text₀ at table₀ to₀ q₀ work text table to q = (q ≤ length taken) × (to ≡ at + length (stmts-runs tokens results first places numbers (scope-arms (rows-in rows) fuel tokens results first places) taken q)) × (table ≡ overlay at (stmts-runs tokens results first places numbers (scope-arms (rows-in rows) fuel tokens results first places) taken q) table₀) × (length work ≡ length work₀) × (length text ≡ length text₀) × (length table ≡ length table₀)
+write-stmts-Inv-loop rows work₀ tokens results first places held starts members ends numbers stops kept taken fuel text₀ at table₀ to₀ q₀ work text table to q = (q ≤ length taken) × (to ≡ at + length (stmts-runs tokens results first places numbers (scope-arms (rows-in rows) fuel tokens results first places) taken q)) × (table ≡ overlay at (stmts-runs tokens results first places numbers (scope-arms (rows-in rows) fuel tokens results first places) taken q) table₀) × (length work ≡ length work₀) × (length text ≡ length text₀) × (length table ≡ length table₀)
 
 abbrev write-stmts-μ-loop : write-stmts-lts.MeasureT-loop
-write-stmts-μ-loop rows work₀ tokens results first places held starts members ends numbers sizes taken fuel text₀ at table₀ to₀ q₀ work text table to q = length taken - q
+write-stmts-μ-loop rows work₀ tokens results first places held starts members ends numbers stops kept taken fuel text₀ at table₀ to₀ q₀ work text table to q = length taken - q
 
 write-stmts-loop-holds : (t : ℕ) → write-stmts-lts.Need-loop-holds (
   write-stmt-below t,
   write-stmt.Post,
 ) (write-stmts-at t) write-stmts.Post write-stmts-Inv-loop write-stmts-μ-loop
-write-stmts-loop-holds t c = let s = c .before .before .before .before .before .before .before .before .before .before .before .before .before in let a = s .args in let z = stmts-begin (rows-in (a .rows .now)) (a .fuel) (a .tokens .now) (a .results) (a .first) (a .places .now) (a .held .now) (a .starts .now) (a .members .now) (a .ends .now) (a .numbers .now) (a .sizes .now) (s .pre .1 .0 .1) (s .pre .1 .1 .0 .0) (s .pre .1 .1 .0 .1) (a .taken .now) (a .at) (a .table .now) (s .pre .1 .1 .1 .1) in (omega arith, z .to-is, z .table-is, refl, refl, refl)
+write-stmts-loop-holds t c = let s = c .before .before .before .before .before .before .before .before .before .before .before .before .before .before in let a = s .args in let z = stmts-begin (rows-in (a .rows .now)) (a .fuel) (a .tokens .now) (a .results) (a .first) (a .places .now) (a .held .now) (a .starts .now) (a .members .now) (a .ends .now) (a .numbers .now) (a .stops .now) (a .kept .now) (s .pre .1 .0 .1) (s .pre .1 .1 .0 .0) (s .pre .1 .1 .0 .1) (a .taken .now) (a .at) (a .table .now) (s .pre .1 .1 .1 .1) in (omega arith, z .to-is, z .table-is, refl, refl, refl)
 
 write-stmts-mul-p :
     (t : ℕ) →
@@ -2742,7 +2995,7 @@ write-stmts-write-stmt-requires : (t : ℕ) → write-stmts-lts.Need-write-stmt-
   write-stmt-below t,
   write-stmt.Post,
 ) (write-stmts-at t) write-stmts.Post write-stmts-Inv-loop write-stmts-μ-loop
-write-stmts-write-stmt-requires t c κs = let s = c .before .before .before .before .before .before .before .before .before .before .before .before .before .before .before .before .before .before .before in let a = s .args in (omega (arith, s .pre .0), ((lent-on (a .fuel) (a .work .now) (a .text .now) _ _ (s .pre .1 .0 .0) (c .before .before .before .before .before .loop .inv .3) (c .before .before .before .before .before .loop .inv .4), s .pre .1 .0 .1), (s .pre .1 .1 .0, (s .pre .1 .1 .1 .0 (c .before .before .before .before .before .loop .q) (c .before .before .before .before .loop-test .taken), entry-fits (rows-in (a .rows .now)) (a .fuel) (a .tokens .now) (a .results) (a .first) (a .places .now) (a .held .now) (a .starts .now) (a .members .now) (a .ends .now) (a .numbers .now) (a .sizes .now) (s .pre .1 .0 .1) (s .pre .1 .1 .0 .0) (s .pre .1 .1 .0 .1) (a .taken .now) (a .at) (a .table .now) (s .pre .1 .1 .1 .1) (c .before .before .before .before .before .loop .q) (c .before .before .before .before .before .loop .to) _ (record { to-is = c .before .before .before .before .before .loop .inv .1; table-is = c .before .before .before .before .before .loop .inv .2 }) (c .before .before .before .before .loop-test .taken)))))
+write-stmts-write-stmt-requires t c κs = let s = c .before .before .before .before .before .before .before .before .before .before .before .before .before .before .before .before .before .before .before .before in let a = s .args in (omega (arith, s .pre .0), ((lent-on (a .fuel) (a .work .now) (a .text .now) _ _ (s .pre .1 .0 .0) (c .before .before .before .before .before .loop .inv .3) (c .before .before .before .before .before .loop .inv .4), s .pre .1 .0 .1), (s .pre .1 .1 .0, (s .pre .1 .1 .1 .0 (c .before .before .before .before .before .loop .q) (c .before .before .before .before .loop-test .taken), entry-fits (rows-in (a .rows .now)) (a .fuel) (a .tokens .now) (a .results) (a .first) (a .places .now) (a .held .now) (a .starts .now) (a .members .now) (a .ends .now) (a .numbers .now) (a .stops .now) (a .kept .now) (s .pre .1 .0 .1) (s .pre .1 .1 .0 .0) (s .pre .1 .1 .0 .1) (a .taken .now) (a .at) (a .table .now) (s .pre .1 .1 .1 .1) (c .before .before .before .before .before .loop .q) (c .before .before .before .before .before .loop .to) _ (record { to-is = c .before .before .before .before .before .loop .inv .1; table-is = c .before .before .before .before .before .loop .inv .2 }) (c .before .before .before .before .loop-test .taken)))))
 
 write-stmts-add-q :
     (t : ℕ) →
@@ -2752,7 +3005,7 @@ write-stmts-add-q :
     write-stmts.Post
     write-stmts-Inv-loop
     write-stmts-μ-loop
-write-stmts-add-q t c = let s = c .before .before .before .before .before .before .before .before .before .before .before .before .before .before .before .before .before .before .before .before .before .before .before .before .before .before in omega (arith, c .before .before .before .before .before .before .before .before .before .before .before .loop-test .taken, s .good .1 .1 .1 .1 .1 .1 .1 .1 .1 .1 .1 .1 .0)
+write-stmts-add-q t c = let s = c .before .before .before .before .before .before .before .before .before .before .before .before .before .before .before .before .before .before .before .before .before .before .before .before .before .before .before in omega (arith, c .before .before .before .before .before .before .before .before .before .before .before .loop-test .taken, s .good .1 .1 .1 .1 .1 .1 .1 .1 .1 .1 .1 .1 .1 .0)
 
 write-stmts-loop-less : (t : ℕ) → write-stmts-lts.Need-loop-less (
   write-stmt-below t,
@@ -2764,7 +3017,7 @@ write-stmts-loop-again : (t : ℕ) → write-stmts-lts.Need-loop-again (
   write-stmt-below t,
   write-stmt.Post,
 ) (write-stmts-at t) write-stmts.Post write-stmts-Inv-loop write-stmts-μ-loop
-write-stmts-loop-again t c = let s = c .before .before .before .before .before .before .before .before .before .before .before .before .before .before .before .before .before .before .before .before .before .before .before .before .before .before in let a = s .args in let z = stmts-on (rows-in (a .rows .now)) (a .fuel) (a .tokens .now) (a .results) (a .first) (a .places .now) (a .held .now) (a .starts .now) (a .members .now) (a .ends .now) (a .numbers .now) (a .sizes .now) (s .pre .1 .0 .1) (s .pre .1 .1 .0 .0) (s .pre .1 .1 .0 .1) (a .taken .now) (a .at) (a .table .now) (s .pre .1 .1 .1 .1) (c .before .before .before .before .before .before .before .before .before .before .before .before .loop .q) (c .before .before .before .before .before .before .before .before .before .before .before .before .loop .to) _ (record { to-is = c .before .before .before .before .before .before .before .before .before .before .before .before .loop .inv .1; table-is = c .before .before .before .before .before .before .before .before .before .before .before .before .loop .inv .2 }) (c .before .before .before .before .before .before .write-stmt .result) _ (c .before .before .before .before .before .before .write-stmt .ensures) in (omega (arith, c .before .before .before .before .before .before .before .before .before .before .before .loop-test .taken), z .to-is, z .table-is, c .before .before .before .before .before .before .write-stmt .kept .1 .0 ∙ c .before .before .before .before .before .before .before .before .before .before .before .before .loop .inv .3, c .before .before .before .before .before .before .write-stmt .kept .1 .1 .1 .1 .1 .1 .1 .1 .1 .1 .1 .1 .1 .1 .0 ∙ c .before .before .before .before .before .before .before .before .before .before .before .before .loop .inv .4, c .before .before .before .before .before .before .write-stmt .kept .1 .1 .1 .1 .1 .1 .1 .1 .1 .1 .1 .1 .1 .1 .1 .1 .0 ∙ c .before .before .before .before .before .before .before .before .before .before .before .before .loop .inv .5)
+write-stmts-loop-again t c = let s = c .before .before .before .before .before .before .before .before .before .before .before .before .before .before .before .before .before .before .before .before .before .before .before .before .before .before .before in let a = s .args in let z = stmts-on (rows-in (a .rows .now)) (a .fuel) (a .tokens .now) (a .results) (a .first) (a .places .now) (a .held .now) (a .starts .now) (a .members .now) (a .ends .now) (a .numbers .now) (a .stops .now) (a .kept .now) (s .pre .1 .0 .1) (s .pre .1 .1 .0 .0) (s .pre .1 .1 .0 .1) (a .taken .now) (a .at) (a .table .now) (s .pre .1 .1 .1 .1) (c .before .before .before .before .before .before .before .before .before .before .before .before .loop .q) (c .before .before .before .before .before .before .before .before .before .before .before .before .loop .to) _ (record { to-is = c .before .before .before .before .before .before .before .before .before .before .before .before .loop .inv .1; table-is = c .before .before .before .before .before .before .before .before .before .before .before .before .loop .inv .2 }) (c .before .before .before .before .before .before .write-stmt .result) _ (c .before .before .before .before .before .before .write-stmt .ensures) in (omega (arith, c .before .before .before .before .before .before .before .before .before .before .before .loop-test .taken), z .to-is, z .table-is, c .before .before .before .before .before .before .write-stmt .kept .1 .0 ∙ c .before .before .before .before .before .before .before .before .before .before .before .before .loop .inv .3, c .before .before .before .before .before .before .write-stmt .kept .1 .1 .1 .1 .1 .1 .1 .1 .1 .1 .1 .1 .1 .1 .1 .0 ∙ c .before .before .before .before .before .before .before .before .before .before .before .before .loop .inv .4, c .before .before .before .before .before .before .write-stmt .kept .1 .1 .1 .1 .1 .1 .1 .1 .1 .1 .1 .1 .1 .1 .1 .1 .1 .0 ∙ c .before .before .before .before .before .before .before .before .before .before .before .before .loop .inv .5)
 
 write-stmts-same-length : (t : ℕ) → write-stmts-lts.Need-same-length (
   write-stmt-below t,
@@ -2792,7 +3045,7 @@ write-stmts-returns :
     write-stmts.Post
     write-stmts-Inv-loop
     write-stmts-μ-loop
-write-stmts-returns t c = let s = c .before .before .before .before .before .before .before .before .before .before .before .before .before .before .before in let a = s .args in stmts-end (rows-in (a .rows .now)) (a .fuel) (a .tokens .now) (a .results) (a .first) (a .places .now) (a .held .now) (a .starts .now) (a .members .now) (a .ends .now) (a .numbers .now) (a .sizes .now) (s .pre .1 .0 .1) (s .pre .1 .1 .0 .0) (s .pre .1 .1 .0 .1) (a .taken .now) (a .at) (a .table .now) (s .pre .1 .1 .1 .1) (c .before .loop .q) (c .before .loop .to) _ (record { to-is = c .before .loop .inv .1; table-is = c .before .loop .inv .2 }) (omega (arith, c .before .loop .inv .0, c .loop-test .left))
+write-stmts-returns t c = let s = c .before .before .before .before .before .before .before .before .before .before .before .before .before .before .before .before in let a = s .args in stmts-end (rows-in (a .rows .now)) (a .fuel) (a .tokens .now) (a .results) (a .first) (a .places .now) (a .held .now) (a .starts .now) (a .members .now) (a .ends .now) (a .numbers .now) (a .stops .now) (a .kept .now) (s .pre .1 .0 .1) (s .pre .1 .1 .0 .0) (s .pre .1 .1 .0 .1) (a .taken .now) (a .at) (a .table .now) (s .pre .1 .1 .1 .1) (c .before .loop .q) (c .before .loop .to) _ (record { to-is = c .before .loop .inv .1; table-is = c .before .loop .inv .2 }) (omega (arith, c .before .loop .inv .0, c .loop-test .left))
 
 pub +arm+arms+measure+scope+scope-grouped+scope-held+scope-large+scope-listed+scope-small+walk+write-match+write-scope+write-stmt+write-stmts-spec :
     {M : Type 1} → statement M
@@ -2875,10 +3128,10 @@ pub +arm+arms+measure+scope+scope-grouped+scope-held+scope-large+scope-listed+sc
     (measure-at t)
     measure.Post
     (measure-add-first t)
-    (measure-slice-aggregate-arms t)
     (measure-arms-requires t)
     (measure-same-length t)
     (measure-same-length-2 t)
+    (measure-same-length-3 t)
     (measure-returns t))
     (λ t. scope-lts.spec (
       tree-count-reads.Asked,
@@ -2925,6 +3178,7 @@ pub +arm+arms+measure+scope+scope-grouped+scope-held+scope-large+scope-listed+sc
     (scope-grouped-add-next t)
     (scope-grouped-add-next-2 t)
     (scope-grouped-slice-aggregate-walk t)
+    (scope-grouped-slice-aggregate-walk-2 t)
     (scope-grouped-walk-requires t)
     (scope-grouped-enum-known-walked t)
     (scope-grouped-enum-told t)
@@ -2935,8 +3189,9 @@ pub +arm+arms+measure+scope+scope-grouped+scope-held+scope-large+scope-listed+sc
     (scope-grouped-returns t)
     (scope-grouped-slice-reshare-prefix-write-scope t)
     (scope-grouped-slice-aggregate-write-scope t)
-    (scope-grouped-array-share-prefix-sizes t)
+    (scope-grouped-array-share-prefix-stops t)
     (scope-grouped-slice-aggregate-write-scope-2 t)
+    (scope-grouped-slice-aggregate-write-scope-3 t)
     (scope-grouped-write-scope-requires t)
     (scope-grouped-same-length-4 t)
     (scope-grouped-same-length-5 t)
@@ -3090,21 +3345,25 @@ pub +arm+arms+measure+scope+scope-grouped+scope-held+scope-large+scope-listed+sc
     (walk-same-length-2 t)
     (walk-same-length-3 t)
     (walk-same-length-4 t)
+    (walk-same-length-5 t)
     (walk-returns t)
-    (walk-mul-sizes t)
-    (walk-slice-write-sizes t)
+    (walk-mul-stops t)
+    (walk-slice-write-stops t)
     (walk-add-extracted t)
     (walk-add-g t)
     (walk-loop-less t)
     (walk-loop-again t)
-    (walk-same-length-5 t)
     (walk-same-length-6 t)
     (walk-same-length-7 t)
     (walk-same-length-8 t)
+    (walk-same-length-9 t)
+    (walk-same-length-10 t)
     (walk-returns-2 t))
     (λ t. write-match-lts.spec (
       write-match-head-reads.Asked,
       write-match-head-reads.Learnt,
+      put-reads.Asked,
+      put-reads.Learnt,
       group-begin-reads.Asked,
       group-begin-reads.Learnt,
       arms-below t,
@@ -3116,6 +3375,16 @@ pub +arm+arms+measure+scope+scope-grouped+scope-held+scope-large+scope-listed+sc
     (write-match-add-result t)
     (write-match-same-length t)
     (write-match-returns t)
+    (write-match-add-if2 t)
+    (write-match-add-put t)
+    (write-match-mul-put t)
+    (write-match-sub-put t)
+    (write-match-part-put-start t)
+    (write-match-part-put-end t)
+    (write-match-put-requires t)
+    (write-match-add-result-2 t)
+    (write-match-same-length-2 t)
+    (write-match-returns-2 t)
     (write-match-group-begin-requires t)
     (write-match-mul-end t)
     (write-match-shared-slice-read-end t)
@@ -3130,14 +3399,14 @@ pub +arm+arms+measure+scope+scope-grouped+scope-held+scope-large+scope-listed+sc
     (write-match-arms-requires t)
     (write-match-enum-known-armed t)
     (write-match-enum-told t)
-    (write-match-same-length-2 t)
     (write-match-same-length-3 t)
     (write-match-same-length-4 t)
-    (write-match-returns-2 t)
     (write-match-same-length-5 t)
+    (write-match-returns-3 t)
     (write-match-same-length-6 t)
     (write-match-same-length-7 t)
-    (write-match-returns-3 t))
+    (write-match-same-length-8 t)
+    (write-match-returns-4 t))
     (λ t. write-scope-lts.spec (
       order-stmts-reads.Asked,
       order-stmts-reads.Learnt,
@@ -3158,7 +3427,7 @@ pub +arm+arms+measure+scope+scope-grouped+scope-held+scope-large+scope-listed+sc
     (write-scope-slice-aggregate-write-stmts t)
     (write-scope-write-stmts-requires t)
     (write-scope-write-values-requires t)
-    (write-scope-add-t42 t)
+    (write-scope-add-t43 t)
     (write-scope-enum-told-2 t)
     (write-scope-enum-told-3 t)
     (write-scope-same-length t)
@@ -3170,6 +3439,8 @@ pub +arm+arms+measure+scope+scope-grouped+scope-held+scope-large+scope-listed+sc
     (λ t. write-stmt-lts.spec (
       write-let-reads.Asked,
       write-let-reads.Learnt,
+      group-begin-reads.Asked,
+      group-begin-reads.Learnt,
       write-match-below t,
       write-match.Post,
     )
@@ -3180,8 +3451,10 @@ pub +arm+arms+measure+scope+scope-grouped+scope-held+scope-large+scope-listed+sc
     (write-stmt-write-let-requires t)
     (write-stmt-same-length t)
     (write-stmt-returns t)
+    (write-stmt-group-begin-requires t)
     (write-stmt-mul-size t)
     (write-stmt-shared-slice-read-size t)
+    (write-stmt-sub-size t)
     (write-stmt-write-match-requires t)
     (write-stmt-same-length-2 t)
     (write-stmt-same-length-3 t)
