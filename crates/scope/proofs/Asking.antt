@@ -44,7 +44,7 @@ module _ (rows : List Row) (fuel next : ℕ) (held group : List ℕ) (h : Holds 
     -- what it answers is small
     module _ (r : Scoped) (given : r ≡ scope-answer (scope-told rows fuel 35 next (take n work)) (at + 1)) where
       abbrev Answer-small : Scoped → Type 0
-      Answer-small (scoped.Told end steps after extracted) = steps ≤ 1927
+      Answer-small (scoped.Told end steps after extracted) = steps ≤ 2048
       Answer-small (scoped.Refused q) = Unit {0}
 
       answer-small : (o : Outcome Told) → scope-told rows fuel 35 next (take n work) ≡ o → Answer-small (scope-answer o (at + 1))
@@ -52,7 +52,7 @@ module _ (rows : List Row) (fuel next : ℕ) (held group : List ℕ) (h : Holds 
       answer-small (ok t) e = told-small rows fuel 35 next (take n work) (column-scoped .0) (column-scoped .1) t e .steps
       answer-small (refused i) e = tt
 
-      pub steps-few : (end steps after extracted : ℕ) → r ≡ scoped.Told end steps after extracted → steps ≤ 1927
+      pub steps-few : (end steps after extracted : ℕ) → r ≡ scoped.Told end steps after extracted → steps ≤ 2048
       steps-few end steps after extracted e = subst Answer-small (sym given ∙ e) (answer-small (scope-told rows fuel 35 next (take n work)) refl)
 
   pub arm-too-deep : fuel ≡ 0 → (at : ℕ) (old : List ℕ) → Arm-done (arm-told (inner rows fuel) held group next a) at old (armed.Refused 23) old
@@ -73,7 +73,7 @@ pub record Arms-small (next n : ℕ) (r : Arms-told) : Type 0 where
   pub rows : length (r .words) ≤ n * 288230376151711745
   pub made : r .extracted ≤ n * 4294967296
   pub grows : next ≤ r .next
-  pub low : 0 < n → r .next ≤ 2147485575
+  pub low : 0 < n → r .next ≤ 2147485696
 
 module _ (rows : List Row) (fuel next : ℕ) (held group : List ℕ) (h : Holds rows next held) (g : Is-group held group) where
   abbrev told-arms : ℕ → Outcome Arms-told

@@ -23,14 +23,16 @@ use Rattle.reciprocal.specs.Bindings.{all-there}
 use Rattle.reciprocal.proofs.There.{there-tested}
 use Rattle.treelist.specs.Starts.{starts-of, tree-listing, listing-by, listing-room, TreeListing}
 use Rattle.treelist.proofs.Begins.{as-many}
+use Rattle.switchplaces.specs.Switches.{switch-places}
 use Rattle.switchplaces.proofs.GroupColumns.{every-at}
 use Rattle.scopeplaces.specs.Overlay.{overlay}
 use Rattle.scopeplaces.specs.Parts.{place-groups, joined-groups, ends-from, reciprocals-first, lets-count, trees-held, words-held, held-words}
 use Rattle.cse.specs.Scope.{most-number}
-use Rattle.scopeplaces.specs.Whole.{Told, Walk, walked, stmts-count, ordered-scope, fused-scope}
+use Rattle.scopeplaces.specs.Whole.{Told, Walk, walked, stmts-count, ordered-scope, room-for, fused-scope}
 use Rattle.tables.proofs.Laws.{overlay-front}
 use Rattle.scopesound.proofs.Bounds.{Walk-bound, walk-bound, numbers-small, numbers-all}
-use Rattle.scopesound.proofs.Counting.{places-there, first-is, held-extractable, held-passes, held-trees, first-lets, trees-few, lets-few, last-most, stmts-few, members-few, groups-few}
+use Rattle.scopesound.proofs.Columns.{members-count, groups-count}
+use Rattle.scopesound.proofs.Counting.{switches-few, places-there, first-is, held-extractable, held-passes, held-trees, first-lets, trees-few, lets-few, last-most, held-trees-few}
 use Rattle.scopeparts.specs.Prepared.{Prepared}
 use Rattle.scopeparts.proofs.Groups.{ends-count}
 use Rattle.scope.specs.Answers.{inner, scope-answer, scope-table, told-rows, walk-answer, Walk-wrote, walk-refusal, Holding-so}
@@ -41,13 +43,16 @@ use Rattle.scope.specs.declared.Holding.{Holding}
 use Rattle.scope.specs.declared.Holding.the-variants as holding
 use Rattle.scope.specs.declared.Walked.{Walked}
 use Rattle.scope.specs.declared.Walked.the-variants as walked-enum
-use Rattle.scope.proofs.Sound.{words-ok, all-few}
-use Rattle.scope.proofs.Walking.{ends-few}
+use Rattle.scope.proofs.Sound.{words-ok}
 use Rattle.reciprocals.proofs.Parts.{All-there, settle-tree, settled-reciprocals}
 use Rattle.renaming.specs.Places.{divisors-to-bind, numbered-at}
 use Rattle.fusion.specs.Switchless.{with-switches}
 use Rattle.scope.proofs.Statements.{by-test, by-no-test}
 use Rattle.scope.proofs.Ending.{Scope-done, scope-refused}
+
+and-false : (b : Bool) → (b && false) ≡ false
+and-false true = refl
+and-false false = refl
 
 -- ---- from the groups on
 
@@ -66,21 +71,21 @@ module _ (rows : List Row) (fuel row : ℕ) (ws : List ℕ) (k first : ℕ) (pla
   unfolding lets-count
   lets-are = omega (arith, length-drop k (read numbered ws), complete-length numbered ws (length starts) (rd .complete))
 
-  pub lets-small : lets ≤ 1927
+  few-stmts : lets + length gs ≤ 2048
   unfolding stmts-count
-  lets-small = omega (arith, lets-are, rd .statements [])
+  few-stmts = omega (arith, lets-are, rd .statements [], ap (λ (hs : List ℕ). length (place-groups hs)) (rd .held-is))
 
-  pub from-low : first + lets ≤ 2147485575
+  pub lets-small : lets ≤ 2048
+  lets-small = omega (arith, few-stmts)
+
+  pub from-low : first + lets ≤ 2147485696
   from-low = omega (arith, lets-small, rd .low)
 
   pub holds-from : Holds rows (first + lets) held
   holds-from = subst (λ (n : ℕ). Holds rows n held) (sym (rd .last)) h
 
-  pub members-short : length members ≤ 1927
-  members-short = omega (arith, ap length (rd .grouped .members-are), all-few rows from held h)
-
-  pub ends-short : length ends ≤ 1927
-  ends-short = ends-few rows fuel from held members ends h (rd .grouped) (omega (arith, rd .last, from-low))
+  pub ends-short : length ends ≤ 2048
+  ends-short = omega (arith, few-stmts, ap length (rd .grouped .ends-are), ends-count 0 gs)
 
   module _ (w : Walked) (numbers sizes : List ℕ) (given : (w ≡ walk-answer (groups-told rows fuel (first + lets) held)) × Walk-wrote (groups-told rows fuel (first + lets) held) numbers sizes) where
     pub record Walk-done (after extracted : ℕ) : Type 0 where
@@ -173,6 +178,48 @@ lets-of : (ws : List ℕ) (k first : ℕ) (places : List ℕ) (trees : ℕ) → 
 unfolding lets-count
 lets-of ws k first places trees whole = omega (arith, length-drop k (read numbered ws), complete-length numbered ws trees whole)
 
+stmts-are : (ws : List ℕ) (k first : ℕ) (places numbers : List ℕ) (trees : ℕ) → trees-in ws ≡ some trees
+    → stmts-count ws k first places numbers ≡ ((trees - k) + length places) + length (place-groups (held-words ws k first places))
+unfolding stmts-count
+stmts-are ws k first places numbers trees whole = omega (arith, lets-of ws k first places trees whole)
+
+groups-many : (held : List ℕ) (m g : ℕ) (members ends : List ℕ) → Grouping-so held m g members ends → g ≡ length (place-groups held)
+groups-many held m g members ends s = omega (arith, length-take-le g ends (s .ends-in), ap length (s .ends-are), ends-count 0 (place-groups held))
+
+-- with room for what is held and for the statements, or without
+module _ (rows : List Row) (fuel row : ℕ) (ws : List ℕ) (k first : ℕ) (places : List ℕ) where
+  abbrev stmts : ℕ
+  stmts = lets-count ws k first places + length (place-groups (held-words ws k first places))
+
+  fused-so : length (held-words ws k first places) ≤ 7281 → stmts ≤ 2048 → fused-scope (inner rows fuel) row ws k first places ≡ grouped-scope rows fuel row ws k first places
+  unfolding fused-scope grouped-scope groups-told room-for
+  fused-so h s =
+      by-test (leb (length (held-words ws k first places)) 7281 && leb stmts 2048) _ (refused (by 23))
+      (ap₂ (λ (a b : Bool). a && b) (le-leb (length (held-words ws k first places)) 7281 h) (le-leb stmts 2048 s))
+
+  held-many-refused : 7281 < length (held-words ws k first places) → fused-scope (inner rows fuel) row ws k first places ≡ refused (by 23)
+  unfolding fused-scope room-for
+  held-many-refused h =
+      by-no-test (leb (length (held-words ws k first places)) 7281 && leb stmts 2048) _ (refused (by 23))
+      (ap (λ (b : Bool). b && leb stmts 2048) (lt-leb (length (held-words ws k first places)) 7281 h))
+
+  stmts-many-refused : 2048 < stmts → fused-scope (inner rows fuel) row ws k first places ≡ refused (by 23)
+  unfolding fused-scope room-for
+  stmts-many-refused s =
+      by-no-test (leb (length (held-words ws k first places)) 7281 && leb stmts 2048) _ (refused (by 23))
+      (ap (λ (b : Bool). leb (length (held-words ws k first places)) 7281 && b) (lt-leb stmts 2048 s) ∙ and-false (leb (length (held-words ws k first places)) 7281))
+
+  -- by how many groups there are
+  module _ (trees : ℕ) (whole : trees-in ws ≡ some trees) (held : List ℕ) (held-is : held ≡ held-words ws k first places) (m g : ℕ) (members ends : List ℕ) (s : Grouping-so held m g members ends) where
+    count-so : stmts ≡ ((trees - k) + length places) + g
+    count-so = omega (arith, lets-of ws k first places trees whole, groups-many held m g members ends s, ap (λ (hs : List ℕ). length (place-groups hs)) held-is)
+
+    pub too-many-stmts : 2048 < ((trees - k) + length places) + g → (at : ℕ) (table : List ℕ) → Scope-done (fused-scope (inner rows fuel) row ws k first places) at table (scoped.Refused 23) table
+    too-many-stmts h at table = scope-refused (fused-scope (inner rows fuel) row ws k first places) (by 23) (stmts-many-refused (omega (arith, count-so))) at table
+
+    pub outcome-is : length held ≤ 7281 → ((trees - k) + length places) + g ≤ 2048 → fused-scope (inner rows fuel) row ws k first places ≡ grouped-scope rows fuel row ws k first places
+    outcome-is h few = fused-so (omega (arith, h, ap length held-is)) (omega (arith, count-so))
+
 module _ (rows : List Row) (ws : List ℕ) (k first : ℕ) (places : List ℕ) (l : Left rows ws k first places) where
   abbrev good : ℕ → Bool
   good = is-number rows
@@ -183,7 +230,7 @@ module _ (rows : List Row) (ws : List ℕ) (k first : ℕ) (places : List ℕ) (
   pub left-there : T (all-there ws places)
   left-there = there-tested ws places (subst (All-there ws) (sym (l .places-are)) (places-there rows good k first ws (l .good) (l .pass)))
 
-  module _ (held : List ℕ) (held-is : held ≡ held-words ws k first places) (short : length held ≤ 1927) where
+  module _ (held : List ℕ) (held-is : held ≡ held-words ws k first places) (short : length held ≤ 7281) where
     at-places : (P : List ℕ → Type 0) → P (divisors-to-bind ws (name-in rows) true) → P places
     at-places P x = subst P (sym (l .places-are)) x
 
@@ -201,6 +248,21 @@ module _ (rows : List Row) (ws : List ℕ) (k first : ℕ) (places : List ℕ) (
     unfolding some-trees
     held-whole = subst (λ (o : Option ℕ). T (some-trees o)) (sym trees-here) tt
 
+    abbrev after : ℕ
+    after = reciprocals-first ws k first places + length places
+
+    module _ (members ends : List ℕ) (mm gg : ℕ) (g : Grouping-so held mm gg members ends) where
+      switches-short : 2 * length (switch-places held) ≤ length held
+      switches-short = let r = ready-of rows after held (left-holds .good) in omega (arith, switches-few rows held (words-ok rows after held left-holds) (r .trees) (r .complete))
+
+      pub groups-short : gg ≤ 3640
+      groups-short =
+          let r = ready-of rows after held (left-holds .good) in
+          omega (arith, groups-many held mm gg members ends g, groups-count held (r .trees) (r .complete), switches-short, short)
+
+      pub members-short : length (take mm members) ≤ length held
+      members-short = let r = ready-of rows after held (left-holds .good) in omega (arith, ap length (g .members-are), members-count held (r .trees) (r .complete), switches-short)
+
     module _ (trees : ℕ) (whole : trees-in ws ≡ some trees) where
       pub trees-short : trees ≤ 1927
       trees-short = omega (arith, complete-length numbered ws trees whole, trees-few rows good k first ws (l .good) (l .pass) (l .few))
@@ -213,18 +275,22 @@ module _ (rows : List Row) (ws : List ℕ) (k first : ℕ) (places : List ℕ) (
         unfolding trees-held
         held-many = omega (arith, complete-length numbered ws trees whole, length-append (map (settle-tree (map (numbered-at ws) places) (next-number k first (read numbered ws))) (read numbered ws)) (with-switches (settled-reciprocals (map (numbered-at ws) places) (next-number k first (read numbered ws)))), length-map (read numbered ws) (settle-tree (map (numbered-at ws) places) (next-number k first (read numbered ws))))
 
+        held-few : m ≤ 1927
+        held-few = at-places (λ ps. length (trees-held ws (next-number k first (read numbered ws)) ps) ≤ 1927) (held-trees-few rows good k first ws (l .good) (l .pass) (l .few))
+
         all-starts : length (starts-of held) ≡ m
         all-starts = as-many held ∙ complete-length numbered held m trees-here
 
         starts-are : take trees starts ≡ take trees (starts-of held)
         starts-are =
-            ap (take trees) (listed ∙ starts-listed held old m trees-here (omega (arith, lent, complete-within held m trees-here))) ∙ take-front trees (starts-of held) (drop m old) (omega (arith, all-starts, held-many))
+            ap (take trees) (listed ∙ starts-listed held old m trees-here (omega (arith, lent, held-few))) ∙ take-front trees (starts-of held) (drop m old) (omega (arith, all-starts, held-many))
 
         pub starts-long : length (take trees starts) ≡ trees
         starts-long = ap length starts-are ∙ length-take-le trees (starts-of held) (omega (arith, all-starts, held-many))
 
-        pub ready-so : (members ends : List ℕ) (mm gg : ℕ) → Grouping-so held mm gg members ends → Ready ws k first places held (take trees starts) (take mm members) (take gg ends)
-        ready-so members ends mm gg g =
+        pub ready-so : (members ends : List ℕ) (mm gg : ℕ) → Grouping-so held mm gg members ends → ((trees - k) + length places) + gg ≤ 2048
+            → Ready ws k first places held (take trees starts) (take mm members) (take gg ends)
+        ready-so members ends mm gg g few =
             record {
               complete = whole ∙ ap some (sym starts-long);
               enough = omega (arith, starts-long, l .enough, complete-length numbered ws trees whole);
@@ -234,7 +300,7 @@ module _ (rows : List Row) (ws : List ℕ) (k first : ℕ) (places : List ℕ) (
               held-is = held-is;
               starts-are = starts-are ∙ ap (λ (n : ℕ). take n (starts-of held)) (sym starts-long);
               grouped = record { members-are = g .members-are; ends-are = g .ends-are };
-              statements = at-places (λ ps. (numbers : List ℕ) → stmts-count ws k first ps numbers ≤ 1927) (stmts-few rows good k first ws (l .good) (l .pass) (l .few) (subst (λ (n : ℕ). n ≤ 1927) (ap length held-is ∙ ap (λ (ps : List ℕ). length (held-words ws k first ps)) (l .places-are)) short));
+              statements = λ numbers. omega (arith, stmts-are ws k first places numbers trees whole, few, groups-many held mm gg members ends g, ap (λ (hs : List ℕ). length (place-groups hs)) held-is);
               last = last-is;
             }
           where
@@ -243,11 +309,53 @@ module _ (rows : List Row) (ws : List ℕ) (k first : ℕ) (places : List ℕ) (
                 let q = at-places (λ ps. reciprocals-first ws k first ps + length ps ≡ first + lets-count ws k first ps) (first-lets rows good k first ws (l .good) (l .pass)) in
                 omega (arith, q, lets-of ws k first places trees whole, starts-long)
 
--- ---- from the rounds on
+-- ---- what is held
 
 pub whole-so : (rows : List Row) (n : ℕ) (ws : List ℕ) → T (extractable rows n ws) → T (some-trees (trees-in ws))
 unfolding some-trees
 whole-so rows n ws g = let r = ready-of rows n ws g in subst (λ (o : Option ℕ). T (some-trees o)) (sym (r .complete)) tt
+
+module _ (rows : List Row) (fuel row : ℕ) (ws : List ℕ) (k first : ℕ) (places : List ℕ) (l : Left rows ws k first places) (trees : ℕ) (whole : trees-in ws ≡ some trees) where
+  pub trees-enough : k ≤ trees
+  trees-enough = omega (arith, l .enough, complete-length numbered ws trees whole)
+
+  pub trees-few-here : trees ≤ 1927
+  trees-few-here = omega (arith, complete-length numbered ws trees whole, trees-few rows (is-number rows) k first ws (l .good) (l .pass) (l .few))
+
+  number-is : first + (trees - k) ≡ reciprocals-first ws k first places
+  unfolding reciprocals-first next-number
+  number-is = omega (arith, length-drop k (read numbered ws), complete-length numbered ws trees whole)
+
+  pub places-short : length places ≤ 1927
+  places-short = omega (arith, lets-of ws k first places trees whole, subst (λ (ps : List ℕ). lets-count ws k first ps ≤ 1927) (sym (l .places-are)) (lets-few rows (is-number rows) k first ws (l .good) (l .pass) (l .few)))
+
+  pub words-whole : T (some-trees (trees-in ws))
+  words-whole = whole-so rows (next-number k first (read numbered ws)) ws (l .good)
+
+  module _ (r : Holding) (held : List ℕ) (given : Holding-so (words-held ws (first + (trees - k)) places) r held) where
+    words-are : words-held ws (first + (trees - k)) places ≡ held-words ws k first places
+    unfolding held-words
+    words-are = ap (λ (n : ℕ). words-held ws n places) number-is
+
+    pub too-many : r ≡ holding.TooMany → 7281 ≤ length held → (at : ℕ) (table : List ℕ) → Scope-done (fused-scope (inner rows fuel) row ws k first places) at table (scoped.Refused 23) table
+    too-many e long at table =
+        let g = subst (λ (q : Holding). Holding-so (words-held ws (first + (trees - k)) places) q held) e given in
+        scope-refused (fused-scope (inner rows fuel) row ws k first places) (by 23) (held-many-refused rows fuel row ws k first places (omega (arith, g, ap length words-are, long))) at table
+
+    module _ (n : ℕ) (e : r ≡ holding.Words n) where
+      so : Holding-so (words-held ws (first + (trees - k)) places) (holding.Words n) held
+      so = subst (λ (q : Holding). Holding-so (words-held ws (first + (trees - k)) places) q held) e given
+
+      pub held-in : n ≤ length held
+      held-in = so .1
+
+      pub held-are : take n held ≡ held-words ws k first places
+      held-are = so .0 ∙ words-are
+
+      pub held-short : length (take n held) ≤ length held
+      held-short = omega (arith, length-take-le n held (so .1), so .1)
+
+-- ---- from the rounds on
 
 -- the rest of the work area is what is lent on, and what comes back stands after the words used
 pub rest-is : (w : List ℕ) (u : ℕ) → take (length w - u) (drop u w) ≡ drop u w
@@ -279,54 +387,5 @@ module _ (rows : List Row) (fuel row : ℕ) (work : List ℕ) (used k first : �
     pub tokens-whole : T (some-trees (trees-in (take used tokens)))
     tokens-whole = whole-so rows (next-number k first (read numbered (take used tokens))) (take used tokens) (tokens-left .good)
 
-    module _ (trees : ℕ) (whole : trees-in (take used tokens) ≡ some trees) where
-      pub trees-enough : k ≤ trees
-      trees-enough = omega (arith, tokens-left .enough, complete-length numbered (take used tokens) trees whole)
-
-      pub trees-few-here : trees ≤ 1927
-      trees-few-here = omega (arith, complete-length numbered (take used tokens) trees whole, trees-few rows (is-number rows) k first (take used tokens) (tokens-left .good) (tokens-left .pass) (tokens-left .few))
-
-      number-is : first + (trees - k) ≡ reciprocals-first (take used tokens) k first places
-      unfolding reciprocals-first next-number
-      number-is = omega (arith, length-drop k (read numbered (take used tokens)), complete-length numbered (take used tokens) trees whole)
-
-      pub places-short : length places ≤ 1927
-      places-short = omega (arith, lets-of (take used tokens) k first places trees whole, subst (λ (ps : List ℕ). lets-count (take used tokens) k first ps ≤ 1927) (sym (tokens-left .places-are)) (lets-few rows (is-number rows) k first (take used tokens) (tokens-left .good) (tokens-left .pass) (tokens-left .few)))
-
-      pub tokens-there : T (all-there (take used tokens) places)
-      tokens-there = left-there rows (take used tokens) k first places tokens-left
-
-      module _ (r : Holding) (held : List ℕ) (given : Holding-so (words-held (take used tokens) (first + (trees - k)) places) r held) where
-        words-are : words-held (take used tokens) (first + (trees - k)) places ≡ held-words (take used tokens) k first places
-        unfolding held-words
-        words-are = ap (λ (n : ℕ). words-held (take used tokens) n places) number-is
-
-        same-outcome : outcome ≡ fused-scope (inner rows fuel) row (take used tokens) k first places
-        same-outcome = ap (λ (z : List ℕ). fused-scope (inner rows fuel) row z k first places) (sym tokens-are)
-
-        pub too-many : r ≡ holding.TooMany → (at : ℕ) (table : List ℕ) → Scope-done outcome at table (scoped.Refused 23) table
-        unfolding fused-scope
-        too-many e at table =
-            let g = subst (λ (q : Holding). Holding-so (words-held (take used tokens) (first + (trees - k)) places) q held) e given in
-            let hs = held-words (take used tokens) k first places in
-            let b : leb (length hs) 1927 ≡ false = lt-leb (length hs) 1927 (omega (arith, g, ap length words-are)) in
-            scope-refused outcome (by 23) (same-outcome ∙ by-no-test (leb (length hs) 1927) _ (refused (by 23)) b) at table
-
-        module _ (n : ℕ) (e : r ≡ holding.Words n) where
-          so : Holding-so (words-held (take used tokens) (first + (trees - k)) places) (holding.Words n) held
-          so = subst (λ (q : Holding). Holding-so (words-held (take used tokens) (first + (trees - k)) places) q held) e given
-
-          pub held-in : n ≤ length held
-          held-in = so .1
-
-          pub held-are : take n held ≡ held-words (take used tokens) k first places
-          held-are = so .0 ∙ words-are
-
-          pub held-short : length (take n held) ≤ 1927
-          held-short = omega (arith, ap length (so .0), so .2)
-
-          pub outcome-is : outcome ≡ grouped-scope rows fuel row (take used tokens) k first places
-          unfolding fused-scope grouped-scope groups-told
-          outcome-is =
-              same-outcome
-              ∙ by-test (leb (length (held-words (take used tokens) k first places)) 1927) _ (refused (by 23)) (le-leb (length (held-words (take used tokens) k first places)) 1927 (omega (arith, ap length held-are, held-short)))
+    pub same-outcome : outcome ≡ fused-scope (inner rows fuel) row (take used tokens) k first places
+    same-outcome = ap (λ (z : List ℕ). fused-scope (inner rows fuel) row z k first places) (sym tokens-are)

@@ -76,7 +76,7 @@ pub order-inside : (ws : List ℕ) (k first : ℕ) (places numbers : List ℕ) �
 unfolding stmts-order
 order-inside ws k first places numbers q h =
     let count = stmts-count ws k first places numbers in
-    let bits = needs-table ws k first places numbers count (replicate (31 * count) 0) in
+    let bits = needs-table ws k first places numbers count (replicate (32 * count) 0) in
     let table = table-of bits count in
     omega (arith, table-count bits count, all-getD (λ j. j < length table) (reverse (positions-taken table)) (all-turned (λ j. j < length table) (positions-taken table) [] (taken-ok table .inside) tt) q h)
 

@@ -31,10 +31,10 @@ use Rattle.scope.specs.Frame.{Lent, Holds, Is-group}
 -- how large a scope's answer is
 pub record Small (next : ℕ) (t : Told) : Type 0 where
   pub rows : length (t .words) ≤ 288230376151711744
-  pub steps : t .steps ≤ 1927
+  pub steps : t .steps ≤ 2048
   pub made : t .extracted ≤ 4294967296
   pub grows : next ≤ t .next
-  pub low : t .next ≤ 2147485575
+  pub low : t .next ≤ 2147485696
 
 pub told-small : (rows : List Row) (fuel row next : ℕ) (ws : List ℕ) → T (extractable rows next ws) → T (symbols-pass (is-number rows) ws)
     → (t : Told) → scope-told rows fuel row next ws ≡ ok t → Small next t
@@ -52,7 +52,7 @@ module _ (rows : List Row) (next : ℕ) (held : List ℕ) (h : Holds rows next h
   held-whole = and-left (some-trees (trees-in held)) (every (word-ok rows) held && every (numbered-below next) held) (h .good)
 
   -- all members
-  pub all-few : length (joined-groups (place-groups held)) ≤ 963
+  pub all-few : length (joined-groups (place-groups held)) ≤ 3640
   all-few =
       let r = ready-of rows next held (h .good) in
       omega (arith, members-count held (r .trees) (r .complete), switches-few rows held words-ok (r .trees) (r .complete), h .few)
@@ -70,7 +70,7 @@ module _ (rows : List Row) (next : ℕ) (held group : List ℕ) (h : Holds rows 
   pub arms-few : arm-count held (getD group 0 0) ≤ 17
   arms-few = arms-some rows held (words-ok rows next held h) (getD group 0 0) (every-at (Armed held (arm-count held (getD group 0 0))) 0 group (fused .armed) 0 (omega (arith, fused .some-member)) .0) .1
 
-  pub group-few : length group ≤ 963
+  pub group-few : length group ≤ 3640
   group-few = omega (arith, ap length (g .is), group-within (place-groups held) (g .number), all-few rows next held h)
 
 -- words that may be scoped from a number on may be from a later one

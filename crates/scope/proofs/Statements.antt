@@ -22,7 +22,8 @@ use Rattle.scopesound.proofs.Sums.{runs-within}
 use Rattle.scopesound.proofs.Bounds.{Walk-bound, walk-bound}
 use Rattle.scopeparts.specs.Prepared.{Prepared, Readied, Grouped}
 use Rattle.scopeparts.proofs.Groups.{ends-count}
-use Rattle.scopeparts.proofs.Held.{lets-are, count-is, trees-few, places-few, held-complete}
+use Rattle.scopeparts.proofs.Held.{lets-are, count-is, trees-few, places-few}
+use Rattle.scopeparts.proofs.Keys.{grouped as all-grouped}
 use Rattle.scope.specs.Answers.{inner, arms-of, words-of}
 use Rattle.scope.specs.Frame.{most-rows, Lent, Holds, groups-told, Sized, group-again, Group-sized, scope-arms}
 use Rattle.scope.proofs.Sound.{words-ok, holds-later}
@@ -58,9 +59,9 @@ module _ (rows : List Row) (fuel : ℕ) (ws : List ℕ) (k first : ℕ) (places 
   readied = (ends, p)
 
   pub grouped : Grouped held members ends numbers
-  grouped = record { complete = held-complete p; short = p .short; members-are = p .members-are; ends-are = p .ends-are; numbered = p .numbered; small = p .small }
+  grouped = all-grouped p
 
-  pub lets-few : lets ≤ 1927
+  pub lets-few : lets ≤ 2048
   lets-few = omega (arith, count-is p, p .statements)
 
   pub let-is : (q : ℕ) → q < lets → run q ≡ let-run (first + q) (tree-run ws k first places numbers (k + q))

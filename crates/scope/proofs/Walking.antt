@@ -28,7 +28,7 @@ module _ (rows : List Row) (fuel next : ℕ) (held members ends : List ℕ) (h :
   pub ends-many : length ends ≡ length gs
   ends-many = ap length (m .ends-are) ∙ ends-count 0 gs
 
-  pub ends-few : length ends ≤ 1927
+  pub ends-few : length ends ≤ 3640
   ends-few =
       let r = ready-of rows next held (h .good) in
       omega (arith, ends-many, groups-count held (r .trees) (r .complete), switches-few rows held (words-ok rows next held h) (r .trees) (r .complete), h .few)

@@ -82,7 +82,7 @@ module _ (rows : List Row) (fuel : ℕ) (held members ends numbers : List ℕ) (
     pub first-small : first ≤ 549755813888
     first-small = gr .small (group-start gs g) begin-within
 
-    pub members-few : length members ≤ 963
+    pub members-few : length members ≤ 3640
     members-few = omega (arith, ap length (gr .members-are), all-few rows first held h)
 
     module _ (start : ℕ) (starts : start ≡ begin-of ends g) where

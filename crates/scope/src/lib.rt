@@ -182,12 +182,7 @@ fn group_listed(held: &[u64], places: &[u64], members: &mut [u64], ends: &mut [u
 
 // The groups of the switches of words: all members at the front of `members`, and where each group ends among them at the front of `ends`. Before the groups are
 // made, `members` is for the work, and the switches stand in `switches`.
-fn group_all(
-    held: &[u64],
-    switches: &mut [u64],
-    members: &mut [u64],
-    ends: &mut [u64],
-) -> Found
+fn group_all(held: &[u64], switches: &mut [u64], members: &mut [u64], ends: &mut [u64]) -> Found
     requires { ⌜ T (some-trees (trees-in (now held))) × (length (now held) ≤ length (now switches)) ⌝ }
     requires { ⌜ (length (now held) ≤ length (now members)) × (length (now held) ≤ length (now ends)) ⌝ }
     ensures { λ r. ⌜ Grouping-so (now (held .entry)) (r .members) (r .groups) (now (members .exit)) (now (ends .exit)) ⌝ }
@@ -238,7 +233,7 @@ fn group_begin(ends: &[u64], g: usize) -> usize
 
 // How many arms each switch of a group has.
 fn count_arms(held: &[u64], group: &[u64]) -> usize
-    requires { ⌜ Is-group (now held) (now group) × T (some-trees (trees-in (now held))) ⌝ }
+    requires { ⌜ Is-group (now held) (now group) × (length (now held) ≤ 7281) × T (some-trees (trees-in (now held))) ⌝ }
     ensures { λ r. ⌜ r ≡ arm-count (now (held .entry)) (getD (now (group .entry)) 0 0) ⌝ }
 {
     let opener = group[0] as usize;

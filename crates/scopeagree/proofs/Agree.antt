@@ -20,8 +20,9 @@ use Rattle.fusion.specs.Words.{all-numbers}
 use Rattle.fusion.specs.Whole.{scope-groups}
 use Rattle.scopeplaces.specs.Parts.{reciprocals-first}
 use Rattle.scopeplaces.specs.Whole.{scope-told}
-use Rattle.scopesound.proofs.Rounds.{rounds-short, rounds-results}
-use Rattle.scopesound.proofs.Counting.{places-there, stmts-few}
+use Rattle.scopeplaces.proofs.Room.{stmts-few}
+use Rattle.scopesound.proofs.Rounds.{rounds-results}
+use Rattle.scopesound.proofs.Counting.{places-there}
 use Rattle.scopeneedlaws.proofs.Order.{order-is}
 use Rattle.scopeneedlaws.proofs.Scopes.{scope-same-by}
 use Rattle.scopelaws.specs.Told.{told}
@@ -40,7 +41,7 @@ module _ (rows : List Row) (good : ℕ → Bool) where
 
   -- the table of bits gives the order of the needs
   keeps-order : (fuel : ℕ) → Keeps-order rows (Sound rows good) (λ n l. cse-scope-by (text-of [] (name-in rows)) fuel true n l)
-  keeps-order fuel next ws vs s few low e short l walk =
+  keeps-order fuel next ws vs s few low e room l walk =
       let k = length (read numbered ws) in
       let places = divisors-to-bind vs (name-in rows) true in
       let ds = map (numbered-at vs) places in
@@ -51,11 +52,10 @@ module _ (rows : List Row) (good : ℕ → Bool) where
       let r = left-ready rows good next ws s vs e in
       let c = complete-length numbered vs (r .trees) (r .complete) in
       let enough = rounds-results rows true good next ws (s .words) (s .pass) vs e in
-      let shorter = rounds-short rows true good next ws (s .words) (s .pass) vs e in
       order-is vs k next places (r .trees) (r .complete) (omega (arith, enough, c)) (places-there rows good k next vs sound pass) scope
       (λ i es w. scope-same-by text fuel true i es w) (settled-formed rows good next ws s vs e) (settled-under rows good next ws s vs e) l
       (ap (λ (i : ℕ). numbered-groups scope i (scope-groups ds n (read numbered vs))) (sym (start-is k next vs places)) ∙ walk)
-      (stmts-few rows good k next vs sound pass (omega (arith, shorter, few)) short (all-numbers (l .groups)))
+      (stmts-few vs k next places room (all-numbers (l .groups)))
 
   -- the law of the scoped form on words
   pub scope-agrees :

@@ -33,8 +33,9 @@ use Rattle.switchplaces.proofs.Grouped.{every-so}
 use Rattle.switchplaces.proofs.GroupColumns.{every-at}
 use Rattle.fusion.specs.Words.{numbers-from}
 use Rattle.fusion.proofs.Members.{numbers-count}
-use Rattle.scopeplaces.specs.Parts.{place-groups, joined-groups, group-at, group-start, reciprocals-first, lets-count, held-words, match-run}
+use Rattle.scopeplaces.specs.Parts.{place-groups, joined-groups, group-at, group-start, reciprocals-first, held-words, match-run}
 use Rattle.scopeplaces.specs.Whole.{Told, Arms-told, Walk, arms-told, group-told, walked, stmts-count, tree-run, stmts-order, stmts-runs, values-runs, ordered-scope, room-for, fused-scope, scope-told}
+use Rattle.scopeplaces.proofs.Room.{held-few, stmts-few}
 use Rattle.scopesound.proofs.Columns.{armed-past, column-sound, column-pass, Fused, group-fused}
 use Rattle.scopesound.proofs.Rounds.{rounds-sound, rounds-short, rounds-pass, rounds-results}
 use Rattle.scopesound.proofs.Sums.{sum-each, each-append}
@@ -58,7 +59,7 @@ per-match = 10923
 pub record Scope-bound (from : ℕ) (a : Told) : Type 0 where
   pub low : from ≤ most-number
   pub forth : from ≤ a .next
-  pub most : a .next ≤ most-number + 1927
+  pub most : a .next ≤ most-number + 2048
   pub made : from + a .extracted ≤ a .next
   pub few : a .steps ≤ 2048
   pub rows : length (a .words) + per-number * from ≤ per-scope + per-number * a .next
@@ -67,14 +68,14 @@ pub record Scope-bound (from : ℕ) (a : Told) : Type 0 where
 pub record Arms-bound (from n : ℕ) (a : Arms-told) : Type 0 where
   pub low : 1 ≤ n → from ≤ most-number
   pub forth : from ≤ a .next
-  pub most : (x : ℕ) → from ≤ x → most-number + 1927 ≤ x → a .next ≤ x
+  pub most : (x : ℕ) → from ≤ x → most-number + 2048 ≤ x → a .next ≤ x
   pub made : from + a .extracted ≤ a .next
   pub rows : length (a .words) + per-number * from ≤ suc per-scope * n + per-number * a .next
 
 -- the first n groups, from the number after lets and reciprocals
 pub record Walk-bound (gs : List (List ℕ)) (from n : ℕ) (l : Walk) : Type 0 where
   pub forth : from ≤ l .next
-  pub most : (x : ℕ) → from ≤ x → most-number + 1927 ≤ x → l .next ≤ x
+  pub most : (x : ℕ) → from ≤ x → most-number + 2048 ≤ x → l .next ≤ x
   pub made : from + l .extracted ≤ l .next
   pub arms-many : length (l .arms) ≡ n
   pub numbers-many : length (l .numbers) ≡ group-start gs n
@@ -312,16 +313,6 @@ module _ (rows : List Row) (good : ℕ → Bool) (k first : ℕ) (vs : List ℕ)
   held-sounds = held-extractable rows good k first vs sound pass
 
   module _ (short : length vs ≤ 1927) (results : k ≤ length (read numbered vs)) (low : first ≤ most-number) where
-    -- what it holds, and its statements
-    pub held-few : T (room-for vs k first ps) → length hs ≤ 7281
-    unfolding room-for
-    held-few t = leb→le (length hs) 7281 (and-left (leb (length hs) 7281) (leb (lets-count vs k first ps + length (place-groups hs)) 2048) t)
-
-    pub stmts-few : T (room-for vs k first ps) → (numbers : List ℕ) → stmts-count vs k first ps numbers ≤ 2048
-    unfolding room-for stmts-count
-    stmts-few t numbers =
-        leb→le (lets-count vs k first ps + length (place-groups hs)) 2048 (and-right (leb (length hs) 7281) (leb (lets-count vs k first ps + length (place-groups hs)) 2048) t)
-
     module _ (room : T (room-for vs k first ps)) (l : Walk) (w : Walk-bound (place-groups hs) start (length (place-groups hs)) l) where
       lets-short : (i : ℕ) → suc (length (tree-run vs k first ps (l .numbers) i)) ≤ 1930
       lets-short i =
@@ -334,8 +325,8 @@ module _ (rows : List Row) (good : ℕ → Bool) (k first : ℕ) (vs : List ℕ)
           let r = ready-of rows start hs held-sounds in
           let m = match-run-length hs (r .trees) (r .complete) (place-groups hs) (l .numbers) run g in
           let a = group-within (place-groups hs) g in
-          let b = members-few rows good k first vs sound pass short (held-few room) in
-          omega (arith, m, a, b, held-few room)
+          let b = members-few rows good k first vs sound pass short (held-few vs k first ps room) in
+          omega (arith, m, a, b, held-few vs k first ps room)
 
       pub ordered-bounded : (row : ℕ) → Good (Scope-bound first) (ordered-scope row vs k first ps l)
       unfolding ordered-scope
@@ -378,9 +369,9 @@ module _ (rows : List Row) (good : ℕ → Bool) (k first : ℕ) (vs : List ℕ)
               record {
                 low = low;
                 forth = omega (arith, d, forth);
-                most = w .most (most-number + 1927) (omega (arith, f, low)) (omega arith);
+                most = w .most (most-number + 2048) (omega (arith, f, low)) (omega arith);
                 made = omega (arith, made, d, g, h);
-                few = stmts-few room (l .numbers);
+                few = stmts-few vs k first ps room (l .numbers);
                 rows = omega (arith, a, b, c, d, i, results, paid);
               }
 
@@ -462,11 +453,11 @@ pub arms-next-most : (from n : ℕ) (a : Arms-told) → Arms-bound from n a → 
 arms-next-most from n a b low = b .most (most-number + 4096) low (omega arith)
 
 module _ (gs : List (List ℕ)) (from n : ℕ) (l : Walk) (b : Walk-bound gs from n l) where
-  pub walk-next-most : from ≤ most-number + 1927 → l .next ≤ most-number + 1927
-  walk-next-most low = b .most (most-number + 1927) low (omega arith)
+  pub walk-next-most : from ≤ most-number + 2048 → l .next ≤ most-number + 2048
+  walk-next-most low = b .most (most-number + 2048) low (omega arith)
 
   -- each member's number is a word's to hold
-  pub numbers-small : from ≤ most-number + 1927 → Every (λ (j : ℕ). j ≤ 549755813888) (l .numbers)
+  pub numbers-small : from ≤ most-number + 2048 → Every (λ (j : ℕ). j ≤ 549755813888) (l .numbers)
   numbers-small low =
       let q = walk-next-most low in
       every-so (λ (j : ℕ). (from ≤ j) × (j < l .next)) (λ (j : ℕ). j ≤ 549755813888) (λ j h. (let c = h .1 in omega (arith, c, q))) (l .numbers) (b .numbers-between)

@@ -12,6 +12,7 @@ use lib.Dec.{T, eqb, leb, leb→le}
 use Rattle.tree.specs.Bytes.{every}
 use Rattle.tree.specs.Kinds.{Div, arity-ok, is-switch}
 use Rattle.tree.specs.Passes.{operands-ok}
+use Rattle.tree.specs.Tree.{Tree}
 use Rattle.tree.specs.Rows.{Row}
 use Rattle.tree.specs.Tokens.{kind-of, below-of, takes, read, numbered, name-in, trees-in}
 use Rattle.text.specs.Text.{before}
@@ -28,7 +29,8 @@ use Rattle.reciprocals.proofs.There.{to-bind-there}
 use Rattle.kept.specs.Sound.{extractable}
 use Rattle.kept.proofs.Steps.{Ready, ready-of}
 use Rattle.kept.proofs.Words.{words-taken}
-use Rattle.fusion.specs.Switchless.{with-switches}
+use Rattle.fusion.specs.Switchless.{switchless, with-switches}
+use Rattle.fusion.proofs.Whole.{reciprocals-count}
 use Rattle.switchplaces.specs.Switches.{switch-at, arm-count, switches-passing, switch-places}
 use Rattle.switchplaces.proofs.Collected.{Switching}
 use Rattle.scopeplaces.specs.Parts.{place-groups, joined-groups, trees-held, words-held, reciprocals-first, lets-count, held-words}
@@ -258,6 +260,27 @@ module _ (rows : List Row) (good : ℕ → Bool) (k first : ℕ) (vs : List ℕ)
       let b = length-map (read numbered vs) (settle-tree ds n) in
       omega (arith, a, b)
 
+  -- and no more than these and a reciprocal for each divisor
+  some-switched : (l : List Tree) → length (with-switches l) ≤ length l
+  unfolding with-switches
+  some-switched [] = omega arith
+  some-switched (t ∷ l) = go (switchless t) (some-switched l)
+    where
+      go : (b : Bool) → length (with-switches l) ≤ length l → length {A = Tree} (elim b [ true ↦ with-switches l | false ↦ t ∷ with-switches l ]) ≤ suc (length l)
+      go true h = omega arith
+      go false h = omega arith
+
+  held-few : length (trees-held vs n places) ≤ length (read numbered vs) + length places
+  unfolding trees-held
+  held-few =
+      let ds = map (numbered-at vs) places in
+      let a = length-append (map (settle-tree ds n) (read numbered vs)) (with-switches (settled-reciprocals ds n)) in
+      let b = length-map (read numbered vs) (settle-tree ds n) in
+      let c = some-switched (settled-reciprocals ds n) in
+      let d = reciprocals-count ds n in
+      let e = length-map places (numbered-at vs) in
+      omega (arith, a, b, c, d, e)
+
   lets-are : lets-count vs k first places ≡ length (drop k (read numbered vs)) + length places
   unfolding lets-count
   lets-are = refl
@@ -294,6 +317,9 @@ module _ (rows : List Row) (good : ℕ → Bool) (k first : ℕ) (vs : List ℕ)
 
     pub lets-few : lets-count vs k first places ≤ 1927
     lets-few = omega (arith, lets-most, divisors-most, short)
+
+    pub held-trees-few : length (trees-held vs (next-number k first (read numbered vs)) places) ≤ 1927
+    held-trees-few = omega (arith, held-few, divisors-most, short)
 
     pub first-most : reciprocals-first vs k first places ≤ first + 1927
     first-most = omega (arith, first-is, number-is, length-drop k (read numbered vs), divisors-most, short)

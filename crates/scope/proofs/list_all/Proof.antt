@@ -27,19 +27,28 @@ same-length : tie.Need-same-length
 same-length c = search needs
 
 returns : tie.Need-returns
-returns c = let s = c .before .before .before .before .before .before .before .before .before in let a = s .args in let l = listed-all (a .held .now) (length (a .marks .now)) (a .places .now) (complete-so (a .held .now) (s .pre .0)) (s .pre .1) (s .pre .2) _ _ (sym (c .before .listed .given .1) ∙ c .before .before .before .before .before .list-switches .ensures .0) (c .before .before .before .before .before .list-switches .ensures .1) in (front-is l, listed-in l)
+returns c = let s = c .before .before .before .before .before .before .before .before .before .before .before .before .before in let a = s .args in let l = listed-all (a .held .now) (length (a .marks .now)) (a .places .now) (complete-so (a .held .now) (s .pre .0)) (s .pre .1) (s .pre .2) _ _ (sym (c .before .listed .given .1) ∙ c .before .before .before .before .before .before .before .list-switches .ensures .0) (c .before .before .before .before .before .before .before .list-switches .ensures .1) in (front-is l, listed-in l)
 
 same-length-2 : tie.Need-same-length-2
 same-length-2 c = search needs
 
 returns-2 : tie.Need-returns-2
-returns-2 c = let s = c .before .before .before .before .before .before .before .before in let a = s .args in absurd (not-broken (a .held .now) (length (a .marks .now)) (a .places .now) (complete-so (a .held .now) (s .pre .0)) (s .pre .1) (s .pre .2) (sym (c .enum-told .given .1) ∙ c .before .before .before .before .list-switches .ensures .0))
+returns-2 c = let s = c .before .before .before .before .before .before .before .before .before .before .before .before in let a = s .args in absurd (not-broken (a .held .now) (length (a .marks .now)) (a .places .now) (complete-so (a .held .now) (s .pre .0)) (s .pre .1) (s .pre .2) (sym (c .enum-told .given .1) ∙ c .before .before .before .before .before .before .list-switches .ensures .0))
 
 same-length-3 : tie.Need-same-length-3
 same-length-3 c = search needs
 
 returns-3 : tie.Need-returns-3
-returns-3 c = let s = c .before .before .before .before .before .before .before .before in let a = s .args in absurd (not-full (a .held .now) (length (a .marks .now)) (a .places .now) (complete-so (a .held .now) (s .pre .0)) (s .pre .1) (s .pre .2) (sym (c .enum-told2 .given .1) ∙ c .before .before .before .before .list-switches .ensures .0))
+returns-3 c = let s = c .before .before .before .before .before .before .before .before .before .before .before .before in let a = s .args in absurd (not-full (a .held .now) (length (a .marks .now)) (a .places .now) (complete-so (a .held .now) (s .pre .0)) (s .pre .1) (s .pre .2) (sym (c .enum-told2 .given .1) ∙ c .before .before .before .before .before .before .list-switches .ensures .0))
+
+same-length-4 : tie.Need-same-length-4
+same-length-4 c = search needs
+
+same-length-5 : tie.Need-same-length-5
+same-length-5 c = search needs
+
+same-length-6 : tie.Need-same-length-6
+same-length-6 c = search needs
 
 pub list-all-spec : {M : Type 1} → statement M
 list-all-spec =
@@ -50,8 +59,11 @@ list-all-spec =
     enum-told
     enum-told-2
     same-length
-    returns
     same-length-2
-    returns-2
+    returns
     same-length-3
+    same-length-4
+    returns-2
+    same-length-5
+    same-length-6
     returns-3)
