@@ -93,7 +93,7 @@ impl FuncKind {
     }
 }
 
-/// What a comparison throws that counts what a scope holds, where it is too much: refusal 23.
+/// What a comparison throws that counts what a scope is given, holds and states, where it is too much: refusal 23.
 pub struct LargeScope;
 
 /// What `E::new` throws when a rebuilt coefficient is none of the constants: refusal 10.

@@ -43,7 +43,7 @@ pub fn text(a: &Answer) -> String {
 }
 
 /// 10 is thrown by the stand-in as the coefficient is rebuilt, 11 by the source's sort, 23 by what counts
-/// a scope's occurrences: the first of them that the source reaches ends it. Any other panic is a fault.
+/// a scope's occurrences and statements: the first of them that the source reaches ends it. Any other panic is a fault.
 fn refusal(payload: &(dyn Any + Send)) -> Option<usize> {
     if payload.is::<OutsideConstants>() {
         return Some(10);

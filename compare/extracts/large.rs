@@ -1,5 +1,6 @@
 //! Random lists near the limit of 1,024 occurrences, each from parts that repeat.
 use crate::asked::asked;
+use crate::held;
 use crate::lists::{self, ANY, DEEPEST, DIVISIONS, MIXED, SWITCHES, Soil, TEXTS, arity, one};
 use crate::random::Random;
 use crate::tree::*;
@@ -32,7 +33,7 @@ use Family::*;
 /// A list of at most so many occurrences, and mostly not many fewer; one dense in switches, or any.
 pub fn list(r: &mut Random, most: usize, switches: bool) -> Vec<T> {
     if switches && r.chance(75) {
-        let family = *r.pick(&[Switches, Tangled, Tangled, Tangled, Nested, Nested, Nested, Nested, Nested, Copies]);
+        let family = *r.pick(&[Switches, Tangled, Tangled, Tangled, Nested, Nested, Nested, Nested, Nested, Copies, Copies]);
         return of_family(r, family, most);
     }
     let family = *r.pick(&[
@@ -75,7 +76,10 @@ pub fn of_family(r: &mut Random, family: Family, most: usize) -> Vec<T> {
             let sets = 1 + r.below(ALPHABETS);
             filled(r, most, |r| answered(r, sets, lists::nested))
         }
-        Copies => filled(r, most, |r| if r.chance(20) { copies(r) } else { answered(r, ALPHABETS, lists::nested) }),
+        Copies => {
+            let mut first = copies(r, most - most / 20);
+            filled(r, most, |r| if first.is_empty() { answered(r, ALPHABETS, lists::nested) } else { std::mem::take(&mut first) })
+        }
     };
     joined(r, es, most)
 }
@@ -141,32 +145,133 @@ fn in_set(t: &T, set: usize, renamed: &mut HashMap<*const Tree, T>) -> T {
     made
 }
 
-/// Divisions by divisors in one another, without a symbol and with a switch inside: each reciprocal holds a copy of the switch, up to what a scope holds and
-/// past it.
-pub fn copies(r: &mut Random) -> Vec<T> {
-    let kind = *r.pick(&[BRANCH, SELECT, SELECT_OR]);
-    let mut parts = vec![num(1), op(DIV, vec![num(7), num(2)]), num(3)];
-    parts.truncate(if kind == SELECT && r.chance(50) { 2 } else { 3 });
-    let mut t = op(kind, parts);
+// ---- divisions by divisors in one another, without a symbol and with a switch inside: each reciprocal holds a copy of the switch, so that a scope holds far
+// more than its input. Numbers that divide in the switch make the copies differ where their texts stand between those of the divisors
+
+#[derive(Clone, Copy)]
+enum Copied {
+    /// equal copies, about as many occurrences as a scope may hold
+    Equal,
+    /// with arms of their own: a match of many switches, whose arms have about as many occurrences as a scope may be given
+    Arms,
+    /// several switches, of which each is the next one's key, with keys of their own: about as many matches as a scope may have statements
+    Keys,
+}
+
+/// Such divisions of at most so many occurrences, up to each limit of a scope and past it.
+pub fn copies(r: &mut Random, most: usize) -> Vec<T> {
+    loop {
+        let es = divisions(r, most);
+        if es.iter().map(size).sum::<usize>() <= most {
+            return es;
+        }
+    }
+}
+
+fn divisions(r: &mut Random, most: usize) -> Vec<T> {
+    use Copied::*;
+    let all = [Equal, Equal, Equal, Equal, Equal, Arms, Arms, Arms, Arms, Keys];
+    // so many statements need a large list
+    let copied = *r.pick(&all[..if most < MOST / 2 { 9 } else { 10 }]);
+    let uses = if r.chance(80) { 2 } else { 3 };
+    let (lowest, tallest) = match copied {
+        Equal => (1, *r.pick(&[12, 30, 50, 100])),
+        Arms => (4, 40),
+        Keys => (8, 24),
+    };
+    let height = lowest + r.below(tallest - lowest);
+    let numbers: Vec<i64> = (0..height as i64).filter(|_| r.chance(95)).map(|n| 101 + 2 * n).collect();
+    let room = (most / uses).saturating_sub(2 * height + 10);
+    let mut t = match copied {
+        Equal => {
+            let each = (r.below(9000) / height).min(room);
+            switch(r, num(1), &[], each)
+        }
+        Arms => {
+            let each = (1200 + r.below(2400)) / height;
+            switch(r, num(1), &numbers, each)
+        }
+        Keys => {
+            let count = ((1500 + r.below(1000)) / height).min(room.saturating_sub(2 * height) / 2);
+            (0..count).fold(over(num(1), &numbers), |key, _| op(SELECT, vec![key, num(r.below(3) as i64)]))
+        }
+    };
     // a text that comes after every number's, or before
     t = match r.below(5) {
         0 => t,
         1 => op(ADD, vec![num(1), t]),
         _ => op(NEG, vec![t]),
     };
-    let height = if r.chance(50) { 28 + r.below(16) as i64 } else { 1 + r.below(12) as i64 };
     // texts that come after the text they hold, or before it, and now and then a divisor fewer
-    let way = r.below(3);
-    for n in 0..height {
-        let c = num([10 + n, 10 + n, 3][way]);
+    let way = r.below(4);
+    for n in 0..height as i64 {
+        let c = num(if way > 0 { 100 + 2 * n } else { 3 });
         t = op(if r.chance(98) { DIV } else { ADD }, vec![c, t]);
     }
-    let mut es: Vec<T> = ["p", "q", "y"].map(|p| op(DIV, vec![sym(p), t.clone()])).to_vec();
-    es.truncate(2 + r.below(2));
+    let mut es: Vec<T> = ["p", "q", "y"][..uses].iter().map(|p| op(DIV, vec![sym(p), t.clone()])).collect();
+    if let Arms = copied {
+        // a divisor in arms alone is left to their scope
+        es.push(over(sym("d"), &numbers));
+    }
     if r.chance(30) {
         es = es.into_iter().map(|e| op(SELECT_OR, vec![sym("i"), e, num(2)])).collect();
     }
     es
+}
+
+/// The tree divided by each of the numbers.
+fn over(t: T, numbers: &[i64]) -> T {
+    numbers.iter().fold(t, |t, n| op(DIV, vec![t, num(*n)]))
+}
+
+/// A switch of about so many occurrences, in whose arms the numbers divide.
+fn switch(r: &mut Random, key: T, numbers: &[i64], most: usize) -> T {
+    let kind = *r.pick(&[BRANCH, SELECT, SELECT, SELECT, SELECT_OR]);
+    let arms = if kind == SELECT { *r.pick(&[1, 1, 2, 4]) } else { 2 };
+    let each = (most / arms).saturating_sub(2 * numbers.len());
+    let mut parts = vec![key];
+    parts.extend((0..arms).map(|_| over(plain(r, each), numbers)));
+    op(kind, parts)
+}
+
+/// A tree without a symbol of at most so many occurrences, with divisions and switches in it.
+fn plain(r: &mut Random, most: usize) -> T {
+    let mut t = num(2 + r.below(7) as i64);
+    while size(&t) + 2 < most {
+        let n = num(2 + r.below(7) as i64);
+        t = match r.below(24) {
+            0 => op(8, vec![t]),
+            1 => op(DIV, vec![n, t]),
+            2 => op(DIV, vec![t, n]),
+            3 if nesting(&t) < DEEPEST - 2 => op(SELECT, vec![n, t]),
+            4..=11 if 2 * size(&t) < most => op(ADD, vec![t.clone(), t]),
+            k => op(ADD + k % 3, vec![t, n]),
+        };
+    }
+    t
+}
+
+/// A list that comes near one of a scope's limits, by its number: what an arm's scope is given, what the list's scope holds, and its statements. The last tree
+/// adds so many.
+pub fn edge(limit: usize, more: usize) -> Vec<T> {
+    let heights = [7, 24, 16];
+    let height = heights[limit];
+    let numbers: Vec<i64> = (0..height).map(|n| 101 + 2 * n).collect();
+    let sum = (0..7).fold(num(2), |t, _| op(ADD, vec![t.clone(), t]));
+    let selects = |key: T, count: usize| (0..count).fold(key, |key, _| op(SELECT, vec![key, num(0)]));
+    let negated = |t: T| (1..more).fold(t, |t, _| op(NEG, vec![t]));
+    let switch = match limit {
+        held::GIVEN => op(SELECT, vec![num(1), over(sum, &numbers)]),
+        held::HELD => op(SELECT, vec![num(1), sum]),
+        _ => selects(over(num(1), &numbers), 118),
+    };
+    let t = (0..height).fold(op(NEG, vec![switch]), |t, n| op(DIV, vec![num(100 + 2 * n), t]));
+    let last = match limit {
+        held::GIVEN => op(SELECT, vec![num(1), negated(num(2))]),
+        held::HELD => negated(sym("z")),
+        _ => selects(num(2), more),
+    };
+    vec![op(DIV, vec![sym("p"), t.clone()]), op(DIV, vec![sym("q"), t]), over(sym("d"), &numbers), last]
 }
 
 /// Two roots become one until there are few enough, and each tree is now and then read by another.

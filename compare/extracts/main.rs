@@ -31,6 +31,7 @@ pub use arael::{E, Expr, FuncKind, symbol};
 pub(crate) use arael::{as_exact_int, expand_func};
 
 use answers::{EVENTS, Event, Events};
+use held::{GIVEN, HELD, LIMITS, STATEMENTS, Sizes};
 use laid::List;
 use paddlecrook::Extractor;
 use port::{BAD_COEFFICIENT, BAD_ROWS, Call, Expected, FEW_ROWS, LARGE_SCOPE, NO_ANSWER, Port, RING, SHORT_WORK, TEXT, WORK, nothing};
@@ -46,7 +47,7 @@ const WRONG: usize = 5_000;
 const REFUSED: usize = 12;
 const WRAPPED: usize = 5;
 
-/// Of a hundred large lists that the source's scoped form refuses, nearly all for a ring, so many are passed over.
+/// Of a hundred large lists that the source's scoped form refuses for a ring so many are passed over.
 const PASSED_OVER: usize = 75;
 
 /// How often the source is run on a list. Hash order is new in each run. A tie that stays hidden in these
@@ -78,6 +79,8 @@ pub struct Given {
     pub extracted: usize,
     pub printed: String,
     pub events: Events,
+    /// the most that a scope is given, holds and states
+    pub reached: Sizes,
 }
 
 /// Answer rows, or the number where the source refuses.
@@ -89,7 +92,10 @@ fn words_of_run(list: &List, es: &[E], scoped: bool) -> Result<Vec<u64>, u64> {
 }
 
 pub fn given(list: &List, es: &[E], scoped: bool) -> Given {
-    match asked::asked(es, scoped) {
+    held::take_reached();
+    let run = asked::asked(es, scoped);
+    let reached = held::take_reached();
+    match run {
         Ok(answer) => {
             let (extracted, events) = answers::met(scoped, &answer);
             Given {
@@ -99,6 +105,7 @@ pub fn given(list: &List, es: &[E], scoped: bool) -> Given {
                 extracted,
                 printed: asked::text(&answer),
                 events,
+                reached,
             }
         }
         Err(number) => Given {
@@ -108,6 +115,7 @@ pub fn given(list: &List, es: &[E], scoped: bool) -> Given {
             extracted: 0,
             printed: String::new(),
             events: Events::default(),
+            reached,
         },
     }
 }
@@ -186,6 +194,48 @@ struct Part {
     told: [usize; 256],
     events: [usize; EVENTS.len()],
     most: [usize; MOST.len()],
+    scopes: Scopes,
+}
+
+/// What scopes are given, hold and state.
+#[derive(Default)]
+struct Scopes {
+    /// refused by 23, by what is past its limit
+    past: Sizes,
+    /// answered though a scope holds more than one may be given
+    full: usize,
+    /// the most in an answered list
+    most: Sizes,
+}
+
+impl Scopes {
+    fn mark(&mut self, given: &Given) {
+        let past = |i: usize| usize::from(given.number == LARGE_SCOPE && given.reached[i] > LIMITS[i]);
+        self.past = std::array::from_fn(|i| self.past[i] + past(i));
+        if given.number == 0 {
+            self.full += usize::from(given.reached[HELD] > LIMITS[GIVEN]);
+            self.most = std::array::from_fn(|i| self.most[i].max(given.reached[i]));
+        }
+    }
+
+    /// What neither has met.
+    fn missing(a: &Scopes, b: &Scopes) -> Vec<String> {
+        let past = |i: usize| a.past[i] + b.past[i];
+        let limits = [("too much given to a scope", past(GIVEN)), ("too much held", past(HELD)), ("too many statements", past(STATEMENTS))];
+        let met = limits.into_iter().chain([("answers of full scopes", a.full + b.full)]);
+        met.filter(|(_, n)| *n == 0).map(|(name, _)| name.to_string()).collect()
+    }
+
+    fn say(&self) {
+        println!(
+            "    23 because a scope is given too much {}, holds too much {}, has too many statements {}; answered with more than {} held {}",
+            self.past[GIVEN], self.past[HELD], self.past[STATEMENTS], LIMITS[GIVEN], self.full
+        );
+        println!(
+            "    the most in a scope of an answered list: given {}, held {}, statements {}",
+            self.most[GIVEN], self.most[HELD], self.most[STATEMENTS]
+        );
+    }
 }
 
 const SMALL: usize = 0;
@@ -243,6 +293,7 @@ impl Part {
             told: [0; 256],
             events: [0; EVENTS.len()],
             most: [0; MOST.len()],
+            scopes: Scopes::default(),
         }
     }
 
@@ -250,6 +301,7 @@ impl Part {
         self.lists += 1;
         self.near += usize::from(here[0] >= 900);
         self.told[given.number as usize] += 1;
+        self.scopes.mark(given);
         for (count, met) in self.events.iter_mut().zip(given.events) {
             *count += usize::from(met);
         }
@@ -265,6 +317,9 @@ impl Part {
         println!("    with {}", events.join(", "));
         let most: Vec<String> = MOST.iter().zip(self.most).map(|(name, n)| format!("{name} {n}")).collect();
         println!("    the most in a list or an answer: {}", most.join(", "));
+        if scoped {
+            self.scopes.say();
+        }
     }
 }
 
@@ -341,7 +396,7 @@ impl Tally {
     fn say(&self, port: &Port, began: Instant) -> bool {
         let [small, large] = &self.parts;
         println!(
-            "{} small lists and {} large, {} differ; {} left out because hash order decides, {} large ones that the source refuses passed over",
+            "{} small lists and {} large, {} differ; {} left out because hash order decides, {} large ones that the source refuses for a ring passed over",
             small.lists, large.lists, self.differ, self.tied, self.passed_over
         );
         small.say("small", self.scoped);
@@ -373,6 +428,9 @@ impl Tally {
         missing.extend(events(self.scoped).iter().filter(|e| !met(e)).map(|e| EVENTS[*e as usize].to_string()));
         let rare = [("shared rows", self.shared), ("rows that no root reaches", self.unreached), ("no roots", self.rootless), ("damaged rows", self.damaged)];
         missing.extend(rare.iter().chain(&[("lists by the wrapper", self.wrapped)]).filter(|(_, n)| *n == 0).map(|(name, _)| name.to_string()));
+        if self.scoped {
+            missing.extend(Scopes::missing(&small.scopes, &large.scopes));
+        }
         if large.told[0] * 2 < large.lists {
             missing.push("answers to most large lists".to_string());
         }
@@ -406,10 +464,13 @@ fn reached(list: &List) -> (usize, bool) {
 
 // ---- runs
 
+/// Copies of a switch that come to a limit of a scope have more occurrences than other small lists, at most so many.
+const MOST_OF_COPIES: usize = 400;
+
 /// A small list: one of those that the definitions are held against, or some together. For the scoped form most are dense in switches.
 fn small(r: &mut Random, scoped: bool) -> Vec<T> {
-    if scoped && r.chance(2) {
-        return large::copies(r);
+    if scoped && r.chance(1) {
+        return large::copies(r, MOST_OF_COPIES);
     }
     let count = if r.chance(75) { 1 } else { 2 + r.below(4) };
     let one: fn(&mut Random) -> Vec<T> = if scoped && r.chance(75) { lists::switching } else { lists::list };
@@ -437,6 +498,9 @@ fn compare(scoped: bool, small_lists: usize, large_lists: usize) {
         let trees = small(&mut r, scoped);
         hold_one(&mut r, &mut port, &mut extractor, &mut tally, &trees, SMALL);
     }
+    if scoped {
+        hold_edges(&mut r, &mut port, &mut extractor, &mut tally);
+    }
     while tally.parts[LARGE].lists < large_lists {
         let most = large::MOST - if r.chance(60) { r.below(8) } else { r.below(400) };
         let trees = large::list(&mut r, most, scoped);
@@ -447,6 +511,26 @@ fn compare(scoped: bool, small_lists: usize, large_lists: usize) {
     }
 }
 
+/// For each limit of a scope a list that comes to it, which is answered, and one that is one past it, which is refused.
+fn hold_edges(r: &mut Random, port: &mut Port, extractor: &mut Extractor, tally: &mut Tally) {
+    let reached = |trees: &[T]| {
+        let mut maker = tree::Maker::new(true);
+        let es: Vec<E> = trees.iter().map(|t| maker.make(t)).collect();
+        held::take_reached();
+        let refused = asked::asked(&es, true).err();
+        (held::take_reached(), refused)
+    };
+    for (i, limit) in LIMITS.into_iter().enumerate() {
+        let more = limit - reached(&large::edge(i, 1)).0[i];
+        for past in [0, 1] {
+            let trees = large::edge(i, 1 + more + past);
+            let (sizes, refused) = reached(&trees);
+            assert_eq!((sizes[i], refused.is_some()), (limit + past, past > 0), "a list at the limit");
+            hold_one(r, port, extractor, tally, &trees, LARGE);
+        }
+    }
+}
+
 /// Compares a list, unless it is to be left out.
 fn hold_one(r: &mut Random, port: &mut Port, extractor: &mut Extractor, tally: &mut Tally, trees: &[T], part: usize) {
     let list = laid(r, trees);
@@ -454,7 +538,7 @@ fn hold_one(r: &mut Random, port: &mut Port, extractor: &mut Extractor, tally: &
     let Some(given) = tally.settled(&list, &es, [RUNS, RUNS_OF_LARGE][part]) else {
         return;
     };
-    if part == LARGE && tally.scoped && given.number != 0 && r.chance(PASSED_OVER) {
+    if part == LARGE && given.number == RING && r.chance(PASSED_OVER) {
         tally.passed_over += 1;
         return;
     }

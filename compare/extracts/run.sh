@@ -13,12 +13,15 @@ driver() {
     compile "$1" -L target/bindings
 }
 
-# The source with two lines more, which count what a scope holds (extracts/held.rs). Times are measured without them.
+# The source with three lines more, one of them in place of a comment, which test what a scope is given, holds and states (extracts/held.rs). Times are
+# measured without them.
 count_held() {
     rm "$build/cse.rs"
-    sed -e 's|^    // Post-pass: extract common divisors as reciprocals\.$|    let rounds = lets.len();|' \
-        -e 's|^    let mut intermediates: Vec<Intermediate> = lets\.into_iter()$|    crate::held::test(scoped, \&results, \&lets, rounds);\n&|' \
+    sed -e 's|^    let mut results = exprs\.to_vec();$|&\n    crate::held::start(scoped, exprs);|' \
+        -e 's|^    // Post-pass: extract common divisors as reciprocals\.$|    let rounds = lets.len();|' \
+        -e 's|^    for (switch, n_arms, has_default, members) in groups {$|    crate::held::fuse(\&results, \&intermediates, rounds, groups.len());\n&|' \
         "$source/cse.rs" >"$build/cse.rs"
+    [ "$(grep -c '^    crate::held::' "$build/cse.rs")" -eq 2 ] || { echo 'compare: cse.rs has no place for the tests of 23'; exit 1; }
 }
 
 compared() {
