@@ -257,184 +257,58 @@ abbrev write-stmts-below : ℕ → In 14 write-stmts-kinds.ps
 write-stmts-below t =
     and 14 write-stmts-kinds.ps (falls 14 write-stmts-kinds.ps _<_ μ-write-stmts t) write-stmts.Pre
 
-arm-returns : (t : ℕ) → arm-lts.Need-returns (
-  column-reads.Asked,
-  column-reads.Learnt,
-  scope-below t,
-  scope.Post,
-  put-word-reads.Asked,
-  put-word-reads.Learnt,
-) (arm-at t) arm.Post
+arm-returns : (t : ℕ) → arm-lts.Need-returns (column-reads.Asked, column-reads.Learnt, scope-below t, scope.Post, put-word-reads.Asked, put-word-reads.Learnt) (arm-at t) arm.Post
 arm-returns t c = let s = c .before .before .before .before .before .before .before in let a = s .args in arm-too-deep (rows-in (a .rows .now)) (a .fuel) (a .next) (a .held .now) (a .group .now) (s .pre .1 .0 .1) (s .pre .1 .1 .0 .0) (a .a) (s .pre .1 .1 .0 .1) (c .if1 .taken) (a .at) (a .table .now)
 
-arm-column-requires : (t : ℕ) → arm-lts.Need-column-requires (
-  column-reads.Asked,
-  column-reads.Learnt,
-  scope-below t,
-  scope.Post,
-  put-word-reads.Asked,
-  put-word-reads.Learnt,
-) (arm-at t) arm.Post
+arm-column-requires : (t : ℕ) → arm-lts.Need-column-requires (column-reads.Asked, column-reads.Learnt, scope-below t, scope.Post, put-word-reads.Asked, put-word-reads.Learnt) (arm-at t) arm.Post
 arm-column-requires t c κs = let s = c .before .before .before .before .before .before .before .before in let a = s .args in (s .pre .1 .1 .0 .0, s .pre .1 .1 .0 .1, column-room (rows-in (a .rows .now)) (a .fuel) (a .next) (a .held .now) (a .group .now) (s .pre .1 .0 .1) (s .pre .1 .1 .0 .0) (a .a) (s .pre .1 .1 .0 .1) (a .work .now) (a .text .now) (s .pre .1 .0 .0) (omega (arith, c .before .if1 .left)), held-whole (rows-in (a .rows .now)) (a .next) (a .held .now) (s .pre .1 .0 .1))
 
-arm-add-scope : (t : ℕ) → arm-lts.Need-add-scope (
-  column-reads.Asked,
-  column-reads.Learnt,
-  scope-below t,
-  scope.Post,
-  put-word-reads.Asked,
-  put-word-reads.Learnt,
-) (arm-at t) arm.Post
+arm-add-scope : (t : ℕ) → arm-lts.Need-add-scope (column-reads.Asked, column-reads.Learnt, scope-below t, scope.Post, put-word-reads.Asked, put-word-reads.Learnt) (arm-at t) arm.Post
 arm-add-scope t c = let s = c .before .before .before .before .before .before .before .before .before .before .before .before .before in omega (arith, s .pre .1 .1 .1)
 
-arm-scope-requires : (t : ℕ) → arm-lts.Need-scope-requires (
-  column-reads.Asked,
-  column-reads.Learnt,
-  scope-below t,
-  scope.Post,
-  put-word-reads.Asked,
-  put-word-reads.Learnt,
-) (arm-at t) arm.Post
+arm-scope-requires : (t : ℕ) → arm-lts.Need-scope-requires (column-reads.Asked, column-reads.Learnt, scope-below t, scope.Post, put-word-reads.Asked, put-word-reads.Learnt) (arm-at t) arm.Post
 arm-scope-requires t c κs = let s = c .before .before .before .before .before .before .before .before .before .before .before .before .before .before in let a = s .args in let x = c .before .before .before .before .before .column in (omega (arith, s .pre .0), (column-scoped (rows-in (a .rows .now)) (a .fuel) (a .next) (a .held .now) (a .group .now) (s .pre .1 .0 .1) (s .pre .1 .1 .0 .0) (a .a) (s .pre .1 .1 .0 .1) (a .at) (s .pre .1 .1 .1) (x .result) _ (x .ensures .0), ((lent-on (a .fuel) (a .work .now) (a .text .now) _ _ (s .pre .1 .0 .0) (x .kept .1 .1 .1 .0) refl, x .ensures .1), column-fits (rows-in (a .rows .now)) (a .fuel) (a .next) (a .held .now) (a .group .now) (s .pre .1 .0 .1) (s .pre .1 .1 .0 .0) (a .a) (s .pre .1 .1 .0 .1) (a .at) (s .pre .1 .1 .1) (x .result) _ (x .ensures .0))))
 
-arm-enum-known-told : (t : ℕ) → arm-lts.Need-enum-known-told (
-  column-reads.Asked,
-  column-reads.Learnt,
-  scope-below t,
-  scope.Post,
-  put-word-reads.Asked,
-  put-word-reads.Learnt,
-) (arm-at t) arm.Post
+arm-enum-known-told : (t : ℕ) → arm-lts.Need-enum-known-told (column-reads.Asked, column-reads.Learnt, scope-below t, scope.Post, put-word-reads.Asked, put-word-reads.Learnt) (arm-at t) arm.Post
 arm-enum-known-told t c = search needs
 
-arm-add-put-word : (t : ℕ) → arm-lts.Need-add-put-word (
-  column-reads.Asked,
-  column-reads.Learnt,
-  scope-below t,
-  scope.Post,
-  put-word-reads.Asked,
-  put-word-reads.Learnt,
-) (arm-at t) arm.Post
+arm-add-put-word : (t : ℕ) → arm-lts.Need-add-put-word (column-reads.Asked, column-reads.Learnt, scope-below t, scope.Post, put-word-reads.Asked, put-word-reads.Learnt) (arm-at t) arm.Post
 arm-add-put-word t c = let s = c .before .before .before .before .before .before .before .before .before .before .before .before .before .before .before .before .before .before .before .before .before .before .before .before in let a = s .args in let x = c .before .before .before .before .before .before .before .before .before .before .before .before .before .before .before .column in let y = c .before .before .before .before .before .before .before .before .before .scope in let f = steps-few (rows-in (a .rows .now)) (a .fuel) (a .next) (a .held .now) (a .group .now) (s .pre .1 .0 .1) (s .pre .1 .1 .0 .0) (a .a) (s .pre .1 .1 .0 .1) (a .at) (s .pre .1 .1 .1) (x .result) _ (x .ensures .0) (y .result) (y .ensures .0) _ _ _ _ (c .before .told .given .1) in omega (arith, f, group-few (rows-in (a .rows .now)) (a .next) (a .held .now) (a .group .now) (s .pre .1 .0 .1) (s .pre .1 .1 .0 .0))
 
-arm-mul-put-word : (t : ℕ) → arm-lts.Need-mul-put-word (
-  column-reads.Asked,
-  column-reads.Learnt,
-  scope-below t,
-  scope.Post,
-  put-word-reads.Asked,
-  put-word-reads.Learnt,
-) (arm-at t) arm.Post
+arm-mul-put-word : (t : ℕ) → arm-lts.Need-mul-put-word (column-reads.Asked, column-reads.Learnt, scope-below t, scope.Post, put-word-reads.Asked, put-word-reads.Learnt) (arm-at t) arm.Post
 arm-mul-put-word t c = let s = c .before .before .before .before .before .before .before .before .before .before .before .before .before .before .before .before .before .before .before .before .before .before .before .before in let a = s .args in let x = c .before .before .before .before .before .before .before .before .before .before .before .before .before .before .before .column in let y = c .before .before .before .before .before .before .before .before .before .scope in let f = steps-few (rows-in (a .rows .now)) (a .fuel) (a .next) (a .held .now) (a .group .now) (s .pre .1 .0 .1) (s .pre .1 .1 .0 .0) (a .a) (s .pre .1 .1 .0 .1) (a .at) (s .pre .1 .1 .1) (x .result) _ (x .ensures .0) (y .result) (y .ensures .0) _ _ _ _ (c .before .told .given .1) in omega (arith, f, group-few (rows-in (a .rows .now)) (a .next) (a .held .now) (a .group .now) (s .pre .1 .0 .1) (s .pre .1 .1 .0 .0))
 
-arm-add-put-word-2 : (t : ℕ) → arm-lts.Need-add-put-word-2 (
-  column-reads.Asked,
-  column-reads.Learnt,
-  scope-below t,
-  scope.Post,
-  put-word-reads.Asked,
-  put-word-reads.Learnt,
-) (arm-at t) arm.Post
+arm-add-put-word-2 : (t : ℕ) → arm-lts.Need-add-put-word-2 (column-reads.Asked, column-reads.Learnt, scope-below t, scope.Post, put-word-reads.Asked, put-word-reads.Learnt) (arm-at t) arm.Post
 arm-add-put-word-2 t c = let s = c .before .before .before .before .before .before .before .before .before .before .before .before .before .before .before .before .before .before .before .before .before .before .before .before in let a = s .args in let x = c .before .before .before .before .before .before .before .before .before .before .before .before .before .before .before .column in let y = c .before .before .before .before .before .before .before .before .before .scope in let f = steps-few (rows-in (a .rows .now)) (a .fuel) (a .next) (a .held .now) (a .group .now) (s .pre .1 .0 .1) (s .pre .1 .1 .0 .0) (a .a) (s .pre .1 .1 .0 .1) (a .at) (s .pre .1 .1 .1) (x .result) _ (x .ensures .0) (y .result) (y .ensures .0) _ _ _ _ (c .before .told .given .1) in omega (arith, f, group-few (rows-in (a .rows .now)) (a .next) (a .held .now) (a .group .now) (s .pre .1 .0 .1) (s .pre .1 .1 .0 .0))
 
-arm-put-word-requires : (t : ℕ) → arm-lts.Need-put-word-requires (
-  column-reads.Asked,
-  column-reads.Learnt,
-  scope-below t,
-  scope.Post,
-  put-word-reads.Asked,
-  put-word-reads.Learnt,
-) (arm-at t) arm.Post
+arm-put-word-requires : (t : ℕ) → arm-lts.Need-put-word-requires (column-reads.Asked, column-reads.Learnt, scope-below t, scope.Post, put-word-reads.Asked, put-word-reads.Learnt) (arm-at t) arm.Post
 arm-put-word-requires t c κs = search needs
 
-arm-enum-known-told-2 : (t : ℕ) → arm-lts.Need-enum-known-told-2 (
-  column-reads.Asked,
-  column-reads.Learnt,
-  scope-below t,
-  scope.Post,
-  put-word-reads.Asked,
-  put-word-reads.Learnt,
-) (arm-at t) arm.Post
+arm-enum-known-told-2 : (t : ℕ) → arm-lts.Need-enum-known-told-2 (column-reads.Asked, column-reads.Learnt, scope-below t, scope.Post, put-word-reads.Asked, put-word-reads.Learnt) (arm-at t) arm.Post
 arm-enum-known-told-2 t c = search needs
 
-arm-same-length : (t : ℕ) → arm-lts.Need-same-length (
-  column-reads.Asked,
-  column-reads.Learnt,
-  scope-below t,
-  scope.Post,
-  put-word-reads.Asked,
-  put-word-reads.Learnt,
-) (arm-at t) arm.Post
+arm-same-length : (t : ℕ) → arm-lts.Need-same-length (column-reads.Asked, column-reads.Learnt, scope-below t, scope.Post, put-word-reads.Asked, put-word-reads.Learnt) (arm-at t) arm.Post
 arm-same-length t c = search needs
 
-arm-same-length-2 : (t : ℕ) → arm-lts.Need-same-length-2 (
-  column-reads.Asked,
-  column-reads.Learnt,
-  scope-below t,
-  scope.Post,
-  put-word-reads.Asked,
-  put-word-reads.Learnt,
-) (arm-at t) arm.Post
+arm-same-length-2 : (t : ℕ) → arm-lts.Need-same-length-2 (column-reads.Asked, column-reads.Learnt, scope-below t, scope.Post, put-word-reads.Asked, put-word-reads.Learnt) (arm-at t) arm.Post
 arm-same-length-2 t c = search needs
 
-arm-same-length-3 : (t : ℕ) → arm-lts.Need-same-length-3 (
-  column-reads.Asked,
-  column-reads.Learnt,
-  scope-below t,
-  scope.Post,
-  put-word-reads.Asked,
-  put-word-reads.Learnt,
-) (arm-at t) arm.Post
+arm-same-length-3 : (t : ℕ) → arm-lts.Need-same-length-3 (column-reads.Asked, column-reads.Learnt, scope-below t, scope.Post, put-word-reads.Asked, put-word-reads.Learnt) (arm-at t) arm.Post
 arm-same-length-3 t c = search needs
 
-arm-returns-2 : (t : ℕ) → arm-lts.Need-returns-2 (
-  column-reads.Asked,
-  column-reads.Learnt,
-  scope-below t,
-  scope.Post,
-  put-word-reads.Asked,
-  put-word-reads.Learnt,
-) (arm-at t) arm.Post
+arm-returns-2 : (t : ℕ) → arm-lts.Need-returns-2 (column-reads.Asked, column-reads.Learnt, scope-below t, scope.Post, put-word-reads.Asked, put-word-reads.Learnt) (arm-at t) arm.Post
 arm-returns-2 t c = let s = c .before .before .before .before .before .before .before .before .before .before .before .before .before .before .before .before .before .before .before .before .before .before .before .before .before .before .before .before in let a = s .args in let x = c .before .before .before .before .before .before .before .before .before .before .before .before .before .before .before .before .before .before .before .column in let y = c .before .before .before .before .before .before .before .before .before .before .before .before .before .scope in arm-ends (inner (rows-in (a .rows .now)) (a .fuel)) (a .held .now) (a .group .now) (a .next) (a .a) (a .at) (a .table .now) (y .result) _ (column-answers (rows-in (a .rows .now)) (a .fuel) (a .next) (a .held .now) (a .group .now) (a .a) (a .at) (a .table .now) (x .result) _ (x .ensures .0) (y .result) _ (y .ensures)) _ _ _ _ (c .before .before .before .before .before .told .given .1) _ (c .before .before .put-word .ensures)
 
-arm-same-length-4 : (t : ℕ) → arm-lts.Need-same-length-4 (
-  column-reads.Asked,
-  column-reads.Learnt,
-  scope-below t,
-  scope.Post,
-  put-word-reads.Asked,
-  put-word-reads.Learnt,
-) (arm-at t) arm.Post
+arm-same-length-4 : (t : ℕ) → arm-lts.Need-same-length-4 (column-reads.Asked, column-reads.Learnt, scope-below t, scope.Post, put-word-reads.Asked, put-word-reads.Learnt) (arm-at t) arm.Post
 arm-same-length-4 t c = search needs
 
-arm-same-length-5 : (t : ℕ) → arm-lts.Need-same-length-5 (
-  column-reads.Asked,
-  column-reads.Learnt,
-  scope-below t,
-  scope.Post,
-  put-word-reads.Asked,
-  put-word-reads.Learnt,
-) (arm-at t) arm.Post
+arm-same-length-5 : (t : ℕ) → arm-lts.Need-same-length-5 (column-reads.Asked, column-reads.Learnt, scope-below t, scope.Post, put-word-reads.Asked, put-word-reads.Learnt) (arm-at t) arm.Post
 arm-same-length-5 t c = search needs
 
-arm-same-length-6 : (t : ℕ) → arm-lts.Need-same-length-6 (
-  column-reads.Asked,
-  column-reads.Learnt,
-  scope-below t,
-  scope.Post,
-  put-word-reads.Asked,
-  put-word-reads.Learnt,
-) (arm-at t) arm.Post
+arm-same-length-6 : (t : ℕ) → arm-lts.Need-same-length-6 (column-reads.Asked, column-reads.Learnt, scope-below t, scope.Post, put-word-reads.Asked, put-word-reads.Learnt) (arm-at t) arm.Post
 arm-same-length-6 t c = search needs
 
-arm-returns-3 : (t : ℕ) → arm-lts.Need-returns-3 (
-  column-reads.Asked,
-  column-reads.Learnt,
-  scope-below t,
-  scope.Post,
-  put-word-reads.Asked,
-  put-word-reads.Learnt,
-) (arm-at t) arm.Post
+arm-returns-3 : (t : ℕ) → arm-lts.Need-returns-3 (column-reads.Asked, column-reads.Learnt, scope-below t, scope.Post, put-word-reads.Asked, put-word-reads.Learnt) (arm-at t) arm.Post
 arm-returns-3 t c = let s = c .before .before .before .before .before .before .before .before .before .before .before .before .before .before .before .before .before .before .before .before .before .before .before .before in let a = s .args in let x = c .before .before .before .before .before .before .before .before .before .before .before .before .before .before .before .column in let y = c .before .before .before .before .before .before .before .before .before .scope in arm-stops (inner (rows-in (a .rows .now)) (a .fuel)) (a .held .now) (a .group .now) (a .next) (a .a) (a .at) (a .table .now) (y .result) _ (column-answers (rows-in (a .rows .now)) (a .fuel) (a .next) (a .held .now) (a .group .now) (a .a) (a .at) (a .table .now) (x .result) _ (x .ensures .0) (y .result) _ (y .ensures)) _ (c .before .told2 .given .1)
 
 abbrev arms-Inv-loop : arms-lts.InvT-loop
@@ -443,1442 +317,451 @@ arms-Inv-loop rows work₀ held group fuel next text₀ at table₀ count end₀
 abbrev arms-μ-loop : arms-lts.MeasureT-loop
 arms-μ-loop rows work₀ held group fuel next text₀ at table₀ count end₀ number₀ extracted₀ a₀ work text table end number extracted a = count - a
 
-arms-count-arms-requires : (t : ℕ) → arms-lts.Need-count-arms-requires (
-  count-arms-reads.Asked,
-  count-arms-reads.Learnt,
-  arm-below t,
-  arm.Post,
-  refusal-of-reads.Asked,
-  refusal-of-reads.Learnt,
-) (arms-at t) arms.Post arms-Inv-loop arms-μ-loop
+arms-count-arms-requires : (t : ℕ) → arms-lts.Need-count-arms-requires (count-arms-reads.Asked, count-arms-reads.Learnt, arm-below t, arm.Post, refusal-of-reads.Asked, refusal-of-reads.Learnt) (arms-at t) arms.Post arms-Inv-loop arms-μ-loop
 arms-count-arms-requires t c κs = let s = c .before .before .before .before .before .before in let a = s .args in (s .pre .1 .1 .0, s .pre .1 .0 .1 .few, held-whole (rows-in (a .rows .now)) (a .next) (a .held .now) (s .pre .1 .0 .1))
 
-arms-loop-holds : (t : ℕ) → arms-lts.Need-loop-holds (
-  count-arms-reads.Asked,
-  count-arms-reads.Learnt,
-  arm-below t,
-  arm.Post,
-  refusal-of-reads.Asked,
-  refusal-of-reads.Learnt,
-) (arms-at t) arms.Post arms-Inv-loop arms-μ-loop
+arms-loop-holds : (t : ℕ) → arms-lts.Need-loop-holds (count-arms-reads.Asked, count-arms-reads.Learnt, arm-below t, arm.Post, refusal-of-reads.Asked, refusal-of-reads.Learnt) (arms-at t) arms.Post arms-Inv-loop arms-μ-loop
 arms-loop-holds t c = let s = c .before .before .before .before .before .before .before in let a = s .args in (omega arith, arms-begin (inner (rows-in (a .rows .now)) (a .fuel)) (a .held .now) (a .group .now) (a .next) (a .at) (a .table .now), refl, refl, refl)
 
-arms-arm-requires : (t : ℕ) → arms-lts.Need-arm-requires (
-  count-arms-reads.Asked,
-  count-arms-reads.Learnt,
-  arm-below t,
-  arm.Post,
-  refusal-of-reads.Asked,
-  refusal-of-reads.Learnt,
-) (arms-at t) arms.Post arms-Inv-loop arms-μ-loop
+arms-arm-requires : (t : ℕ) → arms-lts.Need-arm-requires (count-arms-reads.Asked, count-arms-reads.Learnt, arm-below t, arm.Post, refusal-of-reads.Asked, refusal-of-reads.Learnt) (arms-at t) arms.Post arms-Inv-loop arms-μ-loop
 arms-arm-requires t c κs = let s = c .before .before .before .before .before .before .before .before .before .before .before .before in let a = s .args in let l = c .before .before .before .before .loop in let e = c .before .before .before .before .before .count-arms .ensures in (omega (arith, s .pre .0), ((lent-on (a .fuel) (a .work .now) (a .text .now) _ _ (s .pre .1 .0 .0) (l .inv .2) (l .inv .3), so-holds (rows-in (a .rows .now)) (a .fuel) (a .next) (a .held .now) (a .group .now) (s .pre .1 .0 .1) (s .pre .1 .1 .0) (a .at) (a .table .now) _ _ _ _ _ (l .inv .1) (omega (arith, e, c .before .before .before .loop-test .taken))), ((s .pre .1 .1 .0, omega (arith, e, c .before .before .before .loop-test .taken)), so-fits (rows-in (a .rows .now)) (a .fuel) (a .next) (a .held .now) (a .group .now) (s .pre .1 .0 .1) (s .pre .1 .1 .0) (a .at) (a .table .now) _ _ _ _ _ (l .inv .1) (omega (arith, e, c .before .before .before .loop-test .taken)) (s .pre .1 .1 .1 .0))))
 
-arms-enum-known-armed : (t : ℕ) → arms-lts.Need-enum-known-armed (
-  count-arms-reads.Asked,
-  count-arms-reads.Learnt,
-  arm-below t,
-  arm.Post,
-  refusal-of-reads.Asked,
-  refusal-of-reads.Learnt,
-) (arms-at t) arms.Post arms-Inv-loop arms-μ-loop
+arms-enum-known-armed : (t : ℕ) → arms-lts.Need-enum-known-armed (count-arms-reads.Asked, count-arms-reads.Learnt, arm-below t, arm.Post, refusal-of-reads.Asked, refusal-of-reads.Learnt) (arms-at t) arms.Post arms-Inv-loop arms-μ-loop
 arms-enum-known-armed t c = search needs
 
-arms-enum-told : (t : ℕ) → arms-lts.Need-enum-told (
-  count-arms-reads.Asked,
-  count-arms-reads.Learnt,
-  arm-below t,
-  arm.Post,
-  refusal-of-reads.Asked,
-  refusal-of-reads.Learnt,
-) (arms-at t) arms.Post arms-Inv-loop arms-μ-loop
+arms-enum-told : (t : ℕ) → arms-lts.Need-enum-told (count-arms-reads.Asked, count-arms-reads.Learnt, arm-below t, arm.Post, refusal-of-reads.Asked, refusal-of-reads.Learnt) (arms-at t) arms.Post arms-Inv-loop arms-μ-loop
 arms-enum-told t c = search needs
 
-arms-refusal-of-requires : (t : ℕ) → arms-lts.Need-refusal-of-requires (
-  count-arms-reads.Asked,
-  count-arms-reads.Learnt,
-  arm-below t,
-  arm.Post,
-  refusal-of-reads.Asked,
-  refusal-of-reads.Learnt,
-) (arms-at t) arms.Post arms-Inv-loop arms-μ-loop
+arms-refusal-of-requires : (t : ℕ) → arms-lts.Need-refusal-of-requires (count-arms-reads.Asked, count-arms-reads.Learnt, arm-below t, arm.Post, refusal-of-reads.Asked, refusal-of-reads.Learnt) (arms-at t) arms.Post arms-Inv-loop arms-μ-loop
 arms-refusal-of-requires t c κs = search needs
 
-arms-same-length : (t : ℕ) → arms-lts.Need-same-length (
-  count-arms-reads.Asked,
-  count-arms-reads.Learnt,
-  arm-below t,
-  arm.Post,
-  refusal-of-reads.Asked,
-  refusal-of-reads.Learnt,
-) (arms-at t) arms.Post arms-Inv-loop arms-μ-loop
+arms-same-length : (t : ℕ) → arms-lts.Need-same-length (count-arms-reads.Asked, count-arms-reads.Learnt, arm-below t, arm.Post, refusal-of-reads.Asked, refusal-of-reads.Learnt) (arms-at t) arms.Post arms-Inv-loop arms-μ-loop
 arms-same-length t c = search needs
 
-arms-same-length-2 : (t : ℕ) → arms-lts.Need-same-length-2 (
-  count-arms-reads.Asked,
-  count-arms-reads.Learnt,
-  arm-below t,
-  arm.Post,
-  refusal-of-reads.Asked,
-  refusal-of-reads.Learnt,
-) (arms-at t) arms.Post arms-Inv-loop arms-μ-loop
+arms-same-length-2 : (t : ℕ) → arms-lts.Need-same-length-2 (count-arms-reads.Asked, count-arms-reads.Learnt, arm-below t, arm.Post, refusal-of-reads.Asked, refusal-of-reads.Learnt) (arms-at t) arms.Post arms-Inv-loop arms-μ-loop
 arms-same-length-2 t c = search needs
 
-arms-same-length-3 : (t : ℕ) → arms-lts.Need-same-length-3 (
-  count-arms-reads.Asked,
-  count-arms-reads.Learnt,
-  arm-below t,
-  arm.Post,
-  refusal-of-reads.Asked,
-  refusal-of-reads.Learnt,
-) (arms-at t) arms.Post arms-Inv-loop arms-μ-loop
+arms-same-length-3 : (t : ℕ) → arms-lts.Need-same-length-3 (count-arms-reads.Asked, count-arms-reads.Learnt, arm-below t, arm.Post, refusal-of-reads.Asked, refusal-of-reads.Learnt) (arms-at t) arms.Post arms-Inv-loop arms-μ-loop
 arms-same-length-3 t c = search needs
 
-arms-returns : (t : ℕ) → arms-lts.Need-returns (
-  count-arms-reads.Asked,
-  count-arms-reads.Learnt,
-  arm-below t,
-  arm.Post,
-  refusal-of-reads.Asked,
-  refusal-of-reads.Learnt,
-) (arms-at t) arms.Post arms-Inv-loop arms-μ-loop
+arms-returns : (t : ℕ) → arms-lts.Need-returns (count-arms-reads.Asked, count-arms-reads.Learnt, arm-below t, arm.Post, refusal-of-reads.Asked, refusal-of-reads.Learnt) (arms-at t) arms.Post arms-Inv-loop arms-μ-loop
 arms-returns t c = let s = c .before .before .before .before .before .before .before .before .before .before .before .before .before .before .before .before .before .before .before .before .before .before in let a = s .args in let l = c .before .before .before .before .before .before .before .before .before .before .before .before .before .before .loop in let e = c .before .before .before .before .before .before .before .before .before .before .before .before .before .before .before .count-arms .ensures in arms-end-refused (inner (rows-in (a .rows .now)) (a .fuel)) (a .held .now) (a .group .now) (a .next) (a .at) (a .table .now) _ _ _ _ _ (l .inv .1) (c .before .before .before .before .before .before .before .before .before .arm .result) _ (c .before .before .before .before .before .before .before .before .before .arm .ensures) (arm-count (a .held .now) (getD (a .group .now) 0 0)) (omega (arith, e, c .before .before .before .before .before .before .before .before .before .before .before .before .before .loop-test .taken)) _ (c .before .enum-told .given .1) _ (c .refusal-of .ensures)
 
-arms-add-extracted : (t : ℕ) → arms-lts.Need-add-extracted (
-  count-arms-reads.Asked,
-  count-arms-reads.Learnt,
-  arm-below t,
-  arm.Post,
-  refusal-of-reads.Asked,
-  refusal-of-reads.Learnt,
-) (arms-at t) arms.Post arms-Inv-loop arms-μ-loop
+arms-add-extracted : (t : ℕ) → arms-lts.Need-add-extracted (count-arms-reads.Asked, count-arms-reads.Learnt, arm-below t, arm.Post, refusal-of-reads.Asked, refusal-of-reads.Learnt) (arms-at t) arms.Post arms-Inv-loop arms-μ-loop
 arms-add-extracted t c = let s = c .before .before .before .before .before .before .before .before .before .before .before .before .before .before .before .before .before .before .before .before .before .before in let a = s .args in let l = c .before .before .before .before .before .before .before .before .before .before .before .before .before .before .loop in let e = c .before .before .before .before .before .before .before .before .before .before .before .before .before .before .before .count-arms .ensures in let g = arms-go-on (inner (rows-in (a .rows .now)) (a .fuel)) (a .held .now) (a .group .now) (a .next) (a .at) (a .table .now) _ _ _ _ _ (l .inv .1) (c .before .before .before .before .before .before .before .before .before .arm .result) _ (c .before .before .before .before .before .before .before .before .before .arm .ensures) _ _ _ (c .before .armed .given .1) in omega (arith, so-made (rows-in (a .rows .now)) (a .fuel) (a .next) (a .held .now) (a .group .now) (s .pre .1 .0 .1) (s .pre .1 .1 .0) (a .at) (a .table .now) _ _ _ _ _ g (omega (arith, e, c .before .before .before .before .before .before .before .before .before .before .before .before .before .loop-test .taken)))
 
-arms-add-a : (t : ℕ) → arms-lts.Need-add-a (
-  count-arms-reads.Asked,
-  count-arms-reads.Learnt,
-  arm-below t,
-  arm.Post,
-  refusal-of-reads.Asked,
-  refusal-of-reads.Learnt,
-) (arms-at t) arms.Post arms-Inv-loop arms-μ-loop
+arms-add-a : (t : ℕ) → arms-lts.Need-add-a (count-arms-reads.Asked, count-arms-reads.Learnt, arm-below t, arm.Post, refusal-of-reads.Asked, refusal-of-reads.Learnt) (arms-at t) arms.Post arms-Inv-loop arms-μ-loop
 arms-add-a t c = let s = c .before .before .before .before .before .before .before .before .before .before .before .before .before .before .before .before .before .before .before .before .before .before in let a = s .args in omega (arith, c .before .before .before .before .before .before .before .before .before .before .before .before .before .before .before .count-arms .ensures, c .before .before .before .before .before .before .before .before .before .before .before .before .before .loop-test .taken, arms-few (rows-in (a .rows .now)) (a .next) (a .held .now) (a .group .now) (s .pre .1 .0 .1) (s .pre .1 .1 .0))
 
-arms-loop-less : (t : ℕ) → arms-lts.Need-loop-less (
-  count-arms-reads.Asked,
-  count-arms-reads.Learnt,
-  arm-below t,
-  arm.Post,
-  refusal-of-reads.Asked,
-  refusal-of-reads.Learnt,
-) (arms-at t) arms.Post arms-Inv-loop arms-μ-loop
+arms-loop-less : (t : ℕ) → arms-lts.Need-loop-less (count-arms-reads.Asked, count-arms-reads.Learnt, arm-below t, arm.Post, refusal-of-reads.Asked, refusal-of-reads.Learnt) (arms-at t) arms.Post arms-Inv-loop arms-μ-loop
 arms-loop-less t c = search needs
 
-arms-loop-again : (t : ℕ) → arms-lts.Need-loop-again (
-  count-arms-reads.Asked,
-  count-arms-reads.Learnt,
-  arm-below t,
-  arm.Post,
-  refusal-of-reads.Asked,
-  refusal-of-reads.Learnt,
-) (arms-at t) arms.Post arms-Inv-loop arms-μ-loop
+arms-loop-again : (t : ℕ) → arms-lts.Need-loop-again (count-arms-reads.Asked, count-arms-reads.Learnt, arm-below t, arm.Post, refusal-of-reads.Asked, refusal-of-reads.Learnt) (arms-at t) arms.Post arms-Inv-loop arms-μ-loop
 arms-loop-again t c = let s = c .before .before .before .before .before .before .before .before .before .before .before .before .before .before .before .before .before .before .before .before .before .before in let a = s .args in let l = c .before .before .before .before .before .before .before .before .before .before .before .before .before .before .loop in let e = c .before .before .before .before .before .before .before .before .before .before .before .before .before .before .before .count-arms .ensures in let x = c .before .before .before .before .before .before .before .before .before .arm in (omega (arith, c .before .before .before .before .before .before .before .before .before .before .before .before .before .loop-test .taken), arms-go-on (inner (rows-in (a .rows .now)) (a .fuel)) (a .held .now) (a .group .now) (a .next) (a .at) (a .table .now) _ _ _ _ _ (l .inv .1) (c .before .before .before .before .before .before .before .before .before .arm .result) _ (c .before .before .before .before .before .before .before .before .before .arm .ensures) _ _ _ (c .before .armed .given .1), x .kept .1 .0 ∙ l .inv .2, x .kept .1 .1 .1 .1 .1 .1 .1 .0 ∙ l .inv .3, x .kept .1 .1 .1 .1 .1 .1 .1 .1 .1 .0 ∙ l .inv .4)
 
-arms-same-length-4 : (t : ℕ) → arms-lts.Need-same-length-4 (
-  count-arms-reads.Asked,
-  count-arms-reads.Learnt,
-  arm-below t,
-  arm.Post,
-  refusal-of-reads.Asked,
-  refusal-of-reads.Learnt,
-) (arms-at t) arms.Post arms-Inv-loop arms-μ-loop
+arms-same-length-4 : (t : ℕ) → arms-lts.Need-same-length-4 (count-arms-reads.Asked, count-arms-reads.Learnt, arm-below t, arm.Post, refusal-of-reads.Asked, refusal-of-reads.Learnt) (arms-at t) arms.Post arms-Inv-loop arms-μ-loop
 arms-same-length-4 t c = search needs
 
-arms-same-length-5 : (t : ℕ) → arms-lts.Need-same-length-5 (
-  count-arms-reads.Asked,
-  count-arms-reads.Learnt,
-  arm-below t,
-  arm.Post,
-  refusal-of-reads.Asked,
-  refusal-of-reads.Learnt,
-) (arms-at t) arms.Post arms-Inv-loop arms-μ-loop
+arms-same-length-5 : (t : ℕ) → arms-lts.Need-same-length-5 (count-arms-reads.Asked, count-arms-reads.Learnt, arm-below t, arm.Post, refusal-of-reads.Asked, refusal-of-reads.Learnt) (arms-at t) arms.Post arms-Inv-loop arms-μ-loop
 arms-same-length-5 t c = search needs
 
-arms-same-length-6 : (t : ℕ) → arms-lts.Need-same-length-6 (
-  count-arms-reads.Asked,
-  count-arms-reads.Learnt,
-  arm-below t,
-  arm.Post,
-  refusal-of-reads.Asked,
-  refusal-of-reads.Learnt,
-) (arms-at t) arms.Post arms-Inv-loop arms-μ-loop
+arms-same-length-6 : (t : ℕ) → arms-lts.Need-same-length-6 (count-arms-reads.Asked, count-arms-reads.Learnt, arm-below t, arm.Post, refusal-of-reads.Asked, refusal-of-reads.Learnt) (arms-at t) arms.Post arms-Inv-loop arms-μ-loop
 arms-same-length-6 t c = search needs
 
-arms-returns-2 : (t : ℕ) → arms-lts.Need-returns-2 (
-  count-arms-reads.Asked,
-  count-arms-reads.Learnt,
-  arm-below t,
-  arm.Post,
-  refusal-of-reads.Asked,
-  refusal-of-reads.Learnt,
-) (arms-at t) arms.Post arms-Inv-loop arms-μ-loop
+arms-returns-2 : (t : ℕ) → arms-lts.Need-returns-2 (count-arms-reads.Asked, count-arms-reads.Learnt, arm-below t, arm.Post, refusal-of-reads.Asked, refusal-of-reads.Learnt) (arms-at t) arms.Post arms-Inv-loop arms-μ-loop
 arms-returns-2 t c = let s = c .before .before .before .before .before .before .before .before .before in let a = s .args in let l = c .before .loop in let e = c .before .before .count-arms .ensures in arms-all (inner (rows-in (a .rows .now)) (a .fuel)) (a .held .now) (a .group .now) (a .next) (a .at) (a .table .now) _ _ _ _ _ (l .inv .1) (arm-count (a .held .now) (getD (a .group .now) 0 0)) (omega (arith, e, l .inv .0, c .loop-test .left))
 
-measure-add-first :
-    (t : ℕ) → measure-lts.Need-add-first (arms-below t, arms.Post) (measure-at t) measure.Post
+measure-add-first : (t : ℕ) → measure-lts.Need-add-first (arms-below t, arms.Post) (measure-at t) measure.Post
 measure-add-first t c = let s = c .before .before .before .before .before .before in let a = s .args in omega (arith, s .pre .1 .1 .1, group-few (rows-in (a .rows .now)) (a .next) (a .held .now) (a .group .now) (s .pre .1 .0 .1) (s .pre .1 .1 .0))
 
-measure-arms-requires :
-    (t : ℕ) → measure-lts.Need-arms-requires (arms-below t, arms.Post) (measure-at t) measure.Post
+measure-arms-requires : (t : ℕ) → measure-lts.Need-arms-requires (arms-below t, arms.Post) (measure-at t) measure.Post
 measure-arms-requires t c κs = let s = c .before .before .before .before .before .before .before .before .before in let a = s .args in (omega (arith, s .pre .0), ((s .pre .1 .0 .0, (holds-later (rows-in (a .rows .now)) (a .next) (a .next + length (a .group .now)) (a .held .now) (omega arith) (s .pre .1 .0 .1))), (s .pre .1 .1 .0, (measure-fits (rows-in (a .rows .now)) (a .fuel) (a .next + length (a .group .now)) (a .held .now) (a .group .now) (holds-later (rows-in (a .rows .now)) (a .next) (a .next + length (a .group .now)) (a .held .now) (omega arith) (s .pre .1 .0 .1)) (s .pre .1 .1 .0) (a .at) (s .pre .1 .1 .2), omega (arith, s .pre .1 .1 .2)))))
 
-measure-same-length :
-    (t : ℕ) → measure-lts.Need-same-length (arms-below t, arms.Post) (measure-at t) measure.Post
+measure-same-length : (t : ℕ) → measure-lts.Need-same-length (arms-below t, arms.Post) (measure-at t) measure.Post
 measure-same-length t c = search needs
 
-measure-same-length-2 :
-    (t : ℕ) → measure-lts.Need-same-length-2 (arms-below t, arms.Post) (measure-at t) measure.Post
+measure-same-length-2 : (t : ℕ) → measure-lts.Need-same-length-2 (arms-below t, arms.Post) (measure-at t) measure.Post
 measure-same-length-2 t c = search needs
 
-measure-same-length-3 :
-    (t : ℕ) → measure-lts.Need-same-length-3 (arms-below t, arms.Post) (measure-at t) measure.Post
+measure-same-length-3 : (t : ℕ) → measure-lts.Need-same-length-3 (arms-below t, arms.Post) (measure-at t) measure.Post
 measure-same-length-3 t c = search needs
 
-measure-returns :
-    (t : ℕ) → measure-lts.Need-returns (arms-below t, arms.Post) (measure-at t) measure.Post
+measure-returns : (t : ℕ) → measure-lts.Need-returns (arms-below t, arms.Post) (measure-at t) measure.Post
 measure-returns t c = let s = c .before .before .before .before .before .before .before .before .before .before .before .before .before .before .before .before in let a = s .args in group-is (rows-in (a .rows .now)) (a .fuel) (a .next) (a .held .now) (a .group .now) (a .at) _ _ _ (c .before .before .before .before .before .before .arms .ensures)
 
-scope-returns : (t : ℕ) → scope-lts.Need-returns (
-  tree-count-reads.Asked,
-  tree-count-reads.Learnt,
-  extract-and-list-reads.Asked,
-  extract-and-list-reads.Learnt,
-  scope-listed-below t,
-  scope-listed.Post,
-) (scope-at t) scope.Post
+scope-returns : (t : ℕ) → scope-lts.Need-returns (tree-count-reads.Asked, tree-count-reads.Learnt, extract-and-list-reads.Asked, extract-and-list-reads.Learnt, scope-listed-below t, scope-listed.Post) (scope-at t) scope.Post
 scope-returns t c = let s = c .before .before .before .before .before in let a = s .args in too-deep (rows-in (a .rows .now)) (a .row) (a .next) (take (a .len) (a .work .now)) (a .at) (a .table .now) (a .fuel) (c .if1 .taken)
 
-scope-returns-2 : (t : ℕ) → scope-lts.Need-returns-2 (
-  tree-count-reads.Asked,
-  tree-count-reads.Learnt,
-  extract-and-list-reads.Asked,
-  extract-and-list-reads.Learnt,
-  scope-listed-below t,
-  scope-listed.Post,
-) (scope-at t) scope.Post
+scope-returns-2 : (t : ℕ) → scope-lts.Need-returns-2 (tree-count-reads.Asked, tree-count-reads.Learnt, extract-and-list-reads.Asked, extract-and-list-reads.Learnt, scope-listed-below t, scope-listed.Post) (scope-at t) scope.Post
 scope-returns-2 t c = let s = c .before .before .before .before .before .before in let a = s .args in too-long (rows-in (a .rows .now)) (a .row) (a .next) (take (a .len) (a .work .now)) (a .at) (a .table .now) (a .fuel) (omega (arith, c .before .if1 .left)) (omega (arith, length-take-le (a .len) (a .work .now) (s .pre .1 .1 .0 .1), c .if2 .taken))
 
-scope-returns-3 : (t : ℕ) → scope-lts.Need-returns-3 (
-  tree-count-reads.Asked,
-  tree-count-reads.Learnt,
-  extract-and-list-reads.Asked,
-  extract-and-list-reads.Learnt,
-  scope-listed-below t,
-  scope-listed.Post,
-) (scope-at t) scope.Post
+scope-returns-3 : (t : ℕ) → scope-lts.Need-returns-3 (tree-count-reads.Asked, tree-count-reads.Learnt, extract-and-list-reads.Asked, extract-and-list-reads.Learnt, scope-listed-below t, scope-listed.Post) (scope-at t) scope.Post
 scope-returns-3 t c = let s = c .before .before .before .before .before .before .before in let a = s .args in too-large (rows-in (a .rows .now)) (a .row) (a .next) (take (a .len) (a .work .now)) (a .at) (a .table .now) (a .fuel) (omega (arith, c .before .before .if1 .left)) (omega (arith, c .if3 .taken))
 
-scope-slice-reshare-prefix-tree-count : (t : ℕ) → scope-lts.Need-slice-reshare-prefix-tree-count (
-  tree-count-reads.Asked,
-  tree-count-reads.Learnt,
-  extract-and-list-reads.Asked,
-  extract-and-list-reads.Learnt,
-  scope-listed-below t,
-  scope-listed.Post,
-) (scope-at t) scope.Post
+scope-slice-reshare-prefix-tree-count : (t : ℕ) → scope-lts.Need-slice-reshare-prefix-tree-count (tree-count-reads.Asked, tree-count-reads.Learnt, extract-and-list-reads.Asked, extract-and-list-reads.Learnt, scope-listed-below t, scope-listed.Post) (scope-at t) scope.Post
 scope-slice-reshare-prefix-tree-count t c = let s = c .before .before .before .before .before .before .before in s .pre .1 .1 .0 .1
 
-scope-slice-aggregate-tree-count : (t : ℕ) → scope-lts.Need-slice-aggregate-tree-count (
-  tree-count-reads.Asked,
-  tree-count-reads.Learnt,
-  extract-and-list-reads.Asked,
-  extract-and-list-reads.Learnt,
-  scope-listed-below t,
-  scope-listed.Post,
-) (scope-at t) scope.Post
+scope-slice-aggregate-tree-count : (t : ℕ) → scope-lts.Need-slice-aggregate-tree-count (tree-count-reads.Asked, tree-count-reads.Learnt, extract-and-list-reads.Asked, extract-and-list-reads.Learnt, scope-listed-below t, scope-listed.Post) (scope-at t) scope.Post
 scope-slice-aggregate-tree-count t c = let s = c .before .before .before .before .before .before .before .before in sym (length-take-le _ _ (s .pre .1 .1 .0 .1))
 
-scope-tree-count-requires : (t : ℕ) → scope-lts.Need-tree-count-requires (
-  tree-count-reads.Asked,
-  tree-count-reads.Learnt,
-  extract-and-list-reads.Asked,
-  extract-and-list-reads.Learnt,
-  scope-listed-below t,
-  scope-listed.Post,
-) (scope-at t) scope.Post
+scope-tree-count-requires : (t : ℕ) → scope-lts.Need-tree-count-requires (tree-count-reads.Asked, tree-count-reads.Learnt, extract-and-list-reads.Asked, extract-and-list-reads.Learnt, scope-listed-below t, scope-listed.Post) (scope-at t) scope.Post
 scope-tree-count-requires t c κs = let s = c .before .before .before .before .before .before .before .before in let a = s .args in whole-so (rows-in (a .rows .now)) (a .next) (take (a .len) (a .work .now)) (s .pre .1 .0 .0)
 
-scope-slice-aggregate-extract-and-list : (t : ℕ) → scope-lts.Need-slice-aggregate-extract-and-list (
-  tree-count-reads.Asked,
-  tree-count-reads.Learnt,
-  extract-and-list-reads.Asked,
-  extract-and-list-reads.Learnt,
-  scope-listed-below t,
-  scope-listed.Post,
-) (scope-at t) scope.Post
+scope-slice-aggregate-extract-and-list : (t : ℕ) → scope-lts.Need-slice-aggregate-extract-and-list (tree-count-reads.Asked, tree-count-reads.Learnt, extract-and-list-reads.Asked, extract-and-list-reads.Learnt, scope-listed-below t, scope-listed.Post) (scope-at t) scope.Post
 scope-slice-aggregate-extract-and-list t c = search needs
 
-scope-extract-and-list-requires : (t : ℕ) → scope-lts.Need-extract-and-list-requires (
-  tree-count-reads.Asked,
-  tree-count-reads.Learnt,
-  extract-and-list-reads.Asked,
-  extract-and-list-reads.Learnt,
-  scope-listed-below t,
-  scope-listed.Post,
-) (scope-at t) scope.Post
+scope-extract-and-list-requires : (t : ℕ) → scope-lts.Need-extract-and-list-requires (tree-count-reads.Asked, tree-count-reads.Learnt, extract-and-list-reads.Asked, extract-and-list-reads.Learnt, scope-listed-below t, scope-listed.Post) (scope-at t) scope.Post
 scope-extract-and-list-requires t c κs = let s = c .before .before .before .before .before .before .before .before .before .before .before .before in let a = s .args in (s .pre .1 .0, ((omega (arith, c .before .before .before .before .before .before .if2 .left), s .pre .1 .1 .0 .1, omega (arith, c .before .before .before .before .before .if3 .left)), (s .pre .1 .1 .0 .0 .bytes, omega arith)))
 
-scope-enum-known-listed : (t : ℕ) → scope-lts.Need-enum-known-listed (
-  tree-count-reads.Asked,
-  tree-count-reads.Learnt,
-  extract-and-list-reads.Asked,
-  extract-and-list-reads.Learnt,
-  scope-listed-below t,
-  scope-listed.Post,
-) (scope-at t) scope.Post
+scope-enum-known-listed : (t : ℕ) → scope-lts.Need-enum-known-listed (tree-count-reads.Asked, tree-count-reads.Learnt, extract-and-list-reads.Asked, extract-and-list-reads.Learnt, scope-listed-below t, scope-listed.Post) (scope-at t) scope.Post
 scope-enum-known-listed t c = search needs
 
-scope-enum-told : (t : ℕ) → scope-lts.Need-enum-told (
-  tree-count-reads.Asked,
-  tree-count-reads.Learnt,
-  extract-and-list-reads.Asked,
-  extract-and-list-reads.Learnt,
-  scope-listed-below t,
-  scope-listed.Post,
-) (scope-at t) scope.Post
+scope-enum-told : (t : ℕ) → scope-lts.Need-enum-told (tree-count-reads.Asked, tree-count-reads.Learnt, extract-and-list-reads.Asked, extract-and-list-reads.Learnt, scope-listed-below t, scope-listed.Post) (scope-at t) scope.Post
 scope-enum-told t c = search needs
 
-scope-same-length : (t : ℕ) → scope-lts.Need-same-length (
-  tree-count-reads.Asked,
-  tree-count-reads.Learnt,
-  extract-and-list-reads.Asked,
-  extract-and-list-reads.Learnt,
-  scope-listed-below t,
-  scope-listed.Post,
-) (scope-at t) scope.Post
+scope-same-length : (t : ℕ) → scope-lts.Need-same-length (tree-count-reads.Asked, tree-count-reads.Learnt, extract-and-list-reads.Asked, extract-and-list-reads.Learnt, scope-listed-below t, scope-listed.Post) (scope-at t) scope.Post
 scope-same-length t c = search needs
 
-scope-same-length-2 : (t : ℕ) → scope-lts.Need-same-length-2 (
-  tree-count-reads.Asked,
-  tree-count-reads.Learnt,
-  extract-and-list-reads.Asked,
-  extract-and-list-reads.Learnt,
-  scope-listed-below t,
-  scope-listed.Post,
-) (scope-at t) scope.Post
+scope-same-length-2 : (t : ℕ) → scope-lts.Need-same-length-2 (tree-count-reads.Asked, tree-count-reads.Learnt, extract-and-list-reads.Asked, extract-and-list-reads.Learnt, scope-listed-below t, scope-listed.Post) (scope-at t) scope.Post
 scope-same-length-2 t c = search needs
 
-scope-returns-4 : (t : ℕ) → scope-lts.Need-returns-4 (
-  tree-count-reads.Asked,
-  tree-count-reads.Learnt,
-  extract-and-list-reads.Asked,
-  extract-and-list-reads.Learnt,
-  scope-listed-below t,
-  scope-listed.Post,
-) (scope-at t) scope.Post
+scope-returns-4 : (t : ℕ) → scope-lts.Need-returns-4 (tree-count-reads.Asked, tree-count-reads.Learnt, extract-and-list-reads.Asked, extract-and-list-reads.Learnt, scope-listed-below t, scope-listed.Post) (scope-at t) scope.Post
 scope-returns-4 t c = let s = c .before .before .before .before .before .before .before .before .before .before .before .before .before .before .before .before .before .before .before .before in let a = s .args in ten (rows-in (a .rows .now)) (a .row) (a .next) (take (a .len) (a .work .now)) (a .at) (a .table .now) (a .fuel) (omega (arith, c .before .before .before .before .before .before .before .before .before .before .before .before .before .before .before .if1 .left)) (omega (arith, length-take-le (a .len) (a .work .now) (s .pre .1 .1 .0 .1), c .before .before .before .before .before .before .before .before .before .before .before .before .before .before .if2 .left)) (omega (arith, c .before .before .before .before .before .before .before .before .before .before .before .before .before .if3 .left)) (s .pre .1 .0 .0) (s .pre .1 .0 .1) (c .before .before .before .before .before .before .before .extract-and-list .result) _ _ (c .before .before .before .before .before .before .before .extract-and-list .ensures) (c .enum-told .given .1)
 
-scope-array-share-prefix-places : (t : ℕ) → scope-lts.Need-array-share-prefix-places (
-  tree-count-reads.Asked,
-  tree-count-reads.Learnt,
-  extract-and-list-reads.Asked,
-  extract-and-list-reads.Learnt,
-  scope-listed-below t,
-  scope-listed.Post,
-) (scope-at t) scope.Post
+scope-array-share-prefix-places : (t : ℕ) → scope-lts.Need-array-share-prefix-places (tree-count-reads.Asked, tree-count-reads.Learnt, extract-and-list-reads.Asked, extract-and-list-reads.Learnt, scope-listed-below t, scope-listed.Post) (scope-at t) scope.Post
 scope-array-share-prefix-places t c = let s = c .before .before .before .before .before .before .before .before .before .before .before .before .before .before .before .before .before .before .before .before .before .before in let a = s .args in places-in (rows-in (a .rows .now)) (a .row) (a .next) (take (a .len) (a .work .now)) (a .at) (a .table .now) (a .fuel) (omega (arith, c .before .before .before .before .before .before .before .before .before .before .before .before .before .before .before .before .before .if1 .left)) (omega (arith, length-take-le (a .len) (a .work .now) (s .pre .1 .1 .0 .1), c .before .before .before .before .before .before .before .before .before .before .before .before .before .before .before .before .if2 .left)) (omega (arith, c .before .before .before .before .before .before .before .before .before .before .before .before .before .before .before .if3 .left)) (s .pre .1 .0 .0) (s .pre .1 .0 .1) (c .before .before .before .before .before .before .before .before .before .extract-and-list .result) _ _ (c .before .before .before .before .before .before .before .before .before .extract-and-list .ensures) _ _ (c .before .before .listed .given .1)
 
-scope-slice-aggregate-scope-listed : (t : ℕ) → scope-lts.Need-slice-aggregate-scope-listed (
-  tree-count-reads.Asked,
-  tree-count-reads.Learnt,
-  extract-and-list-reads.Asked,
-  extract-and-list-reads.Learnt,
-  scope-listed-below t,
-  scope-listed.Post,
-) (scope-at t) scope.Post
+scope-slice-aggregate-scope-listed : (t : ℕ) → scope-lts.Need-slice-aggregate-scope-listed (tree-count-reads.Asked, tree-count-reads.Learnt, extract-and-list-reads.Asked, extract-and-list-reads.Learnt, scope-listed-below t, scope-listed.Post) (scope-at t) scope.Post
 scope-slice-aggregate-scope-listed t c = let s = c .before .before .before .before .before .before .before .before .before .before .before .before .before .before .before .before .before .before .before .before .before .before .before in let a = s .args in sym (length-take-le _ _ (places-in (rows-in (a .rows .now)) (a .row) (a .next) (take (a .len) (a .work .now)) (a .at) (a .table .now) (a .fuel) (omega (arith, c .before .before .before .before .before .before .before .before .before .before .before .before .before .before .before .before .before .before .if1 .left)) (omega (arith, length-take-le (a .len) (a .work .now) (s .pre .1 .1 .0 .1), c .before .before .before .before .before .before .before .before .before .before .before .before .before .before .before .before .before .if2 .left)) (omega (arith, c .before .before .before .before .before .before .before .before .before .before .before .before .before .before .before .before .if3 .left)) (s .pre .1 .0 .0) (s .pre .1 .0 .1) (c .before .before .before .before .before .before .before .before .before .before .extract-and-list .result) _ _ (c .before .before .before .before .before .before .before .before .before .before .extract-and-list .ensures) _ _ (c .before .before .before .listed .given .1)))
 
-scope-sub-scope-listed : (t : ℕ) → scope-lts.Need-sub-scope-listed (
-  tree-count-reads.Asked,
-  tree-count-reads.Learnt,
-  extract-and-list-reads.Asked,
-  extract-and-list-reads.Learnt,
-  scope-listed-below t,
-  scope-listed.Post,
-) (scope-at t) scope.Post
+scope-sub-scope-listed : (t : ℕ) → scope-lts.Need-sub-scope-listed (tree-count-reads.Asked, tree-count-reads.Learnt, extract-and-list-reads.Asked, extract-and-list-reads.Learnt, scope-listed-below t, scope-listed.Post) (scope-at t) scope.Post
 scope-sub-scope-listed t c = let s = c .before .before .before .before .before .before .before .before .before .before .before .before .before .before .before .before .before .before .before .before .before .before .before in omega (arith, c .before .before .before .before .before .before .before .before .before .before .before .before .before .before .before .before .before .before .if1 .left)
 
-scope-scope-listed-requires : (t : ℕ) → scope-lts.Need-scope-listed-requires (
-  tree-count-reads.Asked,
-  tree-count-reads.Learnt,
-  extract-and-list-reads.Asked,
-  extract-and-list-reads.Learnt,
-  scope-listed-below t,
-  scope-listed.Post,
-) (scope-at t) scope.Post
+scope-scope-listed-requires : (t : ℕ) → scope-lts.Need-scope-listed-requires (tree-count-reads.Asked, tree-count-reads.Learnt, extract-and-list-reads.Asked, extract-and-list-reads.Learnt, scope-listed-below t, scope-listed.Post) (scope-at t) scope.Post
 scope-scope-listed-requires t c κs = let s = c .before .before .before .before .before .before .before .before .before .before .before .before .before .before .before .before .before .before .before .before .before .before .before .before .before in let a = s .args in (omega (arith, s .pre .0, c .before .before .before .before .before .before .before .before .before .before .before .before .before .before .before .before .before .before .before .before .if1 .left), ((lent-on _ (a .work .now) (a .text .now) _ _ (subst (λ f. Lent f (a .work .now) (a .text .now)) (omega (arith, c .before .before .before .before .before .before .before .before .before .before .before .before .before .before .before .before .before .before .before .before .if1 .left)) (s .pre .1 .1 .0 .0)) (c .before .before .before .before .before .before .before .before .before .before .before .before .extract-and-list .kept .1 .0) (c .before .before .before .before .before .before .before .before .before .before .before .before .extract-and-list .kept .1 .1 .1 .1 .0), words-in (rows-in (a .rows .now)) (a .row) (a .next) (take (a .len) (a .work .now)) (a .at) (a .table .now) (a .fuel) (omega (arith, c .before .before .before .before .before .before .before .before .before .before .before .before .before .before .before .before .before .before .before .before .if1 .left)) (omega (arith, length-take-le (a .len) (a .work .now) (s .pre .1 .1 .0 .1), c .before .before .before .before .before .before .before .before .before .before .before .before .before .before .before .before .before .before .before .if2 .left)) (omega (arith, c .before .before .before .before .before .before .before .before .before .before .before .before .before .before .before .before .before .before .if3 .left)) (s .pre .1 .0 .0) (s .pre .1 .0 .1) (c .before .before .before .before .before .before .before .before .before .before .before .before .extract-and-list .result) _ _ (c .before .before .before .before .before .before .before .before .before .before .before .before .extract-and-list .ensures) _ _ (c .before .before .before .before .before .listed .given .1)), (left-so (rows-in (a .rows .now)) (a .row) (a .next) (take (a .len) (a .work .now)) (a .at) (a .table .now) (a .fuel) (omega (arith, c .before .before .before .before .before .before .before .before .before .before .before .before .before .before .before .before .before .before .before .before .if1 .left)) (omega (arith, length-take-le (a .len) (a .work .now) (s .pre .1 .1 .0 .1), c .before .before .before .before .before .before .before .before .before .before .before .before .before .before .before .before .before .before .before .if2 .left)) (omega (arith, c .before .before .before .before .before .before .before .before .before .before .before .before .before .before .before .before .before .before .if3 .left)) (s .pre .1 .0 .0) (s .pre .1 .0 .1) (c .before .before .before .before .before .before .before .before .before .before .before .before .extract-and-list .result) _ _ (c .before .before .before .before .before .before .before .before .before .before .before .before .extract-and-list .ensures) _ _ (c .before .before .before .before .before .listed .given .1) (c .before .before .before .before .before .before .before .before .before .before .before .before .before .before .before .before .tree-count .result) (c .before .before .before .before .before .before .before .before .before .before .before .before .before .before .before .before .tree-count .ensures), subst (λ o. a .at + told-rows o ≤ most-rows) (scope-is (rows-in (a .rows .now)) (a .row) (a .next) (take (a .len) (a .work .now)) (a .at) (a .table .now) (a .fuel) (omega (arith, c .before .before .before .before .before .before .before .before .before .before .before .before .before .before .before .before .before .before .before .before .if1 .left)) (omega (arith, length-take-le (a .len) (a .work .now) (s .pre .1 .1 .0 .1), c .before .before .before .before .before .before .before .before .before .before .before .before .before .before .before .before .before .before .before .if2 .left)) (omega (arith, c .before .before .before .before .before .before .before .before .before .before .before .before .before .before .before .before .before .before .if3 .left)) (s .pre .1 .0 .0) (s .pre .1 .0 .1) (c .before .before .before .before .before .before .before .before .before .before .before .before .extract-and-list .result) _ _ (c .before .before .before .before .before .before .before .before .before .before .before .before .extract-and-list .ensures) _ _ (c .before .before .before .before .before .listed .given .1) (c .before .before .before .before .before .before .before .before .before .before .before .before .before .before .before .before .tree-count .result) (c .before .before .before .before .before .before .before .before .before .before .before .before .before .before .before .before .tree-count .ensures)) (s .pre .1 .1 .1))))
 
-scope-same-length-3 : (t : ℕ) → scope-lts.Need-same-length-3 (
-  tree-count-reads.Asked,
-  tree-count-reads.Learnt,
-  extract-and-list-reads.Asked,
-  extract-and-list-reads.Learnt,
-  scope-listed-below t,
-  scope-listed.Post,
-) (scope-at t) scope.Post
+scope-same-length-3 : (t : ℕ) → scope-lts.Need-same-length-3 (tree-count-reads.Asked, tree-count-reads.Learnt, extract-and-list-reads.Asked, extract-and-list-reads.Learnt, scope-listed-below t, scope-listed.Post) (scope-at t) scope.Post
 scope-same-length-3 t c = search needs
 
-scope-same-length-4 : (t : ℕ) → scope-lts.Need-same-length-4 (
-  tree-count-reads.Asked,
-  tree-count-reads.Learnt,
-  extract-and-list-reads.Asked,
-  extract-and-list-reads.Learnt,
-  scope-listed-below t,
-  scope-listed.Post,
-) (scope-at t) scope.Post
+scope-same-length-4 : (t : ℕ) → scope-lts.Need-same-length-4 (tree-count-reads.Asked, tree-count-reads.Learnt, extract-and-list-reads.Asked, extract-and-list-reads.Learnt, scope-listed-below t, scope-listed.Post) (scope-at t) scope.Post
 scope-same-length-4 t c = search needs
 
-scope-same-length-5 : (t : ℕ) → scope-lts.Need-same-length-5 (
-  tree-count-reads.Asked,
-  tree-count-reads.Learnt,
-  extract-and-list-reads.Asked,
-  extract-and-list-reads.Learnt,
-  scope-listed-below t,
-  scope-listed.Post,
-) (scope-at t) scope.Post
+scope-same-length-5 : (t : ℕ) → scope-lts.Need-same-length-5 (tree-count-reads.Asked, tree-count-reads.Learnt, extract-and-list-reads.Asked, extract-and-list-reads.Learnt, scope-listed-below t, scope-listed.Post) (scope-at t) scope.Post
 scope-same-length-5 t c = search needs
 
-scope-returns-5 : (t : ℕ) → scope-lts.Need-returns-5 (
-  tree-count-reads.Asked,
-  tree-count-reads.Learnt,
-  extract-and-list-reads.Asked,
-  extract-and-list-reads.Learnt,
-  scope-listed-below t,
-  scope-listed.Post,
-) (scope-at t) scope.Post
+scope-returns-5 : (t : ℕ) → scope-lts.Need-returns-5 (tree-count-reads.Asked, tree-count-reads.Learnt, extract-and-list-reads.Asked, extract-and-list-reads.Learnt, scope-listed-below t, scope-listed.Post) (scope-at t) scope.Post
 scope-returns-5 t c = let s = c .before .before .before .before .before .before .before .before .before .before .before .before .before .before .before .before .before .before .before .before .before .before .before .before .before .before .before .before .before .before .before .before in let a = s .args in done-as _ _ (scope-is (rows-in (a .rows .now)) (a .row) (a .next) (take (a .len) (a .work .now)) (a .at) (a .table .now) (a .fuel) (omega (arith, c .before .before .before .before .before .before .before .before .before .before .before .before .before .before .before .before .before .before .before .before .before .before .before .before .before .before .before .if1 .left)) (omega (arith, length-take-le (a .len) (a .work .now) (s .pre .1 .1 .0 .1), c .before .before .before .before .before .before .before .before .before .before .before .before .before .before .before .before .before .before .before .before .before .before .before .before .before .before .if2 .left)) (omega (arith, c .before .before .before .before .before .before .before .before .before .before .before .before .before .before .before .before .before .before .before .before .before .before .before .before .before .if3 .left)) (s .pre .1 .0 .0) (s .pre .1 .0 .1) (c .before .before .before .before .before .before .before .before .before .before .before .before .before .before .before .before .before .before .before .extract-and-list .result) _ _ (c .before .before .before .before .before .before .before .before .before .before .before .before .before .before .before .before .before .before .before .extract-and-list .ensures) _ _ (c .before .before .before .before .before .before .before .before .before .before .before .before .listed .given .1) (c .before .before .before .before .before .before .before .before .before .before .before .before .before .before .before .before .before .before .before .before .before .before .before .tree-count .result) (c .before .before .before .before .before .before .before .before .before .before .before .before .before .before .before .before .before .before .before .before .before .before .before .tree-count .ensures)) (a .at) (a .table .now) _ _ (c .before .before .before .before .before .before .scope-listed .ensures)
 
-scope-grouped-sub-next : (t : ℕ) → scope-grouped-lts.Need-sub-next (
-  walk-below t,
-  walk.Post,
-  walk-refusal-reads.Asked,
-  walk-refusal-reads.Learnt,
-  write-scope-below t,
-  write-scope.Post,
-) (scope-grouped-at t) scope-grouped.Post
+scope-grouped-sub-next : (t : ℕ) → scope-grouped-lts.Need-sub-next (walk-below t, walk.Post, walk-refusal-reads.Asked, walk-refusal-reads.Learnt, write-scope-below t, write-scope.Post) (scope-grouped-at t) scope-grouped.Post
 scope-grouped-sub-next t c = let s = c .before .before .before .before .before .before .before .before .before .before .before in s .pre .1 .1 .0 .0 .enough
 
-scope-grouped-add-next : (t : ℕ) → scope-grouped-lts.Need-add-next (
-  walk-below t,
-  walk.Post,
-  walk-refusal-reads.Asked,
-  walk-refusal-reads.Learnt,
-  write-scope-below t,
-  write-scope.Post,
-) (scope-grouped-at t) scope-grouped.Post
+scope-grouped-add-next : (t : ℕ) → scope-grouped-lts.Need-add-next (walk-below t, walk.Post, walk-refusal-reads.Asked, walk-refusal-reads.Learnt, write-scope-below t, write-scope.Post) (scope-grouped-at t) scope-grouped.Post
 scope-grouped-add-next t c = let s = c .before .before .before .before .before .before .before .before .before .before .before in let a = s .args in omega (arith, lets-small (rows-in (a .rows .now)) (a .fuel) (a .row) (a .tokens .now) (a .results) (a .first) (a .places .now) (a .held .now) (a .starts .now) (a .members .now) (a .ends .now) (s .pre .1 .0 .1) (s .pre .1 .1 .0 .0))
 
-scope-grouped-add-next-2 : (t : ℕ) → scope-grouped-lts.Need-add-next-2 (
-  walk-below t,
-  walk.Post,
-  walk-refusal-reads.Asked,
-  walk-refusal-reads.Learnt,
-  write-scope-below t,
-  write-scope.Post,
-) (scope-grouped-at t) scope-grouped.Post
+scope-grouped-add-next-2 : (t : ℕ) → scope-grouped-lts.Need-add-next-2 (walk-below t, walk.Post, walk-refusal-reads.Asked, walk-refusal-reads.Learnt, write-scope-below t, write-scope.Post) (scope-grouped-at t) scope-grouped.Post
 scope-grouped-add-next-2 t c = let s = c .before .before .before .before .before .before .before .before .before .before .before in let a = s .args in omega (arith, from-low (rows-in (a .rows .now)) (a .fuel) (a .row) (a .tokens .now) (a .results) (a .first) (a .places .now) (a .held .now) (a .starts .now) (a .members .now) (a .ends .now) (s .pre .1 .0 .1) (s .pre .1 .1 .0 .0))
 
-scope-grouped-slice-aggregate-walk : (t : ℕ) → scope-grouped-lts.Need-slice-aggregate-walk (
-  walk-below t,
-  walk.Post,
-  walk-refusal-reads.Asked,
-  walk-refusal-reads.Learnt,
-  write-scope-below t,
-  write-scope.Post,
-) (scope-grouped-at t) scope-grouped.Post
+scope-grouped-slice-aggregate-walk : (t : ℕ) → scope-grouped-lts.Need-slice-aggregate-walk (walk-below t, walk.Post, walk-refusal-reads.Asked, walk-refusal-reads.Learnt, write-scope-below t, write-scope.Post) (scope-grouped-at t) scope-grouped.Post
 scope-grouped-slice-aggregate-walk t c = search needs
 
-scope-grouped-slice-aggregate-walk-2 : (t : ℕ) → scope-grouped-lts.Need-slice-aggregate-walk-2 (
-  walk-below t,
-  walk.Post,
-  walk-refusal-reads.Asked,
-  walk-refusal-reads.Learnt,
-  write-scope-below t,
-  write-scope.Post,
-) (scope-grouped-at t) scope-grouped.Post
+scope-grouped-slice-aggregate-walk-2 : (t : ℕ) → scope-grouped-lts.Need-slice-aggregate-walk-2 (walk-below t, walk.Post, walk-refusal-reads.Asked, walk-refusal-reads.Learnt, write-scope-below t, write-scope.Post) (scope-grouped-at t) scope-grouped.Post
 scope-grouped-slice-aggregate-walk-2 t c = search needs
 
-scope-grouped-walk-requires : (t : ℕ) → scope-grouped-lts.Need-walk-requires (
-  walk-below t,
-  walk.Post,
-  walk-refusal-reads.Asked,
-  walk-refusal-reads.Learnt,
-  write-scope-below t,
-  write-scope.Post,
-) (scope-grouped-at t) scope-grouped.Post
+scope-grouped-walk-requires : (t : ℕ) → scope-grouped-lts.Need-walk-requires (walk-below t, walk.Post, walk-refusal-reads.Asked, walk-refusal-reads.Learnt, write-scope-below t, write-scope.Post) (scope-grouped-at t) scope-grouped.Post
 scope-grouped-walk-requires t c κs = let s = c .before .before .before .before .before .before .before .before .before .before .before .before .before .before .before .before in let a = s .args in (omega (arith, s .pre .0), ((s .pre .1 .0 .0, holds-from (rows-in (a .rows .now)) (a .fuel) (a .row) (a .tokens .now) (a .results) (a .first) (a .places .now) (a .held .now) (a .starts .now) (a .members .now) (a .ends .now) (s .pre .1 .0 .1) (s .pre .1 .1 .0 .0)), ((s .pre .1 .1 .0 .0 .grouped, omega (arith, from-low (rows-in (a .rows .now)) (a .fuel) (a .row) (a .tokens .now) (a .results) (a .first) (a .places .now) (a .held .now) (a .starts .now) (a .members .now) (a .ends .now) (s .pre .1 .0 .1) (s .pre .1 .1 .0 .0))), (s .pre .1 .1 .0 .1, omega (arith, ends-short (rows-in (a .rows .now)) (a .fuel) (a .row) (a .tokens .now) (a .results) (a .first) (a .places .now) (a .held .now) (a .starts .now) (a .members .now) (a .ends .now) (s .pre .1 .0 .1) (s .pre .1 .1 .0 .0))))))
 
-scope-grouped-enum-known-walked : (t : ℕ) → scope-grouped-lts.Need-enum-known-walked (
-  walk-below t,
-  walk.Post,
-  walk-refusal-reads.Asked,
-  walk-refusal-reads.Learnt,
-  write-scope-below t,
-  write-scope.Post,
-) (scope-grouped-at t) scope-grouped.Post
+scope-grouped-enum-known-walked : (t : ℕ) → scope-grouped-lts.Need-enum-known-walked (walk-below t, walk.Post, walk-refusal-reads.Asked, walk-refusal-reads.Learnt, write-scope-below t, write-scope.Post) (scope-grouped-at t) scope-grouped.Post
 scope-grouped-enum-known-walked t c = search needs
 
-scope-grouped-enum-told : (t : ℕ) → scope-grouped-lts.Need-enum-told (
-  walk-below t,
-  walk.Post,
-  walk-refusal-reads.Asked,
-  walk-refusal-reads.Learnt,
-  write-scope-below t,
-  write-scope.Post,
-) (scope-grouped-at t) scope-grouped.Post
+scope-grouped-enum-told : (t : ℕ) → scope-grouped-lts.Need-enum-told (walk-below t, walk.Post, walk-refusal-reads.Asked, walk-refusal-reads.Learnt, write-scope-below t, write-scope.Post) (scope-grouped-at t) scope-grouped.Post
 scope-grouped-enum-told t c = search needs
 
-scope-grouped-walk-refusal-requires : (t : ℕ) → scope-grouped-lts.Need-walk-refusal-requires (
-  walk-below t,
-  walk.Post,
-  walk-refusal-reads.Asked,
-  walk-refusal-reads.Learnt,
-  write-scope-below t,
-  write-scope.Post,
-) (scope-grouped-at t) scope-grouped.Post
+scope-grouped-walk-refusal-requires : (t : ℕ) → scope-grouped-lts.Need-walk-refusal-requires (walk-below t, walk.Post, walk-refusal-reads.Asked, walk-refusal-reads.Learnt, write-scope-below t, write-scope.Post) (scope-grouped-at t) scope-grouped.Post
 scope-grouped-walk-refusal-requires t c κs = search needs
 
-scope-grouped-same-length : (t : ℕ) → scope-grouped-lts.Need-same-length (
-  walk-below t,
-  walk.Post,
-  walk-refusal-reads.Asked,
-  walk-refusal-reads.Learnt,
-  write-scope-below t,
-  write-scope.Post,
-) (scope-grouped-at t) scope-grouped.Post
+scope-grouped-same-length : (t : ℕ) → scope-grouped-lts.Need-same-length (walk-below t, walk.Post, walk-refusal-reads.Asked, walk-refusal-reads.Learnt, write-scope-below t, write-scope.Post) (scope-grouped-at t) scope-grouped.Post
 scope-grouped-same-length t c = search needs
 
-scope-grouped-same-length-2 : (t : ℕ) → scope-grouped-lts.Need-same-length-2 (
-  walk-below t,
-  walk.Post,
-  walk-refusal-reads.Asked,
-  walk-refusal-reads.Learnt,
-  write-scope-below t,
-  write-scope.Post,
-) (scope-grouped-at t) scope-grouped.Post
+scope-grouped-same-length-2 : (t : ℕ) → scope-grouped-lts.Need-same-length-2 (walk-below t, walk.Post, walk-refusal-reads.Asked, walk-refusal-reads.Learnt, write-scope-below t, write-scope.Post) (scope-grouped-at t) scope-grouped.Post
 scope-grouped-same-length-2 t c = search needs
 
-scope-grouped-same-length-3 : (t : ℕ) → scope-grouped-lts.Need-same-length-3 (
-  walk-below t,
-  walk.Post,
-  walk-refusal-reads.Asked,
-  walk-refusal-reads.Learnt,
-  write-scope-below t,
-  write-scope.Post,
-) (scope-grouped-at t) scope-grouped.Post
+scope-grouped-same-length-3 : (t : ℕ) → scope-grouped-lts.Need-same-length-3 (walk-below t, walk.Post, walk-refusal-reads.Asked, walk-refusal-reads.Learnt, write-scope-below t, write-scope.Post) (scope-grouped-at t) scope-grouped.Post
 scope-grouped-same-length-3 t c = search needs
 
-scope-grouped-returns : (t : ℕ) → scope-grouped-lts.Need-returns (
-  walk-below t,
-  walk.Post,
-  walk-refusal-reads.Asked,
-  walk-refusal-reads.Learnt,
-  write-scope-below t,
-  write-scope.Post,
-) (scope-grouped-at t) scope-grouped.Post
+scope-grouped-returns : (t : ℕ) → scope-grouped-lts.Need-returns (walk-below t, walk.Post, walk-refusal-reads.Asked, walk-refusal-reads.Learnt, write-scope-below t, write-scope.Post) (scope-grouped-at t) scope-grouped.Post
 scope-grouped-returns t c = let s = c .before .before .before .before .before .before .before .before .before .before .before .before .before .before .before .before .before .before .before .before .before .before .before .before .before .before .before .before in let a = s .args in walk-refused (rows-in (a .rows .now)) (a .fuel) (a .row) (a .tokens .now) (a .results) (a .first) (a .places .now) (a .held .now) (a .starts .now) (a .members .now) (a .ends .now) (s .pre .1 .0 .1) (s .pre .1 .1 .0 .0) (c .before .before .before .before .before .before .before .before .before .before .before .walk .result) _ _ _ _ (c .before .before .before .before .before .before .before .before .before .before .before .walk .ensures) _ (c .before .enum-told .given .1) _ (c .walk-refusal .ensures) (a .at) (a .table .now)
 
-scope-grouped-slice-reshare-prefix-write-scope :
-    (t : ℕ) → scope-grouped-lts.Need-slice-reshare-prefix-write-scope (
-      walk-below t,
-      walk.Post,
-      walk-refusal-reads.Asked,
-      walk-refusal-reads.Learnt,
-      write-scope-below t,
-      write-scope.Post,
-    ) (scope-grouped-at t) scope-grouped.Post
+scope-grouped-slice-reshare-prefix-write-scope : (t : ℕ) → scope-grouped-lts.Need-slice-reshare-prefix-write-scope (walk-below t, walk.Post, walk-refusal-reads.Asked, walk-refusal-reads.Learnt, write-scope-below t, write-scope.Post) (scope-grouped-at t) scope-grouped.Post
 scope-grouped-slice-reshare-prefix-write-scope t c = let s = c .before .before .before .before .before .before .before .before .before .before .before .before .before .before .before .before .before .before .before .before .before .before .before .before .before .before .before .before .before in omega (arith, s .pre .1 .1 .0 .1, c .before .before .before .before .before .before .before .before .before .before .before .before .walk .kept .1 .1 .1 .1 .1 .1 .1 .1 .0)
 
-scope-grouped-slice-aggregate-write-scope :
-    (t : ℕ) → scope-grouped-lts.Need-slice-aggregate-write-scope (
-      walk-below t,
-      walk.Post,
-      walk-refusal-reads.Asked,
-      walk-refusal-reads.Learnt,
-      write-scope-below t,
-      write-scope.Post,
-    ) (scope-grouped-at t) scope-grouped.Post
+scope-grouped-slice-aggregate-write-scope : (t : ℕ) → scope-grouped-lts.Need-slice-aggregate-write-scope (walk-below t, walk.Post, walk-refusal-reads.Asked, walk-refusal-reads.Learnt, write-scope-below t, write-scope.Post) (scope-grouped-at t) scope-grouped.Post
 scope-grouped-slice-aggregate-write-scope t c = let s = c .before .before .before .before .before .before .before .before .before .before .before .before .before .before .before .before .before .before .before .before .before .before .before .before .before .before .before .before .before .before in sym (length-take-le _ _ (omega (arith, s .pre .1 .1 .0 .1, c .before .before .before .before .before .before .before .before .before .before .before .before .before .walk .kept .1 .1 .1 .1 .1 .1 .1 .1 .0)))
 
-scope-grouped-array-share-prefix-stops : (t : ℕ) → scope-grouped-lts.Need-array-share-prefix-stops (
-  walk-below t,
-  walk.Post,
-  walk-refusal-reads.Asked,
-  walk-refusal-reads.Learnt,
-  write-scope-below t,
-  write-scope.Post,
-) (scope-grouped-at t) scope-grouped.Post
+scope-grouped-array-share-prefix-stops : (t : ℕ) → scope-grouped-lts.Need-array-share-prefix-stops (walk-below t, walk.Post, walk-refusal-reads.Asked, walk-refusal-reads.Learnt, write-scope-below t, write-scope.Post) (scope-grouped-at t) scope-grouped.Post
 scope-grouped-array-share-prefix-stops t c = let s = c .before .before .before .before .before .before .before .before .before .before .before .before .before .before .before .before .before .before .before .before .before .before .before .before .before .before .before .before .before .before in let a = s .args in omega (arith, ends-short (rows-in (a .rows .now)) (a .fuel) (a .row) (a .tokens .now) (a .results) (a .first) (a .places .now) (a .held .now) (a .starts .now) (a .members .now) (a .ends .now) (s .pre .1 .0 .1) (s .pre .1 .1 .0 .0), c .before .before .before .before .before .before .before .before .before .before .before .before .before .walk .kept .1 .1 .1 .1 .1 .1 .1 .1 .1 .0)
 
-scope-grouped-slice-aggregate-write-scope-2 :
-    (t : ℕ) → scope-grouped-lts.Need-slice-aggregate-write-scope-2 (
-      walk-below t,
-      walk.Post,
-      walk-refusal-reads.Asked,
-      walk-refusal-reads.Learnt,
-      write-scope-below t,
-      write-scope.Post,
-    ) (scope-grouped-at t) scope-grouped.Post
+scope-grouped-slice-aggregate-write-scope-2 : (t : ℕ) → scope-grouped-lts.Need-slice-aggregate-write-scope-2 (walk-below t, walk.Post, walk-refusal-reads.Asked, walk-refusal-reads.Learnt, write-scope-below t, write-scope.Post) (scope-grouped-at t) scope-grouped.Post
 scope-grouped-slice-aggregate-write-scope-2 t c = let s = c .before .before .before .before .before .before .before .before .before .before .before .before .before .before .before .before .before .before .before .before .before .before .before .before .before .before .before .before .before .before .before in let a = s .args in sym (length-take-le _ _ (omega (arith, ends-short (rows-in (a .rows .now)) (a .fuel) (a .row) (a .tokens .now) (a .results) (a .first) (a .places .now) (a .held .now) (a .starts .now) (a .members .now) (a .ends .now) (s .pre .1 .0 .1) (s .pre .1 .1 .0 .0), c .before .before .before .before .before .before .before .before .before .before .before .before .before .before .walk .kept .1 .1 .1 .1 .1 .1 .1 .1 .1 .0)))
 
-scope-grouped-slice-aggregate-write-scope-3 :
-    (t : ℕ) → scope-grouped-lts.Need-slice-aggregate-write-scope-3 (
-      walk-below t,
-      walk.Post,
-      walk-refusal-reads.Asked,
-      walk-refusal-reads.Learnt,
-      write-scope-below t,
-      write-scope.Post,
-    ) (scope-grouped-at t) scope-grouped.Post
+scope-grouped-slice-aggregate-write-scope-3 : (t : ℕ) → scope-grouped-lts.Need-slice-aggregate-write-scope-3 (walk-below t, walk.Post, walk-refusal-reads.Asked, walk-refusal-reads.Learnt, write-scope-below t, write-scope.Post) (scope-grouped-at t) scope-grouped.Post
 scope-grouped-slice-aggregate-write-scope-3 t c = search needs
 
-scope-grouped-write-scope-requires : (t : ℕ) → scope-grouped-lts.Need-write-scope-requires (
-  walk-below t,
-  walk.Post,
-  walk-refusal-reads.Asked,
-  walk-refusal-reads.Learnt,
-  write-scope-below t,
-  write-scope.Post,
-) (scope-grouped-at t) scope-grouped.Post
+scope-grouped-write-scope-requires : (t : ℕ) → scope-grouped-lts.Need-write-scope-requires (walk-below t, walk.Post, walk-refusal-reads.Asked, walk-refusal-reads.Learnt, write-scope-below t, write-scope.Post) (scope-grouped-at t) scope-grouped.Post
 scope-grouped-write-scope-requires t c κs = let s = c .before .before .before .before .before .before .before .before .before .before .before .before .before .before .before .before .before .before .before .before .before .before .before .before .before .before .before .before .before .before .before .before .before .before in let a = s .args in (omega (arith, s .pre .0), ((lent-on (a .fuel) (a .work .now) (a .text .now) _ _ (s .pre .1 .0 .0) (c .before .before .before .before .before .before .before .before .before .before .before .before .before .before .before .before .before .walk .kept .1 .0) (c .before .before .before .before .before .before .before .before .before .before .before .before .before .before .before .before .before .walk .kept .1 .1 .1 .1 .1 .1 .1 .0), s .pre .1 .0 .1), ((prepared-so (rows-in (a .rows .now)) (a .fuel) (a .row) (a .tokens .now) (a .results) (a .first) (a .places .now) (a .held .now) (a .starts .now) (a .members .now) (a .ends .now) (s .pre .1 .0 .1) (s .pre .1 .1 .0 .0) (c .before .before .before .before .before .before .before .before .before .before .before .before .before .before .before .before .before .walk .result) _ _ _ _ (c .before .before .before .before .before .before .before .before .before .before .before .before .before .before .before .before .before .walk .ensures) _ _ (c .before .before .before .before .before .before .before .walked .given .1), numbered-so (rows-in (a .rows .now)) (a .fuel) (a .row) (a .tokens .now) (a .results) (a .first) (a .places .now) (a .held .now) (a .starts .now) (a .members .now) (a .ends .now) (s .pre .1 .0 .1) (s .pre .1 .1 .0 .0) (c .before .before .before .before .before .before .before .before .before .before .before .before .before .before .before .before .before .walk .result) _ _ _ _ (c .before .before .before .before .before .before .before .before .before .before .before .before .before .before .before .before .before .walk .ensures) _ _ (c .before .before .before .before .before .before .before .walked .given .1)), s .pre .1 .1 .1)))
 
-scope-grouped-same-length-4 : (t : ℕ) → scope-grouped-lts.Need-same-length-4 (
-  walk-below t,
-  walk.Post,
-  walk-refusal-reads.Asked,
-  walk-refusal-reads.Learnt,
-  write-scope-below t,
-  write-scope.Post,
-) (scope-grouped-at t) scope-grouped.Post
+scope-grouped-same-length-4 : (t : ℕ) → scope-grouped-lts.Need-same-length-4 (walk-below t, walk.Post, walk-refusal-reads.Asked, walk-refusal-reads.Learnt, write-scope-below t, write-scope.Post) (scope-grouped-at t) scope-grouped.Post
 scope-grouped-same-length-4 t c = search needs
 
-scope-grouped-same-length-5 : (t : ℕ) → scope-grouped-lts.Need-same-length-5 (
-  walk-below t,
-  walk.Post,
-  walk-refusal-reads.Asked,
-  walk-refusal-reads.Learnt,
-  write-scope-below t,
-  write-scope.Post,
-) (scope-grouped-at t) scope-grouped.Post
+scope-grouped-same-length-5 : (t : ℕ) → scope-grouped-lts.Need-same-length-5 (walk-below t, walk.Post, walk-refusal-reads.Asked, walk-refusal-reads.Learnt, write-scope-below t, write-scope.Post) (scope-grouped-at t) scope-grouped.Post
 scope-grouped-same-length-5 t c = search needs
 
-scope-grouped-same-length-6 : (t : ℕ) → scope-grouped-lts.Need-same-length-6 (
-  walk-below t,
-  walk.Post,
-  walk-refusal-reads.Asked,
-  walk-refusal-reads.Learnt,
-  write-scope-below t,
-  write-scope.Post,
-) (scope-grouped-at t) scope-grouped.Post
+scope-grouped-same-length-6 : (t : ℕ) → scope-grouped-lts.Need-same-length-6 (walk-below t, walk.Post, walk-refusal-reads.Asked, walk-refusal-reads.Learnt, write-scope-below t, write-scope.Post) (scope-grouped-at t) scope-grouped.Post
 scope-grouped-same-length-6 t c = search needs
 
-scope-grouped-same-length-7 : (t : ℕ) → scope-grouped-lts.Need-same-length-7 (
-  walk-below t,
-  walk.Post,
-  walk-refusal-reads.Asked,
-  walk-refusal-reads.Learnt,
-  write-scope-below t,
-  write-scope.Post,
-) (scope-grouped-at t) scope-grouped.Post
+scope-grouped-same-length-7 : (t : ℕ) → scope-grouped-lts.Need-same-length-7 (walk-below t, walk.Post, walk-refusal-reads.Asked, walk-refusal-reads.Learnt, write-scope-below t, write-scope.Post) (scope-grouped-at t) scope-grouped.Post
 scope-grouped-same-length-7 t c = search needs
 
-scope-grouped-returns-2 : (t : ℕ) → scope-grouped-lts.Need-returns-2 (
-  walk-below t,
-  walk.Post,
-  walk-refusal-reads.Asked,
-  walk-refusal-reads.Learnt,
-  write-scope-below t,
-  write-scope.Post,
-) (scope-grouped-at t) scope-grouped.Post
+scope-grouped-returns-2 : (t : ℕ) → scope-grouped-lts.Need-returns-2 (walk-below t, walk.Post, walk-refusal-reads.Asked, walk-refusal-reads.Learnt, write-scope-below t, write-scope.Post) (scope-grouped-at t) scope-grouped.Post
 scope-grouped-returns-2 t c = c .before .before .before .before .before .before .write-scope .ensures
 
-scope-held-slice-aggregate-list-trees : (t : ℕ) → scope-held-lts.Need-slice-aggregate-list-trees (
-  list-trees-reads.Asked,
-  list-trees-reads.Learnt,
-  group-all-reads.Asked,
-  group-all-reads.Learnt,
-  scope-grouped-below t,
-  scope-grouped.Post,
-) (scope-held-at t) scope-held.Post
+scope-held-slice-aggregate-list-trees : (t : ℕ) → scope-held-lts.Need-slice-aggregate-list-trees (list-trees-reads.Asked, list-trees-reads.Learnt, group-all-reads.Asked, group-all-reads.Learnt, scope-grouped-below t, scope-grouped.Post) (scope-held-at t) scope-held.Post
 scope-held-slice-aggregate-list-trees t c = search needs
 
-scope-held-list-trees-requires : (t : ℕ) → scope-held-lts.Need-list-trees-requires (
-  list-trees-reads.Asked,
-  list-trees-reads.Learnt,
-  group-all-reads.Asked,
-  group-all-reads.Learnt,
-  scope-grouped-below t,
-  scope-grouped.Post,
-) (scope-held-at t) scope-held.Post
+scope-held-list-trees-requires : (t : ℕ) → scope-held-lts.Need-list-trees-requires (list-trees-reads.Asked, list-trees-reads.Learnt, group-all-reads.Asked, group-all-reads.Learnt, scope-grouped-below t, scope-grouped.Post) (scope-held-at t) scope-held.Post
 scope-held-list-trees-requires t c κs = search needs
 
-scope-held-group-all-requires : (t : ℕ) → scope-held-lts.Need-group-all-requires (
-  list-trees-reads.Asked,
-  list-trees-reads.Learnt,
-  group-all-reads.Asked,
-  group-all-reads.Learnt,
-  scope-grouped-below t,
-  scope-grouped.Post,
-) (scope-held-at t) scope-held.Post
+scope-held-group-all-requires : (t : ℕ) → scope-held-lts.Need-group-all-requires (list-trees-reads.Asked, list-trees-reads.Learnt, group-all-reads.Asked, group-all-reads.Learnt, scope-grouped-below t, scope-grouped.Post) (scope-held-at t) scope-held.Post
 scope-held-group-all-requires t c κs = let s = c .before .before .before .before .before .before .before .before .before .before .before .before .before .before .before .before in let a = s .args in ((held-complete (rows-in (a .rows .now)) (a .tokens .now) (a .results) (a .first) (a .places .now) (s .pre .1 .0 .1) (a .held .now) (s .pre .1 .1 .0 .1) (s .pre .1 .1 .0 .2), s .pre .1 .1 .1 .0 .2), (s .pre .1 .1 .1 .0 .0, s .pre .1 .1 .1 .0 .1))
 
-scope-held-sub-if1 : (t : ℕ) → scope-held-lts.Need-sub-if1 (
-  list-trees-reads.Asked,
-  list-trees-reads.Learnt,
-  group-all-reads.Asked,
-  group-all-reads.Learnt,
-  scope-grouped-below t,
-  scope-grouped.Post,
-) (scope-held-at t) scope-held.Post
+scope-held-sub-if1 : (t : ℕ) → scope-held-lts.Need-sub-if1 (list-trees-reads.Asked, list-trees-reads.Learnt, group-all-reads.Asked, group-all-reads.Learnt, scope-grouped-below t, scope-grouped.Post) (scope-held-at t) scope-held.Post
 scope-held-sub-if1 t c = let s = c .before .before .before .before .before .before .before .before .before .before .before .before .before .before .before .before .before .before .before .before .before .before .before in let a = s .args in trees-enough (rows-in (a .rows .now)) (a .fuel) (a .row) (a .tokens .now) (a .results) (a .first) (a .places .now) (s .pre .1 .0 .1) (a .trees) (s .pre .1 .1 .0 .0)
 
-scope-held-add-if1 : (t : ℕ) → scope-held-lts.Need-add-if1 (
-  list-trees-reads.Asked,
-  list-trees-reads.Learnt,
-  group-all-reads.Asked,
-  group-all-reads.Learnt,
-  scope-grouped-below t,
-  scope-grouped.Post,
-) (scope-held-at t) scope-held.Post
+scope-held-add-if1 : (t : ℕ) → scope-held-lts.Need-add-if1 (list-trees-reads.Asked, list-trees-reads.Learnt, group-all-reads.Asked, group-all-reads.Learnt, scope-grouped-below t, scope-grouped.Post) (scope-held-at t) scope-held.Post
 scope-held-add-if1 t c = let s = c .before .before .before .before .before .before .before .before .before .before .before .before .before .before .before .before .before .before .before .before .before .before .before in let a = s .args in omega (arith, trees-few-here (rows-in (a .rows .now)) (a .fuel) (a .row) (a .tokens .now) (a .results) (a .first) (a .places .now) (s .pre .1 .0 .1) (a .trees) (s .pre .1 .1 .0 .0), places-short (rows-in (a .rows .now)) (a .fuel) (a .row) (a .tokens .now) (a .results) (a .first) (a .places .now) (s .pre .1 .0 .1) (a .trees) (s .pre .1 .1 .0 .0))
 
-scope-held-add-if1-2 : (t : ℕ) → scope-held-lts.Need-add-if1-2 (
-  list-trees-reads.Asked,
-  list-trees-reads.Learnt,
-  group-all-reads.Asked,
-  group-all-reads.Learnt,
-  scope-grouped-below t,
-  scope-grouped.Post,
-) (scope-held-at t) scope-held.Post
+scope-held-add-if1-2 : (t : ℕ) → scope-held-lts.Need-add-if1-2 (list-trees-reads.Asked, list-trees-reads.Learnt, group-all-reads.Asked, group-all-reads.Learnt, scope-grouped-below t, scope-grouped.Post) (scope-held-at t) scope-held.Post
 scope-held-add-if1-2 t c = let s = c .before .before .before .before .before .before .before .before .before .before .before .before .before .before .before .before .before .before .before .before .before .before .before in let a = s .args in omega (arith, trees-few-here (rows-in (a .rows .now)) (a .fuel) (a .row) (a .tokens .now) (a .results) (a .first) (a .places .now) (s .pre .1 .0 .1) (a .trees) (s .pre .1 .1 .0 .0), places-short (rows-in (a .rows .now)) (a .fuel) (a .row) (a .tokens .now) (a .results) (a .first) (a .places .now) (s .pre .1 .0 .1) (a .trees) (s .pre .1 .1 .0 .0), groups-short (rows-in (a .rows .now)) (a .tokens .now) (a .results) (a .first) (a .places .now) (s .pre .1 .0 .1) (a .held .now) (s .pre .1 .1 .0 .1) (s .pre .1 .1 .0 .2) _ _ _ _ (c .before .before .before .before .before .before .group-all .ensures))
 
-scope-held-same-length : (t : ℕ) → scope-held-lts.Need-same-length (
-  list-trees-reads.Asked,
-  list-trees-reads.Learnt,
-  group-all-reads.Asked,
-  group-all-reads.Learnt,
-  scope-grouped-below t,
-  scope-grouped.Post,
-) (scope-held-at t) scope-held.Post
+scope-held-same-length : (t : ℕ) → scope-held-lts.Need-same-length (list-trees-reads.Asked, list-trees-reads.Learnt, group-all-reads.Asked, group-all-reads.Learnt, scope-grouped-below t, scope-grouped.Post) (scope-held-at t) scope-held.Post
 scope-held-same-length t c = search needs
 
-scope-held-same-length-2 : (t : ℕ) → scope-held-lts.Need-same-length-2 (
-  list-trees-reads.Asked,
-  list-trees-reads.Learnt,
-  group-all-reads.Asked,
-  group-all-reads.Learnt,
-  scope-grouped-below t,
-  scope-grouped.Post,
-) (scope-held-at t) scope-held.Post
+scope-held-same-length-2 : (t : ℕ) → scope-held-lts.Need-same-length-2 (list-trees-reads.Asked, list-trees-reads.Learnt, group-all-reads.Asked, group-all-reads.Learnt, scope-grouped-below t, scope-grouped.Post) (scope-held-at t) scope-held.Post
 scope-held-same-length-2 t c = search needs
 
-scope-held-same-length-3 : (t : ℕ) → scope-held-lts.Need-same-length-3 (
-  list-trees-reads.Asked,
-  list-trees-reads.Learnt,
-  group-all-reads.Asked,
-  group-all-reads.Learnt,
-  scope-grouped-below t,
-  scope-grouped.Post,
-) (scope-held-at t) scope-held.Post
+scope-held-same-length-3 : (t : ℕ) → scope-held-lts.Need-same-length-3 (list-trees-reads.Asked, list-trees-reads.Learnt, group-all-reads.Asked, group-all-reads.Learnt, scope-grouped-below t, scope-grouped.Post) (scope-held-at t) scope-held.Post
 scope-held-same-length-3 t c = search needs
 
-scope-held-returns : (t : ℕ) → scope-held-lts.Need-returns (
-  list-trees-reads.Asked,
-  list-trees-reads.Learnt,
-  group-all-reads.Asked,
-  group-all-reads.Learnt,
-  scope-grouped-below t,
-  scope-grouped.Post,
-) (scope-held-at t) scope-held.Post
+scope-held-returns : (t : ℕ) → scope-held-lts.Need-returns (list-trees-reads.Asked, list-trees-reads.Learnt, group-all-reads.Asked, group-all-reads.Learnt, scope-grouped-below t, scope-grouped.Post) (scope-held-at t) scope-held.Post
 scope-held-returns t c = let s = c .before .before .before .before .before .before .before .before .before .before .before .before .before .before .before .before .before .before .before .before .before .before .before .before in let a = s .args in too-many-stmts (rows-in (a .rows .now)) (a .fuel) (a .row) (a .tokens .now) (a .results) (a .first) (a .places .now) (a .trees) (s .pre .1 .1 .0 .0) (a .held .now) (s .pre .1 .1 .0 .1) _ _ _ _ (c .before .before .before .before .before .before .before .group-all .ensures) (omega (arith, c .if1 .taken)) (a .at) (a .table .now)
 
-scope-held-array-share-prefix-starts : (t : ℕ) → scope-held-lts.Need-array-share-prefix-starts (
-  list-trees-reads.Asked,
-  list-trees-reads.Learnt,
-  group-all-reads.Asked,
-  group-all-reads.Learnt,
-  scope-grouped-below t,
-  scope-grouped.Post,
-) (scope-held-at t) scope-held.Post
+scope-held-array-share-prefix-starts : (t : ℕ) → scope-held-lts.Need-array-share-prefix-starts (list-trees-reads.Asked, list-trees-reads.Learnt, group-all-reads.Asked, group-all-reads.Learnt, scope-grouped-below t, scope-grouped.Post) (scope-held-at t) scope-held.Post
 scope-held-array-share-prefix-starts t c = let s = c .before .before .before .before .before .before .before .before .before .before .before .before .before .before .before .before .before .before .before .before .before .before .before .before .before in let a = s .args in omega (arith, trees-short (rows-in (a .rows .now)) (a .tokens .now) (a .results) (a .first) (a .places .now) (s .pre .1 .0 .1) (a .held .now) (s .pre .1 .1 .0 .1) (s .pre .1 .1 .0 .2) (a .trees) (s .pre .1 .1 .0 .0), c .before .before .before .before .before .before .before .before .before .before .before .before .before .list-trees .kept .1 .0)
 
-scope-held-slice-aggregate-scope-grouped :
-    (t : ℕ) → scope-held-lts.Need-slice-aggregate-scope-grouped (
-      list-trees-reads.Asked,
-      list-trees-reads.Learnt,
-      group-all-reads.Asked,
-      group-all-reads.Learnt,
-      scope-grouped-below t,
-      scope-grouped.Post,
-    ) (scope-held-at t) scope-held.Post
+scope-held-slice-aggregate-scope-grouped : (t : ℕ) → scope-held-lts.Need-slice-aggregate-scope-grouped (list-trees-reads.Asked, list-trees-reads.Learnt, group-all-reads.Asked, group-all-reads.Learnt, scope-grouped-below t, scope-grouped.Post) (scope-held-at t) scope-held.Post
 scope-held-slice-aggregate-scope-grouped t c = let s = c .before .before .before .before .before .before .before .before .before .before .before .before .before .before .before .before .before .before .before .before .before .before .before .before .before .before in let a = s .args in sym (length-take-le _ _ (omega (arith, trees-short (rows-in (a .rows .now)) (a .tokens .now) (a .results) (a .first) (a .places .now) (s .pre .1 .0 .1) (a .held .now) (s .pre .1 .1 .0 .1) (s .pre .1 .1 .0 .2) (a .trees) (s .pre .1 .1 .0 .0), c .before .before .before .before .before .before .before .before .before .before .before .before .before .before .list-trees .kept .1 .0)))
 
-scope-held-slice-reshare-prefix-scope-grouped :
-    (t : ℕ) → scope-held-lts.Need-slice-reshare-prefix-scope-grouped (
-      list-trees-reads.Asked,
-      list-trees-reads.Learnt,
-      group-all-reads.Asked,
-      group-all-reads.Learnt,
-      scope-grouped-below t,
-      scope-grouped.Post,
-    ) (scope-held-at t) scope-held.Post
+scope-held-slice-reshare-prefix-scope-grouped : (t : ℕ) → scope-held-lts.Need-slice-reshare-prefix-scope-grouped (list-trees-reads.Asked, list-trees-reads.Learnt, group-all-reads.Asked, group-all-reads.Learnt, scope-grouped-below t, scope-grouped.Post) (scope-held-at t) scope-held.Post
 scope-held-slice-reshare-prefix-scope-grouped t c = c .before .before .before .before .before .before .before .before .before .group-all .ensures .members-in
 
-scope-held-slice-aggregate-scope-grouped-2 :
-    (t : ℕ) → scope-held-lts.Need-slice-aggregate-scope-grouped-2 (
-      list-trees-reads.Asked,
-      list-trees-reads.Learnt,
-      group-all-reads.Asked,
-      group-all-reads.Learnt,
-      scope-grouped-below t,
-      scope-grouped.Post,
-    ) (scope-held-at t) scope-held.Post
+scope-held-slice-aggregate-scope-grouped-2 : (t : ℕ) → scope-held-lts.Need-slice-aggregate-scope-grouped-2 (list-trees-reads.Asked, list-trees-reads.Learnt, group-all-reads.Asked, group-all-reads.Learnt, scope-grouped-below t, scope-grouped.Post) (scope-held-at t) scope-held.Post
 scope-held-slice-aggregate-scope-grouped-2 t c = sym (length-take-le _ _ (c .before .before .before .before .before .before .before .before .before .before .group-all .ensures .members-in))
 
-scope-held-slice-reshare-prefix-scope-grouped-2 :
-    (t : ℕ) → scope-held-lts.Need-slice-reshare-prefix-scope-grouped-2 (
-      list-trees-reads.Asked,
-      list-trees-reads.Learnt,
-      group-all-reads.Asked,
-      group-all-reads.Learnt,
-      scope-grouped-below t,
-      scope-grouped.Post,
-    ) (scope-held-at t) scope-held.Post
+scope-held-slice-reshare-prefix-scope-grouped-2 : (t : ℕ) → scope-held-lts.Need-slice-reshare-prefix-scope-grouped-2 (list-trees-reads.Asked, list-trees-reads.Learnt, group-all-reads.Asked, group-all-reads.Learnt, scope-grouped-below t, scope-grouped.Post) (scope-held-at t) scope-held.Post
 scope-held-slice-reshare-prefix-scope-grouped-2 t c = c .before .before .before .before .before .before .before .before .before .before .group-all .ensures .ends-in
 
-scope-held-slice-aggregate-scope-grouped-3 :
-    (t : ℕ) → scope-held-lts.Need-slice-aggregate-scope-grouped-3 (
-      list-trees-reads.Asked,
-      list-trees-reads.Learnt,
-      group-all-reads.Asked,
-      group-all-reads.Learnt,
-      scope-grouped-below t,
-      scope-grouped.Post,
-    ) (scope-held-at t) scope-held.Post
+scope-held-slice-aggregate-scope-grouped-3 : (t : ℕ) → scope-held-lts.Need-slice-aggregate-scope-grouped-3 (list-trees-reads.Asked, list-trees-reads.Learnt, group-all-reads.Asked, group-all-reads.Learnt, scope-grouped-below t, scope-grouped.Post) (scope-held-at t) scope-held.Post
 scope-held-slice-aggregate-scope-grouped-3 t c = sym (length-take-le _ _ (c .before .before .before .before .before .before .before .before .before .before .before .group-all .ensures .ends-in))
 
-scope-held-scope-grouped-requires : (t : ℕ) → scope-held-lts.Need-scope-grouped-requires (
-  list-trees-reads.Asked,
-  list-trees-reads.Learnt,
-  group-all-reads.Asked,
-  group-all-reads.Learnt,
-  scope-grouped-below t,
-  scope-grouped.Post,
-) (scope-held-at t) scope-held.Post
+scope-held-scope-grouped-requires : (t : ℕ) → scope-held-lts.Need-scope-grouped-requires (list-trees-reads.Asked, list-trees-reads.Learnt, group-all-reads.Asked, group-all-reads.Learnt, scope-grouped-below t, scope-grouped.Post) (scope-held-at t) scope-held.Post
 scope-held-scope-grouped-requires t c κs = let s = c .before .before .before .before .before .before .before .before .before .before .before .before .before .before .before .before .before .before .before .before .before .before .before .before .before .before .before .before .before .before .before in let a = s .args in (omega (arith, s .pre .0), ((s .pre .1 .0 .0, left-holds (rows-in (a .rows .now)) (a .tokens .now) (a .results) (a .first) (a .places .now) (s .pre .1 .0 .1) (a .held .now) (s .pre .1 .1 .0 .1) (s .pre .1 .1 .0 .2)), ((ready-so (rows-in (a .rows .now)) (a .tokens .now) (a .results) (a .first) (a .places .now) (s .pre .1 .0 .1) (a .held .now) (s .pre .1 .1 .0 .1) (s .pre .1 .1 .0 .2) (a .trees) (s .pre .1 .1 .0 .0) _ _ refl (c .before .before .before .before .before .before .before .before .before .before .before .before .before .before .before .before .before .before .before .list-trees .ensures .1) _ _ _ _ (c .before .before .before .before .before .before .before .before .before .before .before .before .before .before .group-all .ensures) (omega (arith, c .before .before .before .before .before .before .before .if1 .left)), omega (arith, members-short (rows-in (a .rows .now)) (a .tokens .now) (a .results) (a .first) (a .places .now) (s .pre .1 .0 .1) (a .held .now) (s .pre .1 .1 .0 .1) (s .pre .1 .1 .0 .2) _ _ _ _ (c .before .before .before .before .before .before .before .before .before .before .before .before .before .before .group-all .ensures), s .pre .1 .1 .1 .0 .2, c .before .before .before .before .before .before .before .before .before .before .before .before .before .before .group-all .kept .1 .0)), subst (λ o. a .at + told-rows o ≤ most-rows) (outcome-is (rows-in (a .rows .now)) (a .fuel) (a .row) (a .tokens .now) (a .results) (a .first) (a .places .now) (a .trees) (s .pre .1 .1 .0 .0) (a .held .now) (s .pre .1 .1 .0 .1) _ _ _ _ (c .before .before .before .before .before .before .before .before .before .before .before .before .before .before .group-all .ensures) (s .pre .1 .1 .0 .2) (omega (arith, c .before .before .before .before .before .before .before .if1 .left))) (s .pre .1 .1 .1 .1))))
 
-scope-held-same-length-4 : (t : ℕ) → scope-held-lts.Need-same-length-4 (
-  list-trees-reads.Asked,
-  list-trees-reads.Learnt,
-  group-all-reads.Asked,
-  group-all-reads.Learnt,
-  scope-grouped-below t,
-  scope-grouped.Post,
-) (scope-held-at t) scope-held.Post
+scope-held-same-length-4 : (t : ℕ) → scope-held-lts.Need-same-length-4 (list-trees-reads.Asked, list-trees-reads.Learnt, group-all-reads.Asked, group-all-reads.Learnt, scope-grouped-below t, scope-grouped.Post) (scope-held-at t) scope-held.Post
 scope-held-same-length-4 t c = search needs
 
-scope-held-same-length-5 : (t : ℕ) → scope-held-lts.Need-same-length-5 (
-  list-trees-reads.Asked,
-  list-trees-reads.Learnt,
-  group-all-reads.Asked,
-  group-all-reads.Learnt,
-  scope-grouped-below t,
-  scope-grouped.Post,
-) (scope-held-at t) scope-held.Post
+scope-held-same-length-5 : (t : ℕ) → scope-held-lts.Need-same-length-5 (list-trees-reads.Asked, list-trees-reads.Learnt, group-all-reads.Asked, group-all-reads.Learnt, scope-grouped-below t, scope-grouped.Post) (scope-held-at t) scope-held.Post
 scope-held-same-length-5 t c = search needs
 
-scope-held-same-length-6 : (t : ℕ) → scope-held-lts.Need-same-length-6 (
-  list-trees-reads.Asked,
-  list-trees-reads.Learnt,
-  group-all-reads.Asked,
-  group-all-reads.Learnt,
-  scope-grouped-below t,
-  scope-grouped.Post,
-) (scope-held-at t) scope-held.Post
+scope-held-same-length-6 : (t : ℕ) → scope-held-lts.Need-same-length-6 (list-trees-reads.Asked, list-trees-reads.Learnt, group-all-reads.Asked, group-all-reads.Learnt, scope-grouped-below t, scope-grouped.Post) (scope-held-at t) scope-held.Post
 scope-held-same-length-6 t c = search needs
 
-scope-held-same-length-7 : (t : ℕ) → scope-held-lts.Need-same-length-7 (
-  list-trees-reads.Asked,
-  list-trees-reads.Learnt,
-  group-all-reads.Asked,
-  group-all-reads.Learnt,
-  scope-grouped-below t,
-  scope-grouped.Post,
-) (scope-held-at t) scope-held.Post
+scope-held-same-length-7 : (t : ℕ) → scope-held-lts.Need-same-length-7 (list-trees-reads.Asked, list-trees-reads.Learnt, group-all-reads.Asked, group-all-reads.Learnt, scope-grouped-below t, scope-grouped.Post) (scope-held-at t) scope-held.Post
 scope-held-same-length-7 t c = search needs
 
-scope-held-same-length-8 : (t : ℕ) → scope-held-lts.Need-same-length-8 (
-  list-trees-reads.Asked,
-  list-trees-reads.Learnt,
-  group-all-reads.Asked,
-  group-all-reads.Learnt,
-  scope-grouped-below t,
-  scope-grouped.Post,
-) (scope-held-at t) scope-held.Post
+scope-held-same-length-8 : (t : ℕ) → scope-held-lts.Need-same-length-8 (list-trees-reads.Asked, list-trees-reads.Learnt, group-all-reads.Asked, group-all-reads.Learnt, scope-grouped-below t, scope-grouped.Post) (scope-held-at t) scope-held.Post
 scope-held-same-length-8 t c = search needs
 
-scope-held-same-length-9 : (t : ℕ) → scope-held-lts.Need-same-length-9 (
-  list-trees-reads.Asked,
-  list-trees-reads.Learnt,
-  group-all-reads.Asked,
-  group-all-reads.Learnt,
-  scope-grouped-below t,
-  scope-grouped.Post,
-) (scope-held-at t) scope-held.Post
+scope-held-same-length-9 : (t : ℕ) → scope-held-lts.Need-same-length-9 (list-trees-reads.Asked, list-trees-reads.Learnt, group-all-reads.Asked, group-all-reads.Learnt, scope-grouped-below t, scope-grouped.Post) (scope-held-at t) scope-held.Post
 scope-held-same-length-9 t c = search needs
 
-scope-held-returns-2 : (t : ℕ) → scope-held-lts.Need-returns-2 (
-  list-trees-reads.Asked,
-  list-trees-reads.Learnt,
-  group-all-reads.Asked,
-  group-all-reads.Learnt,
-  scope-grouped-below t,
-  scope-grouped.Post,
-) (scope-held-at t) scope-held.Post
+scope-held-returns-2 : (t : ℕ) → scope-held-lts.Need-returns-2 (list-trees-reads.Asked, list-trees-reads.Learnt, group-all-reads.Asked, group-all-reads.Learnt, scope-grouped-below t, scope-grouped.Post) (scope-held-at t) scope-held.Post
 scope-held-returns-2 t c = let s = c .before .before .before .before .before .before .before .before .before .before .before .before .before .before .before .before .before .before .before .before .before .before .before .before .before .before .before .before .before .before .before .before .before .before .before .before .before .before .before .before in let a = s .args in done-as _ _ (outcome-is (rows-in (a .rows .now)) (a .fuel) (a .row) (a .tokens .now) (a .results) (a .first) (a .places .now) (a .trees) (s .pre .1 .1 .0 .0) (a .held .now) (s .pre .1 .1 .0 .1) _ _ _ _ (c .before .before .before .before .before .before .before .before .before .before .before .before .before .before .before .before .before .before .before .before .before .before .before .group-all .ensures) (s .pre .1 .1 .0 .2) (omega (arith, c .before .before .before .before .before .before .before .before .before .before .before .before .before .before .before .before .if1 .left))) (a .at) (a .table .now) _ _ (c .before .before .before .before .before .before .before .before .scope-grouped .ensures)
 
-scope-large-sub-number : (t : ℕ) → scope-large-lts.Need-sub-number (
-  hold-all-reads.Asked,
-  hold-all-reads.Learnt,
-  scope-held-below t,
-  scope-held.Post,
-) (scope-large-at t) scope-large.Post
+scope-large-sub-number : (t : ℕ) → scope-large-lts.Need-sub-number (hold-all-reads.Asked, hold-all-reads.Learnt, scope-held-below t, scope-held.Post) (scope-large-at t) scope-large.Post
 scope-large-sub-number t c = let s = c .before .before .before .before .before .before in let a = s .args in trees-enough (rows-in (a .rows .now)) (a .fuel) (a .row) (a .tokens .now) (a .results) (a .first) (a .places .now) (s .pre .1 .0 .1) (a .trees) (s .pre .1 .1 .0)
 
-scope-large-add-number : (t : ℕ) → scope-large-lts.Need-add-number (
-  hold-all-reads.Asked,
-  hold-all-reads.Learnt,
-  scope-held-below t,
-  scope-held.Post,
-) (scope-large-at t) scope-large.Post
+scope-large-add-number : (t : ℕ) → scope-large-lts.Need-add-number (hold-all-reads.Asked, hold-all-reads.Learnt, scope-held-below t, scope-held.Post) (scope-large-at t) scope-large.Post
 scope-large-add-number t c = let s = c .before .before .before .before .before .before in let a = s .args in omega (arith, trees-few-here (rows-in (a .rows .now)) (a .fuel) (a .row) (a .tokens .now) (a .results) (a .first) (a .places .now) (s .pre .1 .0 .1) (a .trees) (s .pre .1 .1 .0), s .pre .1 .0 .1 .low)
 
-scope-large-slice-aggregate-hold-all : (t : ℕ) → scope-large-lts.Need-slice-aggregate-hold-all (
-  hold-all-reads.Asked,
-  hold-all-reads.Learnt,
-  scope-held-below t,
-  scope-held.Post,
-) (scope-large-at t) scope-large.Post
+scope-large-slice-aggregate-hold-all : (t : ℕ) → scope-large-lts.Need-slice-aggregate-hold-all (hold-all-reads.Asked, hold-all-reads.Learnt, scope-held-below t, scope-held.Post) (scope-large-at t) scope-large.Post
 scope-large-slice-aggregate-hold-all t c = search needs
 
-scope-large-hold-all-requires : (t : ℕ) → scope-large-lts.Need-hold-all-requires (
-  hold-all-reads.Asked,
-  hold-all-reads.Learnt,
-  scope-held-below t,
-  scope-held.Post,
-) (scope-large-at t) scope-large.Post
+scope-large-hold-all-requires : (t : ℕ) → scope-large-lts.Need-hold-all-requires (hold-all-reads.Asked, hold-all-reads.Learnt, scope-held-below t, scope-held.Post) (scope-large-at t) scope-large.Post
 scope-large-hold-all-requires t c κs = let s = c .before .before .before .before .before .before .before in let a = s .args in ((words-whole (rows-in (a .rows .now)) (a .fuel) (a .row) (a .tokens .now) (a .results) (a .first) (a .places .now) (s .pre .1 .0 .1) (a .trees) (s .pre .1 .1 .0), left-there (rows-in (a .rows .now)) (a .tokens .now) (a .results) (a .first) (a .places .now) (s .pre .1 .0 .1)), (s .pre .1 .0 .1 .few, places-short (rows-in (a .rows .now)) (a .fuel) (a .row) (a .tokens .now) (a .results) (a .first) (a .places .now) (s .pre .1 .0 .1) (a .trees) (s .pre .1 .1 .0), omega (arith, trees-few-here (rows-in (a .rows .now)) (a .fuel) (a .row) (a .tokens .now) (a .results) (a .first) (a .places .now) (s .pre .1 .0 .1) (a .trees) (s .pre .1 .1 .0), s .pre .1 .0 .1 .low), omega arith))
 
-scope-large-enum-known-holding : (t : ℕ) → scope-large-lts.Need-enum-known-holding (
-  hold-all-reads.Asked,
-  hold-all-reads.Learnt,
-  scope-held-below t,
-  scope-held.Post,
-) (scope-large-at t) scope-large.Post
+scope-large-enum-known-holding : (t : ℕ) → scope-large-lts.Need-enum-known-holding (hold-all-reads.Asked, hold-all-reads.Learnt, scope-held-below t, scope-held.Post) (scope-large-at t) scope-large.Post
 scope-large-enum-known-holding t c = search needs
 
-scope-large-enum-told : (t : ℕ) → scope-large-lts.Need-enum-told (
-  hold-all-reads.Asked,
-  hold-all-reads.Learnt,
-  scope-held-below t,
-  scope-held.Post,
-) (scope-large-at t) scope-large.Post
+scope-large-enum-told : (t : ℕ) → scope-large-lts.Need-enum-told (hold-all-reads.Asked, hold-all-reads.Learnt, scope-held-below t, scope-held.Post) (scope-large-at t) scope-large.Post
 scope-large-enum-told t c = search needs
 
-scope-large-returns : (t : ℕ) → scope-large-lts.Need-returns (
-  hold-all-reads.Asked,
-  hold-all-reads.Learnt,
-  scope-held-below t,
-  scope-held.Post,
-) (scope-large-at t) scope-large.Post
+scope-large-returns : (t : ℕ) → scope-large-lts.Need-returns (hold-all-reads.Asked, hold-all-reads.Learnt, scope-held-below t, scope-held.Post) (scope-large-at t) scope-large.Post
 scope-large-returns t c = let s = c .before .before .before .before .before .before .before .before .before .before .before in let a = s .args in too-many (rows-in (a .rows .now)) (a .fuel) (a .row) (a .tokens .now) (a .results) (a .first) (a .places .now) (s .pre .1 .0 .1) (a .trees) (s .pre .1 .1 .0) (c .before .before .before .hold-all .result) _ (c .before .before .before .hold-all .ensures) (c .enum-told .given .1) (omega (arith, c .before .before .before .hold-all .kept .1 .1 .1 .0)) (a .at) (a .table .now)
 
-scope-large-array-share-prefix-held : (t : ℕ) → scope-large-lts.Need-array-share-prefix-held (
-  hold-all-reads.Asked,
-  hold-all-reads.Learnt,
-  scope-held-below t,
-  scope-held.Post,
-) (scope-large-at t) scope-large.Post
+scope-large-array-share-prefix-held : (t : ℕ) → scope-large-lts.Need-array-share-prefix-held (hold-all-reads.Asked, hold-all-reads.Learnt, scope-held-below t, scope-held.Post) (scope-large-at t) scope-large.Post
 scope-large-array-share-prefix-held t c = let s = c .before .before .before .before .before .before .before .before .before .before .before .before .before in let a = s .args in held-in (rows-in (a .rows .now)) (a .fuel) (a .row) (a .tokens .now) (a .results) (a .first) (a .places .now) (s .pre .1 .0 .1) (a .trees) (s .pre .1 .1 .0) (c .before .before .before .before .before .hold-all .result) _ (c .before .before .before .before .before .hold-all .ensures) _ (c .before .before .holding .given .1)
 
-scope-large-slice-aggregate-scope-held : (t : ℕ) → scope-large-lts.Need-slice-aggregate-scope-held (
-  hold-all-reads.Asked,
-  hold-all-reads.Learnt,
-  scope-held-below t,
-  scope-held.Post,
-) (scope-large-at t) scope-large.Post
+scope-large-slice-aggregate-scope-held : (t : ℕ) → scope-large-lts.Need-slice-aggregate-scope-held (hold-all-reads.Asked, hold-all-reads.Learnt, scope-held-below t, scope-held.Post) (scope-large-at t) scope-large.Post
 scope-large-slice-aggregate-scope-held t c = let s = c .before .before .before .before .before .before .before .before .before .before .before .before .before .before in let a = s .args in sym (length-take-le _ _ (held-in (rows-in (a .rows .now)) (a .fuel) (a .row) (a .tokens .now) (a .results) (a .first) (a .places .now) (s .pre .1 .0 .1) (a .trees) (s .pre .1 .1 .0) (c .before .before .before .before .before .before .hold-all .result) _ (c .before .before .before .before .before .before .hold-all .ensures) _ (c .before .before .before .holding .given .1)))
 
-scope-large-slice-aggregate-scope-held-2 :
-    (t : ℕ) → scope-large-lts.Need-slice-aggregate-scope-held-2 (
-      hold-all-reads.Asked,
-      hold-all-reads.Learnt,
-      scope-held-below t,
-      scope-held.Post,
-    ) (scope-large-at t) scope-large.Post
+scope-large-slice-aggregate-scope-held-2 : (t : ℕ) → scope-large-lts.Need-slice-aggregate-scope-held-2 (hold-all-reads.Asked, hold-all-reads.Learnt, scope-held-below t, scope-held.Post) (scope-large-at t) scope-large.Post
 scope-large-slice-aggregate-scope-held-2 t c = search needs
 
-scope-large-slice-aggregate-scope-held-3 :
-    (t : ℕ) → scope-large-lts.Need-slice-aggregate-scope-held-3 (
-      hold-all-reads.Asked,
-      hold-all-reads.Learnt,
-      scope-held-below t,
-      scope-held.Post,
-    ) (scope-large-at t) scope-large.Post
+scope-large-slice-aggregate-scope-held-3 : (t : ℕ) → scope-large-lts.Need-slice-aggregate-scope-held-3 (hold-all-reads.Asked, hold-all-reads.Learnt, scope-held-below t, scope-held.Post) (scope-large-at t) scope-large.Post
 scope-large-slice-aggregate-scope-held-3 t c = search needs
 
-scope-large-slice-aggregate-scope-held-4 :
-    (t : ℕ) → scope-large-lts.Need-slice-aggregate-scope-held-4 (
-      hold-all-reads.Asked,
-      hold-all-reads.Learnt,
-      scope-held-below t,
-      scope-held.Post,
-    ) (scope-large-at t) scope-large.Post
+scope-large-slice-aggregate-scope-held-4 : (t : ℕ) → scope-large-lts.Need-slice-aggregate-scope-held-4 (hold-all-reads.Asked, hold-all-reads.Learnt, scope-held-below t, scope-held.Post) (scope-large-at t) scope-large.Post
 scope-large-slice-aggregate-scope-held-4 t c = search needs
 
-scope-large-scope-held-requires : (t : ℕ) → scope-large-lts.Need-scope-held-requires (
-  hold-all-reads.Asked,
-  hold-all-reads.Learnt,
-  scope-held-below t,
-  scope-held.Post,
-) (scope-large-at t) scope-large.Post
+scope-large-scope-held-requires : (t : ℕ) → scope-large-lts.Need-scope-held-requires (hold-all-reads.Asked, hold-all-reads.Learnt, scope-held-below t, scope-held.Post) (scope-large-at t) scope-large.Post
 scope-large-scope-held-requires t c κs = let s = c .before .before .before .before .before .before .before .before .before .before .before .before .before .before .before .before .before .before .before in let a = s .args in (omega (arith, s .pre .0), (s .pre .1 .0, ((s .pre .1 .1 .0, held-are (rows-in (a .rows .now)) (a .fuel) (a .row) (a .tokens .now) (a .results) (a .first) (a .places .now) (s .pre .1 .0 .1) (a .trees) (s .pre .1 .1 .0) (c .before .before .before .before .before .before .before .before .before .before .before .hold-all .result) _ (c .before .before .before .before .before .before .before .before .before .before .before .hold-all .ensures) _ (c .before .before .before .before .before .before .before .before .holding .given .1), omega (arith, held-short (rows-in (a .rows .now)) (a .fuel) (a .row) (a .tokens .now) (a .results) (a .first) (a .places .now) (s .pre .1 .0 .1) (a .trees) (s .pre .1 .1 .0) (c .before .before .before .before .before .before .before .before .before .before .before .hold-all .result) _ (c .before .before .before .before .before .before .before .before .before .before .before .hold-all .ensures) _ (c .before .before .before .before .before .before .before .before .holding .given .1), c .before .before .before .before .before .before .before .before .before .before .before .hold-all .kept .1 .1 .1 .0)), ((omega (arith, held-short (rows-in (a .rows .now)) (a .fuel) (a .row) (a .tokens .now) (a .results) (a .first) (a .places .now) (s .pre .1 .0 .1) (a .trees) (s .pre .1 .1 .0) (c .before .before .before .before .before .before .before .before .before .before .before .hold-all .result) _ (c .before .before .before .before .before .before .before .before .before .before .before .hold-all .ensures) _ (c .before .before .before .before .before .before .before .before .holding .given .1), c .before .before .before .before .before .before .before .before .before .before .before .hold-all .kept .1 .1 .1 .0), omega (arith, held-short (rows-in (a .rows .now)) (a .fuel) (a .row) (a .tokens .now) (a .results) (a .first) (a .places .now) (s .pre .1 .0 .1) (a .trees) (s .pre .1 .1 .0) (c .before .before .before .before .before .before .before .before .before .before .before .hold-all .result) _ (c .before .before .before .before .before .before .before .before .before .before .before .hold-all .ensures) _ (c .before .before .before .before .before .before .before .before .holding .given .1), c .before .before .before .before .before .before .before .before .before .before .before .hold-all .kept .1 .1 .1 .0), omega (arith, held-short (rows-in (a .rows .now)) (a .fuel) (a .row) (a .tokens .now) (a .results) (a .first) (a .places .now) (s .pre .1 .0 .1) (a .trees) (s .pre .1 .1 .0) (c .before .before .before .before .before .before .before .before .before .before .before .hold-all .result) _ (c .before .before .before .before .before .before .before .before .before .before .before .hold-all .ensures) _ (c .before .before .before .before .before .before .before .before .holding .given .1), c .before .before .before .before .before .before .before .before .before .before .before .hold-all .kept .1 .1 .1 .0)), s .pre .1 .1 .1))))
 
-scope-large-same-length : (t : ℕ) → scope-large-lts.Need-same-length (
-  hold-all-reads.Asked,
-  hold-all-reads.Learnt,
-  scope-held-below t,
-  scope-held.Post,
-) (scope-large-at t) scope-large.Post
+scope-large-same-length : (t : ℕ) → scope-large-lts.Need-same-length (hold-all-reads.Asked, hold-all-reads.Learnt, scope-held-below t, scope-held.Post) (scope-large-at t) scope-large.Post
 scope-large-same-length t c = search needs
 
-scope-large-same-length-2 : (t : ℕ) → scope-large-lts.Need-same-length-2 (
-  hold-all-reads.Asked,
-  hold-all-reads.Learnt,
-  scope-held-below t,
-  scope-held.Post,
-) (scope-large-at t) scope-large.Post
+scope-large-same-length-2 : (t : ℕ) → scope-large-lts.Need-same-length-2 (hold-all-reads.Asked, hold-all-reads.Learnt, scope-held-below t, scope-held.Post) (scope-large-at t) scope-large.Post
 scope-large-same-length-2 t c = search needs
 
-scope-large-same-length-3 : (t : ℕ) → scope-large-lts.Need-same-length-3 (
-  hold-all-reads.Asked,
-  hold-all-reads.Learnt,
-  scope-held-below t,
-  scope-held.Post,
-) (scope-large-at t) scope-large.Post
+scope-large-same-length-3 : (t : ℕ) → scope-large-lts.Need-same-length-3 (hold-all-reads.Asked, hold-all-reads.Learnt, scope-held-below t, scope-held.Post) (scope-large-at t) scope-large.Post
 scope-large-same-length-3 t c = search needs
 
-scope-large-returns-2 : (t : ℕ) → scope-large-lts.Need-returns-2 (
-  hold-all-reads.Asked,
-  hold-all-reads.Learnt,
-  scope-held-below t,
-  scope-held.Post,
-) (scope-large-at t) scope-large.Post
+scope-large-returns-2 : (t : ℕ) → scope-large-lts.Need-returns-2 (hold-all-reads.Asked, hold-all-reads.Learnt, scope-held-below t, scope-held.Post) (scope-large-at t) scope-large.Post
 scope-large-returns-2 t c = c .before .before .before .before .before .before .before .before .before .scope-held .ensures
 
-scope-listed-slice-reshare-prefix-put : (t : ℕ) → scope-listed-lts.Need-slice-reshare-prefix-put (
-  put-reads.Asked,
-  put-reads.Learnt,
-  tree-count-reads.Asked,
-  tree-count-reads.Learnt,
-  scope-small-below t,
-  scope-small.Post,
-) (scope-listed-at t) scope-listed.Post
+scope-listed-slice-reshare-prefix-put : (t : ℕ) → scope-listed-lts.Need-slice-reshare-prefix-put (put-reads.Asked, put-reads.Learnt, tree-count-reads.Asked, tree-count-reads.Learnt, scope-small-below t, scope-small.Post) (scope-listed-at t) scope-listed.Post
 scope-listed-slice-reshare-prefix-put t c = let s = c .before .before .before .before .before in s .pre .1 .0 .1
 
-scope-listed-slice-aggregate-put : (t : ℕ) → scope-listed-lts.Need-slice-aggregate-put (
-  put-reads.Asked,
-  put-reads.Learnt,
-  tree-count-reads.Asked,
-  tree-count-reads.Learnt,
-  scope-small-below t,
-  scope-small.Post,
-) (scope-listed-at t) scope-listed.Post
+scope-listed-slice-aggregate-put : (t : ℕ) → scope-listed-lts.Need-slice-aggregate-put (put-reads.Asked, put-reads.Learnt, tree-count-reads.Asked, tree-count-reads.Learnt, scope-small-below t, scope-small.Post) (scope-listed-at t) scope-listed.Post
 scope-listed-slice-aggregate-put t c = let s = c .before .before .before .before .before .before in sym (length-take-le _ _ (s .pre .1 .0 .1))
 
-scope-listed-slice-aggregate-put-2 : (t : ℕ) → scope-listed-lts.Need-slice-aggregate-put-2 (
-  put-reads.Asked,
-  put-reads.Learnt,
-  tree-count-reads.Asked,
-  tree-count-reads.Learnt,
-  scope-small-below t,
-  scope-small.Post,
-) (scope-listed-at t) scope-listed.Post
+scope-listed-slice-aggregate-put-2 : (t : ℕ) → scope-listed-lts.Need-slice-aggregate-put-2 (put-reads.Asked, put-reads.Learnt, tree-count-reads.Asked, tree-count-reads.Learnt, scope-small-below t, scope-small.Post) (scope-listed-at t) scope-listed.Post
 scope-listed-slice-aggregate-put-2 t c = search needs
 
-scope-listed-put-requires : (t : ℕ) → scope-listed-lts.Need-put-requires (
-  put-reads.Asked,
-  put-reads.Learnt,
-  tree-count-reads.Asked,
-  tree-count-reads.Learnt,
-  scope-small-below t,
-  scope-small.Post,
-) (scope-listed-at t) scope-listed.Post
+scope-listed-put-requires : (t : ℕ) → scope-listed-lts.Need-put-requires (put-reads.Asked, put-reads.Learnt, tree-count-reads.Asked, tree-count-reads.Learnt, scope-small-below t, scope-small.Post) (scope-listed-at t) scope-listed.Post
 scope-listed-put-requires t c κs = search needs
 
-scope-listed-array-share-prefix-tokens : (t : ℕ) → scope-listed-lts.Need-array-share-prefix-tokens (
-  put-reads.Asked,
-  put-reads.Learnt,
-  tree-count-reads.Asked,
-  tree-count-reads.Learnt,
-  scope-small-below t,
-  scope-small.Post,
-) (scope-listed-at t) scope-listed.Post
+scope-listed-array-share-prefix-tokens : (t : ℕ) → scope-listed-lts.Need-array-share-prefix-tokens (put-reads.Asked, put-reads.Learnt, tree-count-reads.Asked, tree-count-reads.Learnt, scope-small-below t, scope-small.Post) (scope-listed-at t) scope-listed.Post
 scope-listed-array-share-prefix-tokens t c = let s = c .before .before .before .before .before .before .before .before .before in let a = s .args in omega (arith, used-few (rows-in (a .rows .now)) (a .fuel) (a .row) (a .work .now) (a .used) (a .results) (a .first) (a .places .now) (s .pre .1 .0 .1) (s .pre .1 .1 .0), c .before .put .kept .1 .1 .0)
 
-scope-listed-slice-aggregate-tree-count :
-    (t : ℕ) → scope-listed-lts.Need-slice-aggregate-tree-count (
-      put-reads.Asked,
-      put-reads.Learnt,
-      tree-count-reads.Asked,
-      tree-count-reads.Learnt,
-      scope-small-below t,
-      scope-small.Post,
-    ) (scope-listed-at t) scope-listed.Post
+scope-listed-slice-aggregate-tree-count : (t : ℕ) → scope-listed-lts.Need-slice-aggregate-tree-count (put-reads.Asked, put-reads.Learnt, tree-count-reads.Asked, tree-count-reads.Learnt, scope-small-below t, scope-small.Post) (scope-listed-at t) scope-listed.Post
 scope-listed-slice-aggregate-tree-count t c = let s = c .before .before .before .before .before .before .before .before .before .before in let a = s .args in sym (length-take-le _ _ (omega (arith, used-few (rows-in (a .rows .now)) (a .fuel) (a .row) (a .work .now) (a .used) (a .results) (a .first) (a .places .now) (s .pre .1 .0 .1) (s .pre .1 .1 .0), c .before .before .put .kept .1 .1 .0)))
 
-scope-listed-tree-count-requires : (t : ℕ) → scope-listed-lts.Need-tree-count-requires (
-  put-reads.Asked,
-  put-reads.Learnt,
-  tree-count-reads.Asked,
-  tree-count-reads.Learnt,
-  scope-small-below t,
-  scope-small.Post,
-) (scope-listed-at t) scope-listed.Post
+scope-listed-tree-count-requires : (t : ℕ) → scope-listed-lts.Need-tree-count-requires (put-reads.Asked, put-reads.Learnt, tree-count-reads.Asked, tree-count-reads.Learnt, scope-small-below t, scope-small.Post) (scope-listed-at t) scope-listed.Post
 scope-listed-tree-count-requires t c κs = let s = c .before .before .before .before .before .before .before .before .before .before in let a = s .args in tokens-whole (rows-in (a .rows .now)) (a .fuel) (a .row) (a .work .now) (a .used) (a .results) (a .first) (a .places .now) (s .pre .1 .0 .1) (s .pre .1 .1 .0) _ _ refl (c .before .before .put .ensures)
 
-scope-listed-mul-scope-small : (t : ℕ) → scope-listed-lts.Need-mul-scope-small (
-  put-reads.Asked,
-  put-reads.Learnt,
-  tree-count-reads.Asked,
-  tree-count-reads.Learnt,
-  scope-small-below t,
-  scope-small.Post,
-) (scope-listed-at t) scope-listed.Post
+scope-listed-mul-scope-small : (t : ℕ) → scope-listed-lts.Need-mul-scope-small (put-reads.Asked, put-reads.Learnt, tree-count-reads.Asked, tree-count-reads.Learnt, scope-small-below t, scope-small.Post) (scope-listed-at t) scope-listed.Post
 scope-listed-mul-scope-small t c = let s = c .before .before .before .before .before .before .before .before .before .before .before in let a = s .args in omega (arith, used-few (rows-in (a .rows .now)) (a .fuel) (a .row) (a .work .now) (a .used) (a .results) (a .first) (a .places .now) (s .pre .1 .0 .1) (s .pre .1 .1 .0))
 
-scope-listed-sub-scope-small : (t : ℕ) → scope-listed-lts.Need-sub-scope-small (
-  put-reads.Asked,
-  put-reads.Learnt,
-  tree-count-reads.Asked,
-  tree-count-reads.Learnt,
-  scope-small-below t,
-  scope-small.Post,
-) (scope-listed-at t) scope-listed.Post
+scope-listed-sub-scope-small : (t : ℕ) → scope-listed-lts.Need-sub-scope-small (put-reads.Asked, put-reads.Learnt, tree-count-reads.Asked, tree-count-reads.Learnt, scope-small-below t, scope-small.Post) (scope-listed-at t) scope-listed.Post
 scope-listed-sub-scope-small t c = let s = c .before .before .before .before .before .before .before .before .before .before .before in s .pre .1 .0 .1
 
-scope-listed-part-scope-small-start : (t : ℕ) → scope-listed-lts.Need-part-scope-small-start (
-  put-reads.Asked,
-  put-reads.Learnt,
-  tree-count-reads.Asked,
-  tree-count-reads.Learnt,
-  scope-small-below t,
-  scope-small.Post,
-) (scope-listed-at t) scope-listed.Post
+scope-listed-part-scope-small-start : (t : ℕ) → scope-listed-lts.Need-part-scope-small-start (put-reads.Asked, put-reads.Learnt, tree-count-reads.Asked, tree-count-reads.Learnt, scope-small-below t, scope-small.Post) (scope-listed-at t) scope-listed.Post
 scope-listed-part-scope-small-start t c = let s = c .before .before .before .before .before .before .before .before .before .before .before in s .pre .1 .0 .1
 
-scope-listed-part-scope-small-end : (t : ℕ) → scope-listed-lts.Need-part-scope-small-end (
-  put-reads.Asked,
-  put-reads.Learnt,
-  tree-count-reads.Asked,
-  tree-count-reads.Learnt,
-  scope-small-below t,
-  scope-small.Post,
-) (scope-listed-at t) scope-listed.Post
+scope-listed-part-scope-small-end : (t : ℕ) → scope-listed-lts.Need-part-scope-small-end (put-reads.Asked, put-reads.Learnt, tree-count-reads.Asked, tree-count-reads.Learnt, scope-small-below t, scope-small.Post) (scope-listed-at t) scope-listed.Post
 scope-listed-part-scope-small-end t c = le-refl _
 
-scope-listed-array-share-prefix-tokens-2 :
-    (t : ℕ) → scope-listed-lts.Need-array-share-prefix-tokens-2 (
-      put-reads.Asked,
-      put-reads.Learnt,
-      tree-count-reads.Asked,
-      tree-count-reads.Learnt,
-      scope-small-below t,
-      scope-small.Post,
-    ) (scope-listed-at t) scope-listed.Post
+scope-listed-array-share-prefix-tokens-2 : (t : ℕ) → scope-listed-lts.Need-array-share-prefix-tokens-2 (put-reads.Asked, put-reads.Learnt, tree-count-reads.Asked, tree-count-reads.Learnt, scope-small-below t, scope-small.Post) (scope-listed-at t) scope-listed.Post
 scope-listed-array-share-prefix-tokens-2 t c = let s = c .before .before .before .before .before .before .before .before .before .before .before .before in let a = s .args in omega (arith, used-few (rows-in (a .rows .now)) (a .fuel) (a .row) (a .work .now) (a .used) (a .results) (a .first) (a .places .now) (s .pre .1 .0 .1) (s .pre .1 .1 .0), c .before .before .before .before .put .kept .1 .1 .0)
 
-scope-listed-slice-aggregate-scope-small :
-    (t : ℕ) → scope-listed-lts.Need-slice-aggregate-scope-small (
-      put-reads.Asked,
-      put-reads.Learnt,
-      tree-count-reads.Asked,
-      tree-count-reads.Learnt,
-      scope-small-below t,
-      scope-small.Post,
-    ) (scope-listed-at t) scope-listed.Post
+scope-listed-slice-aggregate-scope-small : (t : ℕ) → scope-listed-lts.Need-slice-aggregate-scope-small (put-reads.Asked, put-reads.Learnt, tree-count-reads.Asked, tree-count-reads.Learnt, scope-small-below t, scope-small.Post) (scope-listed-at t) scope-listed.Post
 scope-listed-slice-aggregate-scope-small t c = let s = c .before .before .before .before .before .before .before .before .before .before .before .before .before in let a = s .args in sym (length-take-le _ _ (omega (arith, used-few (rows-in (a .rows .now)) (a .fuel) (a .row) (a .work .now) (a .used) (a .results) (a .first) (a .places .now) (s .pre .1 .0 .1) (s .pre .1 .1 .0), c .before .before .before .before .before .put .kept .1 .1 .0)))
 
-scope-listed-scope-small-requires : (t : ℕ) → scope-listed-lts.Need-scope-small-requires (
-  put-reads.Asked,
-  put-reads.Learnt,
-  tree-count-reads.Asked,
-  tree-count-reads.Learnt,
-  scope-small-below t,
-  scope-small.Post,
-) (scope-listed-at t) scope-listed.Post
+scope-listed-scope-small-requires : (t : ℕ) → scope-listed-lts.Need-scope-small-requires (put-reads.Asked, put-reads.Learnt, tree-count-reads.Asked, tree-count-reads.Learnt, scope-small-below t, scope-small.Post) (scope-listed-at t) scope-listed.Post
 scope-listed-scope-small-requires t c κs = let s = c .before .before .before .before .before .before .before .before .before .before .before .before .before .before .before in let a = s .args in (omega (arith, s .pre .0), ((lent-rest (a .fuel) (a .work .now) (a .text .now) (a .used) (s .pre .1 .0 .0) (used-few (rows-in (a .rows .now)) (a .fuel) (a .row) (a .work .now) (a .used) (a .results) (a .first) (a .places .now) (s .pre .1 .0 .1) (s .pre .1 .1 .0)), tokens-left (rows-in (a .rows .now)) (a .fuel) (a .row) (a .work .now) (a .used) (a .results) (a .first) (a .places .now) (s .pre .1 .0 .1) (s .pre .1 .1 .0) _ _ refl (c .before .before .before .before .before .before .before .put .ensures)), (c .before .before .before .before .tree-count .ensures, subst (λ o. a .at + told-rows o ≤ most-rows) (same-outcome (rows-in (a .rows .now)) (a .fuel) (a .row) (a .work .now) (a .used) (a .results) (a .first) (a .places .now) (s .pre .1 .0 .1) (s .pre .1 .1 .0) _ _ refl (c .before .before .before .before .before .before .before .put .ensures)) (s .pre .1 .1 .1))))
 
-scope-listed-same-length : (t : ℕ) → scope-listed-lts.Need-same-length (
-  put-reads.Asked,
-  put-reads.Learnt,
-  tree-count-reads.Asked,
-  tree-count-reads.Learnt,
-  scope-small-below t,
-  scope-small.Post,
-) (scope-listed-at t) scope-listed.Post
+scope-listed-same-length : (t : ℕ) → scope-listed-lts.Need-same-length (put-reads.Asked, put-reads.Learnt, tree-count-reads.Asked, tree-count-reads.Learnt, scope-small-below t, scope-small.Post) (scope-listed-at t) scope-listed.Post
 scope-listed-same-length t c = search needs
 
-scope-listed-same-length-2 : (t : ℕ) → scope-listed-lts.Need-same-length-2 (
-  put-reads.Asked,
-  put-reads.Learnt,
-  tree-count-reads.Asked,
-  tree-count-reads.Learnt,
-  scope-small-below t,
-  scope-small.Post,
-) (scope-listed-at t) scope-listed.Post
+scope-listed-same-length-2 : (t : ℕ) → scope-listed-lts.Need-same-length-2 (put-reads.Asked, put-reads.Learnt, tree-count-reads.Asked, tree-count-reads.Learnt, scope-small-below t, scope-small.Post) (scope-listed-at t) scope-listed.Post
 scope-listed-same-length-2 t c = search needs
 
-scope-listed-same-length-3 : (t : ℕ) → scope-listed-lts.Need-same-length-3 (
-  put-reads.Asked,
-  put-reads.Learnt,
-  tree-count-reads.Asked,
-  tree-count-reads.Learnt,
-  scope-small-below t,
-  scope-small.Post,
-) (scope-listed-at t) scope-listed.Post
+scope-listed-same-length-3 : (t : ℕ) → scope-listed-lts.Need-same-length-3 (put-reads.Asked, put-reads.Learnt, tree-count-reads.Asked, tree-count-reads.Learnt, scope-small-below t, scope-small.Post) (scope-listed-at t) scope-listed.Post
 scope-listed-same-length-3 t c = search needs
 
-scope-listed-returns : (t : ℕ) → scope-listed-lts.Need-returns (
-  put-reads.Asked,
-  put-reads.Learnt,
-  tree-count-reads.Asked,
-  tree-count-reads.Learnt,
-  scope-small-below t,
-  scope-small.Post,
-) (scope-listed-at t) scope-listed.Post
+scope-listed-returns : (t : ℕ) → scope-listed-lts.Need-returns (put-reads.Asked, put-reads.Learnt, tree-count-reads.Asked, tree-count-reads.Learnt, scope-small-below t, scope-small.Post) (scope-listed-at t) scope-listed.Post
 scope-listed-returns t c = let s = c .before .before .before .before .before .before .before .before .before .before .before .before .before .before .before .before .before .before .before .before .before .before in let a = s .args in done-as _ _ (same-outcome (rows-in (a .rows .now)) (a .fuel) (a .row) (a .work .now) (a .used) (a .results) (a .first) (a .places .now) (s .pre .1 .0 .1) (s .pre .1 .1 .0) _ _ refl (c .before .before .before .before .before .before .before .before .before .before .before .before .before .before .put .ensures)) (a .at) (a .table .now) _ _ (c .before .before .before .before .before .before .scope-small .ensures)
 
-scope-small-sub-number : (t : ℕ) → scope-small-lts.Need-sub-number (
-  hold-all-reads.Asked,
-  hold-all-reads.Learnt,
-  scope-large-below t,
-  scope-large.Post,
-  scope-held-below t,
-  scope-held.Post,
-) (scope-small-at t) scope-small.Post
+scope-small-sub-number : (t : ℕ) → scope-small-lts.Need-sub-number (hold-all-reads.Asked, hold-all-reads.Learnt, scope-large-below t, scope-large.Post, scope-held-below t, scope-held.Post) (scope-small-at t) scope-small.Post
 scope-small-sub-number t c = let s = c .before .before .before .before .before .before in let a = s .args in trees-enough (rows-in (a .rows .now)) (a .fuel) (a .row) (a .tokens .now) (a .results) (a .first) (a .places .now) (s .pre .1 .0 .1) (a .trees) (s .pre .1 .1 .0)
 
-scope-small-add-number : (t : ℕ) → scope-small-lts.Need-add-number (
-  hold-all-reads.Asked,
-  hold-all-reads.Learnt,
-  scope-large-below t,
-  scope-large.Post,
-  scope-held-below t,
-  scope-held.Post,
-) (scope-small-at t) scope-small.Post
+scope-small-add-number : (t : ℕ) → scope-small-lts.Need-add-number (hold-all-reads.Asked, hold-all-reads.Learnt, scope-large-below t, scope-large.Post, scope-held-below t, scope-held.Post) (scope-small-at t) scope-small.Post
 scope-small-add-number t c = let s = c .before .before .before .before .before .before in let a = s .args in omega (arith, trees-few-here (rows-in (a .rows .now)) (a .fuel) (a .row) (a .tokens .now) (a .results) (a .first) (a .places .now) (s .pre .1 .0 .1) (a .trees) (s .pre .1 .1 .0), s .pre .1 .0 .1 .low)
 
-scope-small-slice-aggregate-hold-all : (t : ℕ) → scope-small-lts.Need-slice-aggregate-hold-all (
-  hold-all-reads.Asked,
-  hold-all-reads.Learnt,
-  scope-large-below t,
-  scope-large.Post,
-  scope-held-below t,
-  scope-held.Post,
-) (scope-small-at t) scope-small.Post
+scope-small-slice-aggregate-hold-all : (t : ℕ) → scope-small-lts.Need-slice-aggregate-hold-all (hold-all-reads.Asked, hold-all-reads.Learnt, scope-large-below t, scope-large.Post, scope-held-below t, scope-held.Post) (scope-small-at t) scope-small.Post
 scope-small-slice-aggregate-hold-all t c = search needs
 
-scope-small-hold-all-requires : (t : ℕ) → scope-small-lts.Need-hold-all-requires (
-  hold-all-reads.Asked,
-  hold-all-reads.Learnt,
-  scope-large-below t,
-  scope-large.Post,
-  scope-held-below t,
-  scope-held.Post,
-) (scope-small-at t) scope-small.Post
+scope-small-hold-all-requires : (t : ℕ) → scope-small-lts.Need-hold-all-requires (hold-all-reads.Asked, hold-all-reads.Learnt, scope-large-below t, scope-large.Post, scope-held-below t, scope-held.Post) (scope-small-at t) scope-small.Post
 scope-small-hold-all-requires t c κs = let s = c .before .before .before .before .before .before .before in let a = s .args in ((words-whole (rows-in (a .rows .now)) (a .fuel) (a .row) (a .tokens .now) (a .results) (a .first) (a .places .now) (s .pre .1 .0 .1) (a .trees) (s .pre .1 .1 .0), left-there (rows-in (a .rows .now)) (a .tokens .now) (a .results) (a .first) (a .places .now) (s .pre .1 .0 .1)), (s .pre .1 .0 .1 .few, places-short (rows-in (a .rows .now)) (a .fuel) (a .row) (a .tokens .now) (a .results) (a .first) (a .places .now) (s .pre .1 .0 .1) (a .trees) (s .pre .1 .1 .0), omega (arith, trees-few-here (rows-in (a .rows .now)) (a .fuel) (a .row) (a .tokens .now) (a .results) (a .first) (a .places .now) (s .pre .1 .0 .1) (a .trees) (s .pre .1 .1 .0), s .pre .1 .0 .1 .low), omega arith))
 
-scope-small-enum-known-holding : (t : ℕ) → scope-small-lts.Need-enum-known-holding (
-  hold-all-reads.Asked,
-  hold-all-reads.Learnt,
-  scope-large-below t,
-  scope-large.Post,
-  scope-held-below t,
-  scope-held.Post,
-) (scope-small-at t) scope-small.Post
+scope-small-enum-known-holding : (t : ℕ) → scope-small-lts.Need-enum-known-holding (hold-all-reads.Asked, hold-all-reads.Learnt, scope-large-below t, scope-large.Post, scope-held-below t, scope-held.Post) (scope-small-at t) scope-small.Post
 scope-small-enum-known-holding t c = search needs
 
-scope-small-enum-told : (t : ℕ) → scope-small-lts.Need-enum-told (
-  hold-all-reads.Asked,
-  hold-all-reads.Learnt,
-  scope-large-below t,
-  scope-large.Post,
-  scope-held-below t,
-  scope-held.Post,
-) (scope-small-at t) scope-small.Post
+scope-small-enum-told : (t : ℕ) → scope-small-lts.Need-enum-told (hold-all-reads.Asked, hold-all-reads.Learnt, scope-large-below t, scope-large.Post, scope-held-below t, scope-held.Post) (scope-small-at t) scope-small.Post
 scope-small-enum-told t c = search needs
 
-scope-small-scope-large-requires : (t : ℕ) → scope-small-lts.Need-scope-large-requires (
-  hold-all-reads.Asked,
-  hold-all-reads.Learnt,
-  scope-large-below t,
-  scope-large.Post,
-  scope-held-below t,
-  scope-held.Post,
-) (scope-small-at t) scope-small.Post
+scope-small-scope-large-requires : (t : ℕ) → scope-small-lts.Need-scope-large-requires (hold-all-reads.Asked, hold-all-reads.Learnt, scope-large-below t, scope-large.Post, scope-held-below t, scope-held.Post) (scope-small-at t) scope-small.Post
 scope-small-scope-large-requires t c κs = let s = c .before .before .before .before .before .before .before .before .before .before .before .before .before .before in (omega (arith, s .pre .0), s .pre .1)
 
-scope-small-same-length : (t : ℕ) → scope-small-lts.Need-same-length (
-  hold-all-reads.Asked,
-  hold-all-reads.Learnt,
-  scope-large-below t,
-  scope-large.Post,
-  scope-held-below t,
-  scope-held.Post,
-) (scope-small-at t) scope-small.Post
+scope-small-same-length : (t : ℕ) → scope-small-lts.Need-same-length (hold-all-reads.Asked, hold-all-reads.Learnt, scope-large-below t, scope-large.Post, scope-held-below t, scope-held.Post) (scope-small-at t) scope-small.Post
 scope-small-same-length t c = search needs
 
-scope-small-same-length-2 : (t : ℕ) → scope-small-lts.Need-same-length-2 (
-  hold-all-reads.Asked,
-  hold-all-reads.Learnt,
-  scope-large-below t,
-  scope-large.Post,
-  scope-held-below t,
-  scope-held.Post,
-) (scope-small-at t) scope-small.Post
+scope-small-same-length-2 : (t : ℕ) → scope-small-lts.Need-same-length-2 (hold-all-reads.Asked, hold-all-reads.Learnt, scope-large-below t, scope-large.Post, scope-held-below t, scope-held.Post) (scope-small-at t) scope-small.Post
 scope-small-same-length-2 t c = search needs
 
-scope-small-same-length-3 : (t : ℕ) → scope-small-lts.Need-same-length-3 (
-  hold-all-reads.Asked,
-  hold-all-reads.Learnt,
-  scope-large-below t,
-  scope-large.Post,
-  scope-held-below t,
-  scope-held.Post,
-) (scope-small-at t) scope-small.Post
+scope-small-same-length-3 : (t : ℕ) → scope-small-lts.Need-same-length-3 (hold-all-reads.Asked, hold-all-reads.Learnt, scope-large-below t, scope-large.Post, scope-held-below t, scope-held.Post) (scope-small-at t) scope-small.Post
 scope-small-same-length-3 t c = search needs
 
-scope-small-returns : (t : ℕ) → scope-small-lts.Need-returns (
-  hold-all-reads.Asked,
-  hold-all-reads.Learnt,
-  scope-large-below t,
-  scope-large.Post,
-  scope-held-below t,
-  scope-held.Post,
-) (scope-small-at t) scope-small.Post
+scope-small-returns : (t : ℕ) → scope-small-lts.Need-returns (hold-all-reads.Asked, hold-all-reads.Learnt, scope-large-below t, scope-large.Post, scope-held-below t, scope-held.Post) (scope-small-at t) scope-small.Post
 scope-small-returns t c = c .before .before .before .before .before .before .scope-large .ensures
 
-scope-small-array-share-prefix-held : (t : ℕ) → scope-small-lts.Need-array-share-prefix-held (
-  hold-all-reads.Asked,
-  hold-all-reads.Learnt,
-  scope-large-below t,
-  scope-large.Post,
-  scope-held-below t,
-  scope-held.Post,
-) (scope-small-at t) scope-small.Post
+scope-small-array-share-prefix-held : (t : ℕ) → scope-small-lts.Need-array-share-prefix-held (hold-all-reads.Asked, hold-all-reads.Learnt, scope-large-below t, scope-large.Post, scope-held-below t, scope-held.Post) (scope-small-at t) scope-small.Post
 scope-small-array-share-prefix-held t c = let s = c .before .before .before .before .before .before .before .before .before .before .before .before .before in let a = s .args in held-in (rows-in (a .rows .now)) (a .fuel) (a .row) (a .tokens .now) (a .results) (a .first) (a .places .now) (s .pre .1 .0 .1) (a .trees) (s .pre .1 .1 .0) (c .before .before .before .before .before .hold-all .result) _ (c .before .before .before .before .before .hold-all .ensures) _ (c .before .before .holding .given .1)
 
-scope-small-slice-aggregate-scope-held : (t : ℕ) → scope-small-lts.Need-slice-aggregate-scope-held (
-  hold-all-reads.Asked,
-  hold-all-reads.Learnt,
-  scope-large-below t,
-  scope-large.Post,
-  scope-held-below t,
-  scope-held.Post,
-) (scope-small-at t) scope-small.Post
+scope-small-slice-aggregate-scope-held : (t : ℕ) → scope-small-lts.Need-slice-aggregate-scope-held (hold-all-reads.Asked, hold-all-reads.Learnt, scope-large-below t, scope-large.Post, scope-held-below t, scope-held.Post) (scope-small-at t) scope-small.Post
 scope-small-slice-aggregate-scope-held t c = let s = c .before .before .before .before .before .before .before .before .before .before .before .before .before .before in let a = s .args in sym (length-take-le _ _ (held-in (rows-in (a .rows .now)) (a .fuel) (a .row) (a .tokens .now) (a .results) (a .first) (a .places .now) (s .pre .1 .0 .1) (a .trees) (s .pre .1 .1 .0) (c .before .before .before .before .before .before .hold-all .result) _ (c .before .before .before .before .before .before .hold-all .ensures) _ (c .before .before .before .holding .given .1)))
 
-scope-small-slice-aggregate-scope-held-2 :
-    (t : ℕ) → scope-small-lts.Need-slice-aggregate-scope-held-2 (
-      hold-all-reads.Asked,
-      hold-all-reads.Learnt,
-      scope-large-below t,
-      scope-large.Post,
-      scope-held-below t,
-      scope-held.Post,
-    ) (scope-small-at t) scope-small.Post
+scope-small-slice-aggregate-scope-held-2 : (t : ℕ) → scope-small-lts.Need-slice-aggregate-scope-held-2 (hold-all-reads.Asked, hold-all-reads.Learnt, scope-large-below t, scope-large.Post, scope-held-below t, scope-held.Post) (scope-small-at t) scope-small.Post
 scope-small-slice-aggregate-scope-held-2 t c = search needs
 
-scope-small-slice-aggregate-scope-held-3 :
-    (t : ℕ) → scope-small-lts.Need-slice-aggregate-scope-held-3 (
-      hold-all-reads.Asked,
-      hold-all-reads.Learnt,
-      scope-large-below t,
-      scope-large.Post,
-      scope-held-below t,
-      scope-held.Post,
-    ) (scope-small-at t) scope-small.Post
+scope-small-slice-aggregate-scope-held-3 : (t : ℕ) → scope-small-lts.Need-slice-aggregate-scope-held-3 (hold-all-reads.Asked, hold-all-reads.Learnt, scope-large-below t, scope-large.Post, scope-held-below t, scope-held.Post) (scope-small-at t) scope-small.Post
 scope-small-slice-aggregate-scope-held-3 t c = search needs
 
-scope-small-slice-aggregate-scope-held-4 :
-    (t : ℕ) → scope-small-lts.Need-slice-aggregate-scope-held-4 (
-      hold-all-reads.Asked,
-      hold-all-reads.Learnt,
-      scope-large-below t,
-      scope-large.Post,
-      scope-held-below t,
-      scope-held.Post,
-    ) (scope-small-at t) scope-small.Post
+scope-small-slice-aggregate-scope-held-4 : (t : ℕ) → scope-small-lts.Need-slice-aggregate-scope-held-4 (hold-all-reads.Asked, hold-all-reads.Learnt, scope-large-below t, scope-large.Post, scope-held-below t, scope-held.Post) (scope-small-at t) scope-small.Post
 scope-small-slice-aggregate-scope-held-4 t c = search needs
 
-scope-small-scope-held-requires : (t : ℕ) → scope-small-lts.Need-scope-held-requires (
-  hold-all-reads.Asked,
-  hold-all-reads.Learnt,
-  scope-large-below t,
-  scope-large.Post,
-  scope-held-below t,
-  scope-held.Post,
-) (scope-small-at t) scope-small.Post
+scope-small-scope-held-requires : (t : ℕ) → scope-small-lts.Need-scope-held-requires (hold-all-reads.Asked, hold-all-reads.Learnt, scope-large-below t, scope-large.Post, scope-held-below t, scope-held.Post) (scope-small-at t) scope-small.Post
 scope-small-scope-held-requires t c κs = let s = c .before .before .before .before .before .before .before .before .before .before .before .before .before .before .before .before .before .before .before in let a = s .args in (omega (arith, s .pre .0), (s .pre .1 .0, ((s .pre .1 .1 .0, held-are (rows-in (a .rows .now)) (a .fuel) (a .row) (a .tokens .now) (a .results) (a .first) (a .places .now) (s .pre .1 .0 .1) (a .trees) (s .pre .1 .1 .0) (c .before .before .before .before .before .before .before .before .before .before .before .hold-all .result) _ (c .before .before .before .before .before .before .before .before .before .before .before .hold-all .ensures) _ (c .before .before .before .before .before .before .before .before .holding .given .1), omega (arith, held-short (rows-in (a .rows .now)) (a .fuel) (a .row) (a .tokens .now) (a .results) (a .first) (a .places .now) (s .pre .1 .0 .1) (a .trees) (s .pre .1 .1 .0) (c .before .before .before .before .before .before .before .before .before .before .before .hold-all .result) _ (c .before .before .before .before .before .before .before .before .before .before .before .hold-all .ensures) _ (c .before .before .before .before .before .before .before .before .holding .given .1), c .before .before .before .before .before .before .before .before .before .before .before .hold-all .kept .1 .1 .1 .0)), ((omega (arith, held-short (rows-in (a .rows .now)) (a .fuel) (a .row) (a .tokens .now) (a .results) (a .first) (a .places .now) (s .pre .1 .0 .1) (a .trees) (s .pre .1 .1 .0) (c .before .before .before .before .before .before .before .before .before .before .before .hold-all .result) _ (c .before .before .before .before .before .before .before .before .before .before .before .hold-all .ensures) _ (c .before .before .before .before .before .before .before .before .holding .given .1), c .before .before .before .before .before .before .before .before .before .before .before .hold-all .kept .1 .1 .1 .0), omega (arith, held-short (rows-in (a .rows .now)) (a .fuel) (a .row) (a .tokens .now) (a .results) (a .first) (a .places .now) (s .pre .1 .0 .1) (a .trees) (s .pre .1 .1 .0) (c .before .before .before .before .before .before .before .before .before .before .before .hold-all .result) _ (c .before .before .before .before .before .before .before .before .before .before .before .hold-all .ensures) _ (c .before .before .before .before .before .before .before .before .holding .given .1), c .before .before .before .before .before .before .before .before .before .before .before .hold-all .kept .1 .1 .1 .0), omega (arith, held-short (rows-in (a .rows .now)) (a .fuel) (a .row) (a .tokens .now) (a .results) (a .first) (a .places .now) (s .pre .1 .0 .1) (a .trees) (s .pre .1 .1 .0) (c .before .before .before .before .before .before .before .before .before .before .before .hold-all .result) _ (c .before .before .before .before .before .before .before .before .before .before .before .hold-all .ensures) _ (c .before .before .before .before .before .before .before .before .holding .given .1), c .before .before .before .before .before .before .before .before .before .before .before .hold-all .kept .1 .1 .1 .0)), s .pre .1 .1 .1))))
 
-scope-small-same-length-4 : (t : ℕ) → scope-small-lts.Need-same-length-4 (
-  hold-all-reads.Asked,
-  hold-all-reads.Learnt,
-  scope-large-below t,
-  scope-large.Post,
-  scope-held-below t,
-  scope-held.Post,
-) (scope-small-at t) scope-small.Post
+scope-small-same-length-4 : (t : ℕ) → scope-small-lts.Need-same-length-4 (hold-all-reads.Asked, hold-all-reads.Learnt, scope-large-below t, scope-large.Post, scope-held-below t, scope-held.Post) (scope-small-at t) scope-small.Post
 scope-small-same-length-4 t c = search needs
 
-scope-small-same-length-5 : (t : ℕ) → scope-small-lts.Need-same-length-5 (
-  hold-all-reads.Asked,
-  hold-all-reads.Learnt,
-  scope-large-below t,
-  scope-large.Post,
-  scope-held-below t,
-  scope-held.Post,
-) (scope-small-at t) scope-small.Post
+scope-small-same-length-5 : (t : ℕ) → scope-small-lts.Need-same-length-5 (hold-all-reads.Asked, hold-all-reads.Learnt, scope-large-below t, scope-large.Post, scope-held-below t, scope-held.Post) (scope-small-at t) scope-small.Post
 scope-small-same-length-5 t c = search needs
 
-scope-small-same-length-6 : (t : ℕ) → scope-small-lts.Need-same-length-6 (
-  hold-all-reads.Asked,
-  hold-all-reads.Learnt,
-  scope-large-below t,
-  scope-large.Post,
-  scope-held-below t,
-  scope-held.Post,
-) (scope-small-at t) scope-small.Post
+scope-small-same-length-6 : (t : ℕ) → scope-small-lts.Need-same-length-6 (hold-all-reads.Asked, hold-all-reads.Learnt, scope-large-below t, scope-large.Post, scope-held-below t, scope-held.Post) (scope-small-at t) scope-small.Post
 scope-small-same-length-6 t c = search needs
 
-scope-small-returns-2 : (t : ℕ) → scope-small-lts.Need-returns-2 (
-  hold-all-reads.Asked,
-  hold-all-reads.Learnt,
-  scope-large-below t,
-  scope-large.Post,
-  scope-held-below t,
-  scope-held.Post,
-) (scope-small-at t) scope-small.Post
+scope-small-returns-2 : (t : ℕ) → scope-small-lts.Need-returns-2 (hold-all-reads.Asked, hold-all-reads.Learnt, scope-large-below t, scope-large.Post, scope-held-below t, scope-held.Post) (scope-small-at t) scope-small.Post
 scope-small-returns-2 t c = c .before .before .before .before .before .before .before .before .before .scope-held .ensures
 
 abbrev walk-Inv-loop : walk-lts.InvT-loop
@@ -1887,1080 +770,306 @@ walk-Inv-loop rows work₀ held members ends fuel next text₀ numbers₀ stops�
 abbrev walk-μ-loop : walk-lts.MeasureT-loop
 walk-μ-loop rows work₀ held members ends fuel next text₀ numbers₀ stops₀ kept₀ number₀ extracted₀ start₀ to₀ g₀ work text numbers stops kept number extracted start to g = length ends - g
 
-walk-loop-holds : (t : ℕ) → walk-lts.Need-loop-holds (
-  number-members-reads.Asked,
-  number-members-reads.Learnt,
-  measure-below t,
-  measure.Post,
-  refusal-of-reads.Asked,
-  refusal-of-reads.Learnt,
-) (walk-at t) walk.Post walk-Inv-loop walk-μ-loop
+walk-loop-holds : (t : ℕ) → walk-lts.Need-loop-holds (number-members-reads.Asked, number-members-reads.Learnt, measure-below t, measure.Post, refusal-of-reads.Asked, refusal-of-reads.Learnt) (walk-at t) walk.Post walk-Inv-loop walk-μ-loop
 walk-loop-holds t c = let s = c .before .before .before .before .before .before .before .before .before in let a = s .args in (omega arith, walk-begin (inner (rows-in (a .rows .now)) (a .fuel)) (a .held .now) (place-groups (a .held .now)) (a .next) _ _ _, refl, refl, refl, refl, refl)
 
-walk-mul-end : (t : ℕ) → walk-lts.Need-mul-end (
-  number-members-reads.Asked,
-  number-members-reads.Learnt,
-  measure-below t,
-  measure.Post,
-  refusal-of-reads.Asked,
-  refusal-of-reads.Learnt,
-) (walk-at t) walk.Post walk-Inv-loop walk-μ-loop
+walk-mul-end : (t : ℕ) → walk-lts.Need-mul-end (number-members-reads.Asked, number-members-reads.Learnt, measure-below t, measure.Post, refusal-of-reads.Asked, refusal-of-reads.Learnt) (walk-at t) walk.Post walk-Inv-loop walk-μ-loop
 walk-mul-end t c = search needs
 
-walk-shared-slice-read-end : (t : ℕ) → walk-lts.Need-shared-slice-read-end (
-  number-members-reads.Asked,
-  number-members-reads.Learnt,
-  measure-below t,
-  measure.Post,
-  refusal-of-reads.Asked,
-  refusal-of-reads.Learnt,
-) (walk-at t) walk.Post walk-Inv-loop walk-μ-loop
+walk-shared-slice-read-end : (t : ℕ) → walk-lts.Need-shared-slice-read-end (number-members-reads.Asked, number-members-reads.Learnt, measure-below t, measure.Post, refusal-of-reads.Asked, refusal-of-reads.Learnt) (walk-at t) walk.Post walk-Inv-loop walk-μ-loop
 walk-shared-slice-read-end t c = search needs
 
-walk-sub-number-members : (t : ℕ) → walk-lts.Need-sub-number-members (
-  number-members-reads.Asked,
-  number-members-reads.Learnt,
-  measure-below t,
-  measure.Post,
-  refusal-of-reads.Asked,
-  refusal-of-reads.Learnt,
-) (walk-at t) walk.Post walk-Inv-loop walk-μ-loop
+walk-sub-number-members : (t : ℕ) → walk-lts.Need-sub-number-members (number-members-reads.Asked, number-members-reads.Learnt, measure-below t, measure.Post, refusal-of-reads.Asked, refusal-of-reads.Learnt) (walk-at t) walk.Post walk-Inv-loop walk-μ-loop
 walk-sub-number-members t c = let s = c .before .before .before .before .before .before .before .before .before .before .before .before in let a = s .args in omega (arith, end-long (rows-in (a .rows .now)) (a .fuel) (a .next) (a .held .now) (a .members .now) (a .ends .now) (s .pre .1 .0 .1) (s .pre .1 .1 .0 .0) (s .pre .1 .1 .0 .1) _ _ _ _ _ _ _ _ _ (c .before .before .loop .inv .1) (c .before .loop-test .taken))
 
-walk-number-members-requires : (t : ℕ) → walk-lts.Need-number-members-requires (
-  number-members-reads.Asked,
-  number-members-reads.Learnt,
-  measure-below t,
-  measure.Post,
-  refusal-of-reads.Asked,
-  refusal-of-reads.Learnt,
-) (walk-at t) walk.Post walk-Inv-loop walk-μ-loop
+walk-number-members-requires : (t : ℕ) → walk-lts.Need-number-members-requires (number-members-reads.Asked, number-members-reads.Learnt, measure-below t, measure.Post, refusal-of-reads.Asked, refusal-of-reads.Learnt) (walk-at t) walk.Post walk-Inv-loop walk-μ-loop
 walk-number-members-requires t c κs = let s = c .before .before .before .before .before .before .before .before .before .before .before .before .before in let a = s .args in (omega (arith, end-long (rows-in (a .rows .now)) (a .fuel) (a .next) (a .held .now) (a .members .now) (a .ends .now) (s .pre .1 .0 .1) (s .pre .1 .1 .0 .0) (s .pre .1 .1 .0 .1) _ _ _ _ _ _ _ _ _ (c .before .before .before .loop .inv .1) (c .before .before .loop-test .taken), end-within (rows-in (a .rows .now)) (a .fuel) (a .next) (a .held .now) (a .members .now) (a .ends .now) (s .pre .1 .0 .1) (s .pre .1 .1 .0 .0) (s .pre .1 .1 .0 .1) _ _ _ _ _ _ _ _ _ (c .before .before .before .loop .inv .1) (c .before .before .loop-test .taken), s .pre .1 .1 .1 .0, c .before .before .before .loop .inv .4), omega (arith, number-low (rows-in (a .rows .now)) (a .fuel) (a .next) (a .held .now) (a .members .now) (a .ends .now) (s .pre .1 .0 .1) (s .pre .1 .1 .0 .0) (s .pre .1 .1 .0 .1) _ _ _ _ _ _ _ _ _ (c .before .before .before .loop .inv .1) (c .before .before .before .loop .inv .0), end-long (rows-in (a .rows .now)) (a .fuel) (a .next) (a .held .now) (a .members .now) (a .ends .now) (s .pre .1 .0 .1) (s .pre .1 .1 .0 .0) (s .pre .1 .1 .0 .1) _ _ _ _ _ _ _ _ _ (c .before .before .before .loop .inv .1) (c .before .before .loop-test .taken), end-within (rows-in (a .rows .now)) (a .fuel) (a .next) (a .held .now) (a .members .now) (a .ends .now) (s .pre .1 .0 .1) (s .pre .1 .1 .0 .0) (s .pre .1 .1 .0 .1) _ _ _ _ _ _ _ _ _ (c .before .before .before .loop .inv .1) (c .before .before .loop-test .taken), all-few (rows-in (a .rows .now)) (a .next) (a .held .now) (s .pre .1 .0 .1), ap length (s .pre .1 .1 .0 .0 .members-are)))
 
-walk-mul-measure : (t : ℕ) → walk-lts.Need-mul-measure (
-  number-members-reads.Asked,
-  number-members-reads.Learnt,
-  measure-below t,
-  measure.Post,
-  refusal-of-reads.Asked,
-  refusal-of-reads.Learnt,
-) (walk-at t) walk.Post walk-Inv-loop walk-μ-loop
+walk-mul-measure : (t : ℕ) → walk-lts.Need-mul-measure (number-members-reads.Asked, number-members-reads.Learnt, measure-below t, measure.Post, refusal-of-reads.Asked, refusal-of-reads.Learnt) (walk-at t) walk.Post walk-Inv-loop walk-μ-loop
 walk-mul-measure t c = let s = c .before .before .before .before .before .before .before .before .before .before .before .before .before .before .before .before .before in let a = s .args in omega (arith, end-long (rows-in (a .rows .now)) (a .fuel) (a .next) (a .held .now) (a .members .now) (a .ends .now) (s .pre .1 .0 .1) (s .pre .1 .1 .0 .0) (s .pre .1 .1 .0 .1) _ _ _ _ _ _ _ _ _ (c .before .before .before .before .before .before .before .loop .inv .1) (c .before .before .before .before .before .before .loop-test .taken), end-within (rows-in (a .rows .now)) (a .fuel) (a .next) (a .held .now) (a .members .now) (a .ends .now) (s .pre .1 .0 .1) (s .pre .1 .1 .0 .0) (s .pre .1 .1 .0 .1) _ _ _ _ _ _ _ _ _ (c .before .before .before .before .before .before .before .loop .inv .1) (c .before .before .before .before .before .before .loop-test .taken), s .good .1 .1 .1 .0)
 
-walk-sub-measure : (t : ℕ) → walk-lts.Need-sub-measure (
-  number-members-reads.Asked,
-  number-members-reads.Learnt,
-  measure-below t,
-  measure.Post,
-  refusal-of-reads.Asked,
-  refusal-of-reads.Learnt,
-) (walk-at t) walk.Post walk-Inv-loop walk-μ-loop
+walk-sub-measure : (t : ℕ) → walk-lts.Need-sub-measure (number-members-reads.Asked, number-members-reads.Learnt, measure-below t, measure.Post, refusal-of-reads.Asked, refusal-of-reads.Learnt) (walk-at t) walk.Post walk-Inv-loop walk-μ-loop
 walk-sub-measure t c = let s = c .before .before .before .before .before .before .before .before .before .before .before .before .before .before .before .before .before in let a = s .args in omega (arith, end-long (rows-in (a .rows .now)) (a .fuel) (a .next) (a .held .now) (a .members .now) (a .ends .now) (s .pre .1 .0 .1) (s .pre .1 .1 .0 .0) (s .pre .1 .1 .0 .1) _ _ _ _ _ _ _ _ _ (c .before .before .before .before .before .before .before .loop .inv .1) (c .before .before .before .before .before .before .loop-test .taken))
 
-walk-part-measure-start : (t : ℕ) → walk-lts.Need-part-measure-start (
-  number-members-reads.Asked,
-  number-members-reads.Learnt,
-  measure-below t,
-  measure.Post,
-  refusal-of-reads.Asked,
-  refusal-of-reads.Learnt,
-) (walk-at t) walk.Post walk-Inv-loop walk-μ-loop
+walk-part-measure-start : (t : ℕ) → walk-lts.Need-part-measure-start (number-members-reads.Asked, number-members-reads.Learnt, measure-below t, measure.Post, refusal-of-reads.Asked, refusal-of-reads.Learnt) (walk-at t) walk.Post walk-Inv-loop walk-μ-loop
 walk-part-measure-start t c = let s = c .before .before .before .before .before .before .before .before .before .before .before .before .before .before .before .before .before in let a = s .args in omega (arith, end-long (rows-in (a .rows .now)) (a .fuel) (a .next) (a .held .now) (a .members .now) (a .ends .now) (s .pre .1 .0 .1) (s .pre .1 .1 .0 .0) (s .pre .1 .1 .0 .1) _ _ _ _ _ _ _ _ _ (c .before .before .before .before .before .before .before .loop .inv .1) (c .before .before .before .before .before .before .loop-test .taken), end-within (rows-in (a .rows .now)) (a .fuel) (a .next) (a .held .now) (a .members .now) (a .ends .now) (s .pre .1 .0 .1) (s .pre .1 .1 .0 .0) (s .pre .1 .1 .0 .1) _ _ _ _ _ _ _ _ _ (c .before .before .before .before .before .before .before .loop .inv .1) (c .before .before .before .before .before .before .loop-test .taken))
 
-walk-part-measure-end : (t : ℕ) → walk-lts.Need-part-measure-end (
-  number-members-reads.Asked,
-  number-members-reads.Learnt,
-  measure-below t,
-  measure.Post,
-  refusal-of-reads.Asked,
-  refusal-of-reads.Learnt,
-) (walk-at t) walk.Post walk-Inv-loop walk-μ-loop
+walk-part-measure-end : (t : ℕ) → walk-lts.Need-part-measure-end (number-members-reads.Asked, number-members-reads.Learnt, measure-below t, measure.Post, refusal-of-reads.Asked, refusal-of-reads.Learnt) (walk-at t) walk.Post walk-Inv-loop walk-μ-loop
 walk-part-measure-end t c = let s = c .before .before .before .before .before .before .before .before .before .before .before .before .before .before .before .before .before in let a = s .args in end-within (rows-in (a .rows .now)) (a .fuel) (a .next) (a .held .now) (a .members .now) (a .ends .now) (s .pre .1 .0 .1) (s .pre .1 .1 .0 .0) (s .pre .1 .1 .0 .1) _ _ _ _ _ _ _ _ _ (c .before .before .before .before .before .before .before .loop .inv .1) (c .before .before .before .before .before .before .loop-test .taken)
 
-walk-measure-requires : (t : ℕ) → walk-lts.Need-measure-requires (
-  number-members-reads.Asked,
-  number-members-reads.Learnt,
-  measure-below t,
-  measure.Post,
-  refusal-of-reads.Asked,
-  refusal-of-reads.Learnt,
-) (walk-at t) walk.Post walk-Inv-loop walk-μ-loop
+walk-measure-requires : (t : ℕ) → walk-lts.Need-measure-requires (number-members-reads.Asked, number-members-reads.Learnt, measure-below t, measure.Post, refusal-of-reads.Asked, refusal-of-reads.Learnt) (walk-at t) walk.Post walk-Inv-loop walk-μ-loop
 walk-measure-requires t c κs = let s = c .before .before .before .before .before .before .before .before .before .before .before .before .before .before .before .before .before .before .before .before in let a = s .args in (omega (arith, s .pre .0), ((lent-on (a .fuel) (a .work .now) (a .text .now) _ _ (s .pre .1 .0 .0) (c .before .before .before .before .before .before .before .before .before .before .loop .inv .2) (c .before .before .before .before .before .before .before .before .before .before .loop .inv .3), number-holds (rows-in (a .rows .now)) (a .fuel) (a .next) (a .held .now) (a .members .now) (a .ends .now) (s .pre .1 .0 .1) (s .pre .1 .1 .0 .0) (s .pre .1 .1 .0 .1) _ _ _ _ _ _ _ _ _ (c .before .before .before .before .before .before .before .before .before .before .loop .inv .1) (c .before .before .before .before .before .before .before .before .before .before .loop .inv .0)), (group-here (rows-in (a .rows .now)) (a .fuel) (a .next) (a .held .now) (a .members .now) (a .ends .now) (s .pre .1 .0 .1) (s .pre .1 .1 .0 .0) (s .pre .1 .1 .0 .1) _ _ _ _ _ _ _ _ _ (c .before .before .before .before .before .before .before .before .before .before .loop .inv .1) (c .before .before .before .before .before .before .before .before .before .loop-test .taken), number-low (rows-in (a .rows .now)) (a .fuel) (a .next) (a .held .now) (a .members .now) (a .ends .now) (s .pre .1 .0 .1) (s .pre .1 .1 .0 .0) (s .pre .1 .1 .0 .1) _ _ _ _ _ _ _ _ _ (c .before .before .before .before .before .before .before .before .before .before .loop .inv .1) (c .before .before .before .before .before .before .before .before .before .before .loop .inv .0), to-low (rows-in (a .rows .now)) (a .fuel) (a .next) (a .held .now) (a .members .now) (a .ends .now) (s .pre .1 .0 .1) (s .pre .1 .1 .0 .0) (s .pre .1 .1 .0 .1) _ _ _ _ _ _ _ _ _ (c .before .before .before .before .before .before .before .before .before .before .loop .inv .1) (c .before .before .before .before .before .before .before .before .before .before .loop .inv .0))))
 
-walk-enum-known-armed : (t : ℕ) → walk-lts.Need-enum-known-armed (
-  number-members-reads.Asked,
-  number-members-reads.Learnt,
-  measure-below t,
-  measure.Post,
-  refusal-of-reads.Asked,
-  refusal-of-reads.Learnt,
-) (walk-at t) walk.Post walk-Inv-loop walk-μ-loop
+walk-enum-known-armed : (t : ℕ) → walk-lts.Need-enum-known-armed (number-members-reads.Asked, number-members-reads.Learnt, measure-below t, measure.Post, refusal-of-reads.Asked, refusal-of-reads.Learnt) (walk-at t) walk.Post walk-Inv-loop walk-μ-loop
 walk-enum-known-armed t c = search needs
 
-walk-enum-told : (t : ℕ) → walk-lts.Need-enum-told (
-  number-members-reads.Asked,
-  number-members-reads.Learnt,
-  measure-below t,
-  measure.Post,
-  refusal-of-reads.Asked,
-  refusal-of-reads.Learnt,
-) (walk-at t) walk.Post walk-Inv-loop walk-μ-loop
+walk-enum-told : (t : ℕ) → walk-lts.Need-enum-told (number-members-reads.Asked, number-members-reads.Learnt, measure-below t, measure.Post, refusal-of-reads.Asked, refusal-of-reads.Learnt) (walk-at t) walk.Post walk-Inv-loop walk-μ-loop
 walk-enum-told t c = search needs
 
-walk-refusal-of-requires : (t : ℕ) → walk-lts.Need-refusal-of-requires (
-  number-members-reads.Asked,
-  number-members-reads.Learnt,
-  measure-below t,
-  measure.Post,
-  refusal-of-reads.Asked,
-  refusal-of-reads.Learnt,
-) (walk-at t) walk.Post walk-Inv-loop walk-μ-loop
+walk-refusal-of-requires : (t : ℕ) → walk-lts.Need-refusal-of-requires (number-members-reads.Asked, number-members-reads.Learnt, measure-below t, measure.Post, refusal-of-reads.Asked, refusal-of-reads.Learnt) (walk-at t) walk.Post walk-Inv-loop walk-μ-loop
 walk-refusal-of-requires t c κs = search needs
 
-walk-same-length : (t : ℕ) → walk-lts.Need-same-length (
-  number-members-reads.Asked,
-  number-members-reads.Learnt,
-  measure-below t,
-  measure.Post,
-  refusal-of-reads.Asked,
-  refusal-of-reads.Learnt,
-) (walk-at t) walk.Post walk-Inv-loop walk-μ-loop
+walk-same-length : (t : ℕ) → walk-lts.Need-same-length (number-members-reads.Asked, number-members-reads.Learnt, measure-below t, measure.Post, refusal-of-reads.Asked, refusal-of-reads.Learnt) (walk-at t) walk.Post walk-Inv-loop walk-μ-loop
 walk-same-length t c = search needs
 
-walk-same-length-2 : (t : ℕ) → walk-lts.Need-same-length-2 (
-  number-members-reads.Asked,
-  number-members-reads.Learnt,
-  measure-below t,
-  measure.Post,
-  refusal-of-reads.Asked,
-  refusal-of-reads.Learnt,
-) (walk-at t) walk.Post walk-Inv-loop walk-μ-loop
+walk-same-length-2 : (t : ℕ) → walk-lts.Need-same-length-2 (number-members-reads.Asked, number-members-reads.Learnt, measure-below t, measure.Post, refusal-of-reads.Asked, refusal-of-reads.Learnt) (walk-at t) walk.Post walk-Inv-loop walk-μ-loop
 walk-same-length-2 t c = search needs
 
-walk-same-length-3 : (t : ℕ) → walk-lts.Need-same-length-3 (
-  number-members-reads.Asked,
-  number-members-reads.Learnt,
-  measure-below t,
-  measure.Post,
-  refusal-of-reads.Asked,
-  refusal-of-reads.Learnt,
-) (walk-at t) walk.Post walk-Inv-loop walk-μ-loop
+walk-same-length-3 : (t : ℕ) → walk-lts.Need-same-length-3 (number-members-reads.Asked, number-members-reads.Learnt, measure-below t, measure.Post, refusal-of-reads.Asked, refusal-of-reads.Learnt) (walk-at t) walk.Post walk-Inv-loop walk-μ-loop
 walk-same-length-3 t c = search needs
 
-walk-same-length-4 : (t : ℕ) → walk-lts.Need-same-length-4 (
-  number-members-reads.Asked,
-  number-members-reads.Learnt,
-  measure-below t,
-  measure.Post,
-  refusal-of-reads.Asked,
-  refusal-of-reads.Learnt,
-) (walk-at t) walk.Post walk-Inv-loop walk-μ-loop
+walk-same-length-4 : (t : ℕ) → walk-lts.Need-same-length-4 (number-members-reads.Asked, number-members-reads.Learnt, measure-below t, measure.Post, refusal-of-reads.Asked, refusal-of-reads.Learnt) (walk-at t) walk.Post walk-Inv-loop walk-μ-loop
 walk-same-length-4 t c = search needs
 
-walk-same-length-5 : (t : ℕ) → walk-lts.Need-same-length-5 (
-  number-members-reads.Asked,
-  number-members-reads.Learnt,
-  measure-below t,
-  measure.Post,
-  refusal-of-reads.Asked,
-  refusal-of-reads.Learnt,
-) (walk-at t) walk.Post walk-Inv-loop walk-μ-loop
+walk-same-length-5 : (t : ℕ) → walk-lts.Need-same-length-5 (number-members-reads.Asked, number-members-reads.Learnt, measure-below t, measure.Post, refusal-of-reads.Asked, refusal-of-reads.Learnt) (walk-at t) walk.Post walk-Inv-loop walk-μ-loop
 walk-same-length-5 t c = search needs
 
-walk-returns : (t : ℕ) → walk-lts.Need-returns (
-  number-members-reads.Asked,
-  number-members-reads.Learnt,
-  measure-below t,
-  measure.Post,
-  refusal-of-reads.Asked,
-  refusal-of-reads.Learnt,
-) (walk-at t) walk.Post walk-Inv-loop walk-μ-loop
+walk-returns : (t : ℕ) → walk-lts.Need-returns (number-members-reads.Asked, number-members-reads.Learnt, measure-below t, measure.Post, refusal-of-reads.Asked, refusal-of-reads.Learnt) (walk-at t) walk.Post walk-Inv-loop walk-μ-loop
 unfolding groups-told
 walk-returns t c = let s = c .before .before .before .before .before .before .before .before .before .before .before .before .before .before .before .before .before .before .before .before .before .before .before .before .before .before .before .before .before .before in let a = s .args in walk-ends-refused (inner (rows-in (a .rows .now)) (a .fuel)) (a .held .now) (place-groups (a .held .now)) (a .next) _ _ _ _ _ _ _ _ _ (c .before .before .before .before .before .before .before .before .before .before .before .before .before .before .before .before .before .before .before .before .loop .inv .1) (c .before .before .before .before .before .before .before .before .before .measure .result) _ (answer-here (rows-in (a .rows .now)) (a .fuel) (a .next) (a .held .now) (a .members .now) (a .ends .now) (s .pre .1 .0 .1) (s .pre .1 .1 .0 .0) (s .pre .1 .1 .0 .1) _ _ _ _ _ _ _ _ _ (c .before .before .before .before .before .before .before .before .before .before .before .before .before .before .before .before .before .before .before .before .loop .inv .1) (c .before .before .before .before .before .before .before .before .before .before .before .before .before .before .before .before .before .before .before .loop-test .taken) (c .before .before .before .before .before .before .before .before .before .measure .result) _ (c .before .before .before .before .before .before .before .before .before .measure .ensures)) (length (place-groups (a .held .now))) (omega (arith, c .before .before .before .before .before .before .before .before .before .before .before .before .before .before .before .before .before .before .before .loop-test .taken, ends-many (rows-in (a .rows .now)) (a .fuel) (a .next) (a .held .now) (a .members .now) (a .ends .now) (s .pre .1 .0 .1) (s .pre .1 .1 .0 .0) (s .pre .1 .1 .0 .1))) _ (c .before .enum-told .given .1) _ (c .refusal-of .ensures) _ _ _
 
-walk-mul-stops : (t : ℕ) → walk-lts.Need-mul-stops (
-  number-members-reads.Asked,
-  number-members-reads.Learnt,
-  measure-below t,
-  measure.Post,
-  refusal-of-reads.Asked,
-  refusal-of-reads.Learnt,
-) (walk-at t) walk.Post walk-Inv-loop walk-μ-loop
+walk-mul-stops : (t : ℕ) → walk-lts.Need-mul-stops (number-members-reads.Asked, number-members-reads.Learnt, measure-below t, measure.Post, refusal-of-reads.Asked, refusal-of-reads.Learnt) (walk-at t) walk.Post walk-Inv-loop walk-μ-loop
 walk-mul-stops t c = let s = c .before .before .before .before .before .before .before .before .before .before .before .before .before .before .before .before .before .before .before .before .before .before .before .before .before .before .before .before .before .before in omega (arith, s .good .1 .1 .1 .1 .1 .1 .1 .1 .1 .0, c .before .before .before .before .before .before .before .before .before .before .before .before .before .before .before .before .before .before .before .before .loop .inv .5, s .pre .1 .1 .1 .1, c .before .before .before .before .before .before .before .before .before .before .before .before .before .before .before .before .before .before .before .loop-test .taken)
 
-walk-slice-write-stops : (t : ℕ) → walk-lts.Need-slice-write-stops (
-  number-members-reads.Asked,
-  number-members-reads.Learnt,
-  measure-below t,
-  measure.Post,
-  refusal-of-reads.Asked,
-  refusal-of-reads.Learnt,
-) (walk-at t) walk.Post walk-Inv-loop walk-μ-loop
+walk-slice-write-stops : (t : ℕ) → walk-lts.Need-slice-write-stops (number-members-reads.Asked, number-members-reads.Learnt, measure-below t, measure.Post, refusal-of-reads.Asked, refusal-of-reads.Learnt) (walk-at t) walk.Post walk-Inv-loop walk-μ-loop
 walk-slice-write-stops t c = let s = c .before .before .before .before .before .before .before .before .before .before .before .before .before .before .before .before .before .before .before .before .before .before .before .before .before .before .before .before .before .before in omega (arith, c .before .before .before .before .before .before .before .before .before .before .before .before .before .before .before .before .before .before .before .before .loop .inv .5, s .pre .1 .1 .1 .1, c .before .before .before .before .before .before .before .before .before .before .before .before .before .before .before .before .before .before .before .loop-test .taken)
 
-walk-add-extracted : (t : ℕ) → walk-lts.Need-add-extracted (
-  number-members-reads.Asked,
-  number-members-reads.Learnt,
-  measure-below t,
-  measure.Post,
-  refusal-of-reads.Asked,
-  refusal-of-reads.Learnt,
-) (walk-at t) walk.Post walk-Inv-loop walk-μ-loop
+walk-add-extracted : (t : ℕ) → walk-lts.Need-add-extracted (number-members-reads.Asked, number-members-reads.Learnt, measure-below t, measure.Post, refusal-of-reads.Asked, refusal-of-reads.Learnt) (walk-at t) walk.Post walk-Inv-loop walk-μ-loop
 walk-add-extracted t c = let s = c .before .before .before .before .before .before .before .before .before .before .before .before .before .before .before .before .before .before .before .before .before .before .before .before .before .before .before .before .before .before in let a = s .args in let z = (walk-goes-on (inner (rows-in (a .rows .now)) (a .fuel)) (a .held .now) (place-groups (a .held .now)) (a .next) _ _ _ _ _ _ _ _ _ (c .before .before .before .before .before .before .before .before .before .before .before .before .before .before .before .before .before .before .before .before .loop .inv .1) (c .before .before .before .before .before .before .before .before .before .measure .result) _ (answer-here (rows-in (a .rows .now)) (a .fuel) (a .next) (a .held .now) (a .members .now) (a .ends .now) (s .pre .1 .0 .1) (s .pre .1 .1 .0 .0) (s .pre .1 .1 .0 .1) _ _ _ _ _ _ _ _ _ (c .before .before .before .before .before .before .before .before .before .before .before .before .before .before .before .before .before .before .before .before .loop .inv .1) (c .before .before .before .before .before .before .before .before .before .before .before .before .before .before .before .before .before .before .before .loop-test .taken) (c .before .before .before .before .before .before .before .before .before .measure .result) _ (c .before .before .before .before .before .before .before .before .before .measure .ensures)) _ _ _ (c .before .armed .given .1) _ (count-here (rows-in (a .rows .now)) (a .fuel) (a .next) (a .held .now) (a .members .now) (a .ends .now) (s .pre .1 .0 .1) (s .pre .1 .1 .0 .0) (s .pre .1 .1 .0 .1) _ _ _ _ _ _ _ _ _ (c .before .before .before .before .before .before .before .before .before .before .before .before .before .before .before .before .before .before .before .before .loop .inv .1) (c .before .before .before .before .before .before .before .before .before .before .before .before .before .before .before .before .before .before .before .loop-test .taken)) (getD (a .ends .now) (c .before .before .before .before .before .before .before .before .before .before .before .before .before .before .before .before .before .before .before .before .loop .g) 0) (omega (arith, end-long (rows-in (a .rows .now)) (a .fuel) (a .next) (a .held .now) (a .members .now) (a .ends .now) (s .pre .1 .0 .1) (s .pre .1 .1 .0 .0) (s .pre .1 .1 .0 .1) _ _ _ _ _ _ _ _ _ (c .before .before .before .before .before .before .before .before .before .before .before .before .before .before .before .before .before .before .before .before .loop .inv .1) (c .before .before .before .before .before .before .before .before .before .before .before .before .before .before .before .before .before .before .before .loop-test .taken))) (omega (arith, end-long (rows-in (a .rows .now)) (a .fuel) (a .next) (a .held .now) (a .members .now) (a .ends .now) (s .pre .1 .0 .1) (s .pre .1 .1 .0 .0) (s .pre .1 .1 .0 .1) _ _ _ _ _ _ _ _ _ (c .before .before .before .before .before .before .before .before .before .before .before .before .before .before .before .before .before .before .before .before .loop .inv .1) (c .before .before .before .before .before .before .before .before .before .before .before .before .before .before .before .before .before .before .before .loop-test .taken), end-within (rows-in (a .rows .now)) (a .fuel) (a .next) (a .held .now) (a .members .now) (a .ends .now) (s .pre .1 .0 .1) (s .pre .1 .1 .0 .0) (s .pre .1 .1 .0 .1) _ _ _ _ _ _ _ _ _ (c .before .before .before .before .before .before .before .before .before .before .before .before .before .before .before .before .before .before .before .before .loop .inv .1) (c .before .before .before .before .before .before .before .before .before .before .before .before .before .before .before .before .before .before .before .loop-test .taken), s .pre .1 .1 .1 .0, c .before .before .before .before .before .before .before .before .before .before .before .before .before .before .before .before .before .before .before .before .loop .inv .4)) (omega (arith, c .before .before .before .before .before .before .before .before .before .before .before .before .before .before .before .before .before .before .before .before .loop .inv .5, s .pre .1 .1 .1 .1, c .before .before .before .before .before .before .before .before .before .before .before .before .before .before .before .before .before .before .before .loop-test .taken)) _ (c .before .before .before .before .before .before .before .before .before .before .before .before .before .before .before .before .number-members .ensures)) in omega (arith, made-low (rows-in (a .rows .now)) (a .fuel) (a .next) (a .held .now) (a .members .now) (a .ends .now) (s .pre .1 .0 .1) (s .pre .1 .1 .0 .0) (s .pre .1 .1 .0 .1) _ _ _ _ _ _ _ _ _ z (omega (arith, c .before .before .before .before .before .before .before .before .before .before .before .before .before .before .before .before .before .before .before .loop-test .taken)))
 
-walk-add-g : (t : ℕ) → walk-lts.Need-add-g (
-  number-members-reads.Asked,
-  number-members-reads.Learnt,
-  measure-below t,
-  measure.Post,
-  refusal-of-reads.Asked,
-  refusal-of-reads.Learnt,
-) (walk-at t) walk.Post walk-Inv-loop walk-μ-loop
+walk-add-g : (t : ℕ) → walk-lts.Need-add-g (number-members-reads.Asked, number-members-reads.Learnt, measure-below t, measure.Post, refusal-of-reads.Asked, refusal-of-reads.Learnt) (walk-at t) walk.Post walk-Inv-loop walk-μ-loop
 walk-add-g t c = let s = c .before .before .before .before .before .before .before .before .before .before .before .before .before .before .before .before .before .before .before .before .before .before .before .before .before .before .before .before .before .before in let a = s .args in omega (arith, c .before .before .before .before .before .before .before .before .before .before .before .before .before .before .before .before .before .before .before .loop-test .taken, ends-few (rows-in (a .rows .now)) (a .fuel) (a .next) (a .held .now) (a .members .now) (a .ends .now) (s .pre .1 .0 .1) (s .pre .1 .1 .0 .0) (s .pre .1 .1 .0 .1))
 
-walk-loop-less : (t : ℕ) → walk-lts.Need-loop-less (
-  number-members-reads.Asked,
-  number-members-reads.Learnt,
-  measure-below t,
-  measure.Post,
-  refusal-of-reads.Asked,
-  refusal-of-reads.Learnt,
-) (walk-at t) walk.Post walk-Inv-loop walk-μ-loop
+walk-loop-less : (t : ℕ) → walk-lts.Need-loop-less (number-members-reads.Asked, number-members-reads.Learnt, measure-below t, measure.Post, refusal-of-reads.Asked, refusal-of-reads.Learnt) (walk-at t) walk.Post walk-Inv-loop walk-μ-loop
 walk-loop-less t c = search needs
 
-walk-loop-again : (t : ℕ) → walk-lts.Need-loop-again (
-  number-members-reads.Asked,
-  number-members-reads.Learnt,
-  measure-below t,
-  measure.Post,
-  refusal-of-reads.Asked,
-  refusal-of-reads.Learnt,
-) (walk-at t) walk.Post walk-Inv-loop walk-μ-loop
+walk-loop-again : (t : ℕ) → walk-lts.Need-loop-again (number-members-reads.Asked, number-members-reads.Learnt, measure-below t, measure.Post, refusal-of-reads.Asked, refusal-of-reads.Learnt) (walk-at t) walk.Post walk-Inv-loop walk-μ-loop
 walk-loop-again t c = let s = c .before .before .before .before .before .before .before .before .before .before .before .before .before .before .before .before .before .before .before .before .before .before .before .before .before .before .before .before .before .before in let a = s .args in (omega (arith, c .before .before .before .before .before .before .before .before .before .before .before .before .before .before .before .before .before .before .before .loop-test .taken), (walk-goes-on (inner (rows-in (a .rows .now)) (a .fuel)) (a .held .now) (place-groups (a .held .now)) (a .next) _ _ _ _ _ _ _ _ _ (c .before .before .before .before .before .before .before .before .before .before .before .before .before .before .before .before .before .before .before .before .loop .inv .1) (c .before .before .before .before .before .before .before .before .before .measure .result) _ (answer-here (rows-in (a .rows .now)) (a .fuel) (a .next) (a .held .now) (a .members .now) (a .ends .now) (s .pre .1 .0 .1) (s .pre .1 .1 .0 .0) (s .pre .1 .1 .0 .1) _ _ _ _ _ _ _ _ _ (c .before .before .before .before .before .before .before .before .before .before .before .before .before .before .before .before .before .before .before .before .loop .inv .1) (c .before .before .before .before .before .before .before .before .before .before .before .before .before .before .before .before .before .before .before .loop-test .taken) (c .before .before .before .before .before .before .before .before .before .measure .result) _ (c .before .before .before .before .before .before .before .before .before .measure .ensures)) _ _ _ (c .before .armed .given .1) _ (count-here (rows-in (a .rows .now)) (a .fuel) (a .next) (a .held .now) (a .members .now) (a .ends .now) (s .pre .1 .0 .1) (s .pre .1 .1 .0 .0) (s .pre .1 .1 .0 .1) _ _ _ _ _ _ _ _ _ (c .before .before .before .before .before .before .before .before .before .before .before .before .before .before .before .before .before .before .before .before .loop .inv .1) (c .before .before .before .before .before .before .before .before .before .before .before .before .before .before .before .before .before .before .before .loop-test .taken)) (getD (a .ends .now) (c .before .before .before .before .before .before .before .before .before .before .before .before .before .before .before .before .before .before .before .before .loop .g) 0) (omega (arith, end-long (rows-in (a .rows .now)) (a .fuel) (a .next) (a .held .now) (a .members .now) (a .ends .now) (s .pre .1 .0 .1) (s .pre .1 .1 .0 .0) (s .pre .1 .1 .0 .1) _ _ _ _ _ _ _ _ _ (c .before .before .before .before .before .before .before .before .before .before .before .before .before .before .before .before .before .before .before .before .loop .inv .1) (c .before .before .before .before .before .before .before .before .before .before .before .before .before .before .before .before .before .before .before .loop-test .taken))) (omega (arith, end-long (rows-in (a .rows .now)) (a .fuel) (a .next) (a .held .now) (a .members .now) (a .ends .now) (s .pre .1 .0 .1) (s .pre .1 .1 .0 .0) (s .pre .1 .1 .0 .1) _ _ _ _ _ _ _ _ _ (c .before .before .before .before .before .before .before .before .before .before .before .before .before .before .before .before .before .before .before .before .loop .inv .1) (c .before .before .before .before .before .before .before .before .before .before .before .before .before .before .before .before .before .before .before .loop-test .taken), end-within (rows-in (a .rows .now)) (a .fuel) (a .next) (a .held .now) (a .members .now) (a .ends .now) (s .pre .1 .0 .1) (s .pre .1 .1 .0 .0) (s .pre .1 .1 .0 .1) _ _ _ _ _ _ _ _ _ (c .before .before .before .before .before .before .before .before .before .before .before .before .before .before .before .before .before .before .before .before .loop .inv .1) (c .before .before .before .before .before .before .before .before .before .before .before .before .before .before .before .before .before .before .before .loop-test .taken), s .pre .1 .1 .1 .0, c .before .before .before .before .before .before .before .before .before .before .before .before .before .before .before .before .before .before .before .before .loop .inv .4)) (omega (arith, c .before .before .before .before .before .before .before .before .before .before .before .before .before .before .before .before .before .before .before .before .loop .inv .5, s .pre .1 .1 .1 .1, c .before .before .before .before .before .before .before .before .before .before .before .before .before .before .before .before .before .before .before .loop-test .taken)) _ (c .before .before .before .before .before .before .before .before .before .before .before .before .before .before .before .before .number-members .ensures)), c .before .before .before .before .before .before .before .before .before .measure .kept .1 .0 ∙ c .before .before .before .before .before .before .before .before .before .before .before .before .before .before .before .before .before .before .before .before .loop .inv .2, c .before .before .before .before .before .before .before .before .before .measure .kept .1 .1 .1 .1 .1 .1 .0 ∙ c .before .before .before .before .before .before .before .before .before .before .before .before .before .before .before .before .before .before .before .before .loop .inv .3, c .before .before .before .before .before .before .before .before .before .before .before .before .before .before .before .before .number-members .kept .1 .1 .1 .0 ∙ c .before .before .before .before .before .before .before .before .before .before .before .before .before .before .before .before .before .before .before .before .loop .inv .4, length-set (c .before .before .before .before .before .before .before .before .before .before .before .before .before .before .before .before .before .before .before .before .loop .stops) (c .before .before .before .before .before .before .before .before .before .before .before .before .before .before .before .before .before .before .before .before .loop .g) (c .before .armed .given .0 .0) ∙ c .before .before .before .before .before .before .before .before .before .before .before .before .before .before .before .before .before .before .before .before .loop .inv .5, c .before .before .before .before .before .before .before .before .before .measure .kept .1 .1 .1 .1 .1 .1 .1 .1 .0 ∙ c .before .before .before .before .before .before .before .before .before .before .before .before .before .before .before .before .before .before .before .before .loop .inv .6)
 
-walk-same-length-6 : (t : ℕ) → walk-lts.Need-same-length-6 (
-  number-members-reads.Asked,
-  number-members-reads.Learnt,
-  measure-below t,
-  measure.Post,
-  refusal-of-reads.Asked,
-  refusal-of-reads.Learnt,
-) (walk-at t) walk.Post walk-Inv-loop walk-μ-loop
+walk-same-length-6 : (t : ℕ) → walk-lts.Need-same-length-6 (number-members-reads.Asked, number-members-reads.Learnt, measure-below t, measure.Post, refusal-of-reads.Asked, refusal-of-reads.Learnt) (walk-at t) walk.Post walk-Inv-loop walk-μ-loop
 walk-same-length-6 t c = search needs
 
-walk-same-length-7 : (t : ℕ) → walk-lts.Need-same-length-7 (
-  number-members-reads.Asked,
-  number-members-reads.Learnt,
-  measure-below t,
-  measure.Post,
-  refusal-of-reads.Asked,
-  refusal-of-reads.Learnt,
-) (walk-at t) walk.Post walk-Inv-loop walk-μ-loop
+walk-same-length-7 : (t : ℕ) → walk-lts.Need-same-length-7 (number-members-reads.Asked, number-members-reads.Learnt, measure-below t, measure.Post, refusal-of-reads.Asked, refusal-of-reads.Learnt) (walk-at t) walk.Post walk-Inv-loop walk-μ-loop
 walk-same-length-7 t c = search needs
 
-walk-same-length-8 : (t : ℕ) → walk-lts.Need-same-length-8 (
-  number-members-reads.Asked,
-  number-members-reads.Learnt,
-  measure-below t,
-  measure.Post,
-  refusal-of-reads.Asked,
-  refusal-of-reads.Learnt,
-) (walk-at t) walk.Post walk-Inv-loop walk-μ-loop
+walk-same-length-8 : (t : ℕ) → walk-lts.Need-same-length-8 (number-members-reads.Asked, number-members-reads.Learnt, measure-below t, measure.Post, refusal-of-reads.Asked, refusal-of-reads.Learnt) (walk-at t) walk.Post walk-Inv-loop walk-μ-loop
 walk-same-length-8 t c = search needs
 
-walk-same-length-9 : (t : ℕ) → walk-lts.Need-same-length-9 (
-  number-members-reads.Asked,
-  number-members-reads.Learnt,
-  measure-below t,
-  measure.Post,
-  refusal-of-reads.Asked,
-  refusal-of-reads.Learnt,
-) (walk-at t) walk.Post walk-Inv-loop walk-μ-loop
+walk-same-length-9 : (t : ℕ) → walk-lts.Need-same-length-9 (number-members-reads.Asked, number-members-reads.Learnt, measure-below t, measure.Post, refusal-of-reads.Asked, refusal-of-reads.Learnt) (walk-at t) walk.Post walk-Inv-loop walk-μ-loop
 walk-same-length-9 t c = search needs
 
-walk-same-length-10 : (t : ℕ) → walk-lts.Need-same-length-10 (
-  number-members-reads.Asked,
-  number-members-reads.Learnt,
-  measure-below t,
-  measure.Post,
-  refusal-of-reads.Asked,
-  refusal-of-reads.Learnt,
-) (walk-at t) walk.Post walk-Inv-loop walk-μ-loop
+walk-same-length-10 : (t : ℕ) → walk-lts.Need-same-length-10 (number-members-reads.Asked, number-members-reads.Learnt, measure-below t, measure.Post, refusal-of-reads.Asked, refusal-of-reads.Learnt) (walk-at t) walk.Post walk-Inv-loop walk-μ-loop
 walk-same-length-10 t c = search needs
 
-walk-returns-2 : (t : ℕ) → walk-lts.Need-returns-2 (
-  number-members-reads.Asked,
-  number-members-reads.Learnt,
-  measure-below t,
-  measure.Post,
-  refusal-of-reads.Asked,
-  refusal-of-reads.Learnt,
-) (walk-at t) walk.Post walk-Inv-loop walk-μ-loop
+walk-returns-2 : (t : ℕ) → walk-lts.Need-returns-2 (number-members-reads.Asked, number-members-reads.Learnt, measure-below t, measure.Post, refusal-of-reads.Asked, refusal-of-reads.Learnt) (walk-at t) walk.Post walk-Inv-loop walk-μ-loop
 unfolding groups-told
 walk-returns-2 t c = let s = c .before .before .before .before .before .before .before .before .before .before .before in let a = s .args in walk-all (inner (rows-in (a .rows .now)) (a .fuel)) (a .held .now) (place-groups (a .held .now)) (a .next) _ _ _ _ _ _ _ _ _ (c .before .loop .inv .1) (length (place-groups (a .held .now))) (omega (arith, c .before .loop .inv .0, c .loop-test .left, ends-many (rows-in (a .rows .now)) (a .fuel) (a .next) (a .held .now) (a .members .now) (a .ends .now) (s .pre .1 .0 .1) (s .pre .1 .1 .0 .0) (s .pre .1 .1 .0 .1)))
 
-write-match-write-match-head-requires : (t : ℕ) → write-match-lts.Need-write-match-head-requires (
-  write-match-head-reads.Asked,
-  write-match-head-reads.Learnt,
-  put-reads.Asked,
-  put-reads.Learnt,
-  group-begin-reads.Asked,
-  group-begin-reads.Learnt,
-  arms-below t,
-  arms.Post,
-) (write-match-at t) write-match.Post
+write-match-write-match-head-requires : (t : ℕ) → write-match-lts.Need-write-match-head-requires (write-match-head-reads.Asked, write-match-head-reads.Learnt, put-reads.Asked, put-reads.Learnt, group-begin-reads.Asked, group-begin-reads.Learnt, arms-below t, arms.Post) (write-match-at t) write-match.Post
 write-match-write-match-head-requires t c κs = let s = c .before .before .before .before .before .before .before .before .before .before in let a = s .args in (s .pre .1 .1 .0 .0, (s .pre .1 .1 .1 .0, head-fits (rows-in (a .rows .now)) (a .fuel) (a .held .now) (a .members .now) (a .ends .now) (a .numbers .now) (a .g) (a .from) (a .size) (a .kept .now) (a .at) (s .pre .1 .0 .1) (s .pre .1 .1 .0 .0) (s .pre .1 .1 .0 .1) (s .pre .1 .1 .1 .0) (s .pre .1 .1 .1 .1)))
 
-write-match-add-result : (t : ℕ) → write-match-lts.Need-add-result (
-  write-match-head-reads.Asked,
-  write-match-head-reads.Learnt,
-  put-reads.Asked,
-  put-reads.Learnt,
-  group-begin-reads.Asked,
-  group-begin-reads.Learnt,
-  arms-below t,
-  arms.Post,
-) (write-match-at t) write-match.Post
+write-match-add-result : (t : ℕ) → write-match-lts.Need-add-result (write-match-head-reads.Asked, write-match-head-reads.Learnt, put-reads.Asked, put-reads.Learnt, group-begin-reads.Asked, group-begin-reads.Learnt, arms-below t, arms.Post) (write-match-at t) write-match.Post
 write-match-add-result t c = let s = c .before .before .before .before .before .before .before .before .before .before .before .before .before .before in let a = s .args in omega (arith, c .before .before .before .write-match-head .ensures .0, all-fits (rows-in (a .rows .now)) (a .fuel) (a .held .now) (a .members .now) (a .ends .now) (a .numbers .now) (a .g) (a .from) (a .size) (a .kept .now) (a .at) (s .pre .1 .0 .1) (s .pre .1 .1 .0 .0) (s .pre .1 .1 .0 .1) (s .pre .1 .1 .1 .0) (s .pre .1 .1 .1 .1))
 
-write-match-same-length : (t : ℕ) → write-match-lts.Need-same-length (
-  write-match-head-reads.Asked,
-  write-match-head-reads.Learnt,
-  put-reads.Asked,
-  put-reads.Learnt,
-  group-begin-reads.Asked,
-  group-begin-reads.Learnt,
-  arms-below t,
-  arms.Post,
-) (write-match-at t) write-match.Post
+write-match-same-length : (t : ℕ) → write-match-lts.Need-same-length (write-match-head-reads.Asked, write-match-head-reads.Learnt, put-reads.Asked, put-reads.Learnt, group-begin-reads.Asked, group-begin-reads.Learnt, arms-below t, arms.Post) (write-match-at t) write-match.Post
 write-match-same-length t c = search needs
 
-write-match-returns : (t : ℕ) → write-match-lts.Need-returns (
-  write-match-head-reads.Asked,
-  write-match-head-reads.Learnt,
-  put-reads.Asked,
-  put-reads.Learnt,
-  group-begin-reads.Asked,
-  group-begin-reads.Learnt,
-  arms-below t,
-  arms.Post,
-) (write-match-at t) write-match.Post
+write-match-returns : (t : ℕ) → write-match-lts.Need-returns (write-match-head-reads.Asked, write-match-head-reads.Learnt, put-reads.Asked, put-reads.Learnt, group-begin-reads.Asked, group-begin-reads.Learnt, arms-below t, arms.Post) (write-match-at t) write-match.Post
 write-match-returns t c = let s = c .before .before .before .before .before .before .before .before .before .before .before .before .before .before in let a = s .args in match-past (rows-in (a .rows .now)) (a .fuel) (a .held .now) (a .members .now) (a .ends .now) (a .numbers .now) (a .g) (a .from) (a .size) (a .kept .now) (a .at) (s .pre .1 .0 .1) (s .pre .1 .1 .0 .0) (s .pre .1 .1 .0 .1) (s .pre .1 .1 .1 .0) (s .pre .1 .1 .1 .1) (a .table .now) _ (c .before .before .before .write-match-head .ensures .1) (c .before .before .before .write-match-head .result) (c .before .before .before .write-match-head .ensures .0) (omega (arith, c .if1 .taken))
 
-write-match-add-if2 : (t : ℕ) → write-match-lts.Need-add-if2 (
-  write-match-head-reads.Asked,
-  write-match-head-reads.Learnt,
-  put-reads.Asked,
-  put-reads.Learnt,
-  group-begin-reads.Asked,
-  group-begin-reads.Learnt,
-  arms-below t,
-  arms.Post,
-) (write-match-at t) write-match.Post
+write-match-add-if2 : (t : ℕ) → write-match-lts.Need-add-if2 (write-match-head-reads.Asked, write-match-head-reads.Learnt, put-reads.Asked, put-reads.Learnt, group-begin-reads.Asked, group-begin-reads.Learnt, arms-below t, arms.Post) (write-match-at t) write-match.Post
 write-match-add-if2 t c = let s = c .before .before .before .before .before .before .before .before .before .before .before .before .before .before in let a = s .args in omega (arith, kept-low (rows-in (a .rows .now)) (a .fuel) (a .held .now) (a .members .now) (a .ends .now) (a .numbers .now) (a .g) (a .from) (a .size) (a .kept .now) (a .at) (s .pre .1 .0 .1) (s .pre .1 .1 .0 .0) (s .pre .1 .1 .0 .1) (s .pre .1 .1 .1 .0) (s .pre .1 .1 .1 .1))
 
-write-match-add-put : (t : ℕ) → write-match-lts.Need-add-put (
-  write-match-head-reads.Asked,
-  write-match-head-reads.Learnt,
-  put-reads.Asked,
-  put-reads.Learnt,
-  group-begin-reads.Asked,
-  group-begin-reads.Learnt,
-  arms-below t,
-  arms.Post,
-) (write-match-at t) write-match.Post
+write-match-add-put : (t : ℕ) → write-match-lts.Need-add-put (write-match-head-reads.Asked, write-match-head-reads.Learnt, put-reads.Asked, put-reads.Learnt, group-begin-reads.Asked, group-begin-reads.Learnt, arms-below t, arms.Post) (write-match-at t) write-match.Post
 write-match-add-put t c = let s = c .before .before .before .before .before .before .before .before .before .before .before .before .before .before .before in let a = s .args in omega (arith, kept-low (rows-in (a .rows .now)) (a .fuel) (a .held .now) (a .members .now) (a .ends .now) (a .numbers .now) (a .g) (a .from) (a .size) (a .kept .now) (a .at) (s .pre .1 .0 .1) (s .pre .1 .1 .0 .0) (s .pre .1 .1 .0 .1) (s .pre .1 .1 .1 .0) (s .pre .1 .1 .1 .1))
 
-write-match-mul-put : (t : ℕ) → write-match-lts.Need-mul-put (
-  write-match-head-reads.Asked,
-  write-match-head-reads.Learnt,
-  put-reads.Asked,
-  put-reads.Learnt,
-  group-begin-reads.Asked,
-  group-begin-reads.Learnt,
-  arms-below t,
-  arms.Post,
-) (write-match-at t) write-match.Post
+write-match-mul-put : (t : ℕ) → write-match-lts.Need-mul-put (write-match-head-reads.Asked, write-match-head-reads.Learnt, put-reads.Asked, put-reads.Learnt, group-begin-reads.Asked, group-begin-reads.Learnt, arms-below t, arms.Post) (write-match-at t) write-match.Post
 write-match-mul-put t c = let s = c .before .before .before .before .before .before .before .before .before .before .before .before .before .before .before in let a = s .args in omega (arith, kept-low (rows-in (a .rows .now)) (a .fuel) (a .held .now) (a .members .now) (a .ends .now) (a .numbers .now) (a .g) (a .from) (a .size) (a .kept .now) (a .at) (s .pre .1 .0 .1) (s .pre .1 .1 .0 .0) (s .pre .1 .1 .0 .1) (s .pre .1 .1 .1 .0) (s .pre .1 .1 .1 .1), c .if2 .taken, s .good .1 .1 .1 .1 .1 .1 .1 .1 .1 .0)
 
-write-match-sub-put : (t : ℕ) → write-match-lts.Need-sub-put (
-  write-match-head-reads.Asked,
-  write-match-head-reads.Learnt,
-  put-reads.Asked,
-  put-reads.Learnt,
-  group-begin-reads.Asked,
-  group-begin-reads.Learnt,
-  arms-below t,
-  arms.Post,
-) (write-match-at t) write-match.Post
+write-match-sub-put : (t : ℕ) → write-match-lts.Need-sub-put (write-match-head-reads.Asked, write-match-head-reads.Learnt, put-reads.Asked, put-reads.Learnt, group-begin-reads.Asked, group-begin-reads.Learnt, arms-below t, arms.Post) (write-match-at t) write-match.Post
 write-match-sub-put t c = let s = c .before .before .before .before .before .before .before .before .before .before .before .before .before .before .before in let a = s .args in omega arith
 
-write-match-part-put-start : (t : ℕ) → write-match-lts.Need-part-put-start (
-  write-match-head-reads.Asked,
-  write-match-head-reads.Learnt,
-  put-reads.Asked,
-  put-reads.Learnt,
-  group-begin-reads.Asked,
-  group-begin-reads.Learnt,
-  arms-below t,
-  arms.Post,
-) (write-match-at t) write-match.Post
+write-match-part-put-start : (t : ℕ) → write-match-lts.Need-part-put-start (write-match-head-reads.Asked, write-match-head-reads.Learnt, put-reads.Asked, put-reads.Learnt, group-begin-reads.Asked, group-begin-reads.Learnt, arms-below t, arms.Post) (write-match-at t) write-match.Post
 write-match-part-put-start t c = let s = c .before .before .before .before .before .before .before .before .before .before .before .before .before .before .before in let a = s .args in omega arith
 
-write-match-part-put-end : (t : ℕ) → write-match-lts.Need-part-put-end (
-  write-match-head-reads.Asked,
-  write-match-head-reads.Learnt,
-  put-reads.Asked,
-  put-reads.Learnt,
-  group-begin-reads.Asked,
-  group-begin-reads.Learnt,
-  arms-below t,
-  arms.Post,
-) (write-match-at t) write-match.Post
+write-match-part-put-end : (t : ℕ) → write-match-lts.Need-part-put-end (write-match-head-reads.Asked, write-match-head-reads.Learnt, put-reads.Asked, put-reads.Learnt, group-begin-reads.Asked, group-begin-reads.Learnt, arms-below t, arms.Post) (write-match-at t) write-match.Post
 write-match-part-put-end t c = let s = c .before .before .before .before .before .before .before .before .before .before .before .before .before .before .before in let a = s .args in omega (arith, c .if2 .taken)
 
-write-match-put-requires : (t : ℕ) → write-match-lts.Need-put-requires (
-  write-match-head-reads.Asked,
-  write-match-head-reads.Learnt,
-  put-reads.Asked,
-  put-reads.Learnt,
-  group-begin-reads.Asked,
-  group-begin-reads.Learnt,
-  arms-below t,
-  arms.Post,
-) (write-match-at t) write-match.Post
+write-match-put-requires : (t : ℕ) → write-match-lts.Need-put-requires (write-match-head-reads.Asked, write-match-head-reads.Learnt, put-reads.Asked, put-reads.Learnt, group-begin-reads.Asked, group-begin-reads.Learnt, arms-below t, arms.Post) (write-match-at t) write-match.Post
 write-match-put-requires t c κs = search needs
 
-write-match-add-result-2 : (t : ℕ) → write-match-lts.Need-add-result-2 (
-  write-match-head-reads.Asked,
-  write-match-head-reads.Learnt,
-  put-reads.Asked,
-  put-reads.Learnt,
-  group-begin-reads.Asked,
-  group-begin-reads.Learnt,
-  arms-below t,
-  arms.Post,
-) (write-match-at t) write-match.Post
+write-match-add-result-2 : (t : ℕ) → write-match-lts.Need-add-result-2 (write-match-head-reads.Asked, write-match-head-reads.Learnt, put-reads.Asked, put-reads.Learnt, group-begin-reads.Asked, group-begin-reads.Learnt, arms-below t, arms.Post) (write-match-at t) write-match.Post
 write-match-add-result-2 t c = let s = c .before .before .before .before .before .before .before .before .before .before .before .before .before .before .before .before .before .before .before .before in let a = s .args in omega (arith, c .before .before .before .before .before .before .before .before .before .write-match-head .ensures .0, all-fits (rows-in (a .rows .now)) (a .fuel) (a .held .now) (a .members .now) (a .ends .now) (a .numbers .now) (a .g) (a .from) (a .size) (a .kept .now) (a .at) (s .pre .1 .0 .1) (s .pre .1 .1 .0 .0) (s .pre .1 .1 .0 .1) (s .pre .1 .1 .1 .0) (s .pre .1 .1 .1 .1))
 
-write-match-same-length-2 : (t : ℕ) → write-match-lts.Need-same-length-2 (
-  write-match-head-reads.Asked,
-  write-match-head-reads.Learnt,
-  put-reads.Asked,
-  put-reads.Learnt,
-  group-begin-reads.Asked,
-  group-begin-reads.Learnt,
-  arms-below t,
-  arms.Post,
-) (write-match-at t) write-match.Post
+write-match-same-length-2 : (t : ℕ) → write-match-lts.Need-same-length-2 (write-match-head-reads.Asked, write-match-head-reads.Learnt, put-reads.Asked, put-reads.Learnt, group-begin-reads.Asked, group-begin-reads.Learnt, arms-below t, arms.Post) (write-match-at t) write-match.Post
 write-match-same-length-2 t c = search needs
 
-write-match-returns-2 : (t : ℕ) → write-match-lts.Need-returns-2 (
-  write-match-head-reads.Asked,
-  write-match-head-reads.Learnt,
-  put-reads.Asked,
-  put-reads.Learnt,
-  group-begin-reads.Asked,
-  group-begin-reads.Learnt,
-  arms-below t,
-  arms.Post,
-) (write-match-at t) write-match.Post
+write-match-returns-2 : (t : ℕ) → write-match-lts.Need-returns-2 (write-match-head-reads.Asked, write-match-head-reads.Learnt, put-reads.Asked, put-reads.Learnt, group-begin-reads.Asked, group-begin-reads.Learnt, arms-below t, arms.Post) (write-match-at t) write-match.Post
 write-match-returns-2 t c = let s = c .before .before .before .before .before .before .before .before .before .before .before .before .before .before .before .before .before .before .before .before in let a = s .args in match-kept (rows-in (a .rows .now)) (a .fuel) (a .held .now) (a .members .now) (a .ends .now) (a .numbers .now) (a .g) (a .from) (a .size) (a .kept .now) (a .at) (s .pre .1 .0 .1) (s .pre .1 .1 .0 .0) (s .pre .1 .1 .0 .1) (s .pre .1 .1 .1 .0) (s .pre .1 .1 .1 .1) (a .table .now) _ _ (c .before .before .before .before .before .before .before .before .before .write-match-head .ensures .1) (c .before .before .before .before .before .before .before .before .before .write-match-head .result) (c .before .before .before .before .before .before .before .before .before .write-match-head .ensures .0) (omega (arith, c .before .before .before .before .before .if2 .taken)) (c .before .before .put .ensures)
 
-write-match-group-begin-requires : (t : ℕ) → write-match-lts.Need-group-begin-requires (
-  write-match-head-reads.Asked,
-  write-match-head-reads.Learnt,
-  put-reads.Asked,
-  put-reads.Learnt,
-  group-begin-reads.Asked,
-  group-begin-reads.Learnt,
-  arms-below t,
-  arms.Post,
-) (write-match-at t) write-match.Post
+write-match-group-begin-requires : (t : ℕ) → write-match-lts.Need-group-begin-requires (write-match-head-reads.Asked, write-match-head-reads.Learnt, put-reads.Asked, put-reads.Learnt, group-begin-reads.Asked, group-begin-reads.Learnt, arms-below t, arms.Post) (write-match-at t) write-match.Post
 write-match-group-begin-requires t c κs = let s = c .before .before .before .before .before .before .before .before .before .before .before .before .before .before .before in s .pre .1 .1 .1 .0
 
-write-match-mul-end : (t : ℕ) → write-match-lts.Need-mul-end (
-  write-match-head-reads.Asked,
-  write-match-head-reads.Learnt,
-  put-reads.Asked,
-  put-reads.Learnt,
-  group-begin-reads.Asked,
-  group-begin-reads.Learnt,
-  arms-below t,
-  arms.Post,
-) (write-match-at t) write-match.Post
+write-match-mul-end : (t : ℕ) → write-match-lts.Need-mul-end (write-match-head-reads.Asked, write-match-head-reads.Learnt, put-reads.Asked, put-reads.Learnt, group-begin-reads.Asked, group-begin-reads.Learnt, arms-below t, arms.Post) (write-match-at t) write-match.Post
 write-match-mul-end t c = search needs
 
-write-match-shared-slice-read-end : (t : ℕ) → write-match-lts.Need-shared-slice-read-end (
-  write-match-head-reads.Asked,
-  write-match-head-reads.Learnt,
-  put-reads.Asked,
-  put-reads.Learnt,
-  group-begin-reads.Asked,
-  group-begin-reads.Learnt,
-  arms-below t,
-  arms.Post,
-) (write-match-at t) write-match.Post
+write-match-shared-slice-read-end : (t : ℕ) → write-match-lts.Need-shared-slice-read-end (write-match-head-reads.Asked, write-match-head-reads.Learnt, put-reads.Asked, put-reads.Learnt, group-begin-reads.Asked, group-begin-reads.Learnt, arms-below t, arms.Post) (write-match-at t) write-match.Post
 write-match-shared-slice-read-end t c = search needs
 
-write-match-mul-first : (t : ℕ) → write-match-lts.Need-mul-first (
-  write-match-head-reads.Asked,
-  write-match-head-reads.Learnt,
-  put-reads.Asked,
-  put-reads.Learnt,
-  group-begin-reads.Asked,
-  group-begin-reads.Learnt,
-  arms-below t,
-  arms.Post,
-) (write-match-at t) write-match.Post
+write-match-mul-first : (t : ℕ) → write-match-lts.Need-mul-first (write-match-head-reads.Asked, write-match-head-reads.Learnt, put-reads.Asked, put-reads.Learnt, group-begin-reads.Asked, group-begin-reads.Learnt, arms-below t, arms.Post) (write-match-at t) write-match.Post
 write-match-mul-first t c = let s = c .before .before .before .before .before .before .before .before .before .before .before .before .before .before .before .before .before in let a = s .args in omega (arith, start-within (rows-in (a .rows .now)) (a .fuel) (a .held .now) (a .members .now) (a .ends .now) (a .numbers .now) (a .g) (a .from) (a .size) (a .kept .now) (a .at) (s .pre .1 .0 .1) (s .pre .1 .1 .0 .0) (s .pre .1 .1 .0 .1) (s .pre .1 .1 .1 .0) (s .pre .1 .1 .1 .1) (c .before .group-begin .result) (c .before .group-begin .ensures), s .good .1 .1 .1 .1 .1 .0)
 
-write-match-shared-slice-read-first : (t : ℕ) → write-match-lts.Need-shared-slice-read-first (
-  write-match-head-reads.Asked,
-  write-match-head-reads.Learnt,
-  put-reads.Asked,
-  put-reads.Learnt,
-  group-begin-reads.Asked,
-  group-begin-reads.Learnt,
-  arms-below t,
-  arms.Post,
-) (write-match-at t) write-match.Post
+write-match-shared-slice-read-first : (t : ℕ) → write-match-lts.Need-shared-slice-read-first (write-match-head-reads.Asked, write-match-head-reads.Learnt, put-reads.Asked, put-reads.Learnt, group-begin-reads.Asked, group-begin-reads.Learnt, arms-below t, arms.Post) (write-match-at t) write-match.Post
 write-match-shared-slice-read-first t c = let s = c .before .before .before .before .before .before .before .before .before .before .before .before .before .before .before .before .before .before in let a = s .args in start-within (rows-in (a .rows .now)) (a .fuel) (a .held .now) (a .members .now) (a .ends .now) (a .numbers .now) (a .g) (a .from) (a .size) (a .kept .now) (a .at) (s .pre .1 .0 .1) (s .pre .1 .1 .0 .0) (s .pre .1 .1 .0 .1) (s .pre .1 .1 .1 .0) (s .pre .1 .1 .1 .1) (c .before .before .group-begin .result) (c .before .before .group-begin .ensures)
 
-write-match-sub-first : (t : ℕ) → write-match-lts.Need-sub-first (
-  write-match-head-reads.Asked,
-  write-match-head-reads.Learnt,
-  put-reads.Asked,
-  put-reads.Learnt,
-  group-begin-reads.Asked,
-  group-begin-reads.Learnt,
-  arms-below t,
-  arms.Post,
-) (write-match-at t) write-match.Post
+write-match-sub-first : (t : ℕ) → write-match-lts.Need-sub-first (write-match-head-reads.Asked, write-match-head-reads.Learnt, put-reads.Asked, put-reads.Learnt, group-begin-reads.Asked, group-begin-reads.Learnt, arms-below t, arms.Post) (write-match-at t) write-match.Post
 write-match-sub-first t c = let s = c .before .before .before .before .before .before .before .before .before .before .before .before .before .before .before .before .before .before in let a = s .args in start-under (rows-in (a .rows .now)) (a .fuel) (a .held .now) (a .members .now) (a .ends .now) (a .numbers .now) (a .g) (a .from) (a .size) (a .kept .now) (a .at) (s .pre .1 .0 .1) (s .pre .1 .1 .0 .0) (s .pre .1 .1 .0 .1) (s .pre .1 .1 .1 .0) (s .pre .1 .1 .1 .1) (c .before .before .group-begin .result) (c .before .before .group-begin .ensures)
 
-write-match-add-first : (t : ℕ) → write-match-lts.Need-add-first (
-  write-match-head-reads.Asked,
-  write-match-head-reads.Learnt,
-  put-reads.Asked,
-  put-reads.Learnt,
-  group-begin-reads.Asked,
-  group-begin-reads.Learnt,
-  arms-below t,
-  arms.Post,
-) (write-match-at t) write-match.Post
+write-match-add-first : (t : ℕ) → write-match-lts.Need-add-first (write-match-head-reads.Asked, write-match-head-reads.Learnt, put-reads.Asked, put-reads.Learnt, group-begin-reads.Asked, group-begin-reads.Learnt, arms-below t, arms.Post) (write-match-at t) write-match.Post
 write-match-add-first t c = let s = c .before .before .before .before .before .before .before .before .before .before .before .before .before .before .before .before .before .before in let a = s .args in omega (arith, number-small (rows-in (a .rows .now)) (a .fuel) (a .held .now) (a .members .now) (a .ends .now) (a .numbers .now) (a .g) (a .from) (a .size) (a .kept .now) (a .at) (s .pre .1 .0 .1) (s .pre .1 .1 .0 .0) (s .pre .1 .1 .0 .1) (s .pre .1 .1 .1 .0) (s .pre .1 .1 .1 .1) (c .before .before .group-begin .result) (c .before .before .group-begin .ensures), start-under (rows-in (a .rows .now)) (a .fuel) (a .held .now) (a .members .now) (a .ends .now) (a .numbers .now) (a .g) (a .from) (a .size) (a .kept .now) (a .at) (s .pre .1 .0 .1) (s .pre .1 .1 .0 .0) (s .pre .1 .1 .0 .1) (s .pre .1 .1 .1 .0) (s .pre .1 .1 .1 .1) (c .before .before .group-begin .result) (c .before .before .group-begin .ensures), ends-within (rows-in (a .rows .now)) (a .fuel) (a .held .now) (a .members .now) (a .ends .now) (a .numbers .now) (a .g) (a .from) (a .size) (a .kept .now) (a .at) (s .pre .1 .0 .1) (s .pre .1 .1 .0 .0) (s .pre .1 .1 .0 .1) (s .pre .1 .1 .1 .0) (s .pre .1 .1 .1 .1), members-few (rows-in (a .rows .now)) (a .fuel) (a .held .now) (a .members .now) (a .ends .now) (a .numbers .now) (a .g) (a .from) (a .size) (a .kept .now) (a .at) (s .pre .1 .0 .1) (s .pre .1 .1 .0 .0) (s .pre .1 .1 .0 .1) (s .pre .1 .1 .1 .0) (s .pre .1 .1 .1 .1))
 
-write-match-mul-arms : (t : ℕ) → write-match-lts.Need-mul-arms (
-  write-match-head-reads.Asked,
-  write-match-head-reads.Learnt,
-  put-reads.Asked,
-  put-reads.Learnt,
-  group-begin-reads.Asked,
-  group-begin-reads.Learnt,
-  arms-below t,
-  arms.Post,
-) (write-match-at t) write-match.Post
+write-match-mul-arms : (t : ℕ) → write-match-lts.Need-mul-arms (write-match-head-reads.Asked, write-match-head-reads.Learnt, put-reads.Asked, put-reads.Learnt, group-begin-reads.Asked, group-begin-reads.Learnt, arms-below t, arms.Post) (write-match-at t) write-match.Post
 write-match-mul-arms t c = let s = c .before .before .before .before .before .before .before .before .before .before .before .before .before .before .before .before .before .before .before in let a = s .args in omega (arith, start-under (rows-in (a .rows .now)) (a .fuel) (a .held .now) (a .members .now) (a .ends .now) (a .numbers .now) (a .g) (a .from) (a .size) (a .kept .now) (a .at) (s .pre .1 .0 .1) (s .pre .1 .1 .0 .0) (s .pre .1 .1 .0 .1) (s .pre .1 .1 .1 .0) (s .pre .1 .1 .1 .1) (c .before .before .before .group-begin .result) (c .before .before .before .group-begin .ensures), ends-within (rows-in (a .rows .now)) (a .fuel) (a .held .now) (a .members .now) (a .ends .now) (a .numbers .now) (a .g) (a .from) (a .size) (a .kept .now) (a .at) (s .pre .1 .0 .1) (s .pre .1 .1 .0 .0) (s .pre .1 .1 .0 .1) (s .pre .1 .1 .1 .0) (s .pre .1 .1 .1 .1), members-few (rows-in (a .rows .now)) (a .fuel) (a .held .now) (a .members .now) (a .ends .now) (a .numbers .now) (a .g) (a .from) (a .size) (a .kept .now) (a .at) (s .pre .1 .0 .1) (s .pre .1 .1 .0 .0) (s .pre .1 .1 .0 .1) (s .pre .1 .1 .1 .0) (s .pre .1 .1 .1 .1))
 
-write-match-sub-arms : (t : ℕ) → write-match-lts.Need-sub-arms (
-  write-match-head-reads.Asked,
-  write-match-head-reads.Learnt,
-  put-reads.Asked,
-  put-reads.Learnt,
-  group-begin-reads.Asked,
-  group-begin-reads.Learnt,
-  arms-below t,
-  arms.Post,
-) (write-match-at t) write-match.Post
+write-match-sub-arms : (t : ℕ) → write-match-lts.Need-sub-arms (write-match-head-reads.Asked, write-match-head-reads.Learnt, put-reads.Asked, put-reads.Learnt, group-begin-reads.Asked, group-begin-reads.Learnt, arms-below t, arms.Post) (write-match-at t) write-match.Post
 write-match-sub-arms t c = let s = c .before .before .before .before .before .before .before .before .before .before .before .before .before .before .before .before .before .before .before in let a = s .args in start-under (rows-in (a .rows .now)) (a .fuel) (a .held .now) (a .members .now) (a .ends .now) (a .numbers .now) (a .g) (a .from) (a .size) (a .kept .now) (a .at) (s .pre .1 .0 .1) (s .pre .1 .1 .0 .0) (s .pre .1 .1 .0 .1) (s .pre .1 .1 .1 .0) (s .pre .1 .1 .1 .1) (c .before .before .before .group-begin .result) (c .before .before .before .group-begin .ensures)
 
-write-match-part-arms-start : (t : ℕ) → write-match-lts.Need-part-arms-start (
-  write-match-head-reads.Asked,
-  write-match-head-reads.Learnt,
-  put-reads.Asked,
-  put-reads.Learnt,
-  group-begin-reads.Asked,
-  group-begin-reads.Learnt,
-  arms-below t,
-  arms.Post,
-) (write-match-at t) write-match.Post
+write-match-part-arms-start : (t : ℕ) → write-match-lts.Need-part-arms-start (write-match-head-reads.Asked, write-match-head-reads.Learnt, put-reads.Asked, put-reads.Learnt, group-begin-reads.Asked, group-begin-reads.Learnt, arms-below t, arms.Post) (write-match-at t) write-match.Post
 write-match-part-arms-start t c = let s = c .before .before .before .before .before .before .before .before .before .before .before .before .before .before .before .before .before .before .before in let a = s .args in omega (arith, start-under (rows-in (a .rows .now)) (a .fuel) (a .held .now) (a .members .now) (a .ends .now) (a .numbers .now) (a .g) (a .from) (a .size) (a .kept .now) (a .at) (s .pre .1 .0 .1) (s .pre .1 .1 .0 .0) (s .pre .1 .1 .0 .1) (s .pre .1 .1 .1 .0) (s .pre .1 .1 .1 .1) (c .before .before .before .group-begin .result) (c .before .before .before .group-begin .ensures), ends-within (rows-in (a .rows .now)) (a .fuel) (a .held .now) (a .members .now) (a .ends .now) (a .numbers .now) (a .g) (a .from) (a .size) (a .kept .now) (a .at) (s .pre .1 .0 .1) (s .pre .1 .1 .0 .0) (s .pre .1 .1 .0 .1) (s .pre .1 .1 .1 .0) (s .pre .1 .1 .1 .1))
 
-write-match-part-arms-end : (t : ℕ) → write-match-lts.Need-part-arms-end (
-  write-match-head-reads.Asked,
-  write-match-head-reads.Learnt,
-  put-reads.Asked,
-  put-reads.Learnt,
-  group-begin-reads.Asked,
-  group-begin-reads.Learnt,
-  arms-below t,
-  arms.Post,
-) (write-match-at t) write-match.Post
+write-match-part-arms-end : (t : ℕ) → write-match-lts.Need-part-arms-end (write-match-head-reads.Asked, write-match-head-reads.Learnt, put-reads.Asked, put-reads.Learnt, group-begin-reads.Asked, group-begin-reads.Learnt, arms-below t, arms.Post) (write-match-at t) write-match.Post
 write-match-part-arms-end t c = let s = c .before .before .before .before .before .before .before .before .before .before .before .before .before .before .before .before .before .before .before in let a = s .args in ends-within (rows-in (a .rows .now)) (a .fuel) (a .held .now) (a .members .now) (a .ends .now) (a .numbers .now) (a .g) (a .from) (a .size) (a .kept .now) (a .at) (s .pre .1 .0 .1) (s .pre .1 .1 .0 .0) (s .pre .1 .1 .0 .1) (s .pre .1 .1 .1 .0) (s .pre .1 .1 .1 .1)
 
-write-match-arms-requires : (t : ℕ) → write-match-lts.Need-arms-requires (
-  write-match-head-reads.Asked,
-  write-match-head-reads.Learnt,
-  put-reads.Asked,
-  put-reads.Learnt,
-  group-begin-reads.Asked,
-  group-begin-reads.Learnt,
-  arms-below t,
-  arms.Post,
-) (write-match-at t) write-match.Post
+write-match-arms-requires : (t : ℕ) → write-match-lts.Need-arms-requires (write-match-head-reads.Asked, write-match-head-reads.Learnt, put-reads.Asked, put-reads.Learnt, group-begin-reads.Asked, group-begin-reads.Learnt, arms-below t, arms.Post) (write-match-at t) write-match.Post
 write-match-arms-requires t c κs = let s = c .before .before .before .before .before .before .before .before .before .before .before .before .before .before .before .before .before .before .before .before .before .before in let a = s .args in (omega (arith, s .pre .0), ((s .pre .1 .0 .0, part-holds (rows-in (a .rows .now)) (a .fuel) (a .held .now) (a .members .now) (a .ends .now) (a .numbers .now) (a .g) (a .from) (a .size) (a .kept .now) (a .at) (s .pre .1 .0 .1) (s .pre .1 .1 .0 .0) (s .pre .1 .1 .0 .1) (s .pre .1 .1 .1 .0) (s .pre .1 .1 .1 .1) (c .before .before .before .before .before .before .group-begin .result) (c .before .before .before .before .before .before .group-begin .ensures)), (part-group (rows-in (a .rows .now)) (a .fuel) (a .held .now) (a .members .now) (a .ends .now) (a .numbers .now) (a .g) (a .from) (a .size) (a .kept .now) (a .at) (s .pre .1 .0 .1) (s .pre .1 .1 .0 .0) (s .pre .1 .1 .0 .1) (s .pre .1 .1 .1 .0) (s .pre .1 .1 .1 .1) (c .before .before .before .before .before .before .group-begin .result) (c .before .before .before .before .before .before .group-begin .ensures), (subst (Arms-fit (rows-in (a .rows .now)) (a .fuel) (a .held .now) _ _) (sym (c .before .before .before .before .before .before .before .before .before .before .before .write-match-head .ensures .0)) (part-fits (rows-in (a .rows .now)) (a .fuel) (a .held .now) (a .members .now) (a .ends .now) (a .numbers .now) (a .g) (a .from) (a .size) (a .kept .now) (a .at) (s .pre .1 .0 .1) (s .pre .1 .1 .0 .0) (s .pre .1 .1 .0 .1) (s .pre .1 .1 .1 .0) (s .pre .1 .1 .1 .1) (c .before .before .before .before .before .before .group-begin .result) (c .before .before .before .before .before .before .group-begin .ensures)), omega (arith, c .before .before .before .before .before .before .before .before .before .before .before .write-match-head .ensures .0, head-fits (rows-in (a .rows .now)) (a .fuel) (a .held .now) (a .members .now) (a .ends .now) (a .numbers .now) (a .g) (a .from) (a .size) (a .kept .now) (a .at) (s .pre .1 .0 .1) (s .pre .1 .1 .0 .0) (s .pre .1 .1 .0 .1) (s .pre .1 .1 .1 .0) (s .pre .1 .1 .1 .1))))))
 
-write-match-enum-known-armed : (t : ℕ) → write-match-lts.Need-enum-known-armed (
-  write-match-head-reads.Asked,
-  write-match-head-reads.Learnt,
-  put-reads.Asked,
-  put-reads.Learnt,
-  group-begin-reads.Asked,
-  group-begin-reads.Learnt,
-  arms-below t,
-  arms.Post,
-) (write-match-at t) write-match.Post
+write-match-enum-known-armed : (t : ℕ) → write-match-lts.Need-enum-known-armed (write-match-head-reads.Asked, write-match-head-reads.Learnt, put-reads.Asked, put-reads.Learnt, group-begin-reads.Asked, group-begin-reads.Learnt, arms-below t, arms.Post) (write-match-at t) write-match.Post
 write-match-enum-known-armed t c = search needs
 
-write-match-enum-told : (t : ℕ) → write-match-lts.Need-enum-told (
-  write-match-head-reads.Asked,
-  write-match-head-reads.Learnt,
-  put-reads.Asked,
-  put-reads.Learnt,
-  group-begin-reads.Asked,
-  group-begin-reads.Learnt,
-  arms-below t,
-  arms.Post,
-) (write-match-at t) write-match.Post
+write-match-enum-told : (t : ℕ) → write-match-lts.Need-enum-told (write-match-head-reads.Asked, write-match-head-reads.Learnt, put-reads.Asked, put-reads.Learnt, group-begin-reads.Asked, group-begin-reads.Learnt, arms-below t, arms.Post) (write-match-at t) write-match.Post
 write-match-enum-told t c = search needs
 
-write-match-same-length-3 : (t : ℕ) → write-match-lts.Need-same-length-3 (
-  write-match-head-reads.Asked,
-  write-match-head-reads.Learnt,
-  put-reads.Asked,
-  put-reads.Learnt,
-  group-begin-reads.Asked,
-  group-begin-reads.Learnt,
-  arms-below t,
-  arms.Post,
-) (write-match-at t) write-match.Post
+write-match-same-length-3 : (t : ℕ) → write-match-lts.Need-same-length-3 (write-match-head-reads.Asked, write-match-head-reads.Learnt, put-reads.Asked, put-reads.Learnt, group-begin-reads.Asked, group-begin-reads.Learnt, arms-below t, arms.Post) (write-match-at t) write-match.Post
 write-match-same-length-3 t c = search needs
 
-write-match-same-length-4 : (t : ℕ) → write-match-lts.Need-same-length-4 (
-  write-match-head-reads.Asked,
-  write-match-head-reads.Learnt,
-  put-reads.Asked,
-  put-reads.Learnt,
-  group-begin-reads.Asked,
-  group-begin-reads.Learnt,
-  arms-below t,
-  arms.Post,
-) (write-match-at t) write-match.Post
+write-match-same-length-4 : (t : ℕ) → write-match-lts.Need-same-length-4 (write-match-head-reads.Asked, write-match-head-reads.Learnt, put-reads.Asked, put-reads.Learnt, group-begin-reads.Asked, group-begin-reads.Learnt, arms-below t, arms.Post) (write-match-at t) write-match.Post
 write-match-same-length-4 t c = search needs
 
-write-match-same-length-5 : (t : ℕ) → write-match-lts.Need-same-length-5 (
-  write-match-head-reads.Asked,
-  write-match-head-reads.Learnt,
-  put-reads.Asked,
-  put-reads.Learnt,
-  group-begin-reads.Asked,
-  group-begin-reads.Learnt,
-  arms-below t,
-  arms.Post,
-) (write-match-at t) write-match.Post
+write-match-same-length-5 : (t : ℕ) → write-match-lts.Need-same-length-5 (write-match-head-reads.Asked, write-match-head-reads.Learnt, put-reads.Asked, put-reads.Learnt, group-begin-reads.Asked, group-begin-reads.Learnt, arms-below t, arms.Post) (write-match-at t) write-match.Post
 write-match-same-length-5 t c = search needs
 
-write-match-returns-3 : (t : ℕ) → write-match-lts.Need-returns-3 (
-  write-match-head-reads.Asked,
-  write-match-head-reads.Learnt,
-  put-reads.Asked,
-  put-reads.Learnt,
-  group-begin-reads.Asked,
-  group-begin-reads.Learnt,
-  arms-below t,
-  arms.Post,
-) (write-match-at t) write-match.Post
+write-match-returns-3 : (t : ℕ) → write-match-lts.Need-returns-3 (write-match-head-reads.Asked, write-match-head-reads.Learnt, put-reads.Asked, put-reads.Learnt, group-begin-reads.Asked, group-begin-reads.Learnt, arms-below t, arms.Post) (write-match-at t) write-match.Post
 write-match-returns-3 t c = let s = c .before .before .before .before .before .before .before .before .before .before .before .before .before .before .before .before .before .before .before .before .before .before .before .before .before .before .before .before .before .before .before in let a = s .args in absurd (match-never (rows-in (a .rows .now)) (a .fuel) (a .held .now) (a .members .now) (a .ends .now) (a .numbers .now) (a .g) (a .from) (a .size) (a .kept .now) (a .at) (s .pre .1 .0 .1) (s .pre .1 .1 .0 .0) (s .pre .1 .1 .0 .1) (s .pre .1 .1 .1 .0) (s .pre .1 .1 .1 .1) (c .before .before .before .before .before .before .before .before .before .before .before .before .before .before .before .group-begin .result) (c .before .before .before .before .before .before .before .before .before .before .before .before .before .before .before .group-begin .ensures) (c .before .before .before .before .before .before .before .before .arms .result) (a .table .now) _ _ (c .before .before .before .before .before .before .before .before .before .before .before .before .before .before .before .before .before .before .before .before .write-match-head .ensures .1) (c .before .before .before .before .before .before .before .before .before .before .before .before .before .before .before .before .before .before .before .before .write-match-head .result) (c .before .before .before .before .before .before .before .before .before .before .before .before .before .before .before .before .before .before .before .before .write-match-head .ensures .0) (c .before .before .before .before .before .before .before .before .arms .ensures) _ (c .enum-told .given .1))
 
-write-match-same-length-6 : (t : ℕ) → write-match-lts.Need-same-length-6 (
-  write-match-head-reads.Asked,
-  write-match-head-reads.Learnt,
-  put-reads.Asked,
-  put-reads.Learnt,
-  group-begin-reads.Asked,
-  group-begin-reads.Learnt,
-  arms-below t,
-  arms.Post,
-) (write-match-at t) write-match.Post
+write-match-same-length-6 : (t : ℕ) → write-match-lts.Need-same-length-6 (write-match-head-reads.Asked, write-match-head-reads.Learnt, put-reads.Asked, put-reads.Learnt, group-begin-reads.Asked, group-begin-reads.Learnt, arms-below t, arms.Post) (write-match-at t) write-match.Post
 write-match-same-length-6 t c = search needs
 
-write-match-same-length-7 : (t : ℕ) → write-match-lts.Need-same-length-7 (
-  write-match-head-reads.Asked,
-  write-match-head-reads.Learnt,
-  put-reads.Asked,
-  put-reads.Learnt,
-  group-begin-reads.Asked,
-  group-begin-reads.Learnt,
-  arms-below t,
-  arms.Post,
-) (write-match-at t) write-match.Post
+write-match-same-length-7 : (t : ℕ) → write-match-lts.Need-same-length-7 (write-match-head-reads.Asked, write-match-head-reads.Learnt, put-reads.Asked, put-reads.Learnt, group-begin-reads.Asked, group-begin-reads.Learnt, arms-below t, arms.Post) (write-match-at t) write-match.Post
 write-match-same-length-7 t c = search needs
 
-write-match-same-length-8 : (t : ℕ) → write-match-lts.Need-same-length-8 (
-  write-match-head-reads.Asked,
-  write-match-head-reads.Learnt,
-  put-reads.Asked,
-  put-reads.Learnt,
-  group-begin-reads.Asked,
-  group-begin-reads.Learnt,
-  arms-below t,
-  arms.Post,
-) (write-match-at t) write-match.Post
+write-match-same-length-8 : (t : ℕ) → write-match-lts.Need-same-length-8 (write-match-head-reads.Asked, write-match-head-reads.Learnt, put-reads.Asked, put-reads.Learnt, group-begin-reads.Asked, group-begin-reads.Learnt, arms-below t, arms.Post) (write-match-at t) write-match.Post
 write-match-same-length-8 t c = search needs
 
-write-match-returns-4 : (t : ℕ) → write-match-lts.Need-returns-4 (
-  write-match-head-reads.Asked,
-  write-match-head-reads.Learnt,
-  put-reads.Asked,
-  put-reads.Learnt,
-  group-begin-reads.Asked,
-  group-begin-reads.Learnt,
-  arms-below t,
-  arms.Post,
-) (write-match-at t) write-match.Post
+write-match-returns-4 : (t : ℕ) → write-match-lts.Need-returns-4 (write-match-head-reads.Asked, write-match-head-reads.Learnt, put-reads.Asked, put-reads.Learnt, group-begin-reads.Asked, group-begin-reads.Learnt, arms-below t, arms.Post) (write-match-at t) write-match.Post
 write-match-returns-4 t c = let s = c .before .before .before .before .before .before .before .before .before .before .before .before .before .before .before .before .before .before .before .before .before .before .before .before .before .before .before .before .before .before .before .before in let a = s .args in match-done (rows-in (a .rows .now)) (a .fuel) (a .held .now) (a .members .now) (a .ends .now) (a .numbers .now) (a .g) (a .from) (a .size) (a .kept .now) (a .at) (s .pre .1 .0 .1) (s .pre .1 .1 .0 .0) (s .pre .1 .1 .0 .1) (s .pre .1 .1 .1 .0) (s .pre .1 .1 .1 .1) (c .before .before .before .before .before .before .before .before .before .before .before .before .before .before .before .before .group-begin .result) (c .before .before .before .before .before .before .before .before .before .before .before .before .before .before .before .before .group-begin .ensures) (c .before .before .before .before .before .before .before .before .before .arms .result) (a .table .now) _ _ (c .before .before .before .before .before .before .before .before .before .before .before .before .before .before .before .before .before .before .before .before .before .write-match-head .ensures .1) (c .before .before .before .before .before .before .before .before .before .before .before .before .before .before .before .before .before .before .before .before .before .write-match-head .result) (c .before .before .before .before .before .before .before .before .before .before .before .before .before .before .before .before .before .before .before .before .before .write-match-head .ensures .0) (c .before .before .before .before .before .before .before .before .before .arms .ensures) _ _ _ (c .before .armed .given .1)
 
-write-scope-sub-made : (t : ℕ) → write-scope-lts.Need-sub-made (
-  order-stmts-reads.Asked,
-  order-stmts-reads.Learnt,
-  write-stmts-below t,
-  write-stmts.Post,
-  write-values-reads.Asked,
-  write-values-reads.Learnt,
-) (write-scope-at t) write-scope.Post
+write-scope-sub-made : (t : ℕ) → write-scope-lts.Need-sub-made (order-stmts-reads.Asked, order-stmts-reads.Learnt, write-stmts-below t, write-stmts.Post, write-values-reads.Asked, write-values-reads.Learnt) (write-scope-at t) write-scope.Post
 write-scope-sub-made t c = let s = c .before .before .before .before .before .before .before .before .before .before .before .before .before in s .pre .1 .1 .0 .0 .enough
 
-write-scope-add-count : (t : ℕ) → write-scope-lts.Need-add-count (
-  order-stmts-reads.Asked,
-  order-stmts-reads.Learnt,
-  write-stmts-below t,
-  write-stmts.Post,
-  write-values-reads.Asked,
-  write-values-reads.Learnt,
-) (write-scope-at t) write-scope.Post
+write-scope-add-count : (t : ℕ) → write-scope-lts.Need-add-count (order-stmts-reads.Asked, order-stmts-reads.Learnt, write-stmts-below t, write-stmts.Post, write-values-reads.Asked, write-values-reads.Learnt) (write-scope-at t) write-scope.Post
 write-scope-add-count t c = let s = c .before .before .before .before .before .before .before .before .before .before .before .before .before in let a = s .args in omega (arith, lets-few (rows-in (a .rows .now)) (a .fuel) (a .tokens .now) (a .results) (a .first) (a .places .now) (a .held .now) (a .starts .now) (a .members .now) (a .ends .now) (a .numbers .now) (a .stops .now) (a .kept .now) (s .pre .1 .0 .1) (s .pre .1 .1 .0 .0) (s .pre .1 .1 .0 .1 .sized))
 
-write-scope-add-count-2 : (t : ℕ) → write-scope-lts.Need-add-count-2 (
-  order-stmts-reads.Asked,
-  order-stmts-reads.Learnt,
-  write-stmts-below t,
-  write-stmts.Post,
-  write-values-reads.Asked,
-  write-values-reads.Learnt,
-) (write-scope-at t) write-scope.Post
+write-scope-add-count-2 : (t : ℕ) → write-scope-lts.Need-add-count-2 (order-stmts-reads.Asked, order-stmts-reads.Learnt, write-stmts-below t, write-stmts.Post, write-values-reads.Asked, write-values-reads.Learnt) (write-scope-at t) write-scope.Post
 write-scope-add-count-2 t c = let s = c .before .before .before .before .before .before .before .before .before .before .before .before .before in let a = s .args in omega (arith, statements-here (rows-in (a .rows .now)) (a .fuel) (a .tokens .now) (a .results) (a .first) (a .places .now) (a .held .now) (a .starts .now) (a .members .now) (a .ends .now) (a .numbers .now) (a .stops .now) (a .kept .now) (a .after) (a .extracted) (a .row) (s .pre .1 .0 .1) (s .pre .1 .1 .0 .0) (s .pre .1 .1 .0 .1), s .pre .1 .1 .0 .0 .statements)
 
-write-scope-slice-aggregate-order-stmts :
-    (t : ℕ) → write-scope-lts.Need-slice-aggregate-order-stmts (
-      order-stmts-reads.Asked,
-      order-stmts-reads.Learnt,
-      write-stmts-below t,
-      write-stmts.Post,
-      write-values-reads.Asked,
-      write-values-reads.Learnt,
-    ) (write-scope-at t) write-scope.Post
+write-scope-slice-aggregate-order-stmts : (t : ℕ) → write-scope-lts.Need-slice-aggregate-order-stmts (order-stmts-reads.Asked, order-stmts-reads.Learnt, write-stmts-below t, write-stmts.Post, write-values-reads.Asked, write-values-reads.Learnt) (write-scope-at t) write-scope.Post
 write-scope-slice-aggregate-order-stmts t c = search needs
 
-write-scope-order-stmts-requires : (t : ℕ) → write-scope-lts.Need-order-stmts-requires (
-  order-stmts-reads.Asked,
-  order-stmts-reads.Learnt,
-  write-stmts-below t,
-  write-stmts.Post,
-  write-values-reads.Asked,
-  write-values-reads.Learnt,
-) (write-scope-at t) write-scope.Post
+write-scope-order-stmts-requires : (t : ℕ) → write-scope-lts.Need-order-stmts-requires (order-stmts-reads.Asked, order-stmts-reads.Learnt, write-stmts-below t, write-stmts.Post, write-values-reads.Asked, write-values-reads.Learnt) (write-scope-at t) write-scope.Post
 write-scope-order-stmts-requires t c κs = let s = c .before .before .before .before .before .before .before .before .before .before .before .before .before .before in (s .pre .1 .1 .0 .0, omega arith)
 
-write-scope-enum-told : (t : ℕ) → write-scope-lts.Need-enum-told (
-  order-stmts-reads.Asked,
-  order-stmts-reads.Learnt,
-  write-stmts-below t,
-  write-stmts.Post,
-  write-values-reads.Asked,
-  write-values-reads.Learnt,
-) (write-scope-at t) write-scope.Post
+write-scope-enum-told : (t : ℕ) → write-scope-lts.Need-enum-told (order-stmts-reads.Asked, order-stmts-reads.Learnt, write-stmts-below t, write-stmts.Post, write-values-reads.Asked, write-values-reads.Learnt) (write-scope-at t) write-scope.Post
 write-scope-enum-told t c = search needs
 
-write-scope-array-share-prefix-taken : (t : ℕ) → write-scope-lts.Need-array-share-prefix-taken (
-  order-stmts-reads.Asked,
-  order-stmts-reads.Learnt,
-  write-stmts-below t,
-  write-stmts.Post,
-  write-values-reads.Asked,
-  write-values-reads.Learnt,
-) (write-scope-at t) write-scope.Post
+write-scope-array-share-prefix-taken : (t : ℕ) → write-scope-lts.Need-array-share-prefix-taken (order-stmts-reads.Asked, order-stmts-reads.Learnt, write-stmts-below t, write-stmts.Post, write-values-reads.Asked, write-values-reads.Learnt) (write-scope-at t) write-scope.Post
 write-scope-array-share-prefix-taken t c = let s = c .before .before .before .before .before .before .before .before .before .before .before .before .before .before .before .before .before .before .before in let a = s .args in omega (arith, statements-here (rows-in (a .rows .now)) (a .fuel) (a .tokens .now) (a .results) (a .first) (a .places .now) (a .held .now) (a .starts .now) (a .members .now) (a .ends .now) (a .numbers .now) (a .stops .now) (a .kept .now) (a .after) (a .extracted) (a .row) (s .pre .1 .0 .1) (s .pre .1 .1 .0 .0) (s .pre .1 .1 .0 .1), s .pre .1 .1 .0 .0 .statements)
 
-write-scope-slice-aggregate-write-stmts :
-    (t : ℕ) → write-scope-lts.Need-slice-aggregate-write-stmts (
-      order-stmts-reads.Asked,
-      order-stmts-reads.Learnt,
-      write-stmts-below t,
-      write-stmts.Post,
-      write-values-reads.Asked,
-      write-values-reads.Learnt,
-    ) (write-scope-at t) write-scope.Post
+write-scope-slice-aggregate-write-stmts : (t : ℕ) → write-scope-lts.Need-slice-aggregate-write-stmts (order-stmts-reads.Asked, order-stmts-reads.Learnt, write-stmts-below t, write-stmts.Post, write-values-reads.Asked, write-values-reads.Learnt) (write-scope-at t) write-scope.Post
 write-scope-slice-aggregate-write-stmts t c = let s = c .before .before .before .before .before .before .before .before .before .before .before .before .before .before .before .before .before .before .before .before in let a = s .args in sym (length-take-le _ _ (omega (arith, statements-here (rows-in (a .rows .now)) (a .fuel) (a .tokens .now) (a .results) (a .first) (a .places .now) (a .held .now) (a .starts .now) (a .members .now) (a .ends .now) (a .numbers .now) (a .stops .now) (a .kept .now) (a .after) (a .extracted) (a .row) (s .pre .1 .0 .1) (s .pre .1 .1 .0 .0) (s .pre .1 .1 .0 .1), s .pre .1 .1 .0 .0 .statements, c .before .before .before .before .before .order-stmts .kept .1 .1 .1 .1 .1 .1 .1 .1 .1 .0)))
 
-write-scope-write-stmts-requires : (t : ℕ) → write-scope-lts.Need-write-stmts-requires (
-  order-stmts-reads.Asked,
-  order-stmts-reads.Learnt,
-  write-stmts-below t,
-  write-stmts.Post,
-  write-values-reads.Asked,
-  write-values-reads.Learnt,
-) (write-scope-at t) write-scope.Post
+write-scope-write-stmts-requires : (t : ℕ) → write-scope-lts.Need-write-stmts-requires (order-stmts-reads.Asked, order-stmts-reads.Learnt, write-stmts-below t, write-stmts.Post, write-values-reads.Asked, write-values-reads.Learnt) (write-scope-at t) write-scope.Post
 write-scope-write-stmts-requires t c κs = let s = c .before .before .before .before .before .before .before .before .before .before .before .before .before .before .before .before .before .before .before .before .before .before in let a = s .args in (omega (arith, s .pre .0), (s .pre .1 .0, ((s .pre .1 .1 .0 .0, s .pre .1 .1 .0 .1 .sized), (positions (rows-in (a .rows .now)) (a .fuel) (a .tokens .now) (a .results) (a .first) (a .places .now) (a .held .now) (a .starts .now) (a .members .now) (a .ends .now) (a .numbers .now) (a .stops .now) (a .kept .now) (a .after) (a .extracted) (a .row) (s .pre .1 .0 .1) (s .pre .1 .1 .0 .0) (s .pre .1 .1 .0 .1) (c .before .before .before .before .before .before .before .order-stmts .result) _ _ (c .before .before .before .before .before .before .before .order-stmts .ensures) (a .at) (a .table .now) (c .before .before .before .before .enum-told .given .1) _ (statements-here (rows-in (a .rows .now)) (a .fuel) (a .tokens .now) (a .results) (a .first) (a .places .now) (a .held .now) (a .starts .now) (a .members .now) (a .ends .now) (a .numbers .now) (a .stops .now) (a .kept .now) (a .after) (a .extracted) (a .row) (s .pre .1 .0 .1) (s .pre .1 .1 .0 .0) (s .pre .1 .1 .0 .1)) (s .pre .1 .1 .1), stmts-fit (rows-in (a .rows .now)) (a .fuel) (a .tokens .now) (a .results) (a .first) (a .places .now) (a .held .now) (a .starts .now) (a .members .now) (a .ends .now) (a .numbers .now) (a .stops .now) (a .kept .now) (a .after) (a .extracted) (a .row) (s .pre .1 .0 .1) (s .pre .1 .1 .0 .0) (s .pre .1 .1 .0 .1) (c .before .before .before .before .before .before .before .order-stmts .result) _ _ (c .before .before .before .before .before .before .before .order-stmts .ensures) (a .at) (a .table .now) (c .before .before .before .before .enum-told .given .1) _ (statements-here (rows-in (a .rows .now)) (a .fuel) (a .tokens .now) (a .results) (a .first) (a .places .now) (a .held .now) (a .starts .now) (a .members .now) (a .ends .now) (a .numbers .now) (a .stops .now) (a .kept .now) (a .after) (a .extracted) (a .row) (s .pre .1 .0 .1) (s .pre .1 .1 .0 .0) (s .pre .1 .1 .0 .1)) (s .pre .1 .1 .1)))))
 
-write-scope-write-values-requires : (t : ℕ) → write-scope-lts.Need-write-values-requires (
-  order-stmts-reads.Asked,
-  order-stmts-reads.Learnt,
-  write-stmts-below t,
-  write-stmts.Post,
-  write-values-reads.Asked,
-  write-values-reads.Learnt,
-) (write-scope-at t) write-scope.Post
+write-scope-write-values-requires : (t : ℕ) → write-scope-lts.Need-write-values-requires (order-stmts-reads.Asked, order-stmts-reads.Learnt, write-stmts-below t, write-stmts.Post, write-values-reads.Asked, write-values-reads.Learnt) (write-scope-at t) write-scope.Post
 write-scope-write-values-requires t c κs = let s = c .before .before .before .before .before .before .before .before .before .before .before .before .before .before .before .before .before .before .before .before .before .before .before .before .before .before .before .before .before .before in let a = s .args in (readied (rows-in (a .rows .now)) (a .fuel) (a .tokens .now) (a .results) (a .first) (a .places .now) (a .held .now) (a .starts .now) (a .members .now) (a .ends .now) (a .numbers .now) (a .stops .now) (a .kept .now) (s .pre .1 .0 .1) (s .pre .1 .1 .0 .0) (s .pre .1 .1 .0 .1 .sized), values-fit (rows-in (a .rows .now)) (a .fuel) (a .tokens .now) (a .results) (a .first) (a .places .now) (a .held .now) (a .starts .now) (a .members .now) (a .ends .now) (a .numbers .now) (a .stops .now) (a .kept .now) (a .after) (a .extracted) (a .row) (s .pre .1 .0 .1) (s .pre .1 .1 .0 .0) (s .pre .1 .1 .0 .1) (c .before .before .before .before .before .before .before .before .before .before .before .before .before .before .before .order-stmts .result) _ _ (c .before .before .before .before .before .before .before .before .before .before .before .before .before .before .before .order-stmts .ensures) (a .at) (a .table .now) (c .before .before .before .before .before .before .before .before .before .before .before .before .enum-told .given .1) _ (statements-here (rows-in (a .rows .now)) (a .fuel) (a .tokens .now) (a .results) (a .first) (a .places .now) (a .held .now) (a .starts .now) (a .members .now) (a .ends .now) (a .numbers .now) (a .stops .now) (a .kept .now) (a .after) (a .extracted) (a .row) (s .pre .1 .0 .1) (s .pre .1 .1 .0 .0) (s .pre .1 .1 .0 .1)) (s .pre .1 .1 .1) (c .before .before .before .before .before .before .before .write-stmts .result) (c .before .before .before .before .before .before .before .write-stmts .ensures .0))
 
-write-scope-add-t43 : (t : ℕ) → write-scope-lts.Need-add-t43 (
-  order-stmts-reads.Asked,
-  order-stmts-reads.Learnt,
-  write-stmts-below t,
-  write-stmts.Post,
-  write-values-reads.Asked,
-  write-values-reads.Learnt,
-) (write-scope-at t) write-scope.Post
+write-scope-add-t43 : (t : ℕ) → write-scope-lts.Need-add-t43 (order-stmts-reads.Asked, order-stmts-reads.Learnt, write-stmts-below t, write-stmts.Post, write-values-reads.Asked, write-values-reads.Learnt) (write-scope-at t) write-scope.Post
 write-scope-add-t43 t c = let s = c .before .before .before .before .before .before .before .before .before .before .before .before .before .before .before .before .before .before .before .before .before .before .before .before .before .before .before .before .before .before .before .before .before in let a = s .args in omega (arith, extracted-low (rows-in (a .rows .now)) (a .fuel) (a .tokens .now) (a .results) (a .first) (a .places .now) (a .held .now) (a .starts .now) (a .members .now) (a .ends .now) (a .numbers .now) (a .stops .now) (a .kept .now) (a .after) (a .extracted) (a .row) (s .pre .1 .0 .1) (s .pre .1 .1 .0 .0) (s .pre .1 .1 .0 .1), lets-few (rows-in (a .rows .now)) (a .fuel) (a .tokens .now) (a .results) (a .first) (a .places .now) (a .held .now) (a .starts .now) (a .members .now) (a .ends .now) (a .numbers .now) (a .stops .now) (a .kept .now) (s .pre .1 .0 .1) (s .pre .1 .1 .0 .0) (s .pre .1 .1 .0 .1 .sized))
 
-write-scope-enum-told-2 : (t : ℕ) → write-scope-lts.Need-enum-told-2 (
-  order-stmts-reads.Asked,
-  order-stmts-reads.Learnt,
-  write-stmts-below t,
-  write-stmts.Post,
-  write-values-reads.Asked,
-  write-values-reads.Learnt,
-) (write-scope-at t) write-scope.Post
+write-scope-enum-told-2 : (t : ℕ) → write-scope-lts.Need-enum-told-2 (order-stmts-reads.Asked, order-stmts-reads.Learnt, write-stmts-below t, write-stmts.Post, write-values-reads.Asked, write-values-reads.Learnt) (write-scope-at t) write-scope.Post
 write-scope-enum-told-2 t c = search needs
 
-write-scope-enum-told-3 : (t : ℕ) → write-scope-lts.Need-enum-told-3 (
-  order-stmts-reads.Asked,
-  order-stmts-reads.Learnt,
-  write-stmts-below t,
-  write-stmts.Post,
-  write-values-reads.Asked,
-  write-values-reads.Learnt,
-) (write-scope-at t) write-scope.Post
+write-scope-enum-told-3 : (t : ℕ) → write-scope-lts.Need-enum-told-3 (order-stmts-reads.Asked, order-stmts-reads.Learnt, write-stmts-below t, write-stmts.Post, write-values-reads.Asked, write-values-reads.Learnt) (write-scope-at t) write-scope.Post
 write-scope-enum-told-3 t c = search needs
 
-write-scope-same-length : (t : ℕ) → write-scope-lts.Need-same-length (
-  order-stmts-reads.Asked,
-  order-stmts-reads.Learnt,
-  write-stmts-below t,
-  write-stmts.Post,
-  write-values-reads.Asked,
-  write-values-reads.Learnt,
-) (write-scope-at t) write-scope.Post
+write-scope-same-length : (t : ℕ) → write-scope-lts.Need-same-length (order-stmts-reads.Asked, order-stmts-reads.Learnt, write-stmts-below t, write-stmts.Post, write-values-reads.Asked, write-values-reads.Learnt) (write-scope-at t) write-scope.Post
 write-scope-same-length t c = search needs
 
-write-scope-same-length-2 : (t : ℕ) → write-scope-lts.Need-same-length-2 (
-  order-stmts-reads.Asked,
-  order-stmts-reads.Learnt,
-  write-stmts-below t,
-  write-stmts.Post,
-  write-values-reads.Asked,
-  write-values-reads.Learnt,
-) (write-scope-at t) write-scope.Post
+write-scope-same-length-2 : (t : ℕ) → write-scope-lts.Need-same-length-2 (order-stmts-reads.Asked, order-stmts-reads.Learnt, write-stmts-below t, write-stmts.Post, write-values-reads.Asked, write-values-reads.Learnt) (write-scope-at t) write-scope.Post
 write-scope-same-length-2 t c = search needs
 
-write-scope-same-length-3 : (t : ℕ) → write-scope-lts.Need-same-length-3 (
-  order-stmts-reads.Asked,
-  order-stmts-reads.Learnt,
-  write-stmts-below t,
-  write-stmts.Post,
-  write-values-reads.Asked,
-  write-values-reads.Learnt,
-) (write-scope-at t) write-scope.Post
+write-scope-same-length-3 : (t : ℕ) → write-scope-lts.Need-same-length-3 (order-stmts-reads.Asked, order-stmts-reads.Learnt, write-stmts-below t, write-stmts.Post, write-values-reads.Asked, write-values-reads.Learnt) (write-scope-at t) write-scope.Post
 write-scope-same-length-3 t c = search needs
 
-write-scope-returns : (t : ℕ) → write-scope-lts.Need-returns (
-  order-stmts-reads.Asked,
-  order-stmts-reads.Learnt,
-  write-stmts-below t,
-  write-stmts.Post,
-  write-values-reads.Asked,
-  write-values-reads.Learnt,
-) (write-scope-at t) write-scope.Post
+write-scope-returns : (t : ℕ) → write-scope-lts.Need-returns (order-stmts-reads.Asked, order-stmts-reads.Learnt, write-stmts-below t, write-stmts.Post, write-values-reads.Asked, write-values-reads.Learnt) (write-scope-at t) write-scope.Post
 write-scope-returns t c = let s = c .before .before .before .before .before .before .before .before .before .before .before .before .before .before .before .before .before .before .before .before .before .before .before .before .before .before .before .before .before .before .before .before .before in let a = s .args in all-done (rows-in (a .rows .now)) (a .fuel) (a .tokens .now) (a .results) (a .first) (a .places .now) (a .held .now) (a .starts .now) (a .members .now) (a .ends .now) (a .numbers .now) (a .stops .now) (a .kept .now) (a .after) (a .extracted) (a .row) (s .pre .1 .0 .1) (s .pre .1 .1 .0 .0) (s .pre .1 .1 .0 .1) (c .before .before .before .before .before .before .before .before .before .before .before .before .before .before .before .before .before .before .order-stmts .result) _ _ (c .before .before .before .before .before .before .before .before .before .before .before .before .before .before .before .before .before .before .order-stmts .ensures) (a .at) (a .table .now) (c .before .before .before .before .before .before .before .before .before .before .before .before .before .before .before .enum-told .given .1) _ (statements-here (rows-in (a .rows .now)) (a .fuel) (a .tokens .now) (a .results) (a .first) (a .places .now) (a .held .now) (a .starts .now) (a .members .now) (a .ends .now) (a .numbers .now) (a .stops .now) (a .kept .now) (a .after) (a .extracted) (a .row) (s .pre .1 .0 .1) (s .pre .1 .1 .0 .0) (s .pre .1 .1 .0 .1)) (s .pre .1 .1 .1) (c .before .before .before .before .before .before .before .before .before .before .write-stmts .result) _ (c .before .before .before .before .before .before .before .before .before .before .write-stmts .ensures) (c .before .before .write-values .result) _ (c .before .before .write-values .ensures) _ refl
 
-write-scope-returns-2 : (t : ℕ) → write-scope-lts.Need-returns-2 (
-  order-stmts-reads.Asked,
-  order-stmts-reads.Learnt,
-  write-stmts-below t,
-  write-stmts.Post,
-  write-values-reads.Asked,
-  write-values-reads.Learnt,
-) (write-scope-at t) write-scope.Post
+write-scope-returns-2 : (t : ℕ) → write-scope-lts.Need-returns-2 (order-stmts-reads.Asked, order-stmts-reads.Learnt, write-stmts-below t, write-stmts.Post, write-values-reads.Asked, write-values-reads.Learnt) (write-scope-at t) write-scope.Post
 write-scope-returns-2 t c = let s = c .before .before .before .before .before .before .before .before .before .before .before .before .before .before .before .before .before .before in let a = s .args in ring-done (rows-in (a .rows .now)) (a .fuel) (a .tokens .now) (a .results) (a .first) (a .places .now) (a .held .now) (a .starts .now) (a .members .now) (a .ends .now) (a .numbers .now) (a .stops .now) (a .kept .now) (a .after) (a .extracted) (a .row) (s .pre .1 .0 .1) (s .pre .1 .1 .0 .0) (s .pre .1 .1 .0 .1) (c .before .before .before .order-stmts .result) _ _ (c .before .before .before .order-stmts .ensures) (a .at) (a .table .now) _ (c .enum-told2 .given .1)
 
-write-scope-returns-3 : (t : ℕ) → write-scope-lts.Need-returns-3 (
-  order-stmts-reads.Asked,
-  order-stmts-reads.Learnt,
-  write-stmts-below t,
-  write-stmts.Post,
-  write-values-reads.Asked,
-  write-values-reads.Learnt,
-) (write-scope-at t) write-scope.Post
+write-scope-returns-3 : (t : ℕ) → write-scope-lts.Need-returns-3 (order-stmts-reads.Asked, order-stmts-reads.Learnt, write-stmts-below t, write-stmts.Post, write-values-reads.Asked, write-values-reads.Learnt) (write-scope-at t) write-scope.Post
 write-scope-returns-3 t c = let s = c .before .before .before .before .before .before .before .before .before .before .before .before .before .before .before .before .before .before in let a = s .args in absurd (never-broken (rows-in (a .rows .now)) (a .fuel) (a .tokens .now) (a .results) (a .first) (a .places .now) (a .held .now) (a .starts .now) (a .members .now) (a .ends .now) (a .numbers .now) (a .stops .now) (a .kept .now) (a .after) (a .extracted) (a .row) (s .pre .1 .0 .1) (s .pre .1 .1 .0 .0) (s .pre .1 .1 .0 .1) (c .before .before .before .order-stmts .result) _ _ (c .before .before .before .order-stmts .ensures) (a .at) (a .table .now) (c .enum-told3 .given .1))
 
-write-stmt-sub-lets : (t : ℕ) → write-stmt-lts.Need-sub-lets (
-  write-let-reads.Asked,
-  write-let-reads.Learnt,
-  group-begin-reads.Asked,
-  group-begin-reads.Learnt,
-  write-match-below t,
-  write-match.Post,
-) (write-stmt-at t) write-stmt.Post
+write-stmt-sub-lets : (t : ℕ) → write-stmt-lts.Need-sub-lets (write-let-reads.Asked, write-let-reads.Learnt, group-begin-reads.Asked, group-begin-reads.Learnt, write-match-below t, write-match.Post) (write-stmt-at t) write-stmt.Post
 write-stmt-sub-lets t c = let s = c .before .before .before .before .before .before .before .before .before .before .before .before .before in s .pre .1 .1 .0 .0 .enough
 
-write-stmt-add-lets : (t : ℕ) → write-stmt-lts.Need-add-lets (
-  write-let-reads.Asked,
-  write-let-reads.Learnt,
-  group-begin-reads.Asked,
-  group-begin-reads.Learnt,
-  write-match-below t,
-  write-match.Post,
-) (write-stmt-at t) write-stmt.Post
+write-stmt-add-lets : (t : ℕ) → write-stmt-lts.Need-add-lets (write-let-reads.Asked, write-let-reads.Learnt, group-begin-reads.Asked, group-begin-reads.Learnt, write-match-below t, write-match.Post) (write-stmt-at t) write-stmt.Post
 write-stmt-add-lets t c = let s = c .before .before .before .before .before .before .before .before .before .before .before .before .before in let a = s .args in omega (arith, lets-few (rows-in (a .rows .now)) (a .fuel) (a .tokens .now) (a .results) (a .first) (a .places .now) (a .held .now) (a .starts .now) (a .members .now) (a .ends .now) (a .numbers .now) (a .stops .now) (a .kept .now) (s .pre .1 .0 .1) (s .pre .1 .1 .0 .0) (s .pre .1 .1 .0 .1))
 
-write-stmt-write-let-requires : (t : ℕ) → write-stmt-lts.Need-write-let-requires (
-  write-let-reads.Asked,
-  write-let-reads.Learnt,
-  group-begin-reads.Asked,
-  group-begin-reads.Learnt,
-  write-match-below t,
-  write-match.Post,
-) (write-stmt-at t) write-stmt.Post
+write-stmt-write-let-requires : (t : ℕ) → write-stmt-lts.Need-write-let-requires (write-let-reads.Asked, write-let-reads.Learnt, group-begin-reads.Asked, group-begin-reads.Learnt, write-match-below t, write-match.Post) (write-stmt-at t) write-stmt.Post
 write-stmt-write-let-requires t c κs = let s = c .before .before .before .before .before .before .before .before .before .before .before .before .before .before .before in let a = s .args in (readied (rows-in (a .rows .now)) (a .fuel) (a .tokens .now) (a .results) (a .first) (a .places .now) (a .held .now) (a .starts .now) (a .members .now) (a .ends .now) (a .numbers .now) (a .stops .now) (a .kept .now) (s .pre .1 .0 .1) (s .pre .1 .1 .0 .0) (s .pre .1 .1 .0 .1), (let-there (rows-in (a .rows .now)) (a .fuel) (a .tokens .now) (a .results) (a .first) (a .places .now) (a .held .now) (a .starts .now) (a .members .now) (a .ends .now) (a .numbers .now) (a .stops .now) (a .kept .now) (s .pre .1 .0 .1) (s .pre .1 .1 .0 .0) (s .pre .1 .1 .0 .1) (a .p) (c .before .if1 .taken), subst (λ (z : List ℕ). a .at + length z ≤ 9223372036854775808) (let-is (rows-in (a .rows .now)) (a .fuel) (a .tokens .now) (a .results) (a .first) (a .places .now) (a .held .now) (a .starts .now) (a .members .now) (a .ends .now) (a .numbers .now) (a .stops .now) (a .kept .now) (s .pre .1 .0 .1) (s .pre .1 .1 .0 .0) (s .pre .1 .1 .0 .1) (a .p) (c .before .if1 .taken)) (s .pre .1 .1 .1 .1)))
 
-write-stmt-same-length : (t : ℕ) → write-stmt-lts.Need-same-length (
-  write-let-reads.Asked,
-  write-let-reads.Learnt,
-  group-begin-reads.Asked,
-  group-begin-reads.Learnt,
-  write-match-below t,
-  write-match.Post,
-) (write-stmt-at t) write-stmt.Post
+write-stmt-same-length : (t : ℕ) → write-stmt-lts.Need-same-length (write-let-reads.Asked, write-let-reads.Learnt, group-begin-reads.Asked, group-begin-reads.Learnt, write-match-below t, write-match.Post) (write-stmt-at t) write-stmt.Post
 write-stmt-same-length t c = search needs
 
-write-stmt-returns : (t : ℕ) → write-stmt-lts.Need-returns (
-  write-let-reads.Asked,
-  write-let-reads.Learnt,
-  group-begin-reads.Asked,
-  group-begin-reads.Learnt,
-  write-match-below t,
-  write-match.Post,
-) (write-stmt-at t) write-stmt.Post
+write-stmt-returns : (t : ℕ) → write-stmt-lts.Need-returns (write-let-reads.Asked, write-let-reads.Learnt, group-begin-reads.Asked, group-begin-reads.Learnt, write-match-below t, write-match.Post) (write-stmt-at t) write-stmt.Post
 write-stmt-returns t c = let s = c .before .before .before .before .before .before .before .before .before .before .before .before .before .before .before .before .before .before in let a = s .args in rows-as _ _ (let-is (rows-in (a .rows .now)) (a .fuel) (a .tokens .now) (a .results) (a .first) (a .places .now) (a .held .now) (a .starts .now) (a .members .now) (a .ends .now) (a .numbers .now) (a .stops .now) (a .kept .now) (s .pre .1 .0 .1) (s .pre .1 .1 .0 .0) (s .pre .1 .1 .0 .1) (a .p) (c .before .before .before .before .if1 .taken)) (a .at) (a .table .now) _ _ (c .before .before .write-let .ensures)
 
-write-stmt-group-begin-requires : (t : ℕ) → write-stmt-lts.Need-group-begin-requires (
-  write-let-reads.Asked,
-  write-let-reads.Learnt,
-  group-begin-reads.Asked,
-  group-begin-reads.Learnt,
-  write-match-below t,
-  write-match.Post,
-) (write-stmt-at t) write-stmt.Post
+write-stmt-group-begin-requires : (t : ℕ) → write-stmt-lts.Need-group-begin-requires (write-let-reads.Asked, write-let-reads.Learnt, group-begin-reads.Asked, group-begin-reads.Learnt, write-match-below t, write-match.Post) (write-stmt-at t) write-stmt.Post
 write-stmt-group-begin-requires t c κs = let s = c .before .before .before .before .before .before .before .before .before .before .before .before .before .before in let a = s .args in stop-in (rows-in (a .rows .now)) (a .fuel) (a .tokens .now) (a .results) (a .first) (a .places .now) (a .held .now) (a .starts .now) (a .members .now) (a .ends .now) (a .numbers .now) (a .stops .now) (a .kept .now) (s .pre .1 .0 .1) (s .pre .1 .1 .0 .0) (s .pre .1 .1 .0 .1) (a .p) (s .pre .1 .1 .1 .0) (omega (arith, c .if1 .left))
 
-write-stmt-mul-size : (t : ℕ) → write-stmt-lts.Need-mul-size (
-  write-let-reads.Asked,
-  write-let-reads.Learnt,
-  group-begin-reads.Asked,
-  group-begin-reads.Learnt,
-  write-match-below t,
-  write-match.Post,
-) (write-stmt-at t) write-stmt.Post
+write-stmt-mul-size : (t : ℕ) → write-stmt-lts.Need-mul-size (write-let-reads.Asked, write-let-reads.Learnt, group-begin-reads.Asked, group-begin-reads.Learnt, write-match-below t, write-match.Post) (write-stmt-at t) write-stmt.Post
 write-stmt-mul-size t c = let s = c .before .before .before .before .before .before .before .before .before .before .before .before .before .before .before in let a = s .args in omega (arith, stop-in (rows-in (a .rows .now)) (a .fuel) (a .tokens .now) (a .results) (a .first) (a .places .now) (a .held .now) (a .starts .now) (a .members .now) (a .ends .now) (a .numbers .now) (a .stops .now) (a .kept .now) (s .pre .1 .0 .1) (s .pre .1 .1 .0 .0) (s .pre .1 .1 .0 .1) (a .p) (s .pre .1 .1 .1 .0) (omega (arith, c .before .if1 .left)), s .good .1 .1 .1 .1 .1 .1 .1 .1 .1 .1 .1 .0)
 
-write-stmt-shared-slice-read-size : (t : ℕ) → write-stmt-lts.Need-shared-slice-read-size (
-  write-let-reads.Asked,
-  write-let-reads.Learnt,
-  group-begin-reads.Asked,
-  group-begin-reads.Learnt,
-  write-match-below t,
-  write-match.Post,
-) (write-stmt-at t) write-stmt.Post
+write-stmt-shared-slice-read-size : (t : ℕ) → write-stmt-lts.Need-shared-slice-read-size (write-let-reads.Asked, write-let-reads.Learnt, group-begin-reads.Asked, group-begin-reads.Learnt, write-match-below t, write-match.Post) (write-stmt-at t) write-stmt.Post
 write-stmt-shared-slice-read-size t c = let s = c .before .before .before .before .before .before .before .before .before .before .before .before .before .before .before .before in let a = s .args in stop-in (rows-in (a .rows .now)) (a .fuel) (a .tokens .now) (a .results) (a .first) (a .places .now) (a .held .now) (a .starts .now) (a .members .now) (a .ends .now) (a .numbers .now) (a .stops .now) (a .kept .now) (s .pre .1 .0 .1) (s .pre .1 .1 .0 .0) (s .pre .1 .1 .0 .1) (a .p) (s .pre .1 .1 .1 .0) (omega (arith, c .before .before .if1 .left))
 
-write-stmt-sub-size : (t : ℕ) → write-stmt-lts.Need-sub-size (
-  write-let-reads.Asked,
-  write-let-reads.Learnt,
-  group-begin-reads.Asked,
-  group-begin-reads.Learnt,
-  write-match-below t,
-  write-match.Post,
-) (write-stmt-at t) write-stmt.Post
+write-stmt-sub-size : (t : ℕ) → write-stmt-lts.Need-sub-size (write-let-reads.Asked, write-let-reads.Learnt, group-begin-reads.Asked, group-begin-reads.Learnt, write-match-below t, write-match.Post) (write-stmt-at t) write-stmt.Post
 write-stmt-sub-size t c = let s = c .before .before .before .before .before .before .before .before .before .before .before .before .before .before .before .before in let a = s .args in stop-over (rows-in (a .rows .now)) (a .fuel) (a .tokens .now) (a .results) (a .first) (a .places .now) (a .held .now) (a .starts .now) (a .members .now) (a .ends .now) (a .numbers .now) (a .stops .now) (a .kept .now) (s .pre .1 .0 .1) (s .pre .1 .1 .0 .0) (s .pre .1 .1 .0 .1) (a .p) (s .pre .1 .1 .1 .0) (omega (arith, c .before .before .if1 .left)) (c .before .group-begin .result) (c .before .group-begin .ensures)
 
-write-stmt-write-match-requires : (t : ℕ) → write-stmt-lts.Need-write-match-requires (
-  write-let-reads.Asked,
-  write-let-reads.Learnt,
-  group-begin-reads.Asked,
-  group-begin-reads.Learnt,
-  write-match-below t,
-  write-match.Post,
-) (write-stmt-at t) write-stmt.Post
+write-stmt-write-match-requires : (t : ℕ) → write-stmt-lts.Need-write-match-requires (write-let-reads.Asked, write-let-reads.Learnt, group-begin-reads.Asked, group-begin-reads.Learnt, write-match-below t, write-match.Post) (write-stmt-at t) write-stmt.Post
 write-stmt-write-match-requires t c κs = let s = c .before .before .before .before .before .before .before .before .before .before .before .before .before .before .before .before .before .before .before in let a = s .args in (omega (arith, s .pre .0), ((s .pre .1 .0 .0, member-holds (rows-in (a .rows .now)) (a .fuel) (a .tokens .now) (a .results) (a .first) (a .places .now) (a .held .now) (a .starts .now) (a .members .now) (a .ends .now) (a .numbers .now) (a .stops .now) (a .kept .now) (s .pre .1 .0 .1) (s .pre .1 .1 .0 .0) (s .pre .1 .1 .0 .1) (a .p) (s .pre .1 .1 .1 .0) (omega (arith, c .before .before .before .before .before .if1 .left))), ((grouped (rows-in (a .rows .now)) (a .fuel) (a .tokens .now) (a .results) (a .first) (a .places .now) (a .held .now) (a .starts .now) (a .members .now) (a .ends .now) (a .numbers .now) (a .stops .now) (a .kept .now) (s .pre .1 .0 .1) (s .pre .1 .1 .0 .0) (s .pre .1 .1 .0 .1), group-sized (rows-in (a .rows .now)) (a .fuel) (a .tokens .now) (a .results) (a .first) (a .places .now) (a .held .now) (a .starts .now) (a .members .now) (a .ends .now) (a .numbers .now) (a .stops .now) (a .kept .now) (s .pre .1 .0 .1) (s .pre .1 .1 .0 .0) (s .pre .1 .1 .0 .1) (a .p) (s .pre .1 .1 .1 .0) (omega (arith, c .before .before .before .before .before .if1 .left)) (c .before .before .before .before .group-begin .result) (c .before .before .before .before .group-begin .ensures)), (group-there (rows-in (a .rows .now)) (a .fuel) (a .tokens .now) (a .results) (a .first) (a .places .now) (a .held .now) (a .starts .now) (a .members .now) (a .ends .now) (a .numbers .now) (a .stops .now) (a .kept .now) (s .pre .1 .0 .1) (s .pre .1 .1 .0 .0) (s .pre .1 .1 .0 .1) (a .p) (s .pre .1 .1 .1 .0) (omega (arith, c .before .before .before .before .before .if1 .left)), subst (λ (z : List ℕ). a .at + length z ≤ most-rows) (stmt-match-is (rows-in (a .rows .now)) (a .fuel) (a .tokens .now) (a .results) (a .first) (a .places .now) (a .held .now) (a .starts .now) (a .members .now) (a .ends .now) (a .numbers .now) (a .stops .now) (a .kept .now) (s .pre .1 .0 .1) (s .pre .1 .1 .0 .0) (s .pre .1 .1 .0 .1) (a .p) (s .pre .1 .1 .1 .0) (omega (arith, c .before .before .before .before .before .if1 .left))) (s .pre .1 .1 .1 .1)))))
 
-write-stmt-same-length-2 : (t : ℕ) → write-stmt-lts.Need-same-length-2 (
-  write-let-reads.Asked,
-  write-let-reads.Learnt,
-  group-begin-reads.Asked,
-  group-begin-reads.Learnt,
-  write-match-below t,
-  write-match.Post,
-) (write-stmt-at t) write-stmt.Post
+write-stmt-same-length-2 : (t : ℕ) → write-stmt-lts.Need-same-length-2 (write-let-reads.Asked, write-let-reads.Learnt, group-begin-reads.Asked, group-begin-reads.Learnt, write-match-below t, write-match.Post) (write-stmt-at t) write-stmt.Post
 write-stmt-same-length-2 t c = search needs
 
-write-stmt-same-length-3 : (t : ℕ) → write-stmt-lts.Need-same-length-3 (
-  write-let-reads.Asked,
-  write-let-reads.Learnt,
-  group-begin-reads.Asked,
-  group-begin-reads.Learnt,
-  write-match-below t,
-  write-match.Post,
-) (write-stmt-at t) write-stmt.Post
+write-stmt-same-length-3 : (t : ℕ) → write-stmt-lts.Need-same-length-3 (write-let-reads.Asked, write-let-reads.Learnt, group-begin-reads.Asked, group-begin-reads.Learnt, write-match-below t, write-match.Post) (write-stmt-at t) write-stmt.Post
 write-stmt-same-length-3 t c = search needs
 
-write-stmt-same-length-4 : (t : ℕ) → write-stmt-lts.Need-same-length-4 (
-  write-let-reads.Asked,
-  write-let-reads.Learnt,
-  group-begin-reads.Asked,
-  group-begin-reads.Learnt,
-  write-match-below t,
-  write-match.Post,
-) (write-stmt-at t) write-stmt.Post
+write-stmt-same-length-4 : (t : ℕ) → write-stmt-lts.Need-same-length-4 (write-let-reads.Asked, write-let-reads.Learnt, group-begin-reads.Asked, group-begin-reads.Learnt, write-match-below t, write-match.Post) (write-stmt-at t) write-stmt.Post
 write-stmt-same-length-4 t c = search needs
 
-write-stmt-returns-2 : (t : ℕ) → write-stmt-lts.Need-returns-2 (
-  write-let-reads.Asked,
-  write-let-reads.Learnt,
-  group-begin-reads.Asked,
-  group-begin-reads.Learnt,
-  write-match-below t,
-  write-match.Post,
-) (write-stmt-at t) write-stmt.Post
+write-stmt-returns-2 : (t : ℕ) → write-stmt-lts.Need-returns-2 (write-let-reads.Asked, write-let-reads.Learnt, group-begin-reads.Asked, group-begin-reads.Learnt, write-match-below t, write-match.Post) (write-stmt-at t) write-stmt.Post
 write-stmt-returns-2 t c = let s = c .before .before .before .before .before .before .before .before .before .before .before .before .before .before .before .before .before .before .before .before .before .before .before .before .before .before in let a = s .args in rows-as _ _ (stmt-match-is (rows-in (a .rows .now)) (a .fuel) (a .tokens .now) (a .results) (a .first) (a .places .now) (a .held .now) (a .starts .now) (a .members .now) (a .ends .now) (a .numbers .now) (a .stops .now) (a .kept .now) (s .pre .1 .0 .1) (s .pre .1 .1 .0 .0) (s .pre .1 .1 .0 .1) (a .p) (s .pre .1 .1 .1 .0) (omega (arith, c .before .before .before .before .before .before .before .before .before .before .before .before .if1 .left))) (a .at) (a .table .now) _ _ (c .before .before .before .before .before .before .write-match .ensures)
 
 abbrev write-stmts-Inv-loop : write-stmts-lts.InvT-loop
@@ -2969,82 +1078,37 @@ write-stmts-Inv-loop rows work₀ tokens results first places held starts member
 abbrev write-stmts-μ-loop : write-stmts-lts.MeasureT-loop
 write-stmts-μ-loop rows work₀ tokens results first places held starts members ends numbers stops kept taken fuel text₀ at table₀ to₀ q₀ work text table to q = length taken - q
 
-write-stmts-loop-holds : (t : ℕ) → write-stmts-lts.Need-loop-holds (
-  write-stmt-below t,
-  write-stmt.Post,
-) (write-stmts-at t) write-stmts.Post write-stmts-Inv-loop write-stmts-μ-loop
+write-stmts-loop-holds : (t : ℕ) → write-stmts-lts.Need-loop-holds (write-stmt-below t, write-stmt.Post) (write-stmts-at t) write-stmts.Post write-stmts-Inv-loop write-stmts-μ-loop
 write-stmts-loop-holds t c = let s = c .before .before .before .before .before .before .before .before .before .before .before .before .before .before in let a = s .args in let z = stmts-begin (rows-in (a .rows .now)) (a .fuel) (a .tokens .now) (a .results) (a .first) (a .places .now) (a .held .now) (a .starts .now) (a .members .now) (a .ends .now) (a .numbers .now) (a .stops .now) (a .kept .now) (s .pre .1 .0 .1) (s .pre .1 .1 .0 .0) (s .pre .1 .1 .0 .1) (a .taken .now) (a .at) (a .table .now) (s .pre .1 .1 .1 .1) in (omega arith, z .to-is, z .table-is, refl, refl, refl)
 
-write-stmts-mul-p :
-    (t : ℕ) →
-    write-stmts-lts.Need-mul-p
-    (write-stmt-below t, write-stmt.Post)
-    (write-stmts-at t)
-    write-stmts.Post
-    write-stmts-Inv-loop
-    write-stmts-μ-loop
+write-stmts-mul-p : (t : ℕ) → write-stmts-lts.Need-mul-p (write-stmt-below t, write-stmt.Post) (write-stmts-at t) write-stmts.Post write-stmts-Inv-loop write-stmts-μ-loop
 write-stmts-mul-p t c = search needs
 
-write-stmts-shared-slice-read-p : (t : ℕ) → write-stmts-lts.Need-shared-slice-read-p (
-  write-stmt-below t,
-  write-stmt.Post,
-) (write-stmts-at t) write-stmts.Post write-stmts-Inv-loop write-stmts-μ-loop
+write-stmts-shared-slice-read-p : (t : ℕ) → write-stmts-lts.Need-shared-slice-read-p (write-stmt-below t, write-stmt.Post) (write-stmts-at t) write-stmts.Post write-stmts-Inv-loop write-stmts-μ-loop
 write-stmts-shared-slice-read-p t c = search needs
 
-write-stmts-write-stmt-requires : (t : ℕ) → write-stmts-lts.Need-write-stmt-requires (
-  write-stmt-below t,
-  write-stmt.Post,
-) (write-stmts-at t) write-stmts.Post write-stmts-Inv-loop write-stmts-μ-loop
+write-stmts-write-stmt-requires : (t : ℕ) → write-stmts-lts.Need-write-stmt-requires (write-stmt-below t, write-stmt.Post) (write-stmts-at t) write-stmts.Post write-stmts-Inv-loop write-stmts-μ-loop
 write-stmts-write-stmt-requires t c κs = let s = c .before .before .before .before .before .before .before .before .before .before .before .before .before .before .before .before .before .before .before .before in let a = s .args in (omega (arith, s .pre .0), ((lent-on (a .fuel) (a .work .now) (a .text .now) _ _ (s .pre .1 .0 .0) (c .before .before .before .before .before .loop .inv .3) (c .before .before .before .before .before .loop .inv .4), s .pre .1 .0 .1), (s .pre .1 .1 .0, (s .pre .1 .1 .1 .0 (c .before .before .before .before .before .loop .q) (c .before .before .before .before .loop-test .taken), entry-fits (rows-in (a .rows .now)) (a .fuel) (a .tokens .now) (a .results) (a .first) (a .places .now) (a .held .now) (a .starts .now) (a .members .now) (a .ends .now) (a .numbers .now) (a .stops .now) (a .kept .now) (s .pre .1 .0 .1) (s .pre .1 .1 .0 .0) (s .pre .1 .1 .0 .1) (a .taken .now) (a .at) (a .table .now) (s .pre .1 .1 .1 .1) (c .before .before .before .before .before .loop .q) (c .before .before .before .before .before .loop .to) _ (record { to-is = c .before .before .before .before .before .loop .inv .1; table-is = c .before .before .before .before .before .loop .inv .2 }) (c .before .before .before .before .loop-test .taken)))))
 
-write-stmts-add-q :
-    (t : ℕ) →
-    write-stmts-lts.Need-add-q
-    (write-stmt-below t, write-stmt.Post)
-    (write-stmts-at t)
-    write-stmts.Post
-    write-stmts-Inv-loop
-    write-stmts-μ-loop
+write-stmts-add-q : (t : ℕ) → write-stmts-lts.Need-add-q (write-stmt-below t, write-stmt.Post) (write-stmts-at t) write-stmts.Post write-stmts-Inv-loop write-stmts-μ-loop
 write-stmts-add-q t c = let s = c .before .before .before .before .before .before .before .before .before .before .before .before .before .before .before .before .before .before .before .before .before .before .before .before .before .before .before in omega (arith, c .before .before .before .before .before .before .before .before .before .before .before .loop-test .taken, s .good .1 .1 .1 .1 .1 .1 .1 .1 .1 .1 .1 .1 .1 .0)
 
-write-stmts-loop-less : (t : ℕ) → write-stmts-lts.Need-loop-less (
-  write-stmt-below t,
-  write-stmt.Post,
-) (write-stmts-at t) write-stmts.Post write-stmts-Inv-loop write-stmts-μ-loop
+write-stmts-loop-less : (t : ℕ) → write-stmts-lts.Need-loop-less (write-stmt-below t, write-stmt.Post) (write-stmts-at t) write-stmts.Post write-stmts-Inv-loop write-stmts-μ-loop
 write-stmts-loop-less t c = search needs
 
-write-stmts-loop-again : (t : ℕ) → write-stmts-lts.Need-loop-again (
-  write-stmt-below t,
-  write-stmt.Post,
-) (write-stmts-at t) write-stmts.Post write-stmts-Inv-loop write-stmts-μ-loop
+write-stmts-loop-again : (t : ℕ) → write-stmts-lts.Need-loop-again (write-stmt-below t, write-stmt.Post) (write-stmts-at t) write-stmts.Post write-stmts-Inv-loop write-stmts-μ-loop
 write-stmts-loop-again t c = let s = c .before .before .before .before .before .before .before .before .before .before .before .before .before .before .before .before .before .before .before .before .before .before .before .before .before .before .before in let a = s .args in let z = stmts-on (rows-in (a .rows .now)) (a .fuel) (a .tokens .now) (a .results) (a .first) (a .places .now) (a .held .now) (a .starts .now) (a .members .now) (a .ends .now) (a .numbers .now) (a .stops .now) (a .kept .now) (s .pre .1 .0 .1) (s .pre .1 .1 .0 .0) (s .pre .1 .1 .0 .1) (a .taken .now) (a .at) (a .table .now) (s .pre .1 .1 .1 .1) (c .before .before .before .before .before .before .before .before .before .before .before .before .loop .q) (c .before .before .before .before .before .before .before .before .before .before .before .before .loop .to) _ (record { to-is = c .before .before .before .before .before .before .before .before .before .before .before .before .loop .inv .1; table-is = c .before .before .before .before .before .before .before .before .before .before .before .before .loop .inv .2 }) (c .before .before .before .before .before .before .write-stmt .result) _ (c .before .before .before .before .before .before .write-stmt .ensures) in (omega (arith, c .before .before .before .before .before .before .before .before .before .before .before .loop-test .taken), z .to-is, z .table-is, c .before .before .before .before .before .before .write-stmt .kept .1 .0 ∙ c .before .before .before .before .before .before .before .before .before .before .before .before .loop .inv .3, c .before .before .before .before .before .before .write-stmt .kept .1 .1 .1 .1 .1 .1 .1 .1 .1 .1 .1 .1 .1 .1 .1 .0 ∙ c .before .before .before .before .before .before .before .before .before .before .before .before .loop .inv .4, c .before .before .before .before .before .before .write-stmt .kept .1 .1 .1 .1 .1 .1 .1 .1 .1 .1 .1 .1 .1 .1 .1 .1 .1 .0 ∙ c .before .before .before .before .before .before .before .before .before .before .before .before .loop .inv .5)
 
-write-stmts-same-length : (t : ℕ) → write-stmts-lts.Need-same-length (
-  write-stmt-below t,
-  write-stmt.Post,
-) (write-stmts-at t) write-stmts.Post write-stmts-Inv-loop write-stmts-μ-loop
+write-stmts-same-length : (t : ℕ) → write-stmts-lts.Need-same-length (write-stmt-below t, write-stmt.Post) (write-stmts-at t) write-stmts.Post write-stmts-Inv-loop write-stmts-μ-loop
 write-stmts-same-length t c = search needs
 
-write-stmts-same-length-2 : (t : ℕ) → write-stmts-lts.Need-same-length-2 (
-  write-stmt-below t,
-  write-stmt.Post,
-) (write-stmts-at t) write-stmts.Post write-stmts-Inv-loop write-stmts-μ-loop
+write-stmts-same-length-2 : (t : ℕ) → write-stmts-lts.Need-same-length-2 (write-stmt-below t, write-stmt.Post) (write-stmts-at t) write-stmts.Post write-stmts-Inv-loop write-stmts-μ-loop
 write-stmts-same-length-2 t c = search needs
 
-write-stmts-same-length-3 : (t : ℕ) → write-stmts-lts.Need-same-length-3 (
-  write-stmt-below t,
-  write-stmt.Post,
-) (write-stmts-at t) write-stmts.Post write-stmts-Inv-loop write-stmts-μ-loop
+write-stmts-same-length-3 : (t : ℕ) → write-stmts-lts.Need-same-length-3 (write-stmt-below t, write-stmt.Post) (write-stmts-at t) write-stmts.Post write-stmts-Inv-loop write-stmts-μ-loop
 write-stmts-same-length-3 t c = search needs
 
-write-stmts-returns :
-    (t : ℕ) →
-    write-stmts-lts.Need-returns
-    (write-stmt-below t, write-stmt.Post)
-    (write-stmts-at t)
-    write-stmts.Post
-    write-stmts-Inv-loop
-    write-stmts-μ-loop
+write-stmts-returns : (t : ℕ) → write-stmts-lts.Need-returns (write-stmt-below t, write-stmt.Post) (write-stmts-at t) write-stmts.Post write-stmts-Inv-loop write-stmts-μ-loop
 write-stmts-returns t c = let s = c .before .before .before .before .before .before .before .before .before .before .before .before .before .before .before .before in let a = s .args in stmts-end (rows-in (a .rows .now)) (a .fuel) (a .tokens .now) (a .results) (a .first) (a .places .now) (a .held .now) (a .starts .now) (a .members .now) (a .ends .now) (a .numbers .now) (a .stops .now) (a .kept .now) (s .pre .1 .0 .1) (s .pre .1 .1 .0 .0) (s .pre .1 .1 .0 .1) (a .taken .now) (a .at) (a .table .now) (s .pre .1 .1 .1 .1) (c .before .loop .q) (c .before .loop .to) _ (record { to-is = c .before .loop .inv .1; table-is = c .before .loop .inv .2 }) (omega (arith, c .before .loop .inv .0, c .loop-test .left))
 
 pub +arm+arms+measure+scope+scope-grouped+scope-held+scope-large+scope-listed+scope-small+walk+write-match+write-scope+write-stmt+write-stmts-spec :
