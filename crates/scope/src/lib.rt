@@ -799,7 +799,8 @@ fn scope_held(
     )
 }
 
-// The scope after its rounds, where it holds more than its input can have. Apart from the others, since few scopes need as much.
+// The scope after its rounds, where it holds more than its input can have. What is lent is for what it holds; where that is shorter than a part, a part of its own is
+// lent. Since this function calls itself, the compiler keeps its frame apart from its caller's, so that scopes which hold less don't have its arrays on the stack.
 fn scope_large(
     rows: &[u64],
     work: &mut [u64],
@@ -808,6 +809,7 @@ fn scope_large(
     trees: usize,
     first: u64,
     places: &[u64],
+    held: &mut [u64],
     fuel: usize,
     row: u64,
     text: &mut [u8],
@@ -815,14 +817,31 @@ fn scope_large(
     table: &mut [u64],
 ) -> Scoped
     requires { ⌜ Lent fuel (now work) (now text) × Left (rows-in (now rows)) (now tokens) results first (now places) ⌝ }
-    requires { ⌜ trees-in (now tokens) ≡ some trees ⌝ }
+    requires { ⌜ (trees-in (now tokens) ≡ some trees) × (length (now held) ≤ 7281) ⌝ }
     requires { ⌜ at + told-rows (fused-scope (inner (rows-in (now rows)) fuel) row (now tokens) results first (now places)) ≤ most-rows ⌝ }
     ensures { λ r. ⌜ (r ≡ scope-answer (fused-scope (inner (rows-in (now (rows .entry))) fuel) row (now (tokens .entry)) results first (now (places .entry))) at)
         × (now (table .exit) ≡ scope-table (fused-scope (inner (rows-in (now (rows .entry))) fuel) row (now (tokens .entry)) results first (now (places .entry))) at (now (table .entry))) ⌝ }
 {
-    let mut held = [0u64; PART];
+    if held.len() < PART {
+        let mut part = [0u64; PART];
+        return scope_large(
+            rows,
+            work,
+            tokens,
+            results,
+            trees,
+            first,
+            places,
+            &mut part,
+            fuel,
+            row,
+            text,
+            at,
+            table,
+        );
+    }
     let number = first + (trees - results) as u64;
-    let holding = hold_all(tokens, places, number, &mut held);
+    let holding = hold_all(tokens, places, number, held);
     let Holding::Words(n) = holding else {
         return Scoped::Refused(TOO_MUCH);
     };
@@ -882,6 +901,7 @@ fn scope_small(
             trees,
             first,
             places,
+            &mut held,
             fuel,
             row,
             text,

@@ -1,7 +1,7 @@
 -- `scope::scope` and the functions of its cycle meet their contracts. A scope calls with one scope less that may be opened, and the others pass it on. Assumes nothing.
 use native.Mathlib.Omega.{arith}
 use mathlib.Core.Path.{_≡_, refl, sym, _∙_, ap, subst}
-use lib.ListN.{length, take, getD, length-set}
+use lib.ListN.{length, take, getD, length-set, length-replicate}
 use Rattle.checked.specs.Check.{rows-in}
 use Rattle.switchplaces.specs.Switches.{arm-count}
 use Rattle.scope.specs.Answers.{inner}
@@ -102,46 +102,46 @@ use Rattle.scope.proofs.+arm+arms+measure+scope+scope_grouped+scope_hel
 }
 
 abbrev μ-arm : Measures 6 arm-kinds.ps ℕ
-μ-arm κs a = 16 * (a .1 .1 .1 .1 .1 .0) + 1
+μ-arm κs a = 8192 * (a .1 .1 .1 .1 .1 .0) + 1
 
 abbrev μ-arms : Measures 6 arms-kinds.ps ℕ
-μ-arms κs a = 16 * (a .1 .1 .1 .1 .0) + 2
+μ-arms κs a = 8192 * (a .1 .1 .1 .1 .0) + 2
 
 abbrev μ-measure : Measures 6 measure-kinds.ps ℕ
-μ-measure κs a = 16 * (a .1 .1 .1 .1 .0) + 3
+μ-measure κs a = 8192 * (a .1 .1 .1 .1 .0) + 3
 
 abbrev μ-scope : Measures 4 scope-kinds.ps ℕ
-μ-scope κs a = 16 * (a .1 .1 .1 .0)
+μ-scope κs a = 8192 * (a .1 .1 .1 .0)
 
 abbrev μ-scope-grouped : Measures 11 scope-grouped-kinds.ps ℕ
-μ-scope-grouped κs a = 16 * (a .1 .1 .1 .1 .1 .1 .1 .1 .1 .1 .1 .0) + 9
+μ-scope-grouped κs a = 8192 * (a .1 .1 .1 .1 .1 .1 .1 .1 .1 .1 .1 .0) + 9
 
 abbrev μ-scope-held : Measures 10 scope-held-kinds.ps ℕ
-μ-scope-held κs a = 16 * (a .1 .1 .1 .1 .1 .1 .1 .1 .1 .1 .1 .0) + 10
+μ-scope-held κs a = 8192 * (a .1 .1 .1 .1 .1 .1 .1 .1 .1 .1 .1 .0) + 10
 
-abbrev μ-scope-large : Measures 6 scope-large-kinds.ps ℕ
-μ-scope-large κs a = 16 * (a .1 .1 .1 .1 .1 .1 .1 .0) + 11
+abbrev μ-scope-large : Measures 7 scope-large-kinds.ps ℕ
+μ-scope-large κs a = 8192 * (a .1 .1 .1 .1 .1 .1 .1 .1 .0) + 11 + (7281 - length (a .1 .1 .1 .1 .1 .1 .1 .0 .now))
 
 abbrev μ-scope-listed : Measures 5 scope-listed-kinds.ps ℕ
-μ-scope-listed κs a = 16 * (a .1 .1 .1 .1 .1 .1 .0) + 13
+μ-scope-listed κs a = 8192 * (a .1 .1 .1 .1 .1 .1 .0) + 7294
 
 abbrev μ-scope-small : Measures 6 scope-small-kinds.ps ℕ
-μ-scope-small κs a = 16 * (a .1 .1 .1 .1 .1 .1 .1 .0) + 12
+μ-scope-small κs a = 8192 * (a .1 .1 .1 .1 .1 .1 .1 .0) + 7293
 
 abbrev μ-walk : Measures 9 walk-kinds.ps ℕ
-μ-walk κs a = 16 * (a .1 .1 .1 .1 .1 .0) + 4
+μ-walk κs a = 8192 * (a .1 .1 .1 .1 .1 .0) + 4
 
 abbrev μ-write-match : Measures 9 write-match-kinds.ps ℕ
-μ-write-match κs a = 16 * (a .1 .1 .1 .1 .1 .1 .1 .1 .1 .1 .0) + 5
+μ-write-match κs a = 8192 * (a .1 .1 .1 .1 .1 .1 .1 .1 .1 .1 .0) + 5
 
 abbrev μ-write-scope : Measures 13 write-scope-kinds.ps ℕ
-μ-write-scope κs a = 16 * (a .1 .1 .1 .1 .1 .1 .1 .1 .1 .1 .1 .1 .1 .0) + 8
+μ-write-scope κs a = 8192 * (a .1 .1 .1 .1 .1 .1 .1 .1 .1 .1 .1 .1 .1 .0) + 8
 
 abbrev μ-write-stmt : Measures 13 write-stmt-kinds.ps ℕ
-μ-write-stmt κs a = 16 * (a .1 .1 .1 .1 .1 .1 .1 .1 .1 .1 .1 .1 .1 .1 .0) + 6
+μ-write-stmt κs a = 8192 * (a .1 .1 .1 .1 .1 .1 .1 .1 .1 .1 .1 .1 .1 .1 .0) + 6
 
 abbrev μ-write-stmts : Measures 14 write-stmts-kinds.ps ℕ
-μ-write-stmts κs a = 16 * (a .1 .1 .1 .1 .1 .1 .1 .1 .1 .1 .1 .1 .1 .1 .0) + 7
+μ-write-stmts κs a = 8192 * (a .1 .1 .1 .1 .1 .1 .1 .1 .1 .1 .1 .1 .1 .1 .0) + 7
 
 abbrev arm-at : ℕ → In 6 arm-kinds.ps
 arm-at t = and 6 arm-kinds.ps (is 6 arm-kinds.ps μ-arm t) arm.Pre
@@ -191,13 +191,13 @@ abbrev scope-held-below : ℕ → In 10 scope-held-kinds.ps
 scope-held-below t =
     and 10 scope-held-kinds.ps (falls 10 scope-held-kinds.ps _<_ μ-scope-held t) scope-held.Pre
 
-abbrev scope-large-at : ℕ → In 6 scope-large-kinds.ps
+abbrev scope-large-at : ℕ → In 7 scope-large-kinds.ps
 scope-large-at t =
-    and 6 scope-large-kinds.ps (is 6 scope-large-kinds.ps μ-scope-large t) scope-large.Pre
+    and 7 scope-large-kinds.ps (is 7 scope-large-kinds.ps μ-scope-large t) scope-large.Pre
 
-abbrev scope-large-below : ℕ → In 6 scope-large-kinds.ps
+abbrev scope-large-below : ℕ → In 7 scope-large-kinds.ps
 scope-large-below t =
-    and 6 scope-large-kinds.ps (falls 6 scope-large-kinds.ps _<_ μ-scope-large t) scope-large.Pre
+    and 7 scope-large-kinds.ps (falls 7 scope-large-kinds.ps _<_ μ-scope-large t) scope-large.Pre
 
 abbrev scope-listed-at : ℕ → In 5 scope-listed-kinds.ps
 scope-listed-at t =
@@ -596,56 +596,77 @@ scope-held-same-length-9 t c = search needs
 scope-held-returns-2 : (t : ℕ) → scope-held-lts.Need-returns-2 (list-trees-reads.Asked, list-trees-reads.Learnt, group-all-reads.Asked, group-all-reads.Learnt, scope-grouped-below t, scope-grouped.Post) (scope-held-at t) scope-held.Post
 scope-held-returns-2 t c = let s = c .before .before .before .before .before .before .before .before .before .before .before .before .before .before .before .before .before .before .before .before .before .before .before .before .before .before .before .before .before .before .before .before .before .before .before .before .before .before .before .before in let a = s .args in done-as _ _ (outcome-is (rows-in (a .rows .now)) (a .fuel) (a .row) (a .tokens .now) (a .results) (a .first) (a .places .now) (a .trees) (s .pre .1 .1 .0 .0) (a .held .now) (s .pre .1 .1 .0 .1) _ _ _ _ (c .before .before .before .before .before .before .before .before .before .before .before .before .before .before .before .before .before .before .before .before .before .before .before .group-all .ensures) (s .pre .1 .1 .0 .2) (omega (arith, c .before .before .before .before .before .before .before .before .before .before .before .before .before .before .before .before .if1 .left))) (a .at) (a .table .now) _ _ (c .before .before .before .before .before .before .before .before .scope-grouped .ensures)
 
-scope-large-sub-number : (t : ℕ) → scope-large-lts.Need-sub-number (hold-all-reads.Asked, hold-all-reads.Learnt, scope-held-below t, scope-held.Post) (scope-large-at t) scope-large.Post
-scope-large-sub-number t c = let s = c .before .before .before .before .before .before in let a = s .args in trees-enough (rows-in (a .rows .now)) (a .fuel) (a .row) (a .tokens .now) (a .results) (a .first) (a .places .now) (s .pre .1 .0 .1) (a .trees) (s .pre .1 .1 .0)
+scope-large-slice-aggregate-scope-large : (t : ℕ) → scope-large-lts.Need-slice-aggregate-scope-large (scope-large-below t, scope-large.Post, hold-all-reads.Asked, hold-all-reads.Learnt, scope-held-below t, scope-held.Post) (scope-large-at t) scope-large.Post
+scope-large-slice-aggregate-scope-large t c = sym (length-replicate {A = ℕ} 7281 0)
 
-scope-large-add-number : (t : ℕ) → scope-large-lts.Need-add-number (hold-all-reads.Asked, hold-all-reads.Learnt, scope-held-below t, scope-held.Post) (scope-large-at t) scope-large.Post
-scope-large-add-number t c = let s = c .before .before .before .before .before .before in let a = s .args in omega (arith, trees-few-here (rows-in (a .rows .now)) (a .fuel) (a .row) (a .tokens .now) (a .results) (a .first) (a .places .now) (s .pre .1 .0 .1) (a .trees) (s .pre .1 .1 .0), s .pre .1 .0 .1 .low)
+scope-large-scope-large-requires : (t : ℕ) → scope-large-lts.Need-scope-large-requires (scope-large-below t, scope-large.Post, hold-all-reads.Asked, hold-all-reads.Learnt, scope-held-below t, scope-held.Post) (scope-large-at t) scope-large.Post
+scope-large-scope-large-requires t c κs = let s = c .before .before .before .before .before .before .before .before .before .before .before .before in (omega (arith, s .pre .0, c .before .before .before .before .if1 .taken, length-replicate {A = ℕ} 7281 0), (s .pre .1 .0, ((s .pre .1 .1 .0 .0, omega (arith, length-replicate {A = ℕ} 7281 0)), s .pre .1 .1 .1)))
 
-scope-large-slice-aggregate-hold-all : (t : ℕ) → scope-large-lts.Need-slice-aggregate-hold-all (hold-all-reads.Asked, hold-all-reads.Learnt, scope-held-below t, scope-held.Post) (scope-large-at t) scope-large.Post
-scope-large-slice-aggregate-hold-all t c = search needs
-
-scope-large-hold-all-requires : (t : ℕ) → scope-large-lts.Need-hold-all-requires (hold-all-reads.Asked, hold-all-reads.Learnt, scope-held-below t, scope-held.Post) (scope-large-at t) scope-large.Post
-scope-large-hold-all-requires t c κs = let s = c .before .before .before .before .before .before .before in let a = s .args in ((words-whole (rows-in (a .rows .now)) (a .fuel) (a .row) (a .tokens .now) (a .results) (a .first) (a .places .now) (s .pre .1 .0 .1) (a .trees) (s .pre .1 .1 .0), left-there (rows-in (a .rows .now)) (a .tokens .now) (a .results) (a .first) (a .places .now) (s .pre .1 .0 .1)), (s .pre .1 .0 .1 .few, places-short (rows-in (a .rows .now)) (a .fuel) (a .row) (a .tokens .now) (a .results) (a .first) (a .places .now) (s .pre .1 .0 .1) (a .trees) (s .pre .1 .1 .0), omega (arith, trees-few-here (rows-in (a .rows .now)) (a .fuel) (a .row) (a .tokens .now) (a .results) (a .first) (a .places .now) (s .pre .1 .0 .1) (a .trees) (s .pre .1 .1 .0), s .pre .1 .0 .1 .low), omega arith))
-
-scope-large-enum-known-holding : (t : ℕ) → scope-large-lts.Need-enum-known-holding (hold-all-reads.Asked, hold-all-reads.Learnt, scope-held-below t, scope-held.Post) (scope-large-at t) scope-large.Post
-scope-large-enum-known-holding t c = search needs
-
-scope-large-enum-told : (t : ℕ) → scope-large-lts.Need-enum-told (hold-all-reads.Asked, hold-all-reads.Learnt, scope-held-below t, scope-held.Post) (scope-large-at t) scope-large.Post
-scope-large-enum-told t c = search needs
-
-scope-large-returns : (t : ℕ) → scope-large-lts.Need-returns (hold-all-reads.Asked, hold-all-reads.Learnt, scope-held-below t, scope-held.Post) (scope-large-at t) scope-large.Post
-scope-large-returns t c = let s = c .before .before .before .before .before .before .before .before .before .before .before in let a = s .args in too-many (rows-in (a .rows .now)) (a .fuel) (a .row) (a .tokens .now) (a .results) (a .first) (a .places .now) (s .pre .1 .0 .1) (a .trees) (s .pre .1 .1 .0) (c .before .before .before .hold-all .result) _ (c .before .before .before .hold-all .ensures) (c .enum-told .given .1) (omega (arith, c .before .before .before .hold-all .kept .1 .1 .1 .0)) (a .at) (a .table .now)
-
-scope-large-array-share-prefix-held : (t : ℕ) → scope-large-lts.Need-array-share-prefix-held (hold-all-reads.Asked, hold-all-reads.Learnt, scope-held-below t, scope-held.Post) (scope-large-at t) scope-large.Post
-scope-large-array-share-prefix-held t c = let s = c .before .before .before .before .before .before .before .before .before .before .before .before .before in let a = s .args in held-in (rows-in (a .rows .now)) (a .fuel) (a .row) (a .tokens .now) (a .results) (a .first) (a .places .now) (s .pre .1 .0 .1) (a .trees) (s .pre .1 .1 .0) (c .before .before .before .before .before .hold-all .result) _ (c .before .before .before .before .before .hold-all .ensures) _ (c .before .before .holding .given .1)
-
-scope-large-slice-aggregate-scope-held : (t : ℕ) → scope-large-lts.Need-slice-aggregate-scope-held (hold-all-reads.Asked, hold-all-reads.Learnt, scope-held-below t, scope-held.Post) (scope-large-at t) scope-large.Post
-scope-large-slice-aggregate-scope-held t c = let s = c .before .before .before .before .before .before .before .before .before .before .before .before .before .before in let a = s .args in sym (length-take-le _ _ (held-in (rows-in (a .rows .now)) (a .fuel) (a .row) (a .tokens .now) (a .results) (a .first) (a .places .now) (s .pre .1 .0 .1) (a .trees) (s .pre .1 .1 .0) (c .before .before .before .before .before .before .hold-all .result) _ (c .before .before .before .before .before .before .hold-all .ensures) _ (c .before .before .before .holding .given .1)))
-
-scope-large-slice-aggregate-scope-held-2 : (t : ℕ) → scope-large-lts.Need-slice-aggregate-scope-held-2 (hold-all-reads.Asked, hold-all-reads.Learnt, scope-held-below t, scope-held.Post) (scope-large-at t) scope-large.Post
-scope-large-slice-aggregate-scope-held-2 t c = search needs
-
-scope-large-slice-aggregate-scope-held-3 : (t : ℕ) → scope-large-lts.Need-slice-aggregate-scope-held-3 (hold-all-reads.Asked, hold-all-reads.Learnt, scope-held-below t, scope-held.Post) (scope-large-at t) scope-large.Post
-scope-large-slice-aggregate-scope-held-3 t c = search needs
-
-scope-large-slice-aggregate-scope-held-4 : (t : ℕ) → scope-large-lts.Need-slice-aggregate-scope-held-4 (hold-all-reads.Asked, hold-all-reads.Learnt, scope-held-below t, scope-held.Post) (scope-large-at t) scope-large.Post
-scope-large-slice-aggregate-scope-held-4 t c = search needs
-
-scope-large-scope-held-requires : (t : ℕ) → scope-large-lts.Need-scope-held-requires (hold-all-reads.Asked, hold-all-reads.Learnt, scope-held-below t, scope-held.Post) (scope-large-at t) scope-large.Post
-scope-large-scope-held-requires t c κs = let s = c .before .before .before .before .before .before .before .before .before .before .before .before .before .before .before .before .before .before .before in let a = s .args in (omega (arith, s .pre .0), (s .pre .1 .0, ((s .pre .1 .1 .0, held-are (rows-in (a .rows .now)) (a .fuel) (a .row) (a .tokens .now) (a .results) (a .first) (a .places .now) (s .pre .1 .0 .1) (a .trees) (s .pre .1 .1 .0) (c .before .before .before .before .before .before .before .before .before .before .before .hold-all .result) _ (c .before .before .before .before .before .before .before .before .before .before .before .hold-all .ensures) _ (c .before .before .before .before .before .before .before .before .holding .given .1), omega (arith, held-short (rows-in (a .rows .now)) (a .fuel) (a .row) (a .tokens .now) (a .results) (a .first) (a .places .now) (s .pre .1 .0 .1) (a .trees) (s .pre .1 .1 .0) (c .before .before .before .before .before .before .before .before .before .before .before .hold-all .result) _ (c .before .before .before .before .before .before .before .before .before .before .before .hold-all .ensures) _ (c .before .before .before .before .before .before .before .before .holding .given .1), c .before .before .before .before .before .before .before .before .before .before .before .hold-all .kept .1 .1 .1 .0)), ((omega (arith, held-short (rows-in (a .rows .now)) (a .fuel) (a .row) (a .tokens .now) (a .results) (a .first) (a .places .now) (s .pre .1 .0 .1) (a .trees) (s .pre .1 .1 .0) (c .before .before .before .before .before .before .before .before .before .before .before .hold-all .result) _ (c .before .before .before .before .before .before .before .before .before .before .before .hold-all .ensures) _ (c .before .before .before .before .before .before .before .before .holding .given .1), c .before .before .before .before .before .before .before .before .before .before .before .hold-all .kept .1 .1 .1 .0), omega (arith, held-short (rows-in (a .rows .now)) (a .fuel) (a .row) (a .tokens .now) (a .results) (a .first) (a .places .now) (s .pre .1 .0 .1) (a .trees) (s .pre .1 .1 .0) (c .before .before .before .before .before .before .before .before .before .before .before .hold-all .result) _ (c .before .before .before .before .before .before .before .before .before .before .before .hold-all .ensures) _ (c .before .before .before .before .before .before .before .before .holding .given .1), c .before .before .before .before .before .before .before .before .before .before .before .hold-all .kept .1 .1 .1 .0), omega (arith, held-short (rows-in (a .rows .now)) (a .fuel) (a .row) (a .tokens .now) (a .results) (a .first) (a .places .now) (s .pre .1 .0 .1) (a .trees) (s .pre .1 .1 .0) (c .before .before .before .before .before .before .before .before .before .before .before .hold-all .result) _ (c .before .before .before .before .before .before .before .before .before .before .before .hold-all .ensures) _ (c .before .before .before .before .before .before .before .before .holding .given .1), c .before .before .before .before .before .before .before .before .before .before .before .hold-all .kept .1 .1 .1 .0)), s .pre .1 .1 .1))))
-
-scope-large-same-length : (t : ℕ) → scope-large-lts.Need-same-length (hold-all-reads.Asked, hold-all-reads.Learnt, scope-held-below t, scope-held.Post) (scope-large-at t) scope-large.Post
+scope-large-same-length : (t : ℕ) → scope-large-lts.Need-same-length (scope-large-below t, scope-large.Post, hold-all-reads.Asked, hold-all-reads.Learnt, scope-held-below t, scope-held.Post) (scope-large-at t) scope-large.Post
 scope-large-same-length t c = search needs
 
-scope-large-same-length-2 : (t : ℕ) → scope-large-lts.Need-same-length-2 (hold-all-reads.Asked, hold-all-reads.Learnt, scope-held-below t, scope-held.Post) (scope-large-at t) scope-large.Post
+scope-large-same-length-2 : (t : ℕ) → scope-large-lts.Need-same-length-2 (scope-large-below t, scope-large.Post, hold-all-reads.Asked, hold-all-reads.Learnt, scope-held-below t, scope-held.Post) (scope-large-at t) scope-large.Post
 scope-large-same-length-2 t c = search needs
 
-scope-large-same-length-3 : (t : ℕ) → scope-large-lts.Need-same-length-3 (hold-all-reads.Asked, hold-all-reads.Learnt, scope-held-below t, scope-held.Post) (scope-large-at t) scope-large.Post
+scope-large-same-length-3 : (t : ℕ) → scope-large-lts.Need-same-length-3 (scope-large-below t, scope-large.Post, hold-all-reads.Asked, hold-all-reads.Learnt, scope-held-below t, scope-held.Post) (scope-large-at t) scope-large.Post
 scope-large-same-length-3 t c = search needs
 
-scope-large-returns-2 : (t : ℕ) → scope-large-lts.Need-returns-2 (hold-all-reads.Asked, hold-all-reads.Learnt, scope-held-below t, scope-held.Post) (scope-large-at t) scope-large.Post
-scope-large-returns-2 t c = c .before .before .before .before .before .before .before .before .before .scope-held .ensures
+scope-large-returns : (t : ℕ) → scope-large-lts.Need-returns (scope-large-below t, scope-large.Post, hold-all-reads.Asked, hold-all-reads.Learnt, scope-held-below t, scope-held.Post) (scope-large-at t) scope-large.Post
+scope-large-returns t c = c .before .before .before .before .before .before .before .scope-large .ensures
+
+scope-large-sub-number : (t : ℕ) → scope-large-lts.Need-sub-number (scope-large-below t, scope-large.Post, hold-all-reads.Asked, hold-all-reads.Learnt, scope-held-below t, scope-held.Post) (scope-large-at t) scope-large.Post
+scope-large-sub-number t c = let s = c .before .before .before .before .before .before .before .before in let a = s .args in trees-enough (rows-in (a .rows .now)) (a .fuel) (a .row) (a .tokens .now) (a .results) (a .first) (a .places .now) (s .pre .1 .0 .1) (a .trees) (s .pre .1 .1 .0 .0)
+
+scope-large-add-number : (t : ℕ) → scope-large-lts.Need-add-number (scope-large-below t, scope-large.Post, hold-all-reads.Asked, hold-all-reads.Learnt, scope-held-below t, scope-held.Post) (scope-large-at t) scope-large.Post
+scope-large-add-number t c = let s = c .before .before .before .before .before .before .before .before in let a = s .args in omega (arith, trees-few-here (rows-in (a .rows .now)) (a .fuel) (a .row) (a .tokens .now) (a .results) (a .first) (a .places .now) (s .pre .1 .0 .1) (a .trees) (s .pre .1 .1 .0 .0), s .pre .1 .0 .1 .low)
+
+scope-large-hold-all-requires : (t : ℕ) → scope-large-lts.Need-hold-all-requires (scope-large-below t, scope-large.Post, hold-all-reads.Asked, hold-all-reads.Learnt, scope-held-below t, scope-held.Post) (scope-large-at t) scope-large.Post
+scope-large-hold-all-requires t c κs = let s = c .before .before .before .before .before .before .before .before .before in let a = s .args in ((words-whole (rows-in (a .rows .now)) (a .fuel) (a .row) (a .tokens .now) (a .results) (a .first) (a .places .now) (s .pre .1 .0 .1) (a .trees) (s .pre .1 .1 .0 .0), left-there (rows-in (a .rows .now)) (a .tokens .now) (a .results) (a .first) (a .places .now) (s .pre .1 .0 .1)), (s .pre .1 .0 .1 .few, places-short (rows-in (a .rows .now)) (a .fuel) (a .row) (a .tokens .now) (a .results) (a .first) (a .places .now) (s .pre .1 .0 .1) (a .trees) (s .pre .1 .1 .0 .0), omega (arith, trees-few-here (rows-in (a .rows .now)) (a .fuel) (a .row) (a .tokens .now) (a .results) (a .first) (a .places .now) (s .pre .1 .0 .1) (a .trees) (s .pre .1 .1 .0 .0), s .pre .1 .0 .1 .low), omega (arith, c .before .if1 .left)))
+
+scope-large-enum-known-holding : (t : ℕ) → scope-large-lts.Need-enum-known-holding (scope-large-below t, scope-large.Post, hold-all-reads.Asked, hold-all-reads.Learnt, scope-held-below t, scope-held.Post) (scope-large-at t) scope-large.Post
+scope-large-enum-known-holding t c = search needs
+
+scope-large-enum-told : (t : ℕ) → scope-large-lts.Need-enum-told (scope-large-below t, scope-large.Post, hold-all-reads.Asked, hold-all-reads.Learnt, scope-held-below t, scope-held.Post) (scope-large-at t) scope-large.Post
+scope-large-enum-told t c = search needs
+
+scope-large-same-length-4 : (t : ℕ) → scope-large-lts.Need-same-length-4 (scope-large-below t, scope-large.Post, hold-all-reads.Asked, hold-all-reads.Learnt, scope-held-below t, scope-held.Post) (scope-large-at t) scope-large.Post
+scope-large-same-length-4 t c = search needs
+
+scope-large-returns-2 : (t : ℕ) → scope-large-lts.Need-returns-2 (scope-large-below t, scope-large.Post, hold-all-reads.Asked, hold-all-reads.Learnt, scope-held-below t, scope-held.Post) (scope-large-at t) scope-large.Post
+scope-large-returns-2 t c = let s = c .before .before .before .before .before .before .before .before .before .before .before .before .before .before in let a = s .args in too-many (rows-in (a .rows .now)) (a .fuel) (a .row) (a .tokens .now) (a .results) (a .first) (a .places .now) (s .pre .1 .0 .1) (a .trees) (s .pre .1 .1 .0 .0) (c .before .before .before .before .hold-all .result) _ (c .before .before .before .before .hold-all .ensures) (c .enum-told .given .1) (omega (arith, c .before .before .before .before .hold-all .kept .1 .1 .1 .0, c .before .before .before .before .before .before .if1 .left)) (a .at) (a .table .now)
+
+scope-large-slice-reshare-prefix-scope-held : (t : ℕ) → scope-large-lts.Need-slice-reshare-prefix-scope-held (scope-large-below t, scope-large.Post, hold-all-reads.Asked, hold-all-reads.Learnt, scope-held-below t, scope-held.Post) (scope-large-at t) scope-large.Post
+scope-large-slice-reshare-prefix-scope-held t c = let s = c .before .before .before .before .before .before .before .before .before .before .before .before .before .before .before .before in let a = s .args in held-in (rows-in (a .rows .now)) (a .fuel) (a .row) (a .tokens .now) (a .results) (a .first) (a .places .now) (s .pre .1 .0 .1) (a .trees) (s .pre .1 .1 .0 .0) (c .before .before .before .before .before .before .hold-all .result) _ (c .before .before .before .before .before .before .hold-all .ensures) _ (c .before .before .holding .given .1)
+
+scope-large-slice-aggregate-scope-held : (t : ℕ) → scope-large-lts.Need-slice-aggregate-scope-held (scope-large-below t, scope-large.Post, hold-all-reads.Asked, hold-all-reads.Learnt, scope-held-below t, scope-held.Post) (scope-large-at t) scope-large.Post
+scope-large-slice-aggregate-scope-held t c = let s = c .before .before .before .before .before .before .before .before .before .before .before .before .before .before .before .before .before in let a = s .args in sym (length-take-le _ _ (held-in (rows-in (a .rows .now)) (a .fuel) (a .row) (a .tokens .now) (a .results) (a .first) (a .places .now) (s .pre .1 .0 .1) (a .trees) (s .pre .1 .1 .0 .0) (c .before .before .before .before .before .before .before .hold-all .result) _ (c .before .before .before .before .before .before .before .hold-all .ensures) _ (c .before .before .before .holding .given .1)))
+
+scope-large-slice-aggregate-scope-held-2 : (t : ℕ) → scope-large-lts.Need-slice-aggregate-scope-held-2 (scope-large-below t, scope-large.Post, hold-all-reads.Asked, hold-all-reads.Learnt, scope-held-below t, scope-held.Post) (scope-large-at t) scope-large.Post
+scope-large-slice-aggregate-scope-held-2 t c = search needs
+
+scope-large-slice-aggregate-scope-held-3 : (t : ℕ) → scope-large-lts.Need-slice-aggregate-scope-held-3 (scope-large-below t, scope-large.Post, hold-all-reads.Asked, hold-all-reads.Learnt, scope-held-below t, scope-held.Post) (scope-large-at t) scope-large.Post
+scope-large-slice-aggregate-scope-held-3 t c = search needs
+
+scope-large-slice-aggregate-scope-held-4 : (t : ℕ) → scope-large-lts.Need-slice-aggregate-scope-held-4 (scope-large-below t, scope-large.Post, hold-all-reads.Asked, hold-all-reads.Learnt, scope-held-below t, scope-held.Post) (scope-large-at t) scope-large.Post
+scope-large-slice-aggregate-scope-held-4 t c = search needs
+
+scope-large-scope-held-requires : (t : ℕ) → scope-large-lts.Need-scope-held-requires (scope-large-below t, scope-large.Post, hold-all-reads.Asked, hold-all-reads.Learnt, scope-held-below t, scope-held.Post) (scope-large-at t) scope-large.Post
+scope-large-scope-held-requires t c κs = let s = c .before .before .before .before .before .before .before .before .before .before .before .before .before .before .before .before .before .before .before .before .before .before in let a = s .args in (omega (arith, s .pre .0), (s .pre .1 .0, ((s .pre .1 .1 .0 .0, held-are (rows-in (a .rows .now)) (a .fuel) (a .row) (a .tokens .now) (a .results) (a .first) (a .places .now) (s .pre .1 .0 .1) (a .trees) (s .pre .1 .1 .0 .0) (c .before .before .before .before .before .before .before .before .before .before .before .before .hold-all .result) _ (c .before .before .before .before .before .before .before .before .before .before .before .before .hold-all .ensures) _ (c .before .before .before .before .before .before .before .before .holding .given .1), omega (arith, held-short (rows-in (a .rows .now)) (a .fuel) (a .row) (a .tokens .now) (a .results) (a .first) (a .places .now) (s .pre .1 .0 .1) (a .trees) (s .pre .1 .1 .0 .0) (c .before .before .before .before .before .before .before .before .before .before .before .before .hold-all .result) _ (c .before .before .before .before .before .before .before .before .before .before .before .before .hold-all .ensures) _ (c .before .before .before .before .before .before .before .before .holding .given .1), c .before .before .before .before .before .before .before .before .before .before .before .before .hold-all .kept .1 .1 .1 .0, s .pre .1 .1 .0 .1)), ((omega (arith, held-short (rows-in (a .rows .now)) (a .fuel) (a .row) (a .tokens .now) (a .results) (a .first) (a .places .now) (s .pre .1 .0 .1) (a .trees) (s .pre .1 .1 .0 .0) (c .before .before .before .before .before .before .before .before .before .before .before .before .hold-all .result) _ (c .before .before .before .before .before .before .before .before .before .before .before .before .hold-all .ensures) _ (c .before .before .before .before .before .before .before .before .holding .given .1), c .before .before .before .before .before .before .before .before .before .before .before .before .hold-all .kept .1 .1 .1 .0, s .pre .1 .1 .0 .1), omega (arith, held-short (rows-in (a .rows .now)) (a .fuel) (a .row) (a .tokens .now) (a .results) (a .first) (a .places .now) (s .pre .1 .0 .1) (a .trees) (s .pre .1 .1 .0 .0) (c .before .before .before .before .before .before .before .before .before .before .before .before .hold-all .result) _ (c .before .before .before .before .before .before .before .before .before .before .before .before .hold-all .ensures) _ (c .before .before .before .before .before .before .before .before .holding .given .1), c .before .before .before .before .before .before .before .before .before .before .before .before .hold-all .kept .1 .1 .1 .0, s .pre .1 .1 .0 .1), omega (arith, held-short (rows-in (a .rows .now)) (a .fuel) (a .row) (a .tokens .now) (a .results) (a .first) (a .places .now) (s .pre .1 .0 .1) (a .trees) (s .pre .1 .1 .0 .0) (c .before .before .before .before .before .before .before .before .before .before .before .before .hold-all .result) _ (c .before .before .before .before .before .before .before .before .before .before .before .before .hold-all .ensures) _ (c .before .before .before .before .before .before .before .before .holding .given .1), c .before .before .before .before .before .before .before .before .before .before .before .before .hold-all .kept .1 .1 .1 .0, s .pre .1 .1 .0 .1)), s .pre .1 .1 .1))))
+
+scope-large-same-length-5 : (t : ℕ) → scope-large-lts.Need-same-length-5 (scope-large-below t, scope-large.Post, hold-all-reads.Asked, hold-all-reads.Learnt, scope-held-below t, scope-held.Post) (scope-large-at t) scope-large.Post
+scope-large-same-length-5 t c = search needs
+
+scope-large-same-length-6 : (t : ℕ) → scope-large-lts.Need-same-length-6 (scope-large-below t, scope-large.Post, hold-all-reads.Asked, hold-all-reads.Learnt, scope-held-below t, scope-held.Post) (scope-large-at t) scope-large.Post
+scope-large-same-length-6 t c = search needs
+
+scope-large-same-length-7 : (t : ℕ) → scope-large-lts.Need-same-length-7 (scope-large-below t, scope-large.Post, hold-all-reads.Asked, hold-all-reads.Learnt, scope-held-below t, scope-held.Post) (scope-large-at t) scope-large.Post
+scope-large-same-length-7 t c = search needs
+
+scope-large-same-length-8 : (t : ℕ) → scope-large-lts.Need-same-length-8 (scope-large-below t, scope-large.Post, hold-all-reads.Asked, hold-all-reads.Learnt, scope-held-below t, scope-held.Post) (scope-large-at t) scope-large.Post
+scope-large-same-length-8 t c = search needs
+
+scope-large-returns-3 : (t : ℕ) → scope-large-lts.Need-returns-3 (scope-large-below t, scope-large.Post, hold-all-reads.Asked, hold-all-reads.Learnt, scope-held-below t, scope-held.Post) (scope-large-at t) scope-large.Post
+scope-large-returns-3 t c = c .before .before .before .before .before .before .before .before .before .scope-held .ensures
 
 scope-listed-slice-reshare-prefix-put : (t : ℕ) → scope-listed-lts.Need-slice-reshare-prefix-put (put-reads.Asked, put-reads.Learnt, tree-count-reads.Asked, tree-count-reads.Learnt, scope-small-below t, scope-small.Post) (scope-listed-at t) scope-listed.Post
 scope-listed-slice-reshare-prefix-put t c = let s = c .before .before .before .before .before in s .pre .1 .0 .1
@@ -711,7 +732,7 @@ scope-small-slice-aggregate-hold-all : (t : ℕ) → scope-small-lts.Need-slice-
 scope-small-slice-aggregate-hold-all t c = search needs
 
 scope-small-hold-all-requires : (t : ℕ) → scope-small-lts.Need-hold-all-requires (hold-all-reads.Asked, hold-all-reads.Learnt, scope-large-below t, scope-large.Post, scope-held-below t, scope-held.Post) (scope-small-at t) scope-small.Post
-scope-small-hold-all-requires t c κs = let s = c .before .before .before .before .before .before .before in let a = s .args in ((words-whole (rows-in (a .rows .now)) (a .fuel) (a .row) (a .tokens .now) (a .results) (a .first) (a .places .now) (s .pre .1 .0 .1) (a .trees) (s .pre .1 .1 .0), left-there (rows-in (a .rows .now)) (a .tokens .now) (a .results) (a .first) (a .places .now) (s .pre .1 .0 .1)), (s .pre .1 .0 .1 .few, places-short (rows-in (a .rows .now)) (a .fuel) (a .row) (a .tokens .now) (a .results) (a .first) (a .places .now) (s .pre .1 .0 .1) (a .trees) (s .pre .1 .1 .0), omega (arith, trees-few-here (rows-in (a .rows .now)) (a .fuel) (a .row) (a .tokens .now) (a .results) (a .first) (a .places .now) (s .pre .1 .0 .1) (a .trees) (s .pre .1 .1 .0), s .pre .1 .0 .1 .low), omega arith))
+scope-small-hold-all-requires t c κs = let s = c .before .before .before .before .before .before .before in let a = s .args in ((words-whole (rows-in (a .rows .now)) (a .fuel) (a .row) (a .tokens .now) (a .results) (a .first) (a .places .now) (s .pre .1 .0 .1) (a .trees) (s .pre .1 .1 .0), left-there (rows-in (a .rows .now)) (a .tokens .now) (a .results) (a .first) (a .places .now) (s .pre .1 .0 .1)), (s .pre .1 .0 .1 .few, places-short (rows-in (a .rows .now)) (a .fuel) (a .row) (a .tokens .now) (a .results) (a .first) (a .places .now) (s .pre .1 .0 .1) (a .trees) (s .pre .1 .1 .0), omega (arith, trees-few-here (rows-in (a .rows .now)) (a .fuel) (a .row) (a .tokens .now) (a .results) (a .first) (a .places .now) (s .pre .1 .0 .1) (a .trees) (s .pre .1 .1 .0), s .pre .1 .0 .1 .low), omega (arith)))
 
 scope-small-enum-known-holding : (t : ℕ) → scope-small-lts.Need-enum-known-holding (hold-all-reads.Asked, hold-all-reads.Learnt, scope-large-below t, scope-large.Post, scope-held-below t, scope-held.Post) (scope-small-at t) scope-small.Post
 scope-small-enum-known-holding t c = search needs
@@ -719,8 +740,11 @@ scope-small-enum-known-holding t c = search needs
 scope-small-enum-told : (t : ℕ) → scope-small-lts.Need-enum-told (hold-all-reads.Asked, hold-all-reads.Learnt, scope-large-below t, scope-large.Post, scope-held-below t, scope-held.Post) (scope-small-at t) scope-small.Post
 scope-small-enum-told t c = search needs
 
+scope-small-slice-aggregate-scope-large : (t : ℕ) → scope-small-lts.Need-slice-aggregate-scope-large (hold-all-reads.Asked, hold-all-reads.Learnt, scope-large-below t, scope-large.Post, scope-held-below t, scope-held.Post) (scope-small-at t) scope-small.Post
+scope-small-slice-aggregate-scope-large t c = search needs
+
 scope-small-scope-large-requires : (t : ℕ) → scope-small-lts.Need-scope-large-requires (hold-all-reads.Asked, hold-all-reads.Learnt, scope-large-below t, scope-large.Post, scope-held-below t, scope-held.Post) (scope-small-at t) scope-small.Post
-scope-small-scope-large-requires t c κs = let s = c .before .before .before .before .before .before .before .before .before .before .before .before .before .before in (omega (arith, s .pre .0), s .pre .1)
+scope-small-scope-large-requires t c κs = let s = c .before .before .before .before .before .before .before .before .before .before .before .before .before .before .before in (omega (arith, s .pre .0, c .before .before .before .before .before .before .before .hold-all .kept .1 .1 .1 .0), (s .pre .1 .0, ((s .pre .1 .1 .0, omega (arith, c .before .before .before .before .before .before .before .hold-all .kept .1 .1 .1 .0)), s .pre .1 .1 .1)))
 
 scope-small-same-length : (t : ℕ) → scope-small-lts.Need-same-length (hold-all-reads.Asked, hold-all-reads.Learnt, scope-large-below t, scope-large.Post, scope-held-below t, scope-held.Post) (scope-small-at t) scope-small.Post
 scope-small-same-length t c = search needs
@@ -732,7 +756,7 @@ scope-small-same-length-3 : (t : ℕ) → scope-small-lts.Need-same-length-3 (ho
 scope-small-same-length-3 t c = search needs
 
 scope-small-returns : (t : ℕ) → scope-small-lts.Need-returns (hold-all-reads.Asked, hold-all-reads.Learnt, scope-large-below t, scope-large.Post, scope-held-below t, scope-held.Post) (scope-small-at t) scope-small.Post
-scope-small-returns t c = c .before .before .before .before .before .before .scope-large .ensures
+scope-small-returns t c = c .before .before .before .before .before .before .before .scope-large .ensures
 
 scope-small-array-share-prefix-held : (t : ℕ) → scope-small-lts.Need-array-share-prefix-held (hold-all-reads.Asked, hold-all-reads.Learnt, scope-large-below t, scope-large.Post, scope-held-below t, scope-held.Post) (scope-small-at t) scope-small.Post
 scope-small-array-share-prefix-held t c = let s = c .before .before .before .before .before .before .before .before .before .before .before .before .before in let a = s .args in held-in (rows-in (a .rows .now)) (a .fuel) (a .row) (a .tokens .now) (a .results) (a .first) (a .places .now) (s .pre .1 .0 .1) (a .trees) (s .pre .1 .1 .0) (c .before .before .before .before .before .hold-all .result) _ (c .before .before .before .before .before .hold-all .ensures) _ (c .before .before .holding .given .1)
@@ -1297,6 +1321,8 @@ pub +arm+arms+measure+scope+scope-grouped+scope-held+scope-large+scope-listed+sc
     (scope-held-same-length-9 t)
     (scope-held-returns-2 t))
     (λ t. scope-large-lts.spec (
+      scope-large-below t,
+      scope-large.Post,
       hold-all-reads.Asked,
       hold-all-reads.Learnt,
       scope-held-below t,
@@ -1304,23 +1330,30 @@ pub +arm+arms+measure+scope+scope-grouped+scope-held+scope-large+scope-listed+sc
     )
     (scope-large-at t)
     scope-large.Post
+    (scope-large-slice-aggregate-scope-large t)
+    (scope-large-scope-large-requires t)
+    (scope-large-same-length t)
+    (scope-large-same-length-2 t)
+    (scope-large-same-length-3 t)
+    (scope-large-returns t)
     (scope-large-sub-number t)
     (scope-large-add-number t)
-    (scope-large-slice-aggregate-hold-all t)
     (scope-large-hold-all-requires t)
     (scope-large-enum-known-holding t)
     (scope-large-enum-told t)
-    (scope-large-returns t)
-    (scope-large-array-share-prefix-held t)
+    (scope-large-same-length-4 t)
+    (scope-large-returns-2 t)
+    (scope-large-slice-reshare-prefix-scope-held t)
     (scope-large-slice-aggregate-scope-held t)
     (scope-large-slice-aggregate-scope-held-2 t)
     (scope-large-slice-aggregate-scope-held-3 t)
     (scope-large-slice-aggregate-scope-held-4 t)
     (scope-large-scope-held-requires t)
-    (scope-large-same-length t)
-    (scope-large-same-length-2 t)
-    (scope-large-same-length-3 t)
-    (scope-large-returns-2 t))
+    (scope-large-same-length-5 t)
+    (scope-large-same-length-6 t)
+    (scope-large-same-length-7 t)
+    (scope-large-same-length-8 t)
+    (scope-large-returns-3 t))
     (λ t. scope-listed-lts.spec (
       put-reads.Asked,
       put-reads.Learnt,
@@ -1365,6 +1398,7 @@ pub +arm+arms+measure+scope+scope-grouped+scope-held+scope-large+scope-listed+sc
     (scope-small-hold-all-requires t)
     (scope-small-enum-known-holding t)
     (scope-small-enum-told t)
+    (scope-small-slice-aggregate-scope-large t)
     (scope-small-scope-large-requires t)
     (scope-small-same-length t)
     (scope-small-same-length-2 t)
