@@ -11,11 +11,11 @@ use Rattle.tree.specs.Layout.{table-or-9}
 use Rattle.tree.specs.Tokens.{number-in}
 use Rattle.cse.specs.Answer.{rows}
 use Rattle.cse.specs.AnswerRows.{answer-words}
-use Rattle.cse.specs.Scope.{answer}
+use Rattle.cse.specs.Scope.{area-rows, answer}
 
 -- the work area's fixed length: words of 64 bits, each two of 01's of 32, and bytes of text
 abbrev pub work-words : ℕ
-work-words = 65536
+work-words = area-rows
 
 abbrev pub work-bytes : ℕ
 work-bytes = 131072

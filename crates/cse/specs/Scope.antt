@@ -1,5 +1,5 @@
 -- `cse_scope` in both forms, `cse` and `cse_scoped` (01, "Scoped fusion"). Assumes nothing.
-use Prim.Native.Nat.{ℕ, zero, suc, _+_}
+use Prim.Native.Nat.{ℕ, zero, suc, _+_, _-_}
 use mathlib.Core.Bool.{Bool, true, false, _&&_}
 use mathlib.Core.List.{List, [], _∷_, _++_}
 use lib.ListN.{length}
@@ -171,6 +171,10 @@ finish w = topo-sort-intermediates (w .inters) >>= λ l. ok (record { inters = l
 
 -- ---- rows of the work area, and scopes within scopes
 
+-- How many rows the work area has, a word of 64 bits each.
+abbrev pub area-rows : ℕ
+area-rows = 65536
+
 -- How many scopes can be open at once: arms nest at most 8 deep, and each arm's scope stands inside its caller's.
 unfoldable pub scopes-open : ℕ
 scopes-open = 9
@@ -180,10 +184,9 @@ scopes-open = 9
 unfoldable pub scope-rows : ℕ
 scope-rows = 1927
 
--- How many occurrences a scope may hold for fusion: each open scope has a part of the work area of its own, a word of 64 bits for an occurrence, and the area has
--- 65,536.
-unfoldable pub fusion-rows : ℕ
-fusion-rows = 7281
+-- How many switches outside arms a scope may have: so many that the places of as many in each open scope, and their numbers, are no more words than the area has.
+unfoldable pub most-switches : ℕ
+most-switches = 3640
 
 -- How many statements can be put in the order of their needs: a bit for each two of them, and as many words of 64 bits as the area has.
 unfoldable pub most-stmts : ℕ
@@ -193,10 +196,10 @@ most-stmts = 2048
 abbrev pub most-number : ℕ
 most-number = 2147483648
 
--- whether a scope may be opened from a number on: its input's texts fit, and its numbers fit their words
-unfoldable pub opens : ℕ → List Tree → Bool
+-- whether a scope may be opened in the rows that are left, from a number on: its input has a row for each occurrence, its texts fit, and its numbers fit their words
+unfoldable pub opens : ℕ → ℕ → List Tree → Bool
 unfolding occurrences scope-rows
-opens next es = leb (occurrences es) scope-rows && leb next most-number
+opens left next es = leb (occurrences es) left && (leb (occurrences es) scope-rows && leb next most-number)
 
 unfoldable pub some-switch : List Switch → Bool
 some-switch [] = false
@@ -220,37 +223,43 @@ unfoldable pub held : ℕ → State → List Tree
 unfolding held-bindings
 held x s = s .results ++ held-bindings x (s .lets)
 
+-- how many of the rows that are left its arms' scopes have
+unfoldable pub left-after : ℕ → ℕ → State → ℕ
+unfolding held occurrences
+left-after left x s = left - occurrences (held x s)
+
 -- its statements: a let for each binding, and a match for each group of switches
 unfoldable pub statements : State → ℕ
 unfolding groups-from collect-switches roots
 statements s = length (s .lets) + length (groups-from [] (collect-switches (roots s)))
 
--- whether a scope has room for fusion and for the order of its statements
-unfoldable pub has-room : ℕ → State → Bool
-unfolding held occurrences fusion-rows statements most-stmts
-has-room x s = leb (occurrences (held x s)) fusion-rows && leb (statements s) most-stmts
+-- whether a scope has room for fusion in the rows that are left, and for the order of its statements
+unfoldable pub has-room : ℕ → ℕ → State → Bool
+unfolding held occurrences collect-switches roots most-switches statements most-stmts
+has-room left x s =
+    leb (occurrences (held x s)) left && (leb (length (collect-switches (roots s))) most-switches && leb (statements s) most-stmts)
 
 -- fusion and the order of statements, and refusal 23 where there is no room for them
-unfoldable pub fuse-held : (ℕ → List Tree → Outcome Scoped) → ℕ → State → Outcome Scoped
+unfoldable pub fuse-held : (ℕ → List Tree → Outcome Scoped) → ℕ → ℕ → State → Outcome Scoped
 unfolding fuse-all finish has-room
-fuse-held scope x s =
-    elim (has-room x s) [
+fuse-held scope left x s =
+    elim (has-room left x s) [
       | true ↦ (fuse-all scope x s >>= λ w. finish w)
       | false ↦ refused (by 23)
     ]
 
--- "an arm scope works in the part of the work area after its caller's last used row": each scope in a part of its own. Refusal 23, which 01 lacks, is for an
--- input with more occurrences than can be ranked, for numbers past 2^31, and for a scope that has no room for fusion. The flat form opens one scope, from
--- number 0 on, and fuses nothing, so that it needs no such test. The first argument says how many more scopes can be open; where it ends decides nothing for a
--- list whose arms nest at most 8 deep (ScopeRoom).
-unfoldable pub cse-scope : ℕ → Bool → ℕ → List Tree → Outcome Scoped
-unfolding extract-all reciprocals unfused fuse-held finish opens
-cse-scope zero scoped next es = refused (by 23)
-cse-scope (suc fuel) false next es = extract-all false next es >>= λ s. finish (unfused (length (s .lets)) (reciprocals false s))
-cse-scope (suc fuel) true next es =
-    elim (opens next es) [
+-- "an arm scope works in the part of the work area after its caller's last used row": `left` rows of it are left, and a scope's arms have those after what it holds.
+-- Refusal 23, which 01 lacks, is for rows that are no longer left, for an input with more occurrences than can be ranked, for more switches or statements than can
+-- be listed, and for numbers past 2^31. The flat form opens one scope, from number 0 on, and fuses nothing, so that it needs no such test. The first argument says
+-- how many more scopes can be open; where it ends decides nothing for a list whose arms nest at most 8 deep (ScopeRoom).
+unfoldable pub cse-scope : ℕ → ℕ → Bool → ℕ → List Tree → Outcome Scoped
+unfolding extract-all reciprocals unfused left-after fuse-held finish opens
+cse-scope zero left scoped next es = refused (by 23)
+cse-scope (suc fuel) left false next es = extract-all false next es >>= λ s. finish (unfused (length (s .lets)) (reciprocals false s))
+cse-scope (suc fuel) left true next es =
+    elim (opens left next es) [
       | true ↦ (extract-all true next es >>= λ s.
-          fuse-held (λ n l. cse-scope fuel true n l) (length (s .lets)) (reciprocals true s))
+          fuse-held (λ n l. cse-scope fuel (left-after left (length (s .lets)) (reciprocals true s)) true n l) left (length (s .lets)) (reciprocals true s))
       | false ↦ refused (by 23)
     ]
 
@@ -261,4 +270,4 @@ as-answer a = record { inters = block (a .inters); results = a .results; extract
 -- the answer of `cse` (false) and of `cse_scoped` (true), or refusal 10, 11 or 23
 unfoldable pub answer : Bool → List Tree → Outcome Answer
 unfolding cse-scope scopes-open as-answer
-answer scoped es = cse-scope scopes-open scoped 0 es >>= λ a. ok (as-answer a)
+answer scoped es = cse-scope scopes-open area-rows scoped 0 es >>= λ a. ok (as-answer a)

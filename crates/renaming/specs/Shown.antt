@@ -13,7 +13,7 @@ use Rattle.tree.specs.Facts.{all-operations, all-nodes}
 use Rattle.text.specs.Text.{before}
 use Rattle.cse.specs.Extract.{State, roots, is-candidate, Candidate, candidate, extract, divisors, distinct, shared-divisors, bind-reciprocals}
 use Rattle.cse.specs.Answer.{Answer}
-use Rattle.cse.specs.Scope.{Scoped, unfused, finish, fuse-held, opens, scopes-open, as-answer}
+use Rattle.cse.specs.Scope.{Scoped, unfused, finish, left-after, fuse-held, opens, area-rows, scopes-open, as-answer}
 
 module _ (shown : Tree → List ℕ) where
   -- ---- the best candidate (01, "Extraction")
@@ -71,17 +71,17 @@ module _ (shown : Tree → List ℕ) where
 
   -- ---- scopes (01, "Scoped fusion")
 
-  unfoldable pub cse-scope-by : ℕ → Bool → ℕ → List Tree → Outcome Scoped
-  unfolding extract-all-by reciprocals-by unfused fuse-held finish opens
-  cse-scope-by zero scoped next es = refused (by 23)
-  cse-scope-by (suc fuel) false next es = extract-all-by false next es >>= λ s. finish (unfused (length (s .lets)) (reciprocals-by false s))
-  cse-scope-by (suc fuel) true next es =
-      elim (opens next es) [
+  unfoldable pub cse-scope-by : ℕ → ℕ → Bool → ℕ → List Tree → Outcome Scoped
+  unfolding extract-all-by reciprocals-by unfused left-after fuse-held finish opens
+  cse-scope-by zero left scoped next es = refused (by 23)
+  cse-scope-by (suc fuel) left false next es = extract-all-by false next es >>= λ s. finish (unfused (length (s .lets)) (reciprocals-by false s))
+  cse-scope-by (suc fuel) left true next es =
+      elim (opens left next es) [
         | true ↦ (extract-all-by true next es >>= λ s.
-            fuse-held (λ n l. cse-scope-by fuel true n l) (length (s .lets)) (reciprocals-by true s))
+            fuse-held (λ n l. cse-scope-by fuel (left-after left (length (s .lets)) (reciprocals-by true s)) true n l) left (length (s .lets)) (reciprocals-by true s))
         | false ↦ refused (by 23)
       ]
 
   unfoldable pub answer-by : Bool → List Tree → Outcome Answer
   unfolding cse-scope-by scopes-open as-answer
-  answer-by scoped es = cse-scope-by scopes-open scoped 0 es >>= λ a. ok (as-answer a)
+  answer-by scoped es = cse-scope-by scopes-open area-rows scoped 0 es >>= λ a. ok (as-answer a)

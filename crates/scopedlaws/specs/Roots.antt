@@ -12,7 +12,7 @@ use Rattle.words.specs.Words.{number}
 use Rattle.checked.specs.Check.{rows-in}
 use Rattle.cse.specs.Answer.{block}
 use Rattle.cse.specs.AnswerRows.{result-row, intermediates-words, each-words}
-use Rattle.cse.specs.Scope.{Scoped}
+use Rattle.cse.specs.Scope.{Scoped, area-rows}
 use Rattle.cse.specs.Call.{Extracted}
 use Rattle.scopeplaces.specs.Whole.{Told, scope-told}
 
@@ -36,7 +36,7 @@ unfoldable pub roots-told : List ℕ → List ℕ → Outcome Told
 unfolding laid-out scope-told all-tokens number-in trees table-of
 roots-told rows roots =
     let t = table-of rows roots in
-    cond (laid-out rows roots) (scope-told (rows-in rows) scopes result-row 0 (all-tokens (number-in (t .rows)) (trees t))) (refused (by 9))
+    cond (laid-out rows roots) (scope-told (rows-in rows) scopes area-rows result-row 0 (all-tokens (number-in (t .rows)) (trees t))) (refused (by 9))
 
 -- its rows as those of the answer, or 12 where fewer are lent
 unfoldable pub told-or-12 : ℕ → Told → Outcome Extracted

@@ -15,7 +15,7 @@ use Rattle.cse.specs.Scope.{most-number}
 use Rattle.order.specs.Needs.{table-of}
 use Rattle.renaming.specs.Places.{divisors-to-bind}
 use Rattle.rounds.specs.Rounds.{all-rounds}
-use Rattle.switchplaces.specs.Switches.{arm-count}
+use Rattle.switchplaces.specs.Switches.{arm-count, switch-places}
 use Rattle.switchplaces.specs.Columns.{column-words}
 use Rattle.fusion.specs.Words.{numbers-from}
 use Rattle.finishlaws.specs.Entries.{runs}
@@ -132,27 +132,30 @@ ordered-scope row ws k first places l =
     }))
     (refused (by 11))
 
--- whether there is room for what the scope holds, and for the order of its statements
-unfoldable pub room-for : List ℕ → ℕ → ℕ → List ℕ → Bool
-unfolding held-words place-groups lets-count
-room-for ws k first places =
+-- whether there is room for what the scope holds in the rows that are left, for its switches, and for the order of its statements
+unfoldable pub room-for : ℕ → List ℕ → ℕ → ℕ → List ℕ → Bool
+unfolding held-words switch-places place-groups lets-count
+room-for left ws k first places =
     let hs = held-words ws k first places in
-    leb (length hs) 7281 && leb (lets-count ws k first places + length (place-groups hs)) 2048
+    leb (length hs) left && (leb (length (switch-places hs)) 3640 && leb (lets-count ws k first places + length (place-groups hs)) 2048)
 
 -- after the rounds: 23 where there is no room, then the groups in order, and then the order of statements
-unfoldable pub fused-scope : (ℕ → List ℕ → Outcome Told) → ℕ → List ℕ → ℕ → ℕ → List ℕ → Outcome Told
+unfoldable pub fused-scope : (ℕ → List ℕ → Outcome Told) → ℕ → ℕ → List ℕ → ℕ → ℕ → List ℕ → Outcome Told
 unfolding room-for held-words place-groups walked ordered-scope reciprocals-first
-fused-scope scope row ws k first places =
+fused-scope scope left row ws k first places =
     let hs = held-words ws k first places in
     let gs = place-groups hs in
-    cond (room-for ws k first places) (walked scope hs gs (reciprocals-first ws k first places + length places) (length gs) >>= λ l. ordered-scope row ws k first places l) (refused (by 23))
+    cond (room-for left ws k first places) (walked scope hs gs (reciprocals-first ws k first places + length places) (length gs) >>= λ l. ordered-scope row ws k first places l) (refused (by 23))
 
--- A scope on the words of its input, with values in rows of a kind. 23 for more scopes than can be open, more words than can be worked on, and numbers too large.
-unfoldable pub scope-told : List Row → ℕ → ℕ → ℕ → List ℕ → Outcome Told
-unfolding all-rounds divisors-to-bind name-in fused-scope read
-scope-told rows zero row next ws = refused (by 23)
-scope-told rows (suc fuel) row next ws =
-    cond (leb (length ws) 1927 && leb next most-number)
+-- A scope on the words of its input, with values in rows of a kind, in the rows of the work area that are left: its arms' scopes have those after what it holds. 23
+-- for more scopes than can be open, more words than are left or can be worked on, and numbers too large.
+unfoldable pub scope-told : List Row → ℕ → ℕ → ℕ → ℕ → List ℕ → Outcome Told
+unfolding all-rounds divisors-to-bind name-in held-words fused-scope read
+scope-told rows zero left row next ws = refused (by 23)
+scope-told rows (suc fuel) left row next ws =
+    cond (leb (length ws) left && (leb (length ws) 1927 && leb next most-number))
     (all-rounds rows true next ws >>= λ vs.
-    fused-scope (λ n cs. scope-told rows fuel value-row n cs) row vs (length (read numbered ws)) next (divisors-to-bind vs (name-in rows) true))
+    let k = length (read numbered ws) in
+    let places = divisors-to-bind vs (name-in rows) true in
+    fused-scope (λ n cs. scope-told rows fuel (left - length (held-words vs k next places)) value-row n cs) left row vs k next places)
     (refused (by 23))
