@@ -11,7 +11,7 @@ use Rattle.tree.specs.Tree.{Tree}
 use Rattle.tree.proofs.Logic.{and-left, and-right, and-both}
 use Rattle.tree.proofs.Formed.{well-formed}
 use Rattle.cse.specs.Extract.{roots, extract-all, reciprocals}
-use Rattle.cse.specs.Scope.{Group, Work, Scoped, members, collect-switches, groups-from, name-members, columns, arms-of-members, fuse-group, unfused, holds-switch, cse-scope, scopes-open}
+use Rattle.cse.specs.Scope.{Group, Work, Scoped, members, collect-switches, groups-from, name-members, columns, arms-of-members, fuse-group, unfused, holds-switch, left-after, cse-scope, scopes-open, area-rows}
 use Rattle.cselaws.proofs.Outcomes.{Good}
 use Rattle.cselaws.proofs.ReciprocalsCount.{AllTrees, bound-divisors}
 use Rattle.cselaws.proofs.CleanDivisors.{no-switch, none-outside, none-inside}
@@ -40,20 +40,21 @@ module _ (scope : ℕ → List Tree → Outcome Scoped) (test : ℕ → List Tre
       arms-pass (name-members (members g) w .next) (columns (length (g .first .arms)) (arms-of-members (members g)))
       && if-given (λ v. groups-pass l v) (fuse-group scope g w)
 
--- a scope from a number on, where so many can be open
-unfoldable pub none-bound : ℕ → ℕ → List Tree → Bool
-unfolding if-given extract-all reciprocals none-hold-switch bound-divisors groups-pass groups-from collect-switches roots unfused cse-scope
-none-bound zero next es = true
-none-bound (suc fuel) next es =
+-- a scope from a number on, where so many can be open and so many rows are left
+unfoldable pub none-bound : ℕ → ℕ → ℕ → List Tree → Bool
+unfolding if-given extract-all reciprocals none-hold-switch bound-divisors groups-pass groups-from collect-switches roots unfused left-after cse-scope
+none-bound zero left next es = true
+none-bound (suc fuel) left next es =
     if-given
     (λ s. none-hold-switch (bound-divisors true s)
-    && groups-pass (λ n l. cse-scope fuel true n l) (λ n l. none-bound fuel n l) (groups-from [] (collect-switches (roots (reciprocals true s)))) (unfused (length (s .lets)) (reciprocals true s)))
+    && groups-pass (λ n l. cse-scope fuel (left-after left (length (s .lets)) (reciprocals true s)) true n l)
+    (λ n l. none-bound fuel (left-after left (length (s .lets)) (reciprocals true s)) n l) (groups-from [] (collect-switches (roots (reciprocals true s)))) (unfused (length (s .lets)) (reciprocals true s)))
     (extract-all true next es)
 
 -- the scopes of a whole list
 unfoldable pub no-switch-bound : List Tree → Bool
 unfolding none-bound scopes-open
-no-switch-bound es = none-bound scopes-open 0 es
+no-switch-bound es = none-bound scopes-open area-rows 0 es
 
 -- ---- laws
 

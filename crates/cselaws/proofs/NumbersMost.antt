@@ -18,7 +18,7 @@ use Rattle.rewrite.proofs.Counts.{well-formed-all}
 use Rattle.rewrite.proofs.Names.{holds-all}
 use Rattle.cse.specs.Extract.{State, roots, distinct, extract-all, bind-reciprocal, bind-reciprocals, reciprocals}
 use Rattle.cse.specs.Order.{topo-sort-intermediates}
-use Rattle.cse.specs.Scope.{Switch, Group, Work, Scoped, Armed, switches, collect-switches, joins, place, groups-from, members, name-members, first-arms, rest-arms, columns, arms-of-members, scope-arms, fuse-group, fuse-groups, fuse-all, unfused, finish, some-switch, held, opens, cse-scope}
+use Rattle.cse.specs.Scope.{Switch, Group, Work, Scoped, Armed, switches, collect-switches, joins, place, groups-from, members, name-members, first-arms, rest-arms, columns, arms-of-members, scope-arms, fuse-group, fuse-groups, fuse-all, unfused, finish, some-switch, held, left-after, opens, cse-scope}
 use Rattle.cselaws.proofs.Outcomes.{Good, then-good, any-good, good-ok}
 use Rattle.cselaws.proofs.RoundsGood.{extract-all-good}
 use Rattle.cselaws.proofs.RoundsCount.{made-before, extracted, begin, extract-all-end}
@@ -183,12 +183,17 @@ from-members gs [] = omega arith
 from-members gs (s ∷ l) = (let a = from-members (place s gs) l in let b = place-members s gs in omega arith)
 
 -- no more than the scope holds
-pub held-members : (x : ℕ) (s : State) → members-total (groups-from [] (collect-switches (roots s))) ≤ occurrences (held x s)
+pub held-switches : (x : ℕ) (s : State) → length (collect-switches (roots s)) ≤ occurrences (held x s)
 unfolding collect-switches
+held-switches x s =
+    (let b = switches-count (distinct [] (all-outer (roots s))) in
+    let c = held-sum one outer-counted none-counted x s in
+    omega arith)
+
+pub held-members : (x : ℕ) (s : State) → members-total (groups-from [] (collect-switches (roots s))) ≤ occurrences (held x s)
 held-members x s =
     (let a = from-members [] (collect-switches (roots s)) in
-    let b = switches-count (distinct [] (all-outer (roots s))) in
-    let c = held-sum one outer-counted none-counted x s in
+    let b = held-switches x s in
     let d : members-total [] ≡ 0 = (unfold members-total in refl) in
     omega arith)
 
@@ -286,15 +291,15 @@ finish-later : (low : ℕ) (w : Work) → low ≤ w .next → Good (Scope-later 
 unfolding finish
 finish-later low w h = any-good (Scope-later low) (topo-sort-intermediates (w .inters)) _ (λ l. good-ok (Scope-later low) _ h)
 
-pub scope-later : (fuel next : ℕ) (es : List Tree) → Good (Scope-later next) (cse-scope fuel true next es)
+pub scope-later : (fuel left next : ℕ) (es : List Tree) → Good (Scope-later next) (cse-scope fuel left true next es)
 unfolding cse-scope
-scope-later zero next es = (unfold Good in tt)
-scope-later (suc fuel) next es =
-    let inner : ℕ → List Tree → Outcome Scoped = λ n l. cse-scope fuel true n l in
-    or-no-room (Good (Scope-later next)) (unfold Good in tt) (opens next es) _
+scope-later zero left next es = (unfold Good in tt)
+scope-later (suc fuel) left next es =
+    let inner : State → ℕ → List Tree → Outcome Scoped = λ s n l. cse-scope fuel (left-after left (length (s .lets)) (reciprocals true s)) true n l in
+    or-no-room (Good (Scope-later next)) (unfold Good in tt) (opens left next es) _
     (then-good (λ (s : State). next ≤ s .next) (Scope-later next) (extract-all true next es) (extract-all-later true next es) _
     (λ s h. let q = reciprocals-next true s in
-    or-not-held (Good (Scope-later next)) (unfold Good in tt) inner (length (s .lets)) (reciprocals true s)
-    (then-good (Work-later next) (Scope-later next) (fuse-all inner (length (s .lets)) (reciprocals true s))
-    (unfold fuse-all unfused in groups-later inner (λ n l. scope-later fuel n l) next (groups-from [] (collect-switches (roots (reciprocals true s)))) (unfused (length (s .lets)) (reciprocals true s)) (omega arith)) _
+    or-not-held (Good (Scope-later next)) (unfold Good in tt) (inner s) left (length (s .lets)) (reciprocals true s)
+    (then-good (Work-later next) (Scope-later next) (fuse-all (inner s) (length (s .lets)) (reciprocals true s))
+    (unfold fuse-all unfused in groups-later (inner s) (λ n l. scope-later fuel _ n l) next (groups-from [] (collect-switches (roots (reciprocals true s)))) (unfused (length (s .lets)) (reciprocals true s)) (omega arith)) _
     (λ w k. finish-later next w k))))

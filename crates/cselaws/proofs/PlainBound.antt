@@ -14,7 +14,7 @@ use Rattle.tree.proofs.Logic.{and-left, and-right, and-both}
 use Rattle.rewrite.proofs.Counts.{well-formed-all}
 use Rattle.rewrite.proofs.Names.{holds-all}
 use Rattle.cse.specs.Extract.{State, roots, extract-all, reciprocals}
-use Rattle.cse.specs.Scope.{Group, Work, Scoped, members, collect-switches, groups-from, name-members, columns, arms-of-members, fuse-group, unfused, cse-scope, scopes-open}
+use Rattle.cse.specs.Scope.{Group, Work, Scoped, members, collect-switches, groups-from, name-members, columns, arms-of-members, fuse-group, unfused, left-after, cse-scope, scopes-open, area-rows}
 use Rattle.cselaws.proofs.Outcomes.{Good}
 use Rattle.cselaws.proofs.RoundsCount.{extract-all-end}
 use Rattle.cselaws.proofs.ReciprocalsCount.{AllTrees, bound-divisors}
@@ -46,12 +46,12 @@ groups-clean rs h = groups-all Clean Clean operands-clean (λ k q f t c. as-list
 
 -- ---- the scopes of arms
 
-module _ (m : ℕ) (ih : (start : ℕ) (es : List Tree) → AllTrees (Fit (under start) m) es → All-clean es → T (none-bound m start es)) where
+module _ (m left : ℕ) (ih : (start : ℕ) (es : List Tree) → AllTrees (Fit (under start) m) es → All-clean es → T (none-bound m left start es)) where
   abbrev scope : ℕ → List Tree → Outcome Scoped
-  scope n l = cse-scope m true n l
+  scope n l = cse-scope m left true n l
 
   abbrev test : ℕ → List Tree → Bool
-  test n l = none-bound m n l
+  test n l = none-bound m left n l
 
   arms-bound :
       (N low start : ℕ) → low ≤ start → (ls : List (List Tree)) → Columns (Fit (under low) m) N ls → Columns Clean N ls → T (arms-pass scope test start ls)
@@ -60,7 +60,7 @@ module _ (m : ℕ) (ih : (start : ℕ) (es : List Tree) → AllTrees (Fit (under
   arms-bound N low start h (es ∷ ls) c d =
       let rest : Scoped → Bool = λ a. arms-pass scope test (a .next) ls in
       and-both (test start es) (if-given rest (scope start es)) (ih start es (fit-more (under low) (under start) (under-le low start h) m es (c .0 .0)) (d .0 .0))
-      (given-good (Scope-later start) rest (scope start es) (scope-later m start es) (λ a g. arms-bound N low (a .next) (omega arith) ls (c .1) (d .1)))
+      (given-good (Scope-later start) rest (scope start es) (scope-later m left start es) (λ a g. arms-bound N low (a .next) (omega arith) ls (c .1) (d .1)))
 
   groups-bound :
       (N low : ℕ) (gs : List Group) (w : Work) → low ≤ w .next → Groups (Fit (under low) m) gs → Groups Clean gs → Small-groups N gs → T (groups-pass scope test gs w)
@@ -73,26 +73,29 @@ module _ (m : ℕ) (ih : (start : ℕ) (es : List Tree) → AllTrees (Fit (under
       let rest : Work → Bool = λ v. groups-pass scope test gs v in
       and-both (arms-pass scope test n l) (if-given rest (fuse-group scope g w))
       (arms-bound N low n (omega arith) l (group-columns (Fit (under low) m) N g (a .0) (k .0)) (group-columns Clean N g (c .0) (k .0)))
-      (given-good (Work-later low) rest (fuse-group scope g w) (group-later scope (λ n l. scope-later m n l) low g w h)
+      (given-good (Work-later low) rest (fuse-group scope g w) (group-later scope (λ n l. scope-later m left n l) low g w h)
       (λ v z. groups-bound N low gs v z (a .1) (c .1) (k .1)))
 
 -- ---- a scope
 
-scope-bound : (D start : ℕ) (es : List Tree) → AllTrees (Fit (under start) D) es → All-clean es → T (none-bound D start es)
+scope-bound : (D left start : ℕ) (es : List Tree) → AllTrees (Fit (under start) D) es → All-clean es → T (none-bound D left start es)
 unfolding none-bound
-scope-bound zero start es F c = tt
-scope-bound (suc m) start es F c = go (λ n l. scope-bound m n l) (extract-all true start es) refl (extract-all-clean true start es c)
+scope-bound zero left start es F c = tt
+scope-bound (suc m) left start es F c = go (λ k n l. scope-bound m k n l) (extract-all true start es) refl (extract-all-clean true start es c)
   where
-    scope-in : ℕ → List Tree → Outcome Scoped
-    scope-in n l = cse-scope m true n l
+    after : State → ℕ
+    after s = left-after left (length (s .lets)) (reciprocals true s)
 
-    test-in : ℕ → List Tree → Bool
-    test-in n l = none-bound m n l
+    scope-in : State → ℕ → List Tree → Outcome Scoped
+    scope-in s n l = cse-scope m (after s) true n l
+
+    test-in : State → ℕ → List Tree → Bool
+    test-in s n l = none-bound m (after s) n l
 
     fusing : State → Bool
-    fusing s = groups-pass scope-in test-in (groups-from [] (collect-switches (roots (reciprocals true s)))) (unfused (length (s .lets)) (reciprocals true s))
+    fusing s = groups-pass (scope-in s) (test-in s) (groups-from [] (collect-switches (roots (reciprocals true s)))) (unfused (length (s .lets)) (reciprocals true s))
 
-    go : ((n : ℕ) (l : List Tree) → AllTrees (Fit (under n) m) l → All-clean l → T (none-bound m n l)) → (o : Outcome State) → extract-all true start es ≡ o → Good (λ u. All-clean (roots u)) o
+    go : ((k n : ℕ) (l : List Tree) → AllTrees (Fit (under n) m) l → All-clean l → T (none-bound m k n l)) → (o : Outcome State) → extract-all true start es ≡ o → Good (λ u. All-clean (roots u)) o
         → T (if-given (λ s. none-hold-switch (bound-divisors true s) && fusing s) o)
     go ih (refused i) e g = (unfold if-given in tt)
     go ih (ok s) e g =
@@ -101,10 +104,10 @@ scope-bound (suc m) start es F c = go (λ n l. scope-bound m n l) (extract-all t
         (unfold if-given in
         and-both (none-hold-switch (bound-divisors true s)) (fusing s)
         (none-held (bound-divisors true s) (bound-no-switch s (extract-all-end true start es (formed start m es F) (made start m es F) s e .1) clean-roots))
-        (groups-bound m ih (arms-total (collect-switches (roots t))) (t .next) (groups-from [] (collect-switches (roots t))) (unfused (length (s .lets)) t)
+        (groups-bound m (after s) (λ n l. ih (after s) n l) (arms-total (collect-switches (roots t))) (t .next) (groups-from [] (collect-switches (roots t))) (unfused (length (s .lets)) t)
         (unfold unfused in omega arith) (groups-fit (under (t .next)) m (roots t) (roots-fit start m es F s e)) (groups-clean (roots t) (reciprocals-clean true s clean-roots)) (some-small (roots t))))
 
 -- For a list within the limits that holds no name of an answer.
 pub plain-none-bound : (es : List Tree) → T (well-formed-all es) → T (holds-all (under 0) es) → T (within-limits es) → Plain-divisors es → T (no-switch-bound es)
 unfolding no-switch-bound scopes-open
-plain-none-bound es w h l p = scope-bound 9 0 es (fit-all (under 0) 8 es w h (nests-at-most 8 es (limits-nesting es l))) (all-clean-from es p)
+plain-none-bound es w h l p = scope-bound 9 area-rows 0 es (fit-all (under 0) 8 es w h (nests-at-most 8 es (limits-nesting es l))) (all-clean-from es p)

@@ -18,7 +18,7 @@ use Rattle.rewrite.specs.Rewrite.{Factors, whole-number, constant-of, built, bu
 use Rattle.cse.specs.Extract.{Binding, State, Candidate, roots, best, replace-bound, extract, rounds, extract-all, reciprocals}
 use Rattle.cse.specs.Answer.{Intermediate, Let, Match, names, symbols, free, elem}
 use Rattle.cse.specs.Order.{meets, needs-from, needs, member, positions-taken, nothing, at-each, topo-sort-intermediates}
-use Rattle.cse.specs.Scope.{Group, Work, Scoped, Armed, members, collect-switches, groups-from, name-members, columns, arms-of-members, scope-arms, fuse-group, fuse-groups, fuse-all, binds, unfused, finish, cse-scope, opens, scopes-open, as-answer, answer}
+use Rattle.cse.specs.Scope.{Group, Work, Scoped, Armed, members, collect-switches, groups-from, name-members, columns, arms-of-members, scope-arms, fuse-group, fuse-groups, fuse-all, binds, unfused, finish, cse-scope, left-after, opens, area-rows, scopes-open, as-answer, answer}
 use Rattle.tree.specs.Value.{values}
 use Rattle.tree.proofs.Logic.{and-right}
 use Rattle.rewrite.proofs.Names.{holds, holds-all}
@@ -198,23 +198,23 @@ module _ (scope : ℕ → List Tree → Outcome Scoped) (only : (n : ℕ) (es : 
 rounds-only : (scoped : Bool) (next : ℕ) (es : List Tree) → Only Of-steps (extract-all scoped next es)
 rounds-only scoped next es = only-more Ten Of-steps (λ i e. inl e) (extract-all scoped next es) (extract-all-ten scoped next es)
 
-scope-only : (fuel : ℕ) (scoped : Bool) (next : ℕ) (es : List Tree) → Only Of-steps (cse-scope fuel scoped next es)
+scope-only : (fuel left : ℕ) (scoped : Bool) (next : ℕ) (es : List Tree) → Only Of-steps (cse-scope fuel left scoped next es)
 unfolding cse-scope
-scope-only zero scoped next es = (unfold Only in inr (inr refl))
-scope-only (suc fuel) false next es =
+scope-only zero left scoped next es = (unfold Only in inr (inr refl))
+scope-only (suc fuel) left false next es =
     then-only Of-steps (extract-all false next es) (rounds-only false next es) _ (λ s. finish-only (unfused (length (s .lets)) (reciprocals false s)))
-scope-only (suc fuel) true next es =
-    let inner : ℕ → List Tree → Outcome Scoped = λ n l. cse-scope fuel true n l in
-    or-no-room (Only Of-steps {A = Scoped}) (unfold Only in inr (inr refl)) (opens next es) _
+scope-only (suc fuel) left true next es =
+    let inner : State → ℕ → List Tree → Outcome Scoped = λ s n l. cse-scope fuel (left-after left (length (s .lets)) (reciprocals true s)) true n l in
+    or-no-room (Only Of-steps {A = Scoped}) (unfold Only in inr (inr refl)) (opens left next es) _
     (then-only Of-steps (extract-all true next es) (rounds-only true next es) _
-    (λ s. or-not-held (Only Of-steps) (unfold Only in inr (inr refl)) inner (length (s .lets)) (reciprocals true s)
-    (then-only Of-steps (fuse-all inner (length (s .lets)) (reciprocals true s))
-    (fuse-only inner (λ n l. scope-only fuel true n l) (length (s .lets)) (reciprocals true s)) _ (λ w. finish-only w))))
+    (λ s. or-not-held (Only Of-steps) (unfold Only in inr (inr refl)) (inner s) left (length (s .lets)) (reciprocals true s)
+    (then-only Of-steps (fuse-all (inner s) (length (s .lets)) (reciprocals true s))
+    (fuse-only (inner s) (λ n l. scope-only fuel _ true n l) (length (s .lets)) (reciprocals true s)) _ (λ w. finish-only w))))
 
 answer-only : (scoped : Bool) (es : List Tree) → Only Of-steps (answer scoped es)
 unfolding answer
 answer-only scoped es =
-    then-only Of-steps (cse-scope scopes-open scoped 0 es) (scope-only scopes-open scoped 0 es) _ (λ a. only-ok Of-steps (as-answer a))
+    then-only Of-steps (cse-scope scopes-open area-rows scoped 0 es) (scope-only scopes-open area-rows scoped 0 es) _ (λ a. only-ok Of-steps (as-answer a))
 
 -- Whatever the list, an answer is refused by 10, 11 or 23 alone.
 pub refused-by-10-11-or-23 : (scoped : Bool) (es : List Tree) (i : Refusal) → answer scoped es ≡ refused i → (i ≡ by 10) ⊎ ((i ≡ by 11) ⊎ (i ≡ by 23))

@@ -1,7 +1,7 @@
 -- Refusal 23 never arises where no scope that is reached binds a divisor with a switch outside arms: a scope holds no more for fusion than its input then, and its
 -- arms' scopes are together no larger than that, and a level further in. So a scope's numbers, and those of the scopes in it, are at most twice its input for each
 -- level. Assumes nothing.
-use Prim.Native.Nat.{ℕ, zero, suc, _+_, _*_, _≤_}
+use Prim.Native.Nat.{ℕ, zero, suc, _+_, _-_, _*_, _≤_}
 use mathlib.Core.Path.{_≡_, refl, sym, ap, subst}
 use mathlib.Core.Logic.{_⊎_, inl, inr}
 use mathlib.Core.Bool.{Bool, true, false, _&&_}
@@ -25,7 +25,7 @@ use Rattle.rewrite.proofs.Measure.{sum-of}
 use Rattle.cse.specs.Extract.{State, roots, divisors, extract-all, replace-divisor-each, bind-reciprocal, bind-reciprocals, reciprocals}
 use Rattle.cse.specs.Answer.{Intermediate, Answer}
 use Rattle.cse.specs.Order.{needs, positions-taken, at-each, topo-sort-intermediates}
-use Rattle.cse.specs.Scope.{Group, Work, Scoped, Armed, members, collect-switches, groups-from, name-members, columns, arms-of-members, scope-arms, fuse-group, fuse-groups, fuse-all, unfused, finish, held, fusion-rows, statements, most-stmts, has-room, fuse-held, cse-scope, scope-rows, most-number, opens, scopes-open, as-answer, answer}
+use Rattle.cse.specs.Scope.{Group, Work, Scoped, Armed, members, collect-switches, groups-from, name-members, columns, arms-of-members, scope-arms, fuse-group, fuse-groups, fuse-all, unfused, finish, held, left-after, most-switches, statements, most-stmts, has-room, fuse-held, cse-scope, scope-rows, most-number, opens, area-rows, scopes-open, as-answer, answer}
 use Rattle.cselaws.proofs.Outcomes.{Good, good-at}
 use Rattle.cselaws.proofs.RoundsCount.{made-before, below-made, extract-all-end}
 use Rattle.cselaws.proofs.RoundsValue.{reciprocals-keep, roots-known}
@@ -40,7 +40,7 @@ use Rattle.cselaws.proofs.Levels.{Most, extract-all-within}
 use Rattle.cselaws.proofs.NestingLevel.{nesting-op, nesting-level, arms-deeper}
 use Rattle.cselaws.proofs.BoundSwitches.{if-given, none-hold-switch, arms-pass, groups-pass, none-bound, no-switch-bound, given-at, none-hold}
 use Rattle.cselaws.proofs.ArmNodes.{arms-total, groups-total, lists-total, All-arms, Groups, Small-groups, held-groups, held-small, Given, Columns, group-columns}
-use Rattle.cselaws.proofs.NumbersMost.{members-total, held-members, held-matches, name-members-next, group-total, opened-next, opened-lets, numbers-most, most-add, most-up, Work-later, Scope-later, group-later, scope-later}
+use Rattle.cselaws.proofs.NumbersMost.{members-total, held-switches, held-members, held-matches, name-members-next, group-total, opened-next, opened-lets, numbers-most, most-add, most-up, Work-later, Scope-later, group-later, scope-later}
 use Rattle.cselaws.proofs.SwitchArms.{All-operands, as-list, groups-all}
 use Rattle.cselaws.proofs.HeldRows.{held-rows}
 
@@ -304,26 +304,35 @@ module _ (start m : ℕ) (es : List Tree) (F : AllTrees (Fit (under start) (suc 
           let d = most-up m (groups-total (groups-from [] (collect-switches (roots t)))) (occurrences es) (omega arith) in
           omega arith)
 
-      -- and has few statements
-      enough : occurrences es ≤ 1024 → T (has-room (length (s .lets)) t)
-      unfolding has-room fusion-rows statements most-stmts
-      enough h =
+      -- and has few switches and statements
+      enough : (left : ℕ) → occurrences es ≤ left → occurrences es ≤ 1024 → T (has-room left (length (s .lets)) t)
+      unfolding has-room most-switches statements most-stmts
+      enough left r h =
           (let q = held-within in
           let a = opened-lets true start es formed made s e in
           let b = held-matches (length (s .lets)) t in
-          and-both (leb (occurrences (held (length (s .lets)) t)) 7281) (leb (length (t .lets) + length (groups-from [] (collect-switches (roots t)))) 2048)
-          (le→leb (occurrences (held (length (s .lets)) t)) 7281 (omega arith)) (le→leb (length (t .lets) + length (groups-from [] (collect-switches (roots t)))) 2048 (omega arith)))
+          let c = held-switches (length (s .lets)) t in
+          let n = length (t .lets) + length (groups-from [] (collect-switches (roots t))) in
+          and-both (leb (occurrences (held (length (s .lets)) t)) left) (leb (length (collect-switches (roots t))) 3640 && leb n 2048)
+          (le→leb (occurrences (held (length (s .lets)) t)) left (omega arith))
+          (and-both (leb (length (collect-switches (roots t))) 3640) (leb n 2048)
+          (le→leb (length (collect-switches (roots t))) 3640 (omega arith)) (le→leb n 2048 (omega arith))))
+
+      -- and leaves all rows but as many as its input has
+      leaves : (left N : ℕ) → N + occurrences es ≤ left → N ≤ left-after left (length (s .lets)) t
+      unfolding left-after
+      leaves left N h = (let q = held-within in omega arith)
 
       fused-fine :
-          (B : ℕ) (scope : ℕ → List Tree → Outcome Scoped) (test : ℕ → List Tree → Bool)
+          (left B : ℕ) (scope : ℕ → List Tree → Outcome Scoped) (test : ℕ → List Tree → Bool)
           → ((start : ℕ) (es : List Tree) → Good (Scope-later start) (scope start es))
           → T (groups-pass scope test (groups-from [] (collect-switches (roots t))) (unfused (length (s .lets)) t))
-          → occurrences es ≤ 1024 → start + numbers-most (suc m) (occurrences es) ≤ B
+          → occurrences es ≤ left → occurrences es ≤ 1024 → start + numbers-most (suc m) (occurrences es) ≤ B
           → ((start : ℕ) (es : List Tree) → Given (Fit (under start) m) 1024 es → T (test start es) → start + numbers-most m (occurrences es) ≤ B
           → Fine (After (start + numbers-most m (occurrences es))) (scope start es))
-          → Fine (After (start + numbers-most (suc m) (occurrences es))) (fuse-held scope (length (s .lets)) (reciprocals true s))
+          → Fine (After (start + numbers-most (suc m) (occurrences es))) (fuse-held scope left (length (s .lets)) (reciprocals true s))
       unfolding fuse-held fuse-all numbers-most
-      fused-fine B scope test later p h l ih = go (has-room x t) (enough h)
+      fused-fine left B scope test later p r h l ih = go (has-room left x t) (enough left r h)
         where
           x : ℕ
           x = length (s .lets)
@@ -350,35 +359,41 @@ module _ (start m : ℕ) (es : List Tree) (F : AllTrees (Fit (under start) (suc 
           go true q = fused
           go false q = absurd q
 
--- An input of at most 1,024 occurrences whose arms nest less than D deep, where so many scopes can be open and their numbers are within 2^31. Where none can be
--- open, nothing is given.
+-- An input of at most 1,024 occurrences whose arms nest less than D deep, where so many scopes can be open, 1,024 rows are left for each of them and their numbers
+-- are within 2^31. Where none can be open, nothing is given.
 scope-fine :
-    (D start : ℕ) (es : List Tree) → AllTrees (Fit (under start) D) es → occurrences es ≤ 1024 → 1 ≤ D + length es → T (none-bound D start es)
-    → start + numbers-most D (occurrences es) ≤ most-number → Fine (After (start + numbers-most D (occurrences es))) (cse-scope D true start es)
+    (D left start : ℕ) (es : List Tree) → D * 1024 ≤ left → AllTrees (Fit (under start) D) es → occurrences es ≤ 1024 → 1 ≤ D + length es → T (none-bound D left start es)
+    → start + numbers-most D (occurrences es) ≤ most-number → Fine (After (start + numbers-most D (occurrences es))) (cse-scope D left true start es)
 unfolding cse-scope opens none-bound if-given
-scope-fine zero start [] F h n c l = absurd (omega arith)
-scope-fine zero start (e ∷ es) F h n c l = absurd (F .0)
-scope-fine (suc m) start es F h n c l =
-    fits (leb (occurrences es) scope-rows && leb start most-number)
-    (and-both (leb (occurrences es) scope-rows) (leb start most-number) (le→leb (occurrences es) scope-rows (unfold scope-rows in omega arith)) (le→leb start most-number (omega arith))) (extract-all true start es) refl
-    (extract-all-ten true start es) c (λ n l G b d. scope-fine m n l (G .0) (G .1) (let z = G .2 in omega arith) b d)
+scope-fine zero left start [] r F h n c l = absurd (omega arith)
+scope-fine zero left start (e ∷ es) r F h n c l = absurd (F .0)
+scope-fine (suc m) left start es r F h n c l =
+    fits (leb (occurrences es) left && (leb (occurrences es) scope-rows && leb start most-number))
+    (and-both (leb (occurrences es) left) (leb (occurrences es) scope-rows && leb start most-number) (le→leb (occurrences es) left (omega arith))
+    (and-both (leb (occurrences es) scope-rows) (leb start most-number) (le→leb (occurrences es) scope-rows (unfold scope-rows in omega arith)) (le→leb start most-number (omega arith))))
+    (extract-all true start es) refl
+    (extract-all-ten true start es) c (λ k g n l G b d. scope-fine m k n l g (G .0) (G .1) (let z = G .2 in omega arith) b d)
   where
-    inner : ℕ → List Tree → Outcome Scoped
-    inner n l = cse-scope m true n l
+    after : State → ℕ
+    after s = left-after left (length (s .lets)) (reciprocals true s)
 
-    test : ℕ → List Tree → Bool
-    test n l = none-bound m n l
+    inner : State → ℕ → List Tree → Outcome Scoped
+    inner s n l = cse-scope m (after s) true n l
+
+    test : State → ℕ → List Tree → Bool
+    test s n l = none-bound m (after s) n l
 
     fusing : State → Bool
-    fusing s = groups-pass inner test (groups-from [] (collect-switches (roots (reciprocals true s)))) (unfused (length (s .lets)) (reciprocals true s))
+    fusing s = groups-pass (inner s) (test s) (groups-from [] (collect-switches (roots (reciprocals true s)))) (unfused (length (s .lets)) (reciprocals true s))
 
     fits : (b : Bool) → T b → (o : Outcome State) → extract-all true start es ≡ o → Only Ten o → T (if-given (λ s. none-hold-switch (bound-divisors true s) && fusing s) o)
-        → ((n : ℕ) (l : List Tree) → Given (Fit (under n) m) 1024 l → T (test n l) → n + numbers-most m (occurrences l) ≤ most-number
-        → Fine (After (n + numbers-most m (occurrences l))) (inner n l))
-        → Fine {A = Scoped} (After (start + numbers-most (suc m) (occurrences es))) (elim b [ true ↦ (o >>= λ s. fuse-held inner (length (s .lets)) (reciprocals true s)) | false ↦ refused (by 23) ])
+        → ((k : ℕ) → m * 1024 ≤ k → (n : ℕ) (l : List Tree) → Given (Fit (under n) m) 1024 l → T (none-bound m k n l) → n + numbers-most m (occurrences l) ≤ most-number
+        → Fine (After (n + numbers-most m (occurrences l))) (cse-scope m k true n l))
+        → Fine {A = Scoped} (After (start + numbers-most (suc m) (occurrences es))) (elim b [ true ↦ (o >>= λ s. fuse-held (inner s) left (length (s .lets)) (reciprocals true s)) | false ↦ refused (by 23) ])
     fits true t (ok s) e T10 c ih =
-        fused-fine start m es F s e (and-left (none-hold-switch (bound-divisors true s)) (fusing s) c) most-number inner test (λ n l. scope-later m n l)
-        (and-right (none-hold-switch (bound-divisors true s)) (fusing s) c) h l ih
+        let none = and-left (none-hold-switch (bound-divisors true s)) (fusing s) c in
+        fused-fine start m es F s e none left most-number (inner s) (test s) (λ n l. scope-later m (after s) n l)
+        (and-right (none-hold-switch (bound-divisors true s)) (fusing s) c) (omega arith) h l (ih (after s) (leaves start m es F s e none left (m * 1024) (omega arith)))
     fits true t (refused i) e T10 c ih = (unfold Fine in inl (only-at Ten {A = State} (refused i) i refl T10))
     fits false t o e T10 c ih = absurd t
 
@@ -391,8 +406,8 @@ nine-most n h = omega arith
 answer-fine : (es : List Tree) → T (well-formed-all es) → T (holds-all (under 0) es) → T (within-limits es) → T (no-switch-bound es) → Fine (λ (a : Answer). Unit {0}) (answer true es)
 unfolding answer scopes-open no-switch-bound
 answer-fine es w h l p =
-    then-fine (After (0 + numbers-most 9 (occurrences es))) (λ (a : Answer). Unit {0}) (cse-scope 9 true 0 es)
-    (scope-fine 9 0 es (fit-all (under 0) 8 es w h (nests-at-most 8 es (limits-nesting es l))) (limits-rows es l) (omega arith) p (nine-most (occurrences es) (limits-rows es l))) _
+    then-fine (After (0 + numbers-most 9 (occurrences es))) (λ (a : Answer). Unit {0}) (cse-scope 9 area-rows true 0 es)
+    (scope-fine 9 area-rows 0 es (omega arith) (fit-all (under 0) 8 es w h (nests-at-most 8 es (limits-nesting es l))) (limits-rows es l) (omega arith) p (nine-most (occurrences es) (limits-rows es l))) _
     (λ a e q. fine-ok (λ (a : Answer). Unit {0}) (as-answer a) tt)
 
 -- For a list within the limits that holds no name of an answer, where no scope that is reached binds a divisor with a switch outside arms.

@@ -15,7 +15,7 @@ use Rattle.cse.specs.Extract.{Binding, State, extract-all, reciprocals, roots}
 use Rattle.cse.specs.Answer.{Intermediate, Arms, Answer, Let, Match, arm, block, names, symbols, all-symbols, free, free-stmts, free-arms, elem}
 use Rattle.cse.specs.Order.{needs, member, positions-taken, nothing, at-each, topo-sort-intermediates}
 use Rattle.cselaws.proofs.OrderLaws.{member-cases, member-later, member-here, All, Distinct, Ordered, Taken, taken-ok, none-missing}
-use Rattle.cse.specs.Scope.{Switch, Group, Work, Scoped, Armed, members, collect-switches, groups-from, replace-in-stmts, name-members, member-names, columns, arms-of-members, scope-arms, fuse-group, fuse-groups, fuse-all, binds, unfused, finish, cse-scope, opens, scopes-open, fuse-held, as-answer, answer}
+use Rattle.cse.specs.Scope.{Switch, Group, Work, Scoped, Armed, members, collect-switches, groups-from, replace-in-stmts, name-members, member-names, columns, arms-of-members, scope-arms, fuse-group, fuse-groups, fuse-all, binds, unfused, finish, cse-scope, left-after, opens, area-rows, scopes-open, fuse-held, as-answer, answer}
 use Rattle.tree.specs.Value.{Reading, Env, values}
 use Rattle.cse.specs.Demand.{bound-stmt, bound-stmts, bound-arms, all-different, known, in-scope, stmt-in-scope, arms-in-scope, well-scoped}
 use Rattle.tree.proofs.Logic.{and-left, and-right, and-both}
@@ -753,32 +753,36 @@ module _ (start : ℕ) (es : List Tree) where
           (groups-fair (outside p start) (roots s) (roots-held (outside p start) start (outside-x p) s H)) (groups-base s M)
           (begun-held s M x p H)
 
-    scoped-step :
-        (o : Outcome State) → Modeled some-reading (λ s. true) start ρ (values some-reading ρ es) o
-        → ((p : Name → Bool) → T (holds-all p es) → All-held (outside p start) start (outside-x p) o)
-        → Named start es (o >>= λ s. fuse-held scope (length (s .lets)) (reciprocals true s))
-    unfolding Modeled All-held Named Mod
-    scoped-step (refused i) M H = tt
-    scoped-step (ok s) M H =
-        let t = reciprocals true s in
-        let N : Mod t = reciprocals-keep some-reading (λ s. true) start ρ (values some-reading ρ es) true s M in
-        or-not-held (Named start es) tt scope (length (s .lets)) t
-        (then-finished start es (t .next) (from t N) (fuse-all scope (length (s .lets)) t)
-        (λ p h. fused-held (length (s .lets)) t N p (reciprocals-held (outside p start) start (outside-x p) true s (H p h))) (fused-staged (length (s .lets)) t N))
+  -- its arms' scopes have what is left after what it holds
+  scoped-step :
+      (scope : ℕ → ℕ → List Tree → Outcome Scoped) → ((left start : ℕ) (es : List Tree) → T (holds-all (under start) es) → Named start es (scope left start es))
+      → (left : ℕ) (o : Outcome State) → Modeled some-reading (λ s. true) start ρ (values some-reading ρ es) o
+      → ((p : Name → Bool) → T (holds-all p es) → All-held (outside p start) start (outside-x p) o)
+      → Named start es (o >>= λ s. fuse-held (λ n l. scope (left-after left (length (s .lets)) (reciprocals true s)) n l) left (length (s .lets)) (reciprocals true s))
+  unfolding Modeled All-held Named Mod
+  scoped-step scope ih left (refused i) M H = tt
+  scoped-step scope ih left (ok s) M H =
+      let t = reciprocals true s in
+      let inner : ℕ → List Tree → Outcome Scoped = λ n l. scope (left-after left (length (s .lets)) t) n l in
+      let named : (n : ℕ) (l : List Tree) → T (holds-all (under n) l) → Named n l (inner n l) = λ n l g. ih (left-after left (length (s .lets)) t) n l g in
+      let N : Mod t = reciprocals-keep some-reading (λ s. true) start ρ (values some-reading ρ es) true s M in
+      or-not-held (Named start es) tt inner left (length (s .lets)) t
+      (then-finished start es (t .next) (from t N) (fuse-all inner (length (s .lets)) t)
+      (λ p h. fused-held inner named (length (s .lets)) t N p (reciprocals-held (outside p start) start (outside-x p) true s (H p h))) (fused-staged inner named (length (s .lets)) t N))
 
   outside-all : (p : Name → Bool) → T (holds-all p es) → T (holds-all (outside p start) es)
   unfolding outside
   outside-all p h = weaken-all p (outside p start) (λ n t. or-left (p n) (not (under start n)) t) es h
 
-scope-names : (fuel : ℕ) (scoped : Bool) (start : ℕ) (es : List Tree) → T (holds-all (under start) es) → Named start es (cse-scope fuel scoped start es)
+scope-names : (fuel left : ℕ) (scoped : Bool) (start : ℕ) (es : List Tree) → T (holds-all (under start) es) → Named start es (cse-scope fuel left scoped start es)
 unfolding cse-scope Named
-scope-names zero scoped start es h = tt
-scope-names (suc fuel) false start es h =
+scope-names zero left scoped start es h = tt
+scope-names (suc fuel) left false start es h =
     flat-step start es (extract-all false start es) (extract-all-keeps some-reading (λ s. true) start (ρ start es) false es h)
     (λ p g. extract-all-held (outside p start) start (outside-x start es p) false es (outside-all start es p g))
-scope-names (suc fuel) true start es h =
-    or-no-room (Named start es) tt (opens start es) _
-    (scoped-step start es (λ n l. cse-scope fuel true n l) (λ n l g. scope-names fuel true n l g) (extract-all true start es)
+scope-names (suc fuel) left true start es h =
+    or-no-room (Named start es) tt (opens left start es) _
+    (scoped-step start es (λ k n l. cse-scope fuel k true n l) (λ k n l g. scope-names fuel k true n l g) left (extract-all true start es)
     (extract-all-keeps some-reading (λ s. true) start (ρ start es) true es h)
     (λ p g. extract-all-held (outside p start) start (outside-x start es p) true es (outside-all start es p g)))
 
@@ -809,4 +813,4 @@ as-well es (ok x) h a e = subst (λ (b : Answer). T (well-scoped es b)) (answer-
 -- In each answer each name is bound once, and used only later and inside its scope, for a list that holds no name of an answer.
 pub answer-well-scoped : (scoped : Bool) (es : List Tree) → T (holds-all (under 0) es) → (a : Answer) → answer scoped es ≡ ok a → T (well-scoped es a)
 unfolding answer
-answer-well-scoped scoped es h a e = as-well es (cse-scope scopes-open scoped 0 es) (scope-names scopes-open scoped 0 es h) a e
+answer-well-scoped scoped es h a e = as-well es (cse-scope scopes-open area-rows scoped 0 es) (scope-names scopes-open area-rows scoped 0 es h) a e

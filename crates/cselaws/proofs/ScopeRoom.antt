@@ -15,7 +15,7 @@ use Rattle.tree.specs.Rows.{occurrences, within-limits}
 use Rattle.tree.proofs.Logic.{and-left, and-right, and-both}
 use Rattle.cse.specs.Extract.{State, roots, extract-all, reciprocals}
 use Rattle.cse.specs.Answer.{Match, arm, block}
-use Rattle.cse.specs.Scope.{Group, Work, Scoped, Armed, members, member-names, collect-switches, groups-from, name-members, columns, arms-of-members, scope-arms, fuse-group, fuse-groups, fuse-all, finish, unfused, has-room, fuse-held, opens, scopes-open, cse-scope, as-answer, answer}
+use Rattle.cse.specs.Scope.{Group, Work, Scoped, Armed, members, member-names, collect-switches, groups-from, name-members, columns, arms-of-members, scope-arms, fuse-group, fuse-groups, fuse-all, finish, unfused, left-after, has-room, fuse-held, opens, scopes-open, area-rows, cse-scope, as-answer, answer}
 use Rattle.cselaws.proofs.Outcomes.{Good}
 use Rattle.cselaws.proofs.ReciprocalsCount.{AllTrees, all-map, divisors-all, inverse}
 use Rattle.cselaws.proofs.Levels.{trees-at, Most, μ, all-nodes-most, extract-all-within, reciprocals-within}
@@ -30,10 +30,10 @@ or-no-room P h false o g = h
 
 -- the same for what a scope holds for fusion
 pub or-not-held :
-    (P : Outcome Scoped → Type 0) → P (refused (by 23)) → (scope : ℕ → List Tree → Outcome Scoped) (x : ℕ) (s : State) → P (fuse-all scope x s >>= λ w. finish w)
-    → P (fuse-held scope x s)
+    (P : Outcome Scoped → Type 0) → P (refused (by 23)) → (scope : ℕ → List Tree → Outcome Scoped) (left x : ℕ) (s : State) → P (fuse-all scope x s >>= λ w. finish w)
+    → P (fuse-held scope left x s)
 unfolding fuse-held
-or-not-held P h scope x s g = or-no-room P h (has-room x s) (fuse-all scope x s >>= λ w. finish w) g
+or-not-held P h scope left x s g = or-no-room P h (has-room left x s) (fuse-all scope x s >>= λ w. finish w) g
 
 -- ---- fusion depends on the arms' scopes only by what it gives them
 
@@ -137,31 +137,38 @@ module _
     (m : ℕ) (scope other : ℕ → List Tree → Outcome Scoped)
     (same : (n : ℕ) (l : List Tree) → AllTrees (Shallow m) l → 1 ≤ length l → scope n l ≡ other n l)
   where
-    fused-same : (x : ℕ) (s : State) → AllTrees (λ t. deep t ≤ m) (roots s) → fuse-held scope x s ≡ fuse-held other x s
+    fused-same : (left x : ℕ) (s : State) → AllTrees (λ t. deep t ≤ m) (roots s) → fuse-held scope left x s ≡ fuse-held other left x s
     unfolding fuse-held
-    fused-same x s d =
-        ap (λ (o : Outcome Work). elim (has-room x s) as (λ _. Outcome Scoped) [ true ↦ (o >>= λ w. finish w) | false ↦ refused (by 23) ])
+    fused-same left x s d =
+        ap (λ (o : Outcome Work). elim (has-room left x s) as (λ _. Outcome Scoped) [ true ↦ (o >>= λ w. finish w) | false ↦ refused (by 23) ])
         (fuse-same (Shallow m) (arms-total (collect-switches (roots s))) scope other (λ n l G. same n l (G .0) (G .2)) x s
         (groups-all (Shallow (suc m)) (Shallow m) (operands-shallow m) (arms-shallow m) (roots s) d) (some-small (roots s)))
 
-    opened-same :
-        (o : Outcome State) → Good (λ u. AllTrees (λ t. deep t ≤ m) (roots u)) o
-        → (o >>= λ s. fuse-held scope (length (s .lets)) (reciprocals true s)) ≡ (o >>= λ s. fuse-held other (length (s .lets)) (reciprocals true s))
-    unfolding Good
-    opened-same (ok s) d = fused-same (length (s .lets)) (reciprocals true s) (reciprocals-deep m s d)
-    opened-same (refused i) d = refl
+-- the arms' scopes have what is left after a state
+opened-same :
+    (m : ℕ) (scope other : ℕ → ℕ → List Tree → Outcome Scoped)
+    → ((left n : ℕ) (l : List Tree) → AllTrees (Shallow m) l → 1 ≤ length l → scope left n l ≡ other left n l)
+    → (left : ℕ) (o : Outcome State) → Good (λ u. AllTrees (λ t. deep t ≤ m) (roots u)) o
+    → (o >>= λ s. fuse-held (λ n l. scope (left-after left (length (s .lets)) (reciprocals true s)) n l) left (length (s .lets)) (reciprocals true s))
+    ≡ (o >>= λ s. fuse-held (λ n l. other (left-after left (length (s .lets)) (reciprocals true s)) n l) left (length (s .lets)) (reciprocals true s))
+unfolding Good
+opened-same m scope other same left (ok s) d =
+    let after = left-after left (length (s .lets)) (reciprocals true s) in
+    fused-same m (λ n l. scope after n l) (λ n l. other after n l) (λ n l. same after n l) left (length (s .lets)) (reciprocals true s) (reciprocals-deep m s d)
+opened-same m scope other same left (refused i) d = refl
 
 -- Any two numbers above how deep arms nest give the same.
 scopes-same :
-    (D f g : ℕ) → D ≤ f → D ≤ g → (next : ℕ) (es : List Tree) → AllTrees (Shallow D) es → 1 ≤ D + length es → cse-scope f true next es ≡ cse-scope g true next es
+    (D f g : ℕ) → D ≤ f → D ≤ g → (left next : ℕ) (es : List Tree) → AllTrees (Shallow D) es → 1 ≤ D + length es
+    → cse-scope f left true next es ≡ cse-scope g left true next es
 unfolding cse-scope
-scopes-same zero f g p q next [] h n = absurd (omega arith)
-scopes-same zero f g p q next (e ∷ es) h n = absurd (h .0)
-scopes-same (suc m) zero g p q next es h n = absurd (omega arith)
-scopes-same (suc m) (suc f) zero p q next es h n = absurd (omega arith)
-scopes-same (suc m) (suc f) (suc g) p q next es h n =
-    ap (λ (o : Outcome Scoped). elim (opens next es) as (λ _. Outcome Scoped) [ true ↦ o | false ↦ refused (by 23) ])
-    (opened-same m (λ n l. cse-scope f true n l) (λ n l. cse-scope g true n l) (λ n l H z. scopes-same m f g (omega arith) (omega arith) n l H (omega arith))
+scopes-same zero f g p q left next [] h n = absurd (omega arith)
+scopes-same zero f g p q left next (e ∷ es) h n = absurd (h .0)
+scopes-same (suc m) zero g p q left next es h n = absurd (omega arith)
+scopes-same (suc m) (suc f) zero p q left next es h n = absurd (omega arith)
+scopes-same (suc m) (suc f) (suc g) p q left next es h n =
+    ap (λ (o : Outcome Scoped). elim (opens left next es) as (λ _. Outcome Scoped) [ true ↦ o | false ↦ refused (by 23) ])
+    (opened-same m (λ k n l. cse-scope f k true n l) (λ k n l. cse-scope g k true n l) (λ k n l H z. scopes-same m f g (omega arith) (omega arith) k n l H (omega arith)) left
     (extract-all true next es) (extract-all-within nesting-op nesting-level m true next es h))
 
 pub nests-at-most : (m : ℕ) (l : List Tree) → AllTrees (λ t. nesting t ≤ m) l → AllTrees (λ t. deep t ≤ m) l
@@ -169,26 +176,27 @@ nests-at-most m l h = all-map (λ t. nesting t ≤ m) (λ t. deep t ≤ m) (λ t
 
 -- Where arms nest at most 8 deep, any number from nine on gives the same.
 pub scopes-enough :
-    (fuel : ℕ) → scopes-open ≤ fuel → (scoped : Bool) (next : ℕ) (es : List Tree) → AllTrees (λ t. nesting t ≤ 8) es
-    → cse-scope fuel scoped next es ≡ cse-scope scopes-open scoped next es
+    (fuel : ℕ) → scopes-open ≤ fuel → (left : ℕ) (scoped : Bool) (next : ℕ) (es : List Tree) → AllTrees (λ t. nesting t ≤ 8) es
+    → cse-scope fuel left scoped next es ≡ cse-scope scopes-open left scoped next es
 unfolding scopes-open
-scopes-enough zero h scoped next es d = absurd (omega arith)
-scopes-enough (suc fuel) h false next es d = (unfold cse-scope in refl)
-scopes-enough (suc fuel) h true next es d = scopes-same 9 (suc fuel) 9 h (omega arith) next es (nests-at-most 8 es d) (omega arith)
+scopes-enough zero h left scoped next es d = absurd (omega arith)
+scopes-enough (suc fuel) h left false next es d = (unfold cse-scope in refl)
+scopes-enough (suc fuel) h left true next es d = scopes-same 9 (suc fuel) 9 h (omega arith) left next es (nests-at-most 8 es d) (omega arith)
 
--- A scope, without that number: it is refused by 23 where its input has more occurrences than can be ranked, where its numbers are past 2^31, or where it has no
--- room for fusion, and else its arms' scopes are scopes in the same way.
-abbrev pub scope-of : ℕ → List Tree → Outcome Scoped
-scope-of next es = cse-scope scopes-open true next es
+-- A scope in the rows that are left, without that number: it is refused by 23 where its input has more occurrences than these or than can be ranked, where its
+-- numbers are past 2^31, or where it has no room for fusion, and else its arms' scopes are scopes in the same way, in the rows after what it holds.
+abbrev pub scope-of : ℕ → ℕ → List Tree → Outcome Scoped
+scope-of left next es = cse-scope scopes-open left true next es
 
 pub scope-opens :
-    (next : ℕ) (es : List Tree) → AllTrees (λ t. nesting t ≤ 8) es
-    → scope-of next es
-    ≡ elim (opens next es) as (λ _. Outcome Scoped) [
-      | true ↦ (extract-all true next es >>= λ s. fuse-held (λ n l. scope-of n l) (length (s .lets)) (reciprocals true s))
+    (left next : ℕ) (es : List Tree) → AllTrees (λ t. nesting t ≤ 8) es
+    → scope-of left next es
+    ≡ elim (opens left next es) as (λ _. Outcome Scoped) [
+      | true ↦ (extract-all true next es >>= λ s.
+          fuse-held (λ n l. scope-of (left-after left (length (s .lets)) (reciprocals true s)) n l) left (length (s .lets)) (reciprocals true s))
       | false ↦ refused (by 23)
     ]
-scope-opens next es h = sym (scopes-enough (suc scopes-open) (omega arith) true next es h) ∙ (unfold cse-scope in refl)
+scope-opens left next es h = sym (scopes-enough (suc scopes-open) (omega arith) left true next es h) ∙ (unfold cse-scope in refl)
 
 -- ---- the limits of a list (01, "Expressions and facts")
 
@@ -207,7 +215,7 @@ pub limits-rows : (l : List Tree) → T (within-limits l) → occurrences l ≤ 
 unfolding within-limits
 limits-rows l h = leb→le (occurrences l) 1024 (and-left (leb (occurrences l) 1024) _ h)
 
--- For a list within the limits more than nine open scopes would change nothing.
-pub answer-by-more : (fuel : ℕ) → scopes-open ≤ fuel → (scoped : Bool) (es : List Tree) → T (within-limits es) → answer scoped es ≡ (cse-scope fuel scoped 0 es >>= λ a. ok (as-answer a))
+-- For a list within the limits more than nine open scopes would change nothing, in the whole area.
+pub answer-by-more : (fuel : ℕ) → scopes-open ≤ fuel → (scoped : Bool) (es : List Tree) → T (within-limits es) → answer scoped es ≡ (cse-scope fuel area-rows scoped 0 es >>= λ a. ok (as-answer a))
 unfolding answer
-answer-by-more fuel m scoped es h = ap (λ (o : Outcome Scoped). o >>= λ a. ok (as-answer a)) (sym (scopes-enough fuel m scoped 0 es (limits-nesting es h)))
+answer-by-more fuel m scoped es h = ap (λ (o : Outcome Scoped). o >>= λ a. ok (as-answer a)) (sym (scopes-enough fuel m area-rows scoped 0 es (limits-nesting es h)))

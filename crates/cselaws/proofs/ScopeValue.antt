@@ -15,7 +15,7 @@ use Rattle.cse.specs.Answer.{Intermediate, Arms, Answer, Let, Match, arm, block
 use Rattle.cse.specs.Order.{needs, positions-taken, nothing, at-each, topo-sort-intermediates}
 use Rattle.cselaws.proofs.OrderLaws.{All, Taken, taken-ok}
 use Rattle.rewrite.specs.Rewrite.{replace-outside-arms}
-use Rattle.cse.specs.Scope.{Switch, Group, Work, Scoped, Armed, members, collect-switches, groups-from, replace-in-results, replace-in-stmts, name-members, member-names, columns, arms-of-members, scope-arms, fuse-group, fuse-groups, fuse-all, binds, unfused, finish, cse-scope, opens, scopes-open, fuse-held, as-answer, answer}
+use Rattle.cse.specs.Scope.{Switch, Group, Work, Scoped, Armed, members, collect-switches, groups-from, replace-in-results, replace-in-stmts, name-members, member-names, columns, arms-of-members, scope-arms, fuse-group, fuse-groups, fuse-all, binds, unfused, finish, cse-scope, left-after, opens, area-rows, scopes-open, fuse-held, as-answer, answer}
 use Rattle.tree.specs.Value.{Reading, Env, value, values, choice}
 use Rattle.cse.specs.Read.{set, set-each, arm-count, read-stmt, read-stmts, read-arm, answer-values}
 use Rattle.tree.proofs.Logic.{and-left, and-right}
@@ -618,24 +618,28 @@ module _ (R : Reading) where
           (weaken-all (below inp start (s .next)) (under (s .next)) (under-below inp start (s .next) (M .later)) (roots s) (roots-known R inp start ρ (values R ρ es) s M)))
           (begun x s ρ M)
 
-      scoped-step :
-          (o : Outcome State) → ((ρ : Env) → Modeled R inp start ρ (values R ρ es) o)
-          → Reads start es (o >>= λ s. fuse-held scope (length (s .lets)) (reciprocals true s))
-      unfolding Modeled Reads
-      scoped-step (refused i) M = tt
-      scoped-step (ok s) M =
-          let t = reciprocals true s in
-          let N : (ρ : Env) → Model R inp start ρ (values R ρ es) t = λ ρ. reciprocals-keep R inp start ρ (values R ρ es) true s (M ρ) in
-          or-not-held (Reads start es) tt scope (length (s .lets)) t
-          (then-finished (t .next) (N (λ n. 0) .later) (fuse-all scope (length (s .lets)) t) (λ ρ. fused (length (s .lets)) t ρ (N ρ)))
+    -- its arms' scopes have what is left after what it holds
+    scoped-step :
+        (scope : ℕ → ℕ → List Tree → Outcome Scoped) → ((left start : ℕ) (es : List Tree) → T (holds-all (under start) es) → Reads start es (scope left start es))
+        → (left : ℕ) (o : Outcome State) → ((ρ : Env) → Modeled R inp start ρ (values R ρ es) o)
+        → Reads start es (o >>= λ s. fuse-held (λ n l. scope (left-after left (length (s .lets)) (reciprocals true s)) n l) left (length (s .lets)) (reciprocals true s))
+    unfolding Modeled Reads
+    scoped-step scope keeps left (refused i) M = tt
+    scoped-step scope keeps left (ok s) M =
+        let t = reciprocals true s in
+        let inner : ℕ → List Tree → Outcome Scoped = λ n l. scope (left-after left (length (s .lets)) t) n l in
+        let N : (ρ : Env) → Model R inp start ρ (values R ρ es) t = λ ρ. reciprocals-keep R inp start ρ (values R ρ es) true s (M ρ) in
+        or-not-held (Reads start es) tt inner left (length (s .lets)) t
+        (then-finished (t .next) (N (λ n. 0) .later) (fuse-all inner (length (s .lets)) t)
+        (λ ρ. fused inner (λ n l g. keeps (left-after left (length (s .lets)) t) n l g) (length (s .lets)) t ρ (N ρ)))
 
-  scope-reads : (fuel : ℕ) (scoped : Bool) (start : ℕ) (es : List Tree) → T (holds-all (under start) es) → Reads start es (cse-scope fuel scoped start es)
+  scope-reads : (fuel left : ℕ) (scoped : Bool) (start : ℕ) (es : List Tree) → T (holds-all (under start) es) → Reads start es (cse-scope fuel left scoped start es)
   unfolding cse-scope Reads
-  scope-reads zero scoped start es h = tt
-  scope-reads (suc fuel) false start es h = flat-step start es (extract-all false start es) (λ ρ. extract-all-keeps R inp start ρ false es (unfold inp in h))
-  scope-reads (suc fuel) true start es h =
-      or-no-room (Reads start es) tt (opens start es) _
-      (scoped-step start es (λ n l. cse-scope fuel true n l) (λ n l g. scope-reads fuel true n l g) (extract-all true start es)
+  scope-reads zero left scoped start es h = tt
+  scope-reads (suc fuel) left false start es h = flat-step start es (extract-all false start es) (λ ρ. extract-all-keeps R inp start ρ false es (unfold inp in h))
+  scope-reads (suc fuel) left true start es h =
+      or-no-room (Reads start es) tt (opens left start es) _
+      (scoped-step start es (λ k n l. cse-scope fuel k true n l) (λ k n l g. scope-reads fuel k true n l g) left (extract-all true start es)
       (λ ρ. extract-all-keeps R inp start ρ true es (unfold inp in h)))
 
   -- ---- the answer
@@ -652,4 +656,4 @@ module _ (R : Reading) where
   pub answer-keeps-values :
       (scoped : Bool) (es : List Tree) → T (holds-all (under 0) es) → (a : Answer) → answer scoped es ≡ ok a → (ρ : Env) → answer-values R ρ a ≡ values R ρ es
   unfolding answer
-  answer-keeps-values scoped es h a e ρ = as-read es (cse-scope scopes-open scoped 0 es) (scope-reads scopes-open scoped 0 es h) a e ρ
+  answer-keeps-values scoped es h a e ρ = as-read es (cse-scope scopes-open area-rows scoped 0 es) (scope-reads scopes-open area-rows scoped 0 es h) a e ρ

@@ -20,7 +20,7 @@ use Rattle.rewrite.proofs.Names.{holds-all, below, weaken-all}
 use Rattle.cse.specs.Extract.{Binding, State, roots, divisor-of, extract-all, replace-divisor-bound, bind-reciprocal, bind-reciprocals, reciprocals}
 use Rattle.cse.specs.Answer.{Intermediate, Intermediates, Arms, Answer, Let, Match, end, step, no-arm, arm, block}
 use Rattle.cse.specs.Order.{topo-sort-intermediates}
-use Rattle.cse.specs.Scope.{Switch, Group, Work, Scoped, Armed, members, collect-switches, groups-from, replace-in-stmts, name-members, member-names, columns, arms-of-members, scope-arms, fuse-group, fuse-groups, fuse-all, binds, unfused, finish, cse-scope, opens, scopes-open, as-answer, answer}
+use Rattle.cse.specs.Scope.{Switch, Group, Work, Scoped, Armed, members, collect-switches, groups-from, replace-in-stmts, name-members, member-names, columns, arms-of-members, scope-arms, fuse-group, fuse-groups, fuse-all, binds, unfused, finish, cse-scope, left-after, opens, area-rows, scopes-open, as-answer, answer}
 use Rattle.cselaws.proofs.Outcomes.{Good, then-good, good-ok, good-at}
 use Rattle.cselaws.proofs.RoundsCount.{made-before, below-made, length-append}
 use Rattle.cselaws.proofs.RoundsValue.{Model, Modeled, extract-all-keeps, reciprocals-keep, roots-known}
@@ -292,19 +292,19 @@ fused-tallied scope ih start es s M =
     lower (ok w) h = (unfold Good in ((let a = h .0 in let b = begun-tallied true start es s M .0 in omega arith), h .1))
     lower (refused i) h = (unfold Good in tt)
 
-scope-tallied : (fuel : ℕ) (scoped : Bool) (start : ℕ) (es : List Tree) → T (holds-all (under start) es) → Good (Scope-tallied start) (cse-scope fuel scoped start es)
+scope-tallied : (fuel left : ℕ) (scoped : Bool) (start : ℕ) (es : List Tree) → T (holds-all (under start) es) → Good (Scope-tallied start) (cse-scope fuel left scoped start es)
 unfolding cse-scope
-scope-tallied zero scoped start es h = (unfold Good in tt)
-scope-tallied (suc fuel) false start es h =
+scope-tallied zero left scoped start es h = (unfold Good in tt)
+scope-tallied (suc fuel) left false start es h =
     then-good (Started start es) (Scope-tallied start) (extract-all false start es) (started false start es h) _
     (λ s M. finish-tallied start (unfused (length (s .lets)) (reciprocals false s)) (unfold unfused in begun-tallied false start es s M .0) (unfold unfused in begun-tallied false start es s M .1))
-scope-tallied (suc fuel) true start es h =
-    let inner : ℕ → List Tree → Outcome Scoped = λ n l. cse-scope fuel true n l in
-    or-no-room (Good (Scope-tallied start)) (unfold Good in tt) (opens start es) _
+scope-tallied (suc fuel) left true start es h =
+    let inner : State → ℕ → List Tree → Outcome Scoped = λ s n l. cse-scope fuel (left-after left (length (s .lets)) (reciprocals true s)) true n l in
+    or-no-room (Good (Scope-tallied start)) (unfold Good in tt) (opens left start es) _
     (then-good (Started start es) (Scope-tallied start) (extract-all true start es) (started true start es h) _
-    (λ s M. or-not-held (Good (Scope-tallied start)) (unfold Good in tt) inner (length (s .lets)) (reciprocals true s)
-    (then-good (Work-tallied start) (Scope-tallied start) (fuse-all inner (length (s .lets)) (reciprocals true s))
-    (fused-tallied inner (λ n l g. scope-tallied fuel true n l g) start es s M) _ (λ w t. finish-tallied start w (t .0) (t .1)))))
+    (λ s M. or-not-held (Good (Scope-tallied start)) (unfold Good in tt) (inner s) left (length (s .lets)) (reciprocals true s)
+    (then-good (Work-tallied start) (Scope-tallied start) (fuse-all (inner s) (length (s .lets)) (reciprocals true s))
+    (fused-tallied (inner s) (λ n l g. scope-tallied fuel _ true n l g) start es s M) _ (λ w t. finish-tallied start w (t .0) (t .1)))))
 
 -- For a list that holds no name of an answer: the Lets of each answer, arms included, are as many as the extraction count and some more, and at least as many
 -- as these are of the form 1 / d.
@@ -313,7 +313,7 @@ pub answer-counted :
     → Tally (a .extracted) (over-lets each-one (a .inters)) (over-lets inverse-one (a .inters))
 answer-counted scoped es h a e =
     good-at Of-answer (answer scoped es) a e (unfold answer in
-    then-good (Scope-tallied 0) Of-answer (cse-scope scopes-open scoped 0 es) (scope-tallied scopes-open scoped 0 es h) _
+    then-good (Scope-tallied 0) Of-answer (cse-scope scopes-open area-rows scoped 0 es) (scope-tallied scopes-open area-rows scoped 0 es h) _
     (λ b t. good-ok Of-answer (as-answer b) (given b (t .1))))
   where
     Of-answer : Answer → Type 0

@@ -12,7 +12,7 @@ use Rattle.rewrite.specs.Rewrite.{replace}
 use Rattle.cse.specs.Extract.{Binding, State, roots, replace-bound, extract, extract-all, replace-divisor-each, bind-reciprocal, bind-reciprocals, reciprocals}
 use Rattle.cse.specs.Answer.{Intermediate, Intermediates, Arms, Answer, Let, Match, end, step, no-arm, arm, block}
 use Rattle.cse.specs.Order.{topo-sort-intermediates}
-use Rattle.cse.specs.Scope.{Switch, Group, Work, Scoped, Armed, members, collect-switches, groups-from, replace-in-results, replace-in-stmts, name-members, member-names, first-arms, rest-arms, columns, arms-of-members, scope-arms, fuse-group, fuse-groups, fuse-all, binds, unfused, finish, cse-scope, opens, scopes-open, as-answer, answer}
+use Rattle.cse.specs.Scope.{Switch, Group, Work, Scoped, Armed, members, collect-switches, groups-from, replace-in-results, replace-in-stmts, name-members, member-names, first-arms, rest-arms, columns, arms-of-members, scope-arms, fuse-group, fuse-groups, fuse-all, binds, unfused, finish, cse-scope, left-after, opens, area-rows, scopes-open, as-answer, answer}
 use Rattle.tree.proofs.Logic.{and-both}
 use Rattle.rewrite.proofs.Names.{holds, holds-each, holds-all}
 use Rattle.cselaws.proofs.SwitchLaws.{Fair-group, Fair-groups, groups-fair, All-like, members-like}
@@ -224,19 +224,19 @@ finish-even m w h = go (topo-sort-intermediates (w .inters)) refl
     go (ok l) e = good-ok (Even-scope m) _ (h .0, sorted-every (λ s. T (even-stmt s)) (w .inters) l e (h .1))
     go (refused i) e = (unfold Good in tt)
 
-scope-even : (fuel : ℕ) (scoped : Bool) (next : ℕ) (es : List Tree) → Good (Even-scope (length es)) (cse-scope fuel scoped next es)
+scope-even : (fuel left : ℕ) (scoped : Bool) (next : ℕ) (es : List Tree) → Good (Even-scope (length es)) (cse-scope fuel left scoped next es)
 unfolding cse-scope
-scope-even zero scoped next es = (unfold Good in tt)
-scope-even (suc fuel) false next es =
+scope-even zero left scoped next es = (unfold Good in tt)
+scope-even (suc fuel) left false next es =
     then-good (Long (length es)) (Even-scope (length es)) (extract-all false next es) (extract-all-long false next es) _
     (λ s h. finish-even (length es) (unfused (length (s .lets)) (reciprocals false s)) (begun-even (length es) (length (s .lets)) (reciprocals false s) (reciprocals-long false s ∙ h)))
-scope-even (suc fuel) true next es =
-    let inner : ℕ → List Tree → Outcome Scoped = λ n l. cse-scope fuel true n l in
-    or-no-room (Good (Even-scope (length es))) (unfold Good in tt) (opens next es) _
+scope-even (suc fuel) left true next es =
+    let inner : State → ℕ → List Tree → Outcome Scoped = λ s n l. cse-scope fuel (left-after left (length (s .lets)) (reciprocals true s)) true n l in
+    or-no-room (Good (Even-scope (length es))) (unfold Good in tt) (opens left next es) _
     (then-good (Long (length es)) (Even-scope (length es)) (extract-all true next es) (extract-all-long true next es) _
-    (λ s h. or-not-held (Good (Even-scope (length es))) (unfold Good in tt) inner (length (s .lets)) (reciprocals true s)
-    (then-good (Even-work (length es)) (Even-scope (length es)) (fuse-all inner (length (s .lets)) (reciprocals true s))
-    (fused s h inner (λ n l. scope-even fuel true n l)) _ (λ w k. finish-even (length es) w k))))
+    (λ s h. or-not-held (Good (Even-scope (length es))) (unfold Good in tt) (inner s) left (length (s .lets)) (reciprocals true s)
+    (then-good (Even-work (length es)) (Even-scope (length es)) (fuse-all (inner s) (length (s .lets)) (reciprocals true s))
+    (fused s h (inner s) (λ n l. scope-even fuel _ true n l)) _ (λ w k. finish-even (length es) w k))))
   where
     fused : (s : State) → Long (length es) s → (scope : ℕ → List Tree → Outcome Scoped) → ((n : ℕ) (es : List Tree) → Good (Even-scope (length es)) (scope n es))
         → Good (Even-work (length es)) (fuse-all scope (length (s .lets)) (reciprocals true s))
@@ -250,7 +250,7 @@ scope-even (suc fuel) true next es =
 pub answer-even : (scoped : Bool) (es : List Tree) (a : Answer) → answer scoped es ≡ ok a → T (even-stmts (a .inters)) × (length (a .results) ≡ length es)
 answer-even scoped es a e =
     good-at (λ (b : Answer). T (even-stmts (b .inters)) × (length (b .results) ≡ length es)) (answer scoped es) a e (unfold answer in
-    then-good (Even-scope (length es)) (λ (b : Answer). T (even-stmts (b .inters)) × (length (b .results) ≡ length es)) (cse-scope scopes-open scoped 0 es) (scope-even scopes-open scoped 0 es) _
+    then-good (Even-scope (length es)) (λ (b : Answer). T (even-stmts (b .inters)) × (length (b .results) ≡ length es)) (cse-scope scopes-open area-rows scoped 0 es) (scope-even scopes-open area-rows scoped 0 es) _
     (λ b h. good-ok (λ (b : Answer). T (even-stmts (b .inters)) × (length (b .results) ≡ length es)) (as-answer b) (given b h)))
   where
     given : (b : Scoped) → Even-scope (length es) b → T (even-stmts (as-answer b .inters)) × (length (as-answer b .results) ≡ length es)
