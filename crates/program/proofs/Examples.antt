@@ -1,5 +1,5 @@
 -- Spot checks beyond the marked lists, by computing: a scoped answer from a sheet's bytes to text and by way of rows, its names' scopes, its rows, the limits of
--- scopes, rows that print refuses, and each refusal of load. Assumes nothing.
+-- scopes (that of switches by counting, MostSwitches), rows that print refuses, and each refusal of load. Assumes nothing.
 use Prim.Native.Nat.{ℕ, zero, suc, _+_}
 use mathlib.Core.Path.{_≡_, refl}
 use mathlib.Core.Bool.{true, false}
@@ -22,6 +22,7 @@ use Rattle.cselaws.proofs.BoundSwitches.{no-switch-bound}
 use Rattle.print.specs.Print.{print-call}
 use Rattle.program.specs.Program.{csesheet, csescoped}
 use Rattle.program.specs.Calls.{by-calls}
+use Rattle.program.proofs.MostSwitches.{selecting, switches-enough, one-switch-too-many}
 use Rattle.program.proofs.Marked.{v, num, _⊕_, _⊗_, _⊘_, sin, cos}
 
 -- two selects on one index and a branch, with work shared inside an arm
@@ -149,6 +150,8 @@ pub record Examples : Type 0 where
   no-row-for-a-switch : has-room 40 0 (leaves 36 (Op Select (num 1 ◂ num 2 ◂ nil))) ≡ false
   a-switch-held : numbers-held 41 35 (Op Select (num 1 ◂ num 2 ◂ nil)) ≡ ok 2
   no-row-for-its-arm : numbers-held 40 35 (Op Select (num 1 ◂ num 2 ◂ nil)) ≡ refused (by 23)
+  room-for-switches : has-room area-rows 0 (selecting 3640) ≡ true
+  a-switch-too-many : has-room area-rows 0 (selecting 3641) ≡ false
   room-for-statements : has-room area-rows 0 (bound 2047) ≡ true
   a-statement-too-many : fuse-held (λ n l. cse-scope 1 area-rows true n l) area-rows 0 (bound 2048) ≡ refused (by 23)
   an-arm : numbers-within 4 (nested 1 ∷ []) ≡ ok 1
@@ -217,6 +220,8 @@ examples =
       no-row-for-a-switch = refl;
       a-switch-held = refl;
       no-row-for-its-arm = refl;
+      room-for-switches = switches-enough;
+      a-switch-too-many = one-switch-too-many;
       room-for-statements = refl;
       a-statement-too-many = refl;
       an-arm = refl;
