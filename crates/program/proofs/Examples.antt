@@ -1,5 +1,5 @@
--- Spot checks beyond the marked lists, by computing: a scoped answer from a sheet's bytes to text and by way of rows, its names' scopes, its rows, rows that print
--- refuses, and each refusal of load. Assumes nothing.
+-- Spot checks beyond the marked lists, by computing: a scoped answer from a sheet's bytes to text and by way of rows, its names' scopes, its rows, the limits of
+-- scopes, rows that print refuses, and each refusal of load. Assumes nothing.
 use Prim.Native.Nat.{ℕ, zero, suc, _+_}
 use mathlib.Core.Path.{_≡_, refl}
 use mathlib.Core.Bool.{true, false}
@@ -15,7 +15,7 @@ use Rattle.tree.specs.Tokens.{word}
 use Rattle.cse.specs.Answer.{rows}
 use Rattle.cse.specs.AnswerRows.{result-row, let-row}
 use Rattle.cse.specs.Extract.{Binding, State, extract-all, reciprocals}
-use Rattle.cse.specs.Scope.{held, has-room, fuse-held, cse-scope, answer}
+use Rattle.cse.specs.Scope.{area-rows, held, left-after, has-room, fuse-held, cse-scope, answer}
 use Rattle.cse.specs.Demand.{well-scoped}
 use Rattle.cse.specs.Call.{extract-call}
 use Rattle.cselaws.proofs.BoundSwitches.{no-switch-bound}
@@ -45,7 +45,7 @@ few = table-words (row-sym (bytes "a") ∷ row-op 3 (0 ∷ 0 ∷ []) ∷ [])
 
 -- how many numbers select(i, a + b) takes where so many scopes can be open: it needs one, and its arm another
 abbrev numbers-in : ℕ → Outcome ℕ
-numbers-in scopes = cse-scope scopes true 0 (Op Select (v "i" ◂ (v "a" ⊕ v "b") ◂ nil) ∷ []) >>= λ a. ok (a .next)
+numbers-in scopes = cse-scope scopes area-rows true 0 (Op Select (v "i" ◂ (v "a" ⊕ v "b") ◂ nil) ∷ []) >>= λ a. ok (a .next)
 
 -- arms that nest so deep
 abbrev nested : ℕ → Tree
@@ -56,11 +56,28 @@ abbrev copies : ℕ → Tree → List Tree
 copies zero t = []
 copies (suc n) t = t ∷ copies n t
 
--- how many numbers a scope has used that has so many results, each a leaf, and one reciprocal
-abbrev numbers-held : ℕ → Tree → Outcome ℕ
-numbers-held n d =
-    fuse-held (λ n l. cse-scope 1 true n l) 0 (record { results = copies n (v "a"); lets = record { name = xname 0; expr = num 1 ⊘ d } ∷ []; next = 1 }) >>= λ a.
-    ok (a .next)
+-- how many numbers a list takes in so many rows: nested 8 needs 17, and the scopes that are open inside it 15, 13 and so on to 1, 81 in all
+abbrev numbers-within : ℕ → List Tree → Outcome ℕ
+numbers-within left es = cse-scope 9 left true 0 es >>= λ a. ok (a .next)
+
+-- 9 occurrences, of which 7 are held: a let of sin(a + b), and its name twice
+abbrev shared : List Tree
+shared = (sin (v "a" ⊕ v "b") ⊕ sin (v "a" ⊕ v "b")) ∷ []
+
+-- a switch with an arm of 3 occurrences, and a let as above: of 13 occurrences 11 are held
+abbrev shared-beside : List Tree
+shared-beside = Op Select (v "i" ◂ (v "c" ⊕ v "d") ◂ nil) ∷ sin (v "a" ⊕ v "b") ∷ sin (v "a" ⊕ v "b") ∷ []
+
+-- two matches of two arms and one, each a leaf, whose scopes have the same rows in turn
+abbrev beside : List Tree
+beside = Op Select (v "i" ◂ v "a" ◂ v "b" ◂ nil) ∷ Op Select (v "j" ◂ v "c" ◂ nil) ∷ []
+
+-- a state with so many results, each a leaf, and one reciprocal, and how many numbers it has used then, in so many rows
+abbrev leaves : ℕ → Tree → State
+leaves n d = record { results = copies n (v "a"); lets = record { name = xname 0; expr = num 1 ⊘ d } ∷ []; next = 1 }
+
+abbrev numbers-held : ℕ → ℕ → Tree → Outcome ℕ
+numbers-held left n d = fuse-held (λ k l. cse-scope 1 (left-after left 0 (leaves n d)) true k l) left 0 (leaves n d) >>= λ a. ok (a .next)
 
 -- a state with so many bindings that read nothing, and one switch
 abbrev bindings : ℕ → List Binding
@@ -83,7 +100,7 @@ divided arm (suc n) = num (10 + (n + n)) ⊘ divided arm n
 abbrev twice-divided : Tree → ℕ → List Tree
 twice-divided arm n = v "p" ⊘ divided arm n ∷ v "q" ⊘ divided arm n ∷ []
 
--- with an arm of 255 occurrences
+-- with an arm of 255 occurrences, for which there are rows after what the list's scope holds
 abbrev many : ℕ → List Tree
 many n = twice-divided (doubled 7) n
 
@@ -119,20 +136,37 @@ pub record Examples : Type 0 where
   one-scope : numbers-in 1 ≡ refused (by 23)
   eight-deep : (answer true (nested 8 ∷ []) >>= λ a. ok (rows a)) ≡ ok 50
   nine-deep : answer true (nested 9 ∷ []) ≡ refused (by 23)
-  input-enough : (cse-scope 1 true 0 (copies 1927 (v "a")) >>= λ a. ok (a .next)) ≡ ok 0
-  input-too-large : cse-scope 1 true 0 (copies 1928 (v "a")) ≡ refused (by 23)
-  last-number : (cse-scope 1 true 2147483648 (v "a" ∷ []) >>= λ a. ok (a .next)) ≡ ok 2147483648
-  number-too-large : cse-scope 1 true 2147483649 (v "a" ∷ []) ≡ refused (by 23)
-  rows-enough : numbers-held 7281 (num 2) ≡ ok 1
-  a-row-too-few : numbers-held 7282 (num 2) ≡ refused (by 23)
-  a-switch-held : numbers-held 7276 (Op Select (num 1 ◂ num 2 ◂ nil)) ≡ ok 2
-  no-row-for-a-switch : numbers-held 7277 (Op Select (num 1 ◂ num 2 ◂ nil)) ≡ refused (by 23)
-  room-for-statements : has-room 0 (bound 2047) ≡ true
-  a-statement-too-many : fuse-held (λ n l. cse-scope 1 true n l) 0 (bound 2048) ≡ refused (by 23)
-  some-divisors : (answer true (many 24) >>= λ a. ok (rows a)) ≡ ok 1089
+  input-enough : (cse-scope 1 area-rows true 0 (copies 1927 (v "a")) >>= λ a. ok (a .next)) ≡ ok 0
+  input-too-large : cse-scope 1 area-rows true 0 (copies 1928 (v "a")) ≡ refused (by 23)
+  last-number : (cse-scope 1 area-rows true 2147483648 (v "a" ∷ []) >>= λ a. ok (a .next)) ≡ ok 2147483648
+  number-too-large : cse-scope 1 area-rows true 2147483649 (v "a" ∷ []) ≡ refused (by 23)
+  rows-for-shared : rows-for shared ≡ ok (9, 7)
+  rows-for-input : numbers-within 9 shared ≡ ok 1
+  no-row-for-input : numbers-within 8 shared ≡ refused (by 23)
+  rows-enough : numbers-held 40 40 (num 2) ≡ ok 1
+  a-row-too-few : numbers-held 40 41 (num 2) ≡ refused (by 23)
+  room-for-a-switch : has-room 40 0 (leaves 35 (Op Select (num 1 ◂ num 2 ◂ nil))) ≡ true
+  no-row-for-a-switch : has-room 40 0 (leaves 36 (Op Select (num 1 ◂ num 2 ◂ nil))) ≡ false
+  a-switch-held : numbers-held 41 35 (Op Select (num 1 ◂ num 2 ◂ nil)) ≡ ok 2
+  no-row-for-its-arm : numbers-held 40 35 (Op Select (num 1 ◂ num 2 ◂ nil)) ≡ refused (by 23)
+  room-for-statements : has-room area-rows 0 (bound 2047) ≡ true
+  a-statement-too-many : fuse-held (λ n l. cse-scope 1 area-rows true n l) area-rows 0 (bound 2048) ≡ refused (by 23)
+  an-arm : numbers-within 4 (nested 1 ∷ []) ≡ ok 1
+  no-row-for-an-arm : numbers-within 3 (nested 1 ∷ []) ≡ refused (by 23)
+  an-arm-in-an-arm : numbers-within 9 (nested 2 ∷ []) ≡ ok 2
+  no-row-for-an-arm-in-an-arm : numbers-within 8 (nested 2 ∷ []) ≡ refused (by 23)
+  the-ninth-scope : numbers-within 81 (nested 8 ∷ []) ≡ ok 8
+  no-row-for-the-ninth-scope : numbers-within 80 (nested 8 ∷ []) ≡ refused (by 23)
+  rows-for-shared-beside : rows-for shared-beside ≡ ok (13, 11)
+  after-what-is-held : numbers-within 14 shared-beside ≡ ok 2
+  no-row-after-what-is-held : numbers-within 13 shared-beside ≡ refused (by 23)
+  the-same-rows : numbers-within 8 beside ≡ ok 2
+  no-row-for-either : numbers-within 7 beside ≡ refused (by 23)
   rows-for-many : rows-for (many 25) ≡ ok (620, 7516)
   many-divisors-flat : (answer false (many 25) >>= λ a. ok (a .extracted)) ≡ ok 0
-  many-divisors : answer true (many 25) ≡ refused (by 23)
+  many-divisors : (answer true (many 25) >>= λ a. ok (rows a)) ≡ ok 1148
+  rows-enough-for-many : numbers-within 7771 (many 25) ≡ ok 27
+  a-row-too-few-for-many : numbers-within 7770 (many 25) ≡ refused (by 23)
   some-switches : (answer true (different 7) >>= λ a. ok (rows a)) ≡ ok 2108
   rows-for-switches : rows-for (different 8) ≡ ok (608, 2618)
   many-switches : answer true (different 8) ≡ refused (by 23)
@@ -157,7 +191,7 @@ pub record Examples : Type 0 where
   no-earlier-node : csesheet (bytes "Sym,a\r\nRoot,1") ≡ bytes "refused 5 1\n"
 
 pub examples : Examples
-unfolding cse-scope has-room fuse-held answer no-switch-bound well-scoped rows by-calls csesheet csescoped extract-call print-call
+unfolding cse-scope left-after has-room fuse-held answer no-switch-bound well-scoped rows by-calls csesheet csescoped extract-call print-call
 examples =
     record {
       mixed-scoped = refl;
@@ -174,16 +208,33 @@ examples =
       input-too-large = refl;
       last-number = refl;
       number-too-large = refl;
+      rows-for-shared = refl;
+      rows-for-input = refl;
+      no-row-for-input = refl;
       rows-enough = refl;
       a-row-too-few = refl;
-      a-switch-held = refl;
+      room-for-a-switch = refl;
       no-row-for-a-switch = refl;
+      a-switch-held = refl;
+      no-row-for-its-arm = refl;
       room-for-statements = refl;
       a-statement-too-many = refl;
-      some-divisors = refl;
+      an-arm = refl;
+      no-row-for-an-arm = refl;
+      an-arm-in-an-arm = refl;
+      no-row-for-an-arm-in-an-arm = refl;
+      the-ninth-scope = refl;
+      no-row-for-the-ninth-scope = refl;
+      rows-for-shared-beside = refl;
+      after-what-is-held = refl;
+      no-row-after-what-is-held = refl;
+      the-same-rows = refl;
+      no-row-for-either = refl;
       rows-for-many = refl;
       many-divisors-flat = refl;
       many-divisors = refl;
+      rows-enough-for-many = refl;
+      a-row-too-few-for-many = refl;
       some-switches = refl;
       rows-for-switches = refl;
       many-switches = refl;

@@ -9,7 +9,7 @@ use lib.Dec.{T, leb}
 use Rattle.tree.specs.Outcome.{Refusal, ok, refused, by, _>>=_}
 use Rattle.tree.specs.Tree.{Tree}
 use Rattle.cse.specs.Answer.{Answer}
-use Rattle.cse.specs.Scope.{scopes-open, cse-scope, as-answer, answer}
+use Rattle.cse.specs.Scope.{area-rows, scopes-open, cse-scope, as-answer, answer}
 use Rattle.tree.specs.Rows.{Table, trees, within-limits}
 use Rattle.sheet.specs.Sheet.{load}
 use Rattle.cse.specs.Demand.{flat-shaped, Demand3}
@@ -70,9 +70,9 @@ plain-none-bound es h p = plain.plain-none-bound es (passes-formed es h) (passes
 pub plain-refused-by-10-or-11 : (es : List Tree) → T (passes es) → Plain-divisors es → (i : Refusal) → answer true es ≡ refused i → (i ≡ by 10) ⊎ (i ≡ by 11)
 plain-refused-by-10-or-11 es h p = scoped-refused-by-10-or-11 es h (plain-none-bound es h p)
 
--- For a list that passes 9 more than nine open scopes would change nothing: 23 arises only where a scope's input, its first number, what it holds for fusion or its
--- statements are more than it has room for.
-pub nine-scopes : (fuel : ℕ) → scopes-open ≤ fuel → (scoped : Bool) (es : List Tree) → T (passes es) → answer scoped es ≡ (cse-scope fuel scoped 0 es >>= λ a. ok (as-answer a))
+-- For a list that passes 9 more than nine open scopes would change nothing: 23 arises only where a scope's input, its first number, what it holds for fusion, its
+-- switches or its statements are more than there is room for in the rows that are left.
+pub nine-scopes : (fuel : ℕ) → scopes-open ≤ fuel → (scoped : Bool) (es : List Tree) → T (passes es) → answer scoped es ≡ (cse-scope fuel area-rows scoped 0 es >>= λ a. ok (as-answer a))
 nine-scopes fuel m scoped es h = scopes.answer-by-more fuel m scoped es (passes-limits es h)
 
 -- in a flat answer each statement binds some `__xi`, and where i is not below the extraction count, to 1 / d
