@@ -36,18 +36,6 @@ module _ (ws : List ℕ) (m : ℕ) (complete : trees-in ws ≡ some m) where
   pub place-size : (i : ℕ) → i < length ws → size (numbered-at ws i) ≤ length ws
   place-size i h = (let e = ends-within ws m complete i h in omega arith)
 
-  past-size : (i : ℕ) → length ws ≤ i → size (numbered-at ws i) ≡ 1
-  unfolding numbered-at
-  past-size i h = (let l = trees-length numbered ws in ap size (List·getD-eq-default (trees-at numbered ws) (Op 0 nil) (omega arith)) ∙ default-small)
-
-  -- at any number
-  pub any-size : (i : ℕ) → size (numbered-at ws i) ≤ suc (length ws)
-  any-size i = go (ltb i (length ws)) refl
-    where
-      go : (b : Bool) → ltb i (length ws) ≡ b → size (numbered-at ws i) ≤ suc (length ws)
-      go true e = (let p = place-size i (ltb-true i (length ws) e) in omega arith)
-      go false e = (let p = past-size i (ltb-false i (length ws) e) in omega arith)
-
   divisors-small : (l : List ℕ) → All-there ws l → Every (Small (length ws)) (map (numbered-at ws) l)
   divisors-small [] h = tt
   divisors-small (p ∷ l) h = (place-size p (there-within ws p (h .0 .0) (h .0 .1)), divisors-small l (h .1))
@@ -70,13 +58,14 @@ module _ (ws : List ℕ) (m : ℕ) (complete : trees-in ws ≡ some m) where
 
 -- ---- a match's rows
 
-module _ (hs : List ℕ) (m : ℕ) (complete : trees-in hs ≡ some m) (gs : List (List ℕ)) (numbers : List ℕ) where
-  pub key-run-length : (g : ℕ) → length (key-run hs gs numbers g) ≤ suc (length hs)
+-- a key is no larger than a tree at a place
+module _ (hs : List ℕ) (c : ℕ) (small : (p : ℕ) → size (numbered-at hs p) ≤ c) (gs : List (List ℕ)) (numbers : List ℕ) where
+  pub key-run-length : (g : ℕ) → length (key-run hs gs numbers g) ≤ c
   unfolding key-run
   key-run-length g =
       let s = steps-from hs gs numbers (group-end gs g) in
       let t = numbered-at hs (key-place (opener gs g)) in
-      omega (arith, tokens-length unnumbered (fused-tree s t), fused-size s t, any-size hs m complete (key-place (opener gs g)))
+      omega (arith, tokens-length unnumbered (fused-tree s t), fused-size s t, small (key-place (opener gs g)))
 
   name-rows-length : (l : List ℕ) → length (name-rows hs gs numbers l) ≡ length l
   unfolding name-rows
@@ -94,7 +83,7 @@ module _ (hs : List ℕ) (m : ℕ) (complete : trees-in hs ≡ some m) (gs : Lis
       let l = take (length (group-at gs g)) (drop (group-start gs g) numbers) in
       omega (arith, name-rows-length l, take-few (length (group-at gs g)) (drop (group-start gs g) numbers))
 
-  pub match-run-length : (arms : List ℕ) (g : ℕ) → length (match-run hs gs numbers arms g) ≤ 2 + length hs + length (group-at gs g) + length arms
+  pub match-run-length : (arms : List ℕ) (g : ℕ) → length (match-run hs gs numbers arms g) ≤ suc c + length (group-at gs g) + length arms
   unfolding match-run
   match-run-length arms g =
       let a = length-append (key-run hs gs numbers g) (names-run hs gs numbers g ++ arms) in
