@@ -8,7 +8,7 @@ use lib.ListN.{length, getD, drop, length-map}
 use Rattle.tree.specs.Tree.{Tree}
 use Rattle.tree.specs.Tokens.{read, numbered, trees-in}
 use Rattle.tree.proofs.TokenLaws.{complete-length}
-use Rattle.cse.specs.Scope.{Switch, Group, members, collect-switches, groups-from, arms-of-members}
+use Rattle.cse.specs.Scope.{Group, members, collect-switches, groups-from, arms-of-members}
 use Rattle.cselaws.proofs.SwitchLaws.{length-columns}
 use Rattle.renaming.specs.Places.{numbered-at}
 use Rattle.renaming.proofs.WordRounds.{In-code}

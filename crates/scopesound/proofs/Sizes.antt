@@ -2,17 +2,16 @@
 -- (01, "Scoped fusion", "Turned down", refusal 12). Assumes nothing.
 use Prim.Native.Nat.{ℕ, zero, suc, _+_, _*_, _-_, _≤_, _<_}
 use native.Mathlib.Omega.{arith}
-use mathlib.Core.Path.{_≡_, refl, sym, _∙_, ap}
+use mathlib.Core.Path.{_≡_, refl, sym, ap}
 use mathlib.Core.Bool.{Bool, true, false, cond}
 use mathlib.Core.Option.{some}
 use mathlib.Core.List.{List, [], _∷_, _++_, map}
-use borrow.Author.Tests.{ltb-true, ltb-false, lt-ltb, le-ltb}
-use lib.ListN.{length, getD, take, drop, replicate, length-append, List·getD-eq-default}
+use borrow.Author.Tests.{lt-ltb, le-ltb}
+use lib.ListN.{length, getD, take, drop, replicate, length-append}
 use lib.Dec.{ltb}
 use Rattle.tree.specs.Tree.{Tree, Op, nil}
 use Rattle.tree.specs.Facts.{size}
-use Rattle.tree.specs.Tokens.{numbered, trees-at, trees-in}
-use Rattle.tree.proofs.TokenLaws.{trees-length}
+use Rattle.tree.specs.Tokens.{trees-in}
 use Rattle.tree.proofs.TokenCode.{unnumbered, tokens-length}
 use Rattle.cse.specs.Order.{positions-taken}
 use Rattle.cselaws.proofs.OrderLaws.{taken-ok}
@@ -26,7 +25,7 @@ use Rattle.fusion.specs.Settled.{fused-tree}
 use Rattle.fusion.proofs.Sizes.{fused-size}
 use Rattle.scopeplaces.specs.Parts.{place-groups, group-at, group-start, group-end, opener, lets-count, held-words, settled-trees, steps-from, fused-run, key-run, name-rows, names-run, match-run, let-run, value-run}
 use Rattle.scopeplaces.specs.Whole.{stmts-count, tree-run, needs-table, stmts-order, stmt-run, stmts-runs, values-runs}
-use Rattle.scopeplaces.proofs.Small.{Small, default-small, small-at, settled-small}
+use Rattle.scopeplaces.proofs.Small.{Small, small-at, settled-small}
 use Rattle.scopesound.proofs.Held.{there-within}
 use Rattle.scopesound.proofs.Sums.{sum-first, sum-each, first-more, first-none, first-entries, each-reversed, runs-length, first-most, different-most}
 
