@@ -13,7 +13,7 @@ use Rattle.rewrite.proofs.Names.{holds-all}
 use Rattle.cse.specs.Extract.{State, roots, extract-all, reciprocals}
 use Rattle.cse.specs.Answer.{block, all-symbols, free-stmts, elem}
 use Rattle.cse.specs.Order.{needs}
-use Rattle.cse.specs.Scope.{Work, Scoped, collect-switches, groups-from, fuse-all, opens, cse-scope}
+use Rattle.cse.specs.Scope.{Work, Scoped, collect-switches, groups-from, fuse-all, left-after, opens, cse-scope}
 use Rattle.cselaws.proofs.Outcomes.{Good, good-at}
 use Rattle.cselaws.proofs.ScopeValue.{under}
 use Rattle.cselaws.proofs.ScopeRoom.{or-no-room, or-not-held}
@@ -22,35 +22,37 @@ use Rattle.outernames.proofs.Finishing.{fused-finished, plain-finished,
 use Rattle.outernames.proofs.Ordering.{needs-of, read-before, fused-needs}
 use Rattle.outernames.proofs.Rounds.{begun}
 
-pub scope-same : (fuel : ℕ) (scoped : Bool) (start : ℕ) (es : List Tree) → T (well-formed-all es) → Good (Same-names start es) (cse-scope fuel scoped start es)
+pub scope-same : (fuel left : ℕ) (scoped : Bool) (start : ℕ) (es : List Tree) → T (well-formed-all es) → Good (Same-names start es) (cse-scope fuel left scoped start es)
 unfolding cse-scope
-scope-same zero scoped start es w = (unfold Good in tt)
-scope-same (suc fuel) false start es w = from-input false start es w _ (λ s B. plain-finished start es (length (s .lets)) (reciprocals false s) B)
-scope-same (suc fuel) true start es w =
-    or-no-room (Good (Same-names start es)) (unfold Good in tt) (opens start es) _
+scope-same zero left scoped start es w = (unfold Good in tt)
+scope-same (suc fuel) left false start es w = from-input false start es w _ (λ s B. plain-finished start es (length (s .lets)) (reciprocals false s) B)
+scope-same (suc fuel) left true start es w =
+    or-no-room (Good (Same-names start es)) (unfold Good in tt) (opens left start es) _
     (from-input true start es w _
-    (λ s B. or-not-held (Good (Same-names start es)) (unfold Good in tt) (λ n l. cse-scope fuel true n l) (length (s .lets)) (reciprocals true s)
-    (fused-finished (λ n l. cse-scope fuel true n l) (λ n l v. scope-same fuel true n l v) start es (length (s .lets)) (reciprocals true s) B)))
+    (λ s B.
+    let m = left-after left (length (s .lets)) (reciprocals true s) in
+    or-not-held (Good (Same-names start es)) (unfold Good in tt) (λ n l. cse-scope fuel m true n l) left (length (s .lets)) (reciprocals true s)
+    (fused-finished (λ n l. cse-scope fuel m true n l) (λ n l v. scope-same fuel m true n l v) start es (length (s .lets)) (reciprocals true s) B)))
 
 -- For every input symbol and every name with a number below the scope's first.
 pub scope-reads :
-    (fuel : ℕ) (scoped : Bool) (start : ℕ) (es : List Tree) → T (well-formed-all es) → (a : Scoped) → cse-scope fuel scoped start es ≡ ok a
+    (fuel left : ℕ) (scoped : Bool) (start : ℕ) (es : List Tree) → T (well-formed-all es) → (a : Scoped) → cse-scope fuel left scoped start es ≡ ok a
     → (n : Name) → T (under start n) → elem n (free-stmts (block (a .inters)) ++ all-symbols (a .results)) ≡ elem n (all-symbols es)
-scope-reads fuel scoped start es w a e n u =
-    scope-elem start es a (good-at (Same-names start es) (cse-scope fuel scoped start es) a e (scope-same fuel scoped start es w)) n u
+scope-reads fuel left scoped start es w a e n u =
+    scope-elem start es a (good-at (Same-names start es) (cse-scope fuel left scoped start es) a e (scope-same fuel left scoped start es w)) n u
 
 -- And for every name with a number from the scope's next on, where the input holds none that the scope could make.
 pub scope-reads-any :
-    (fuel : ℕ) (scoped : Bool) (start : ℕ) (es : List Tree) → T (well-formed-all es) → T (holds-all (under start) es)
-    → (a : Scoped) → cse-scope fuel scoped start es ≡ ok a
+    (fuel left : ℕ) (scoped : Bool) (start : ℕ) (es : List Tree) → T (well-formed-all es) → T (holds-all (under start) es)
+    → (a : Scoped) → cse-scope fuel left scoped start es ≡ ok a
     → (n : Name) → Outside start (a .next) n → elem n (free-stmts (block (a .inters)) ++ all-symbols (a .results)) ≡ elem n (all-symbols es)
-scope-reads-any fuel scoped start es w h a e n u =
-    scope-elem-any start es a (good-at (Same-names start es) (cse-scope fuel scoped start es) a e (scope-same fuel scoped start es w)) h n u
+scope-reads-any fuel left scoped start es w h a e n u =
+    scope-elem-any start es a (good-at (Same-names start es) (cse-scope fuel left scoped start es) a e (scope-same fuel left scoped start es w)) h n u
 
 -- The needs of a scope's statements, told from the scope's roots before its arms' scopes.
 pub scope-needs :
-    (fuel start : ℕ) (es : List Tree) → T (well-formed-all es) → T (holds-all (under start) es) → (s : State) → extract-all true start es ≡ ok s
-    → (x : ℕ) (w : Work) → fuse-all (λ n l. cse-scope fuel true n l) x (reciprocals true s) ≡ ok w
+    (fuel left start : ℕ) (es : List Tree) → T (well-formed-all es) → T (holds-all (under start) es) → (s : State) → extract-all true start es ≡ ok s
+    → (x : ℕ) (w : Work) → fuse-all (λ n l. cse-scope fuel left true n l) x (reciprocals true s) ≡ ok w
     → needs (w .inters) (w .inters) ≡ needs-of (w .inters) (read-before (w .inters) (groups-from [] (collect-switches (roots (reciprocals true s)))))
-scope-needs fuel start es v h s e x w f =
-    fused-needs (λ n l. cse-scope fuel true n l) (λ n l u. scope-same fuel true n l u) start es x (reciprocals true s) (begun true start es v s e) h w f
+scope-needs fuel left start es v h s e x w f =
+    fused-needs (λ n l. cse-scope fuel left true n l) (λ n l u. scope-same fuel left true n l u) start es x (reciprocals true s) (begun true start es v s e) h w f

@@ -19,7 +19,7 @@ use Rattle.cse.specs.Answer.{Intermediate, Intermediates, Arms, Answer, Let, Ma
 use Rattle.cse.specs.Read.{arm-count}
 use Rattle.cse.specs.Order.{topo-sort-intermediates}
 use Rattle.cse.specs.AnswerRows.{let-name, match-names}
-use Rattle.cse.specs.Scope.{Switch, Group, Work, Scoped, Armed, switches, collect-switches, joins, place, groups-from, members, replace-in-results, replace-in-stmts, name-members, member-names, first-arms, rest-arms, columns, arms-of-members, scope-arms, fuse-group, fuse-groups, fuse-all, binds, unfused, finish, opens, scopes-open, cse-scope, as-answer, answer}
+use Rattle.cse.specs.Scope.{Switch, Group, Work, Scoped, Armed, switches, collect-switches, joins, place, groups-from, members, replace-in-results, replace-in-stmts, name-members, member-names, first-arms, rest-arms, columns, arms-of-members, scope-arms, fuse-group, fuse-groups, fuse-all, binds, unfused, finish, left-after, opens, area-rows, scopes-open, cse-scope, as-answer, answer}
 use Rattle.cselaws.proofs.Outcomes.{Good, then-good, good-ok, good-at}
 use Rattle.cselaws.proofs.SortCount.{Every, sorted-every}
 use Rattle.cselaws.proofs.SwitchLaws.{length-columns}
@@ -268,25 +268,27 @@ fused-ok :
 unfolding fuse-all
 fused-ok scope fine x s h = groups-ok scope fine (groups-from [] (collect-switches (roots s))) (unfused x s) (grouped-ok [] (collect-switches (roots s)) tt (collected-ok (roots s) (roots-fit s h))) (begun-ok x s h)
 
-scope-ok : (fuel : ℕ) (scoped : Bool) (next : ℕ) (es : List Tree) → Fits-all es → Good Ok-scope (cse-scope fuel scoped next es)
+scope-ok : (fuel left : ℕ) (scoped : Bool) (next : ℕ) (es : List Tree) → Fits-all es → Good Ok-scope (cse-scope fuel left scoped next es)
 unfolding cse-scope
-scope-ok zero scoped next es h = (unfold Good in tt)
-scope-ok (suc fuel) false next es h =
+scope-ok zero left scoped next es h = (unfold Good in tt)
+scope-ok (suc fuel) left false next es h =
     then-good Ok-state Ok-scope (extract-all false next es) (extract-all-ok false next es h) _
     (λ s g. finish-ok (unfused (length (s .lets)) (reciprocals false s)) (begun-ok (length (s .lets)) (reciprocals false s) (reciprocals-ok false s g)))
-scope-ok (suc fuel) true next es h =
-    let inner : ℕ → List Tree → Outcome Scoped = λ n l. cse-scope fuel true n l in
-    or-no-room (Good Ok-scope) (unfold Good in tt) (opens next es) _
+scope-ok (suc fuel) left true next es h =
+    or-no-room (Good Ok-scope) (unfold Good in tt) (opens left next es) _
     (then-good Ok-state Ok-scope (extract-all true next es) (extract-all-ok true next es h) _
-    (λ s g. or-not-held (Good Ok-scope) (unfold Good in tt) inner (length (s .lets)) (reciprocals true s)
+    (λ s g.
+    let m = left-after left (length (s .lets)) (reciprocals true s) in
+    let inner : ℕ → List Tree → Outcome Scoped = λ n l. cse-scope fuel m true n l in
+    or-not-held (Good Ok-scope) (unfold Good in tt) inner left (length (s .lets)) (reciprocals true s)
     (then-good Ok-work Ok-scope (fuse-all inner (length (s .lets)) (reciprocals true s))
-    (fused-ok inner (λ n l k. scope-ok fuel true n l k) (length (s .lets)) (reciprocals true s) (reciprocals-ok true s g)) _ (λ w k. finish-ok w k))))
+    (fused-ok inner (λ n l k. scope-ok fuel m true n l k) (length (s .lets)) (reciprocals true s) (reciprocals-ok true s g)) _ (λ w k. finish-ok w k))))
 
 -- both forms
 pub answer-ok : (scoped : Bool) (es : List Tree) → Fits-all es → (a : Answer) → answer scoped es ≡ ok a → Ok-stmts (a .inters) × Fits-all (a .results)
 answer-ok scoped es f a e =
     good-at (λ (b : Answer). Ok-stmts (b .inters) × Fits-all (b .results)) (answer scoped es) a e (unfold answer in
-    then-good Ok-scope (λ (b : Answer). Ok-stmts (b .inters) × Fits-all (b .results)) (cse-scope scopes-open scoped 0 es) (scope-ok scopes-open scoped 0 es f) _
+    then-good Ok-scope (λ (b : Answer). Ok-stmts (b .inters) × Fits-all (b .results)) (cse-scope scopes-open area-rows scoped 0 es) (scope-ok scopes-open area-rows scoped 0 es f) _
     (λ b h. good-ok (λ (b : Answer). Ok-stmts (b .inters) × Fits-all (b .results)) (as-answer b) (given b h)))
   where
     given : (b : Scoped) → Ok-scope b → Ok-stmts (as-answer b .inters) × Fits-all (as-answer b .results)

@@ -10,7 +10,7 @@ use Rattle.tree.specs.Tree.{Tree}
 use Rattle.tree.specs.Facts.{all-operations, all-nodes}
 use Rattle.text.specs.Text.{display, before}
 use Rattle.cse.specs.Extract.{State, roots, is-candidate, Candidate, candidate, beats, best-from, best, extract, rounds, extract-all, divisors, distinct, shared-divisors, insert-by-text, sort-by-text, bind-reciprocals, reciprocals}
-use Rattle.cse.specs.Scope.{Scoped, unfused, finish, fuse-held, opens, scopes-open, cse-scope, as-answer, answer}
+use Rattle.cse.specs.Scope.{Scoped, unfused, finish, left-after, fuse-held, opens, area-rows, scopes-open, cse-scope, as-answer, answer}
 use Rattle.renaming.specs.Shown.{beats-by, best-from-by, best-by, rounds-by, extract-all-by, insert-by, sort-by, reciprocals-by, cse-scope-by, answer-by}
 
 beats-text : (a b : Candidate) → beats-by display a b ≡ beats a b
@@ -85,23 +85,28 @@ flat-text next es =
     ap₂ (λ (o : Outcome State) (f : State → State). o >>= λ s. finish (unfused (length (s .lets)) (f s))) (extract-all-text false next es)
     (fun-ext (λ s. reciprocals-text false s))
 
-scoped-text : (next : ℕ) (es : List Tree) (f g : ℕ → List Tree → Outcome Scoped) → f ≡ g
-    → (extract-all-by display true next es >>= λ s. fuse-held f (length (s .lets)) (reciprocals-by display true s))
-    ≡ (extract-all true next es >>= λ s. fuse-held g (length (s .lets)) (reciprocals true s))
-scoped-text next es f g e =
-    ap (λ (k : ℕ → List Tree → Outcome Scoped). extract-all-by display true next es >>= λ s. fuse-held k (length (s .lets)) (reciprocals-by display true s)) e
-    ∙ ap₂ (λ (o : Outcome State) (f : State → State). o >>= λ s. fuse-held g (length (s .lets)) (f s)) (extract-all-text true next es) (fun-ext (λ s. reciprocals-text true s))
+scoped-text : (left next : ℕ) (es : List Tree) (f g : ℕ → ℕ → List Tree → Outcome Scoped) → f ≡ g
+    → (extract-all-by display true next es >>= λ s.
+    fuse-held (f (left-after left (length (s .lets)) (reciprocals-by display true s))) left (length (s .lets)) (reciprocals-by display true s))
+    ≡ (extract-all true next es >>= λ s. fuse-held (g (left-after left (length (s .lets)) (reciprocals true s))) left (length (s .lets)) (reciprocals true s))
+scoped-text left next es f g e =
+    ap
+    (λ (k : ℕ → ℕ → List Tree → Outcome Scoped).
+    extract-all-by display true next es >>= λ s.
+    fuse-held (k (left-after left (length (s .lets)) (reciprocals-by display true s))) left (length (s .lets)) (reciprocals-by display true s)) e
+    ∙ ap₂ (λ (o : Outcome State) (f : State → State). o >>= λ s. fuse-held (g (left-after left (length (s .lets)) (f s))) left (length (s .lets)) (f s))
+    (extract-all-text true next es) (fun-ext (λ s. reciprocals-text true s))
 
-scope-text : (fuel : ℕ) (scoped : Bool) (next : ℕ) (es : List Tree) → cse-scope-by display fuel scoped next es ≡ cse-scope fuel scoped next es
+scope-text : (fuel left : ℕ) (scoped : Bool) (next : ℕ) (es : List Tree) → cse-scope-by display fuel left scoped next es ≡ cse-scope fuel left scoped next es
 unfolding cse-scope cse-scope-by
-scope-text zero scoped next es = refl
-scope-text (suc fuel) false next es = flat-text next es
-scope-text (suc fuel) true next es =
-    let f : ℕ → List Tree → Outcome Scoped = λ n l. cse-scope-by display fuel true n l in
-    let g : ℕ → List Tree → Outcome Scoped = λ n l. cse-scope fuel true n l in
-    let e : f ≡ g = fun-ext (λ n. fun-ext (λ l. scope-text fuel true n l)) in
-    ap (λ (o : Outcome Scoped). elim (opens next es) as (λ _. Outcome Scoped) [ true ↦ o | false ↦ refused (by 23) ]) (scoped-text next es f g e)
+scope-text zero left scoped next es = refl
+scope-text (suc fuel) left false next es = flat-text next es
+scope-text (suc fuel) left true next es =
+    let f : ℕ → ℕ → List Tree → Outcome Scoped = λ m n l. cse-scope-by display fuel m true n l in
+    let g : ℕ → ℕ → List Tree → Outcome Scoped = λ m n l. cse-scope fuel m true n l in
+    let e : f ≡ g = fun-ext (λ m. fun-ext (λ n. fun-ext (λ l. scope-text fuel m true n l))) in
+    ap (λ (o : Outcome Scoped). elim (opens left next es) as (λ _. Outcome Scoped) [ true ↦ o | false ↦ refused (by 23) ]) (scoped-text left next es f g e)
 
 pub answer-text-order : (scoped : Bool) (es : List Tree) → answer-by display scoped es ≡ answer scoped es
 unfolding answer answer-by
-answer-text-order scoped es = ap (λ (o : Outcome Scoped). o >>= λ a. ok (as-answer a)) (scope-text scopes-open scoped 0 es)
+answer-text-order scoped es = ap (λ (o : Outcome Scoped). o >>= λ a. ok (as-answer a)) (scope-text scopes-open area-rows scoped 0 es)

@@ -14,7 +14,7 @@ use Rattle.tree.specs.Tokens.{read, numbered, name-in, trees-in}
 use Rattle.tree.proofs.TokenLaws.{complete-length}
 use Rattle.tree.proofs.TokenCode.{unnumbered}
 use Rattle.cse.specs.Answer.{Answer}
-use Rattle.cse.specs.Scope.{Scoped, unfused, finish, as-answer}
+use Rattle.cse.specs.Scope.{Scoped, unfused, finish, area-rows, as-answer}
 use Rattle.cse.specs.Call.{Extracted, work-words, work-bytes, extract-call}
 use Rattle.renaming.specs.Shown.{answer-by}
 use Rattle.renaming.specs.Rounds.{state-of, rounds-words, reciprocals-words}
@@ -36,7 +36,7 @@ answer-flat :
     (t : Table) (m : ℕ) → trees-in (tree-words t) ≡ some m
     → answer-by (shown (names-of (t .rows))) false (read numbered (tree-words t)) ≡ (flat-from-words (name-in (t .rows)) (length (read numbered (tree-words t))) (tree-words t) >>= λ a. ok (as-answer a))
 unfolding answer-by
-answer-flat t m c = ap (λ (o : Outcome Scoped). o >>= λ a. ok (as-answer a)) (flat-words (name-in (t .rows)) 8 0 (tree-words t) m c)
+answer-flat t m c = ap (λ (o : Outcome Scoped). o >>= λ a. ok (as-answer a)) (flat-words (name-in (t .rows)) 8 area-rows 0 (tree-words t) m c)
 
 pub flat-call :
     (words-lent bytes-lent : ℕ) (ws ns : List ℕ) (lent : ℕ) → (ltb words-lent work-words || ltb bytes-lent work-bytes) ≡ false → T (laid-out ws ns)

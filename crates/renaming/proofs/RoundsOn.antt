@@ -15,7 +15,7 @@ use Rattle.tree.specs.Facts.{all-operations, all-nodes}
 use Rattle.tree.proofs.TokenLaws.{map-append}
 use Rattle.rewrite.specs.Rewrite.{replace, replace-divisor}
 use Rattle.cse.specs.Extract.{Binding, State, bound, roots, Candidate, replace-bound, extract, divisors, distinct, shared-divisors, replace-divisor-each, replace-divisor-bound, bind-reciprocal, bind-reciprocals}
-use Rattle.cse.specs.Scope.{Scoped, unfused, finish, fuse-held, opens}
+use Rattle.cse.specs.Scope.{Scoped, unfused, finish, left-after, fuse-held, opens}
 use Rattle.cselaws.proofs.Outcomes.{Good, then-good, good-ok}
 use Rattle.renaming.specs.Shown.{best-by, rounds-by, extract-all-by, sort-by, reciprocals-by, cse-scope-by}
 use Rattle.renaming.specs.Rounds.{by-number, next-number, state-of, extract-on, bind-on, bind-each-on, rounds-on, reciprocals-on}
@@ -317,11 +317,11 @@ module _ (shown : Tree → List ℕ) where
 
   -- the flat form
   pub flat-on :
-      (fuel next : ℕ) (es : List Tree) → let k = length es in
-      cse-scope-by shown (suc fuel) false next es
+      (fuel left next : ℕ) (es : List Tree) → let k = length es in
+      cse-scope-by shown (suc fuel) left false next es
       ≡ (rounds-on shown (all-operations es) false k next es >>= λ us. finish (unfused (length (drop k us)) (state-of k next (reciprocals-on shown false k next us))))
   unfolding cse-scope-by
-  flat-on fuel next es =
+  flat-on fuel left next es =
       let k = length es in
       let o = rounds-on shown (all-operations es) false k next es in
       let end : State → Outcome Scoped = λ s. finish (unfused (length (s .lets)) (reciprocals-by shown false s)) in
@@ -331,22 +331,24 @@ module _ (shown : Tree → List ℕ) where
       (λ us. finish (unfused (length (drop k us)) (state-of k next (reciprocals-on shown false k next us)))) (rounds-on-length (all-operations es) false k next es (omega arith))
       (λ us l. ap finish (ap₂ unfused (lets-length k next us) (reciprocals-on-state false k next us l)))
 
-  -- the scoped form, where the input has no more occurrences than the scope has rows, and its numbers are within 2^31
+  -- the scoped form, where the input has no more occurrences than rows are left and than the scope has rows, and its numbers are within 2^31
   pub scoped-on :
-      (fuel next : ℕ) (es : List Tree) → opens next es ≡ true → let k = length es in
-      cse-scope-by shown (suc fuel) true next es
+      (fuel left next : ℕ) (es : List Tree) → opens left next es ≡ true → let k = length es in
+      cse-scope-by shown (suc fuel) left true next es
       ≡ (rounds-on shown (all-operations es) true k next es >>= λ us.
-      fuse-held (λ n l. cse-scope-by shown fuel true n l) (length (drop k us)) (state-of k next (reciprocals-on shown true k next us)))
+      let x = length (drop k us) in
+      let s = state-of k next (reciprocals-on shown true k next us) in
+      fuse-held (λ n l. cse-scope-by shown fuel (left-after left x s) true n l) left x s)
   unfolding cse-scope-by
-  scoped-on fuel next es e =
+  scoped-on fuel left next es e =
       let k = length es in
       let o = rounds-on shown (all-operations es) true k next es in
-      let inner : ℕ → List Tree → Outcome Scoped = λ n l. cse-scope-by shown fuel true n l in
-      let end : State → Outcome Scoped = λ s. fuse-held inner (length (s .lets)) (reciprocals-by shown true s) in
+      let fused : ℕ → State → Outcome Scoped = λ x s. fuse-held (λ n l. cse-scope-by shown fuel (left-after left x s) true n l) left x s in
+      let end : State → Outcome Scoped = λ s. fused (length (s .lets)) (reciprocals-by shown true s) in
       ap (λ (b : Bool). elim b as (λ _. Outcome Scoped) [ true ↦ (extract-all-by shown true next es >>= end) | false ↦ refused (by 23) ]) e
       ∙ ap (λ (o : Outcome State). o >>= end) (extract-all-on true next es)
       ∙ then-then o (λ us. ok (state-of k next us)) end
       ∙ then-same (λ (us : List Tree). k ≤ length us) o (λ us. end (state-of k next us))
-      (λ us. fuse-held inner (length (drop k us)) (state-of k next (reciprocals-on shown true k next us)))
+      (λ us. fused (length (drop k us)) (state-of k next (reciprocals-on shown true k next us)))
       (rounds-on-length (all-operations es) true k next es (omega arith))
-      (λ us l. ap₂ (fuse-held inner) (lets-length k next us) (reciprocals-on-state true k next us l))
+      (λ us l. ap₂ fused (lets-length k next us) (reciprocals-on-state true k next us l))

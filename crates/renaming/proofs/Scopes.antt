@@ -1,6 +1,6 @@
 -- `cse_scope`, `cse` and `cse_scoped` under other names of the list's symbols: the same answer, renamed, where texts are those of the renamed trees. Assumes
 -- nothing.
-use Prim.Native.Nat.{ℕ, zero, suc, _+_}
+use Prim.Native.Nat.{ℕ, zero, suc, _+_, _-_}
 use mathlib.Core.Path.{_≡_, refl, sym, _∙_, ap, ap₂, subst}
 use mathlib.Core.Bool.{Bool, true, false, _&&_}
 use mathlib.Core.List.{List, [], _∷_, map}
@@ -14,7 +14,7 @@ use Rattle.tree.specs.Rows.{occurrences}
 use Rattle.cse.specs.Extract.{Binding, State, extract-all, reciprocals, roots}
 use Rattle.cse.specs.Answer.{Intermediate}
 use Rattle.cse.specs.Order.{topo-sort-intermediates}
-use Rattle.cse.specs.Scope.{Switch, Work, Scoped, switches, collect-switches, groups-from, fuse-groups, fuse-all, unfused, finish, some-switch, holds-switch, held-bindings, held, fusion-rows, statements, most-stmts, has-room, fuse-held, scope-rows, most-number, opens, scopes-open, cse-scope, as-answer, answer}
+use Rattle.cse.specs.Scope.{Switch, Work, Scoped, switches, collect-switches, groups-from, fuse-groups, fuse-all, unfused, finish, some-switch, holds-switch, held-bindings, held, left-after, most-switches, statements, most-stmts, has-room, fuse-held, scope-rows, most-number, opens, area-rows, scopes-open, cse-scope, as-answer, answer}
 use Rattle.cselaws.proofs.Outcomes.{Good}
 use Rattle.cselaws.proofs.ArmNodes.{occurrences-append}
 use Rattle.renaming.specs.Shown.{extract-all-by, reciprocals-by, cse-scope-by, answer-by}
@@ -123,56 +123,78 @@ module _ (R : Renaming) where
   statements-renamed s h =
       ap₂ _+_ (length-map (s .lets) (renamed-binding R)) (ap length (state-groups-renamed s h) ∙ length-map (groups-from [] (collect-switches (roots s))) (renamed-group R))
 
-  room-renamed : (x : ℕ) (s : State) → Known-state R s → has-room x (renamed-state R s) ≡ has-room x s
+  -- as many rows are left
+  left-renamed : (left x : ℕ) (s : State) → left-after left x (renamed-state R s) ≡ left-after left x s
+  unfolding left-after
+  left-renamed left x s = ap (λ (m : ℕ). left - m) (held-renamed x s)
+
+  -- and there are as many switches
+  collected-renamed : (s : State) → Known-state R s → length (collect-switches (roots (renamed-state R s))) ≡ length (collect-switches (roots s))
+  collected-renamed s h =
+      ap (λ (l : List Tree). length (collect-switches l)) (roots-renamed R s)
+      ∙ ap length (collect-renamed R (roots s) (roots-known R s h))
+      ∙ length-map (collect-switches (roots s)) (renamed-switch R)
+
+  room-renamed : (left x : ℕ) (s : State) → Known-state R s → has-room left x (renamed-state R s) ≡ has-room left x s
   unfolding has-room
-  room-renamed x s h = ap₂ (λ (m n : ℕ). leb m fusion-rows && leb n most-stmts) (held-renamed x s) (statements-renamed s h)
+  room-renamed left x s h =
+      ap (λ (m : ℕ). leb m left && (leb (length (collect-switches (roots (renamed-state R s)))) most-switches && leb (statements (renamed-state R s)) most-stmts)) (held-renamed x s)
+      ∙ ap₂ (λ (m n : ℕ). leb (occurrences (held x s)) left && (leb m most-switches && leb n most-stmts)) (collected-renamed s h) (statements-renamed s h)
 
   scoped-step :
-      (scope sense : ℕ → List Tree → Outcome Scoped)
-      → ((n : ℕ) (l : List Tree) → Known-all R l → Agree (Known-scoped R) (renamed-scoped R) (scope n l) (sense n (map (renamed R) l)))
-      → (s : State) → Known-state R s
-      → Agree (Known-scoped R) (renamed-scoped R) (fuse-held scope (length (s .lets)) (reciprocals-by (shown R) true s))
-      (fuse-held sense (length (map (renamed-binding R) (s .lets))) (reciprocals true (renamed-state R s)))
+      (scope sense : ℕ → ℕ → List Tree → Outcome Scoped)
+      → ((m n : ℕ) (l : List Tree) → Known-all R l → Agree (Known-scoped R) (renamed-scoped R) (scope m n l) (sense m n (map (renamed R) l)))
+      → (left : ℕ) (s : State) → Known-state R s
+      → Agree (Known-scoped R) (renamed-scoped R)
+      (fuse-held (scope (left-after left (length (s .lets)) (reciprocals-by (shown R) true s))) left (length (s .lets)) (reciprocals-by (shown R) true s))
+      (fuse-held (sense (left-after left (length (map (renamed-binding R) (s .lets))) (reciprocals true (renamed-state R s)))) left (length (map (renamed-binding R) (s .lets)))
+      (reciprocals true (renamed-state R s)))
   unfolding fuse-held
-  scoped-step scope sense same s h =
+  scoped-step scope sense same left s h =
       let t = reciprocals-by (shown R) true s in
       let x = length (s .lets) in
-      let e : fuse-held sense (length (map (renamed-binding R) (s .lets))) (reciprocals true (renamed-state R s)) ≡ fuse-held sense x (renamed-state R t) =
-      ap₂ (fuse-held sense) (length-map (s .lets) (renamed-binding R)) (reciprocals-renamed R true s h) in
+      let m = left-after left x t in
+      let whole : ℕ → State → Outcome Scoped = λ y u. fuse-held (sense (left-after left y u)) left y u in
+      let e : whole (length (map (renamed-binding R) (s .lets))) (reciprocals true (renamed-state R s)) ≡ fuse-held (sense m) left x (renamed-state R t) =
+      ap₂ whole (length-map (s .lets) (renamed-binding R)) (reciprocals-renamed R true s h)
+      ∙ ap (λ (i : ℕ). fuse-held (sense i) left x (renamed-state R t)) (left-renamed left x t) in
       let from : Bool → Outcome Scoped = λ b.
-      elim b as (λ _. Outcome Scoped) [ true ↦ (fuse-all sense x (renamed-state R t) >>= λ w. finish w) | false ↦ refused (by 23) ] in
-      subst (λ (u : Outcome Scoped). Agree (Known-scoped R) (renamed-scoped R) (fuse-held scope x t) u) (sym e)
-      (subst (λ (b : Bool). Agree (Known-scoped R) (renamed-scoped R) (fuse-held scope x t) (from b)) (sym (room-renamed x t (reciprocals-known R true s h)))
-      (room-step (has-room x t) (fuse-all scope x t >>= λ w. finish w) (fuse-all sense x (renamed-state R t) >>= λ w. finish w)
-      (then-agree (Known-work R) (renamed-work R) (Known-scoped R) (renamed-scoped R) (fuse-all scope x t) (fuse-all sense x (renamed-state R t))
-      (fuse-all-renamed scope sense same x t (reciprocals-known R true s h)) (λ w. finish w) (λ w. finish w) (λ w z. finish-renamed w z))))
+      elim b as (λ _. Outcome Scoped) [ true ↦ (fuse-all (sense m) x (renamed-state R t) >>= λ w. finish w) | false ↦ refused (by 23) ] in
+      subst (λ (u : Outcome Scoped). Agree (Known-scoped R) (renamed-scoped R) (fuse-held (scope m) left x t) u) (sym e)
+      (subst (λ (b : Bool). Agree (Known-scoped R) (renamed-scoped R) (fuse-held (scope m) left x t) (from b)) (sym (room-renamed left x t (reciprocals-known R true s h)))
+      (room-step (has-room left x t) (fuse-all (scope m) x t >>= λ w. finish w) (fuse-all (sense m) x (renamed-state R t) >>= λ w. finish w)
+      (then-agree (Known-work R) (renamed-work R) (Known-scoped R) (renamed-scoped R) (fuse-all (scope m) x t) (fuse-all (sense m) x (renamed-state R t))
+      (fuse-all-renamed (scope m) (sense m) (same m) x t (reciprocals-known R true s h)) (λ w. finish w) (λ w. finish w) (λ w z. finish-renamed w z))))
 
   pub cse-scope-renamed :
-      (fuel : ℕ) (scoped : Bool) (next : ℕ) (es : List Tree) → Known-all R es
-      → Agree (Known-scoped R) (renamed-scoped R) (cse-scope-by (shown R) fuel scoped next es) (cse-scope fuel scoped next (map (renamed R) es))
+      (fuel left : ℕ) (scoped : Bool) (next : ℕ) (es : List Tree) → Known-all R es
+      → Agree (Known-scoped R) (renamed-scoped R) (cse-scope-by (shown R) fuel left scoped next es) (cse-scope fuel left scoped next (map (renamed R) es))
   unfolding cse-scope cse-scope-by opens
-  cse-scope-renamed zero scoped next es h = refused-agrees
-  cse-scope-renamed (suc fuel) false next es h =
+  cse-scope-renamed zero left scoped next es h = refused-agrees
+  cse-scope-renamed (suc fuel) left false next es h =
       then-agree (Known-state R) (renamed-state R) (Known-scoped R) (renamed-scoped R) (extract-all-by (shown R) false next es) (extract-all false next (map (renamed R) es))
       (extract-all-renamed R false next es h) (λ s. finish (unfused (length (s .lets)) (reciprocals-by (shown R) false s)))
       (λ s. finish (unfused (length (s .lets)) (reciprocals false s))) (λ s z. flat-step s z)
-  cse-scope-renamed (suc fuel) true next es h =
-      let scope : ℕ → List Tree → Outcome Scoped = λ n l. cse-scope-by (shown R) fuel true n l in
-      let sense : ℕ → List Tree → Outcome Scoped = λ n l. cse-scope fuel true n l in
+  cse-scope-renamed (suc fuel) left true next es h =
+      let scope : ℕ → ℕ → List Tree → Outcome Scoped = λ m n l. cse-scope-by (shown R) fuel m true n l in
+      let sense : ℕ → ℕ → List Tree → Outcome Scoped = λ m n l. cse-scope fuel m true n l in
+      let by-numbers : State → Outcome Scoped = λ s.
+      let t = reciprocals-by (shown R) true s in
+      fuse-held (scope (left-after left (length (s .lets)) t)) left (length (s .lets)) t in
+      let by-texts : State → Outcome Scoped = λ s.
+      let t = reciprocals true s in
+      fuse-held (sense (left-after left (length (s .lets)) t)) left (length (s .lets)) t in
       let from : ℕ → Outcome Scoped = λ o.
-      elim (leb o scope-rows && leb next most-number) as (λ _. Outcome Scoped) [
-        | true ↦ (extract-all true next (map (renamed R) es) >>= λ s. fuse-held sense (length (s .lets)) (reciprocals true s))
+      elim (leb o left && (leb o scope-rows && leb next most-number)) as (λ _. Outcome Scoped) [
+        | true ↦ (extract-all true next (map (renamed R) es) >>= by-texts)
         | false ↦ refused (by 23)
       ] in
       subst
-      (λ (m : ℕ). Agree (Known-scoped R) (renamed-scoped R) (cse-scope-by (shown R) (suc fuel) true next es) (from m)) (sym (occurrences-renamed R es))
-      (room-step (leb (occurrences es) scope-rows && leb next most-number)
-      (extract-all-by (shown R) true next es >>= λ s. fuse-held scope (length (s .lets)) (reciprocals-by (shown R) true s))
-      (extract-all true next (map (renamed R) es) >>= λ s. fuse-held sense (length (s .lets)) (reciprocals true s))
+      (λ (m : ℕ). Agree (Known-scoped R) (renamed-scoped R) (cse-scope-by (shown R) (suc fuel) left true next es) (from m)) (sym (occurrences-renamed R es))
+      (room-step (leb (occurrences es) left && (leb (occurrences es) scope-rows && leb next most-number))
+      (extract-all-by (shown R) true next es >>= by-numbers) (extract-all true next (map (renamed R) es) >>= by-texts)
       (then-agree (Known-state R) (renamed-state R) (Known-scoped R) (renamed-scoped R) (extract-all-by (shown R) true next es) (extract-all true next (map (renamed R) es))
-      (extract-all-renamed R true next es h) (λ s. fuse-held scope (length (s .lets)) (reciprocals-by (shown R) true s))
-      (λ s. fuse-held sense (length (s .lets)) (reciprocals true s))
-      (λ s z. scoped-step scope sense (λ n l k. cse-scope-renamed fuel true n l k) s z)))
+      (extract-all-renamed R true next es h) by-numbers by-texts (λ s z. scoped-step scope sense (λ m n l k. cse-scope-renamed fuel m true n l k) left s z)))
 
   as-answer-known : (a : Scoped) → Known-scoped R a → Known-answer R (as-answer a)
   unfolding as-answer
@@ -187,7 +209,7 @@ module _ (R : Renaming) where
       (scoped : Bool) (es : List Tree) → Known-all R es → Agree (Known-answer R) (renamed-answer R) (answer-by (shown R) scoped es) (answer scoped (map (renamed R) es))
   unfolding answer answer-by
   answer-renamed scoped es h =
-      then-agree (Known-scoped R) (renamed-scoped R) (Known-answer R) (renamed-answer R) (cse-scope-by (shown R) scopes-open scoped 0 es)
-      (cse-scope scopes-open scoped 0 (map (renamed R) es)) (cse-scope-renamed scopes-open scoped 0 es h) (λ a. ok (as-answer a))
+      then-agree (Known-scoped R) (renamed-scoped R) (Known-answer R) (renamed-answer R) (cse-scope-by (shown R) scopes-open area-rows scoped 0 es)
+      (cse-scope scopes-open area-rows scoped 0 (map (renamed R) es)) (cse-scope-renamed scopes-open area-rows scoped 0 es h) (λ a. ok (as-answer a))
       (λ a. ok (as-answer a))
       (λ a z. (agree-ok (Known-answer R) (renamed-answer R) (as-answer a) (as-answer-known a z) .0, ap ok (as-answer-renamed a)))

@@ -12,7 +12,7 @@ use Rattle.tree.specs.Facts.{all-operations}
 use Rattle.tree.specs.Tokens.{all-tokens, read, numbered, takes, trees-in}
 use Rattle.tree.proofs.TokenCode.{coded, all-coded, unnumbered, tokens-complete, writes-back}
 use Rattle.cse.specs.Extract.{State, Candidate, candidate}
-use Rattle.cse.specs.Scope.{Scoped, unfused, finish, fuse-held, opens}
+use Rattle.cse.specs.Scope.{Scoped, unfused, finish, left-after, fuse-held, opens}
 use Rattle.cselaws.proofs.Outcomes.{Good}
 use Rattle.renaming.specs.Shown.{cse-scope-by}
 use Rattle.renaming.specs.Places.{numbered-at, best-place}
@@ -115,25 +115,27 @@ module _ (name-at : ℕ → List ℕ) where
       (λ us h. ap₂ end (ap (λ (l : List Tree). length (drop k l)) (read-again us h)) (ap (state-of k first) (after-rounds scoped k first us h))))
 
   pub flat-words :
-      (fuel next : ℕ) (ws : List ℕ) (m : ℕ) → trees-in ws ≡ some m → let ts = read numbered ws in let k = length ts in
-      cse-scope-by text (suc fuel) false next ts
+      (fuel left next : ℕ) (ws : List ℕ) (m : ℕ) → trees-in ws ≡ some m → let ts = read numbered ws in let k = length ts in
+      cse-scope-by text (suc fuel) left false next ts
       ≡ (rounds-words name-at (all-operations ts) false k next ws >>= λ vs.
       finish (unfused (length (drop k (read numbered vs))) (state-of k next (read numbered (reciprocals-words name-at false k next vs)))))
-  flat-words fuel next ws m c =
+  flat-words fuel left next ws m c =
       let ts = read numbered ws in
       let k = length ts in
-      flat-on text fuel next ts
+      flat-on text fuel left next ts
       ∙ ends-same false k next (λ x s. finish (unfused x s)) (rounds-on text (all-operations ts) false k next ts) (rounds-words name-at (all-operations ts) false k next ws)
       (rounds-words-are (all-operations ts) false k next ws m c)
 
   pub scoped-words :
-      (fuel next : ℕ) (ws : List ℕ) (m : ℕ) → trees-in ws ≡ some m → opens next (read numbered ws) ≡ true → let ts = read numbered ws in let k = length ts in
-      cse-scope-by text (suc fuel) true next ts
+      (fuel left next : ℕ) (ws : List ℕ) (m : ℕ) → trees-in ws ≡ some m → opens left next (read numbered ws) ≡ true → let ts = read numbered ws in let k = length ts in
+      cse-scope-by text (suc fuel) left true next ts
       ≡ (rounds-words name-at (all-operations ts) true k next ws >>= λ vs.
-      fuse-held (λ n l. cse-scope-by text fuel true n l) (length (drop k (read numbered vs))) (state-of k next (read numbered (reciprocals-words name-at true k next vs))))
-  scoped-words fuel next ws m c e =
+      let x = length (drop k (read numbered vs)) in
+      let s = state-of k next (read numbered (reciprocals-words name-at true k next vs)) in
+      fuse-held (λ n l. cse-scope-by text fuel (left-after left x s) true n l) left x s)
+  scoped-words fuel left next ws m c e =
       let ts = read numbered ws in
       let k = length ts in
-      scoped-on text fuel next ts e
-      ∙ ends-same true k next (λ x s. fuse-held (λ n l. cse-scope-by text fuel true n l) x s)
+      scoped-on text fuel left next ts e
+      ∙ ends-same true k next (λ x s. fuse-held (λ n l. cse-scope-by text fuel (left-after left x s) true n l) left x s)
       (rounds-on text (all-operations ts) true k next ts) (rounds-words name-at (all-operations ts) true k next ws) (rounds-words-are (all-operations ts) true k next ws m c)

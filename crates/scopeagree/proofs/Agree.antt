@@ -40,26 +40,26 @@ module _ (rows : List Row) (good : ℕ → Bool) where
   start-is k next vs places = ap (λ (i : ℕ). next-number k next (read numbered vs) + i) (sym (length-map places (numbered-at vs)))
 
   -- the table of bits gives the order of the needs
-  keeps-order : (fuel : ℕ) → Keeps-order rows (Sound rows good) (λ n l. cse-scope-by (text-of [] (name-in rows)) fuel true n l)
-  keeps-order fuel next ws vs s few low e room l walk =
+  keeps-order : (fuel m : ℕ) → Keeps-order rows (Sound rows good) (λ n l. cse-scope-by (text-of [] (name-in rows)) fuel m true n l)
+  keeps-order fuel m left next ws vs s few low e room l walk =
       let k = length (read numbered ws) in
       let places = divisors-to-bind vs (name-in rows) true in
       let ds = map (numbered-at vs) places in
       let n = next-number k next (read numbered vs) in
-      let scope : ℕ → List Tree → Outcome Scoped = λ i es. cse-scope-by text fuel true i es in
+      let scope : ℕ → List Tree → Outcome Scoped = λ i es. cse-scope-by text fuel m true i es in
       let sound = left-sound rows good next ws s vs e in
       let pass = left-pass rows good next ws s vs e in
       let r = left-ready rows good next ws s vs e in
       let c = complete-length numbered vs (r .trees) (r .complete) in
       let enough = rounds-results rows true good next ws (s .words) (s .pass) vs e in
       order-is vs k next places (r .trees) (r .complete) (omega (arith, enough, c)) (places-there rows good k next vs sound pass) scope
-      (λ i es w. scope-same-by text fuel true i es w) (settled-formed rows good next ws s vs e) (settled-under rows good next ws s vs e) l
+      (λ i es w. scope-same-by text fuel m true i es w) (settled-formed rows good next ws s vs e) (settled-under rows good next ws s vs e) l
       (ap (λ (i : ℕ). numbered-groups scope i (scope-groups ds n (read numbered vs))) (sym (start-is k next vs places)) ∙ walk)
-      (stmts-few vs k next places room (all-numbers (l .groups)))
+      (stmts-few left vs k next places room (all-numbers (l .groups)))
 
   -- the law of the scoped form on words
   pub scope-agrees :
-      (fuel row next : ℕ) (ws : List ℕ) → Sound rows good next ws
-      → scope-told rows fuel row next ws ≡ (cse-scope-by (text-of [] (name-in rows)) fuel true next (read numbered ws) >>= λ a. ok (told row a))
-  scope-agrees fuel row next ws s =
-      scope-told-is rows (Sound rows good) (λ n cs h. whole rows good n cs h) (keeps-sound rows good) keeps-order fuel row next ws s
+      (fuel left row next : ℕ) (ws : List ℕ) → Sound rows good next ws
+      → scope-told rows fuel left row next ws ≡ (cse-scope-by (text-of [] (name-in rows)) fuel left true next (read numbered ws) >>= λ a. ok (told row a))
+  scope-agrees fuel left row next ws s =
+      scope-told-is rows (Sound rows good) (λ n cs h. whole rows good n cs h) (keeps-sound rows good) keeps-order fuel left row next ws s

@@ -235,4 +235,4 @@ module _ (rows : List Row) (good : ℕ → Bool) (next : ℕ) (ws : List ℕ) (s
         }
 
 pub keeps-sound : (rows : List Row) (good : ℕ → Bool) → Keeps-sound rows (Sound rows good)
-keeps-sound rows good next ws vs s few low e short m i a more o h = column-is-sound rows good next ws s vs e m i a more o h
+keeps-sound rows good left next ws vs s few low e room m i a more o h = column-is-sound rows good next ws s vs e m i a more o h

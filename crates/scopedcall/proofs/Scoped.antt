@@ -13,7 +13,7 @@ use Rattle.tree.proofs.TokenCode.{unnumbered, renamed-name}
 use Rattle.tree.proofs.LayoutLaws.{laid-out-passes}
 use Rattle.rewrite.proofs.Names.{holds-all, below}
 use Rattle.cse.specs.AnswerRows.{result-row}
-use Rattle.cse.specs.Scope.{Scoped}
+use Rattle.cse.specs.Scope.{Scoped, area-rows}
 use Rattle.cselaws.proofs.PassesLaws.{passes-unmade}
 use Rattle.cselaws.proofs.ScopeValue.{under}
 use Rattle.renaming.specs.Names.{is-number}
@@ -55,8 +55,8 @@ module _ (rows roots : List ℕ) (h : T (laid-out rows roots)) where
   -- the scope of a table's words is the definition's
   pub scope-is : Scope-is (table-of rows roots)
   scope-is =
-      scope-agrees (t .rows) (is-number (t .rows)) scopes result-row 0 (tree-words t) start-sound
-      ∙ same-told (cse-scope-by (text-of [] (name-in (t .rows))) scopes true 0 (read numbered (tree-words t)))
+      scope-agrees (t .rows) (is-number (t .rows)) scopes area-rows result-row 0 (tree-words t) start-sound
+      ∙ same-told (cse-scope-by (text-of [] (name-in (t .rows))) scopes area-rows true 0 (read numbered (tree-words t)))
     where
       same-told : (o : Outcome Scoped) → (o >>= λ a. ok (told-words result-row a)) ≡ (o >>= λ a. ok (told result-row a))
       same-told (ok a) = (unfold told in unfold told-words in refl)

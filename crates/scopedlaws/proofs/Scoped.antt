@@ -13,7 +13,7 @@ use Rattle.tree.proofs.TokenCode.{unnumbered}
 use Rattle.checked.specs.Check.{rows-in}
 use Rattle.cse.specs.Answer.{rows}
 use Rattle.cse.specs.AnswerRows.{result-row, answer-words}
-use Rattle.cse.specs.Scope.{Scoped, scopes-open, as-answer}
+use Rattle.cse.specs.Scope.{Scoped, area-rows, scopes-open, as-answer}
 use Rattle.cse.specs.Call.{work-words, work-bytes}
 use Rattle.cselaws.proofs.RowCount.{answer-long}
 use Rattle.renaming.specs.Shown.{cse-scope-by, answer-by}
@@ -43,19 +43,19 @@ from-scope lent (refused i) = refl
 -- that the scope of a table's words is the definition's, as words
 abbrev pub Scope-is : Table → Type 0
 Scope-is t =
-    scope-told (t .rows) scopes result-row 0 (tree-words t)
-    ≡ (cse-scope-by (shown (names-of (t .rows))) scopes true 0 (read numbered (tree-words t)) >>= λ a. ok (told result-row a))
+    scope-told (t .rows) scopes area-rows result-row 0 (tree-words t)
+    ≡ (cse-scope-by (shown (names-of (t .rows))) scopes area-rows true 0 (read numbered (tree-words t)) >>= λ a. ok (told result-row a))
 
 module _ (rows roots : List ℕ) (lent : ℕ) (law : T (laid-out rows roots) → Scope-is (table-of rows roots)) where
   abbrev t : Table
   t = table-of rows roots
 
-  laid : T (laid-out rows roots) → extract-from true rows roots lent ≡ (scope-told (t .rows) scopes result-row 0 (tree-words t) >>= λ a. told-or-12 lent a)
+  laid : T (laid-out rows roots) → extract-from true rows roots lent ≡ (scope-told (t .rows) scopes area-rows result-row 0 (tree-words t) >>= λ a. told-or-12 lent a)
   unfolding answer-by scopes-open
   laid h =
       sym (call-enough true work-words work-bytes rows roots lent refl)
       ∙ call-from-words true work-words work-bytes rows roots lent refl h
-      ∙ from-scope lent (cse-scope-by (shown (names-of (t .rows))) scopes true 0 (read numbered (tree-words t)))
+      ∙ from-scope lent (cse-scope-by (shown (names-of (t .rows))) scopes area-rows true 0 (read numbered (tree-words t)))
       ∙ ap (λ (o : Outcome Told). o >>= λ a. told-or-12 lent a) (sym (law h))
 
   -- The call after 8.
@@ -64,6 +64,6 @@ module _ (rows roots : List ℕ) (lent : ℕ) (law : T (laid-out rows roots) →
   scoped-rows = go (laid-out rows roots) refl
     where
       go : (b : Bool) → laid-out rows roots ≡ b
-          → extract-from true rows roots lent ≡ (cond b (scope-told (rows-in rows) scopes result-row 0 (tree-words t)) (refused (by 9)) >>= λ a. told-or-12 lent a)
+          → extract-from true rows roots lent ≡ (cond b (scope-told (rows-in rows) scopes area-rows result-row 0 (tree-words t)) (refused (by 9)) >>= λ a. told-or-12 lent a)
       go true e = laid (subst T (sym e) tt)
       go false e = from-nine true 0 0 rows roots lent e

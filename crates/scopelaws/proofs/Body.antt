@@ -1,6 +1,6 @@
 -- A scope after its test, on words and by trees (01, "Extraction", "Reciprocals", "Scoped fusion", "Order"): its rounds, and then what comes after them. Assumes
 -- nothing.
-use Prim.Native.Nat.{ℕ, _+_, _≤_, _<_}
+use Prim.Native.Nat.{ℕ, _+_, _-_, _≤_, _<_}
 use native.Mathlib.Omega.{arith}
 use mathlib.Core.Path.{_≡_, sym, _∙_, ap, subst}
 use mathlib.Core.Bool.{true}
@@ -14,8 +14,9 @@ use Rattle.tree.specs.Facts.{all-operations}
 use Rattle.tree.specs.Rows.{Row}
 use Rattle.tree.specs.Tokens.{read, numbered, trees-in, name-in}
 use Rattle.cse.specs.AnswerRows.{value-row}
+use Rattle.cse.specs.Extract.{State}
 use Rattle.cse.specs.Order.{needs, positions-taken}
-use Rattle.cse.specs.Scope.{Scoped, fuse-held}
+use Rattle.cse.specs.Scope.{Scoped, left-after, fuse-held}
 use Rattle.cselaws.proofs.Outcomes.{Good, good-at}
 use Rattle.renaming.specs.Shown.{extract-all-by, reciprocals-by}
 use Rattle.renaming.specs.Places.{numbered-at, divisors-to-bind}
@@ -38,7 +39,7 @@ use Rattle.scopeplaces.specs.Whole.{Told, stmts-order, room-for, fused-scope}
 use Rattle.scopelaws.specs.Told.{told}
 use Rattle.scopelaws.proofs.Groups.{places-of, Opens-group}
 use Rattle.scopelaws.proofs.Walking.{Proper}
-use Rattle.scopelaws.proofs.Fusing.{then-known, fused-is}
+use Rattle.scopelaws.proofs.Fusing.{then-known, left-is, fused-is}
 
 -- ---- the trees that a scope settles are within the code
 
@@ -75,8 +76,12 @@ module _ (rows : List Row) (k first : ℕ) (vs : List ℕ) where
   abbrev hs : List ℕ
   hs = held-words vs k first bind-at
 
-  abbrev pub Has-room : Type 0
-  Has-room = T (room-for vs k first bind-at)
+  abbrev pub Has-room : ℕ → Type 0
+  Has-room left = T (room-for left vs k first bind-at)
+
+  -- the rows that are left for its arms
+  abbrev pub rows-after : ℕ → ℕ
+  rows-after left = left - length (held-words vs k first (divisors-to-bind vs (name-in rows) true))
 
   module _ (scope : ℕ → List Tree → Outcome Scoped) where
     -- the table of bits gives the order of the needs
@@ -100,10 +105,11 @@ module _ (rows : List Row) (k first : ℕ) (vs : List ℕ) where
 -- ---- rounds, and then what comes after them
 
 module _
-    (rows : List Row) (scope : ℕ → List Tree → Outcome Scoped) (proper : (n : ℕ) (es : List Tree) → Good (Proper n es) (scope n es)) (by-words : ℕ → List ℕ → Outcome Told)
-    (next : ℕ) (ws : List ℕ) (m : ℕ) (complete : trees-in ws ≡ some m)
-    (agree : (vs : List ℕ) → all-rounds rows true next ws ≡ ok vs → Has-room rows (length (read numbered ws)) next vs
-    → Arms-agree rows (length (read numbered ws)) next vs scope by-words × Order-agrees rows (length (read numbered ws)) next vs scope)
+    (rows : List Row) (scope : ℕ → ℕ → List Tree → Outcome Scoped) (proper : (i n : ℕ) (es : List Tree) → Good (Proper n es) (scope i n es))
+    (by-words : ℕ → ℕ → List ℕ → Outcome Told) (left next : ℕ) (ws : List ℕ) (m : ℕ) (complete : trees-in ws ≡ some m)
+    (agree : (vs : List ℕ) → all-rounds rows true next ws ≡ ok vs → Has-room rows (length (read numbered ws)) next vs left
+    → let i = rows-after rows (length (read numbered ws)) next vs left in
+    Arms-agree rows (length (read numbered ws)) next vs (scope i) (by-words i) × Order-agrees rows (length (read numbered ws)) next vs (scope i))
     (row : ℕ)
   where
     abbrev names : ℕ → List ℕ
@@ -123,10 +129,13 @@ module _
 
     -- what comes after the rounds, on words and by trees
     abbrev on-words : List ℕ → Outcome Told
-    on-words vs = fused-scope by-words row vs k next (divisors-to-bind vs (name-in rows) true)
+    on-words vs = fused-scope (by-words (rows-after rows k next vs left)) left row vs k next (divisors-to-bind vs (name-in rows) true)
+
+    abbrev fused : ℕ → State → Outcome Scoped
+    fused x s = fuse-held (scope (left-after left x s)) left x s
 
     abbrev on-trees : List Tree → Outcome Scoped
-    on-trees us = fuse-held scope (length (drop k us)) (state-of k next (bind-each-on (divisors-of text us) (next-number k next us) us))
+    on-trees us = fused (length (drop k us)) (state-of k next (bind-each-on (divisors-of text us) (next-number k next us) us))
 
     same-after :
         (us : List Tree) → In-code us → k ≤ length us → all-rounds rows true next ws ≡ ok (written us) → on-words (written us) ≡ (on-trees us >>= λ a. ok (told row a))
@@ -134,13 +143,17 @@ module _
         let vs = written us in
         let back = read-again us code in
         let c = written-complete us code in
-        fused-is scope proper by-words vs k next (divisors-to-bind vs names true) (subst (λ (l : List Tree). k ≤ length l) (sym back) long)
-        (roots-fit names k next vs (length us) c) (λ room. agree vs e room .0) (λ room. agree vs e room .1) row
-        ∙ (ap
-        (λ (ds : List Tree).
-        fuse-held scope (length (drop k (read numbered vs))) (state-of k next (bind-each-on ds (next-number k next (read numbered vs)) (read numbered vs))) >>= λ a. ok (told row a))
-        (sym (divisors-are names k next vs (length us) c))
-        ∙ ap (λ (l : List Tree). on-trees l >>= λ a. ok (told row a)) back)
+        let i = rows-after rows k next vs left in
+        let places = divisors-to-bind vs names true in
+        let enough = subst (λ (l : List Tree). k ≤ length l) (sym back) long in
+        let fit = roots-fit names k next vs (length us) c in
+        let x = length (drop k (read numbered vs)) in
+        let state : List Tree → State = λ ds. state-of k next (bind-each-on ds (next-number k next (read numbered vs)) (read numbered vs)) in
+        fused-is (scope i) (proper i) (by-words i) left vs k next places enough fit (λ room. agree vs e room .0) (λ room. agree vs e room .1) row
+        ∙ (ap (λ (j : ℕ). fuse-held (scope j) left x (state (map (numbered-at vs) places)) >>= λ a. ok (told row a))
+        (left-is (scope i) (proper i) (by-words i) left vs k next places enough fit)
+        ∙ (ap (λ (ds : List Tree). fused x (state ds) >>= λ a. ok (told row a)) (sym (divisors-are names k next vs (length us) c))
+        ∙ ap (λ (l : List Tree). on-trees l >>= λ a. ok (told row a)) back))
 
     rounds-are : all-rounds rows true next ws ≡ (trees-left >>= λ us. ok (written us))
     unfolding all-rounds
@@ -148,9 +161,11 @@ module _
 
     -- the law of a scope after its test
     pub body-is :
-        (all-rounds rows true next ws >>= λ vs. fused-scope by-words row vs (length (read numbered ws)) next (divisors-to-bind vs (name-in rows) true))
+        (all-rounds rows true next ws >>= λ vs.
+        fused-scope (by-words (rows-after rows (length (read numbered ws)) next vs left)) left row vs (length (read numbered ws)) next (divisors-to-bind vs (name-in rows) true))
         ≡ ((extract-all-by (text-of [] (name-in rows)) true next (read numbered ws) >>= λ s.
-        fuse-held scope (length (s .lets)) (reciprocals-by (text-of [] (name-in rows)) true s)) >>= λ a. ok (told row a))
+        let t = reciprocals-by (text-of [] (name-in rows)) true s in
+        fuse-held (scope (left-after left (length (s .lets)) t)) left (length (s .lets)) t) >>= λ a. ok (told row a))
     body-is =
         ap (λ (o : Outcome (List ℕ)). o >>= on-words) rounds-are
         ∙ (then-then trees-left (λ us. ok (written us)) on-words
@@ -160,4 +175,4 @@ module _
         (good-at (λ (l : List Tree). k ≤ length l) trees-left us e (rounds-on-length text (all-operations es) true k next es (omega arith)))
         (rounds-are ∙ ap (λ (o : Outcome (List Tree)). o >>= λ us. ok (written us)) e))
         ∙ (sym (then-then trees-left on-trees (λ a. ok (told row a)))
-        ∙ ap (λ (o : Outcome Scoped). o >>= λ a. ok (told row a)) (sym (rounds-then (λ x s. fuse-held scope x s) text next es)))))
+        ∙ ap (λ (o : Outcome Scoped). o >>= λ a. ok (told row a)) (sym (rounds-then fused text next es)))))

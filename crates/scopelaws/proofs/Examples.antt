@@ -10,6 +10,7 @@ use Rattle.tree.specs.Tokens.{name-in, read, numbered}
 use Rattle.tree.proofs.TokenCode.{renamed}
 use Rattle.rewrite.specs.Rewrite.{replace-divisor}
 use Rattle.cse.specs.AnswerRows.{result-row}
+use Rattle.cse.specs.Scope.{area-rows}
 use Rattle.renaming.specs.Shown.{cse-scope-by}
 use Rattle.renaming.proofs.BestPlace.{text-of}
 use Rattle.scopeplaces.specs.Whole.{Told, scope-told}
@@ -19,10 +20,10 @@ rows : List Row
 rows = row-sym (bytes "i") ∷ row-sym (bytes "a") ∷ row-sym (bytes "b") ∷ row-sym (bytes "y") ∷ row-sym (bytes "c") ∷ []
 
 by-trees : List ℕ → Outcome Told
-by-trees ws = cse-scope-by (text-of [] (name-in rows)) 9 true 0 (read numbered ws) >>= λ a. ok (told result-row a)
+by-trees ws = cse-scope-by (text-of [] (name-in rows)) 9 area-rows true 0 (read numbered ws) >>= λ a. ok (told result-row a)
 
 by-places : List ℕ → Outcome Told
-by-places ws = scope-told rows 9 result-row 0 ws
+by-places ws = scope-told rows 9 area-rows result-row 0 ws
 
 -- select(i, a, b) + select(i, b, a): one match with two names
 two : List ℕ

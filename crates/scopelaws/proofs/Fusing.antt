@@ -1,6 +1,6 @@
 -- A scope after its rounds, on words and by trees (01, "Reciprocals", "Scoped fusion", "Order"), if each arm's scope is the same on words as by trees. Assumes
 -- nothing.
-use Prim.Native.Nat.{ℕ, _+_, _≤_, _<_}
+use Prim.Native.Nat.{ℕ, _+_, _-_, _≤_, _<_}
 use native.Mathlib.Omega.{arith}
 use mathlib.Core.Path.{_≡_, refl, sym, _∙_, ap, ap₂, subst}
 use mathlib.Core.Bool.{Bool, true, false, _&&_, cond}
@@ -13,16 +13,17 @@ use Rattle.tree.specs.Tree.{Tree}
 use Rattle.tree.specs.Rows.{occurrences}
 use Rattle.tree.specs.Tokens.{read, numbered, trees-in}
 use Rattle.cse.specs.AnswerRows.{value-row}
-use Rattle.cse.specs.Extract.{State}
+use Rattle.cse.specs.Extract.{State, roots}
 use Rattle.cse.specs.Order.{needs, positions-taken}
-use Rattle.cse.specs.Scope.{Group, Scoped, finish, fuse-all, held, fusion-rows, statements, most-stmts, has-room, fuse-held}
+use Rattle.cse.specs.Scope.{Group, Scoped, collect-switches, finish, fuse-all, held, left-after, most-switches, statements, most-stmts, has-room, fuse-held}
 use Rattle.cselaws.proofs.Outcomes.{Good, good-at}
 use Rattle.renaming.specs.Places.{numbered-at}
 use Rattle.renaming.specs.Rounds.{next-number, state-of, bind-each-on}
 use Rattle.renaming.proofs.Extraction.{Every}
-use Rattle.renaming.proofs.RoundsOn.{then-then}
+use Rattle.renaming.proofs.RoundsOn.{then-then, roots-of-state}
 use Rattle.renaming.proofs.WordRounds.{In-code}
-use Rattle.switchplaces.specs.Switches.{arm-count}
+use Rattle.reciprocals.proofs.Parts.{bound-are-settled}
+use Rattle.switchplaces.specs.Switches.{arm-count, switch-places, switch-there}
 use Rattle.switchplaces.specs.Columns.{column-words}
 use Rattle.fusion.specs.Settled.{Walked, numbered-groups}
 use Rattle.fusion.specs.Words.{all-numbers}
@@ -33,7 +34,7 @@ use Rattle.scopeplaces.specs.Parts.{place-groups, trees-held, words-held, recip
 use Rattle.scopeplaces.specs.Whole.{Told, Walk, walked, stmts-order, ordered-scope, room-for, fused-scope}
 use Rattle.scopelaws.specs.Told.{told}
 use Rattle.scopelaws.proofs.Holding.{held-complete, held-length, held-are}
-use Rattle.scopelaws.proofs.Groups.{group-of, places-of, numbers-of, Opens-group, scope-groups-are, groups-count}
+use Rattle.scopelaws.proofs.Groups.{group-of, places-of, numbers-of, Opens-group, scope-switches-are, scope-groups-are, groups-count}
 use Rattle.scopelaws.proofs.Walking.{Proper, told-groups, walked-is}
 use Rattle.scopelaws.proofs.Matches.{its-group, Armed-well, groups-armed}
 use Rattle.scopelaws.proofs.Ordering.{ordered-is}
@@ -44,7 +45,7 @@ then-known (ok a) f g h = h a refl
 then-known (refused i) f g h = refl
 
 module _ (scope : ℕ → List Tree → Outcome Scoped) (proper : (n : ℕ) (es : List Tree) → Good (Proper n es) (scope n es)) (by-words : ℕ → List ℕ → Outcome Told)
-    (vs : List ℕ) (k first : ℕ) (places : List ℕ) (within : k ≤ length (read numbered vs))
+    (left : ℕ) (vs : List ℕ) (k first : ℕ) (places : List ℕ) (within : k ≤ length (read numbered vs))
     (fit : In-code (settled-roots (map (numbered-at vs) places) (next-number k first (read numbered vs)) (read numbered vs))) where
   abbrev ts : List Tree
   ts = read numbered vs
@@ -89,6 +90,25 @@ module _ (scope : ℕ → List Tree → Outcome Scoped) (proper : (n : ℕ) (es 
       (held (length (drop k (read numbered vs))) (state-of k first (bind-each-on (map (numbered-at vs) places) (next-number k first (read numbered vs)) (read numbered vs))))
   held-many = ap length hs-are ∙ (held-length vs n places fit ∙ ap occurrences (sym (held-are vs k first n places within)))
 
+  -- so that its arms have as many rows
+  pub left-is :
+      left - length (held-words vs k first places)
+      ≡ left-after left (length (drop k (read numbered vs)))
+      (state-of k first (bind-each-on (map (numbered-at vs) places) (next-number k first (read numbered vs)) (read numbered vs)))
+  unfolding left-after
+  left-is = ap (λ (m : ℕ). left - m) held-many
+
+  -- as many switches
+  switches-many : length (switch-places hs) ≡ length (collect-switches (roots state))
+  switches-many =
+      let own = words-held vs n places in
+      ap (λ (l : List ℕ). length (switch-places l)) hs-are
+      ∙ (sym (length-map (switch-places own) (switch-there own))
+      ∙ (ap length (sym (scope-switches-are vs n places fit)) ∙ ap (λ (l : List Tree). length (collect-switches l)) (sym roots-are)))
+    where
+      roots-are : roots state ≡ settled-roots ds n ts
+      roots-are = roots-of-state k first (bind-each-on ds n ts) ∙ (unfold settled-roots in bound-are-settled ds n ts)
+
   -- as many statements
   stmts-many : lets-count vs k first places + length (place-groups hs) ≡ statements state
   unfolding lets-count
@@ -101,17 +121,19 @@ module _ (scope : ℕ → List Tree → Outcome Scoped) (proper : (n : ℕ) (es 
       omega (arith, a, b, c, d, e)
 
   pub room-is :
-      room-for vs k first places
-      ≡ has-room (length (drop k (read numbered vs))) (state-of k first (bind-each-on (map (numbered-at vs) places) (next-number k first (read numbered vs)) (read numbered vs)))
-  unfolding room-for has-room fusion-rows most-stmts
-  room-is = ap₂ (λ (m n : ℕ). leb m 7281 && leb n 2048) held-many stmts-many
+      room-for left vs k first places
+      ≡ has-room left (length (drop k (read numbered vs))) (state-of k first (bind-each-on (map (numbered-at vs) places) (next-number k first (read numbered vs)) (read numbered vs)))
+  unfolding room-for has-room most-switches most-stmts
+  room-is =
+      ap (λ (m : ℕ). leb m left && (leb (length (switch-places hs)) 3640 && leb (lets-count vs k first places + length (place-groups hs)) 2048)) held-many
+      ∙ ap₂ (λ (m n : ℕ). leb (occurrences (held (length (drop k ts)) state)) left && (leb m 3640 && leb n 2048)) switches-many stmts-many
 
   module _
-      (inner : T (room-for vs k first places) → (n i a : ℕ) → reciprocals-first vs k first places + length places ≤ n → Opens-group (held-words vs k first places) i
+      (inner : T (room-for left vs k first places) → (n i a : ℕ) → reciprocals-first vs k first places + length places ≤ n → Opens-group (held-words vs k first places) i
       → a < arm-count (held-words vs k first places) (getD (places-of (held-words vs k first places) i) 0 0)
       → by-words n (column-words (held-words vs k first places) (places-of (held-words vs k first places) i) a)
       ≡ (scope n (read numbered (column-words (held-words vs k first places) (places-of (held-words vs k first places) i) a)) >>= λ s. ok (told value-row s)))
-      (ordering : T (room-for vs k first places) → (l : Walked)
+      (ordering : T (room-for left vs k first places) → (l : Walked)
       → numbered-groups scope (reciprocals-first vs k first places + length places)
       (scope-groups (map (numbered-at vs) places) (next-number k first (read numbered vs)) (read numbered vs))
       ≡ ok l
@@ -123,7 +145,7 @@ module _ (scope : ℕ → List Tree → Outcome Scoped) (proper : (n : ℕ) (es 
       abbrev made : ℕ
       made = length (drop k ts)
 
-      walk : T (room-for vs k first places)
+      walk : T (room-for left vs k first places)
           → (walked by-words hs (place-groups hs) start (length (place-groups hs)) >>= λ l. ordered-scope row vs k first places l)
           ≡ (settled-scope scope made k first ts ds >>= λ a. ok (told row a))
       unfolding settled-scope
@@ -147,17 +169,17 @@ module _ (scope : ℕ → List Tree → Outcome Scoped) (proper : (n : ℕ) (es 
               (good-at (λ (l : Walked). Every Armed-well (l .groups)) (numbered-groups scope start (scope-groups ds n ts)) l e (groups-armed scope start (scope-groups ds n ts))) row (ordering b l e)
 
       pub fused-is :
-          fused-scope by-words row vs k first places
-          ≡ (fuse-held scope (length (drop k (read numbered vs)))
+          fused-scope by-words left row vs k first places
+          ≡ (fuse-held scope left (length (drop k (read numbered vs)))
           (state-of k first (bind-each-on (map (numbered-at vs) places) (next-number k first (read numbered vs)) (read numbered vs))) >>= λ a. ok (told row a))
       unfolding fused-scope fuse-held
       fused-is =
-          go (room-for vs k first places) refl
+          go (room-for left vs k first places) refl
           ∙ ap
           (λ (b : Bool).
           (elim b as (λ _. Outcome Scoped) [ true ↦ (fuse-all scope made state >>= λ w. finish w) | false ↦ refused (by 23) ]) >>= λ a. ok (told row a)) room-is
         where
-          go : (b : Bool) → room-for vs k first places ≡ b
+          go : (b : Bool) → room-for left vs k first places ≡ b
               → cond b (walked by-words hs (place-groups hs) start (length (place-groups hs)) >>= λ l. ordered-scope row vs k first places l) (refused (by 23))
               ≡ ((elim b as (λ _. Outcome Scoped) [ true ↦ (fuse-all scope made state >>= λ w. finish w) | false ↦ refused (by 23) ]) >>= λ a. ok (told row a))
           go true e =

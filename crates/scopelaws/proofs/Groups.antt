@@ -15,13 +15,14 @@ use Rattle.renaming.proofs.WordRounds.{In-code}
 use Rattle.switchplaces.specs.Switches.{arm-count, switch-places, switch-there}
 use Rattle.switchplaces.specs.Groups.{member, group-first, group-numbers, members-of, member-places, group-there}
 use Rattle.switchplaces.specs.Columns.{column-words}
+use Rattle.switchplaces.proofs.Collected.{collected-are}
 use Rattle.switchplaces.proofs.Grouped.{opener-first, numbers-open, collected-groups}
 use Rattle.switchplaces.proofs.GroupColumns.{every-at, first-arms-are, members-by-place, group-column-complete, group-column-read}
 use Rattle.reciprocals.proofs.Parts.{settle-tree, settled-reciprocals}
 use Rattle.fusion.specs.Switchless.{with-switches}
 use Rattle.fusion.specs.Settled.{group-columns}
 use Rattle.fusion.specs.Whole.{settled-roots, scope-groups}
-use Rattle.fusion.proofs.Held.{groups-held}
+use Rattle.fusion.proofs.Held.{held-enough, groups-held}
 use Rattle.scopeplaces.specs.Parts.{place-groups, group-at, trees-held, words-held}
 use Rattle.scopelaws.proofs.Holding.{held-complete, held-read}
 
@@ -38,6 +39,23 @@ numbers-of hs = group-numbers hs (switch-places hs)
 -- a number that opens a group
 abbrev pub Opens-group : List ℕ → ℕ → Type 0
 Opens-group hs i = (i < length (switch-places hs)) × (group-first hs (switch-places hs) i ≡ i)
+
+-- the switches that a scope collects are those at the places of its held words
+pub scope-switches-are :
+    (ws : List ℕ) (n : ℕ) (places : List ℕ) → In-code (settled-roots (map (numbered-at ws) places) n (read numbered ws))
+    → collect-switches (settled-roots (map (numbered-at ws) places) n (read numbered ws))
+    ≡ map (switch-there (words-held ws n places)) (switch-places (words-held ws n places))
+unfolding settled-roots
+scope-switches-are ws n places fit =
+    let ds = map (numbered-at ws) places in
+    let hs = words-held ws n places in
+    held-enough (map (settle-tree ds n) (read numbered ws)) (settled-reciprocals ds n)
+    ∙ (ap collect-switches (known ∙ sym (held-read ws n places fit)) ∙ collected-are hs (length (trees-held ws n places)) (held-complete ws n places fit))
+  where
+    known :
+        map (settle-tree (map (numbered-at ws) places) n) (read numbered ws) ++ with-switches (settled-reciprocals (map (numbered-at ws) places) n)
+        ≡ trees-held ws n places
+    known = (unfold trees-held in refl)
 
 pub scope-groups-are :
     (ws : List ℕ) (n : ℕ) (places : List ℕ) → In-code (settled-roots (map (numbered-at ws) places) n (read numbered ws))

@@ -9,8 +9,9 @@ use lib.Seq.{length-take-le}
 use Rattle.tree.specs.Outcome.{Outcome, refused, by, _>>=_}
 use Rattle.tree.specs.Tree.{Tree}
 use Rattle.tree.specs.Facts.{all-operations}
+use Rattle.cse.specs.Extract.{State}
 use Rattle.cse.specs.Order.{topo-sort-intermediates}
-use Rattle.cse.specs.Scope.{Scoped, finish, fuse-all, has-room, fuse-held}
+use Rattle.cse.specs.Scope.{Scoped, finish, fuse-all, left-after, has-room, fuse-held}
 use Rattle.cselaws.proofs.Outcomes.{Good, then-good, any-good, good-ok}
 use Rattle.renaming.specs.Shown.{extract-all-by, reciprocals-by}
 use Rattle.renaming.specs.Rounds.{next-number, state-of, bind-each-on, rounds-on}
@@ -46,21 +47,28 @@ module _ (scope : ℕ → List Tree → Outcome Scoped) (proper : (n : ℕ) (es 
       (λ r. good-ok (From first k) _
       (let z = next-most k first ts in omega (arith, z, g), length-map (take k ts) (settled-fused ds n (all-steps (l .groups))) ∙ length-take-le k ts h)))
 
-  held-proper : (k first : ℕ) (ts ds : List Tree) → k ≤ length ts
-      → Good (From first k) (fuse-held scope (length (drop k ts)) (state-of k first (bind-each-on ds (next-number k first ts) ts)))
+  held-proper : (left k first : ℕ) (ts ds : List Tree) → k ≤ length ts
+      → Good (From first k) (fuse-held scope left (length (drop k ts)) (state-of k first (bind-each-on ds (next-number k first ts) ts)))
   unfolding fuse-held
-  held-proper k first ts ds h =
+  held-proper left k first ts ds h =
       let x = length (drop k ts) in
       let s = state-of k first (bind-each-on ds (next-number k first ts) ts) in
       tested-good (From first k) (fuse-all scope x s >>= λ w. finish w) 23
-      (subst (Good (From first k)) (sym (scope-is k first ts ds h scope x)) (settled-proper x k first ts ds h)) (has-room x s)
+      (subst (Good (From first k)) (sym (scope-is k first ts ds h scope x)) (settled-proper x k first ts ds h)) (has-room left x s)
 
-  -- a scope after its test
+-- a scope after its test: its arms' scopes are given the rows that are left
+module _ (scope : ℕ → ℕ → List Tree → Outcome Scoped) (proper : (i n : ℕ) (es : List Tree) → Good (Proper n es) (scope i n es)) where
   pub body-proper :
-      (shown : Tree → List ℕ) (next : ℕ) (es : List Tree)
-      → Good (Proper next es) (extract-all-by shown true next es >>= λ s. fuse-held scope (length (s .lets)) (reciprocals-by shown true s))
-  body-proper shown next es =
+      (shown : Tree → List ℕ) (left next : ℕ) (es : List Tree)
+      → Good (Proper next es)
+      (extract-all-by shown true next es >>= λ s.
+      fuse-held (scope (left-after left (length (s .lets)) (reciprocals-by shown true s))) left (length (s .lets)) (reciprocals-by shown true s))
+  body-proper shown left next es =
       let k = length es in
-      subst (Good (From next k)) (sym (rounds-then (λ x s. fuse-held scope x s) shown next es))
+      let end : ℕ → State → Outcome Scoped = λ x s. fuse-held (scope (left-after left x s)) left x s in
+      let after : List Tree → State = λ ts. state-of k next (bind-each-on (divisors-of shown ts) (next-number k next ts) ts) in
+      subst (Good (From next k)) (sym (rounds-then end shown next es))
       (then-good (λ (ts : List Tree). k ≤ length ts) (From next k) (rounds-on shown (all-operations es) true k next es)
-      (rounds-on-length shown (all-operations es) true k next es (omega arith)) _ (λ ts h. held-proper k next ts (divisors-of shown ts) h))
+      (rounds-on-length shown (all-operations es) true k next es (omega arith)) _ (λ ts h.
+      let i = left-after left (length (drop k ts)) (after ts) in
+      held-proper (scope i) (proper i) left k next ts (divisors-of shown ts) h))

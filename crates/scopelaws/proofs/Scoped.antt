@@ -20,29 +20,32 @@ use Rattle.scopelaws.proofs.Whole.{scope-body, Keeps-sound, Keeps-order
 
 module _ (rows : List Row) where
   -- the scope by trees, its texts those under the names of the rows
-  abbrev pub by-trees : ℕ → ℕ → List Tree → Outcome Scoped
-  by-trees fuel next es = cse-scope-by (text-of [] (name-in rows)) fuel true next es
+  abbrev pub by-trees : ℕ → ℕ → ℕ → List Tree → Outcome Scoped
+  by-trees fuel left next es = cse-scope-by (text-of [] (name-in rows)) fuel left true next es
 
-  none-open : (next : ℕ) (es : List Tree) → by-trees 0 next es ≡ refused (by 23)
+  none-open : (left next : ℕ) (es : List Tree) → by-trees 0 left next es ≡ refused (by 23)
   unfolding cse-scope-by
-  none-open next es = refl
+  none-open left next es = refl
 
   more-open :
-      (fuel next : ℕ) (es : List Tree)
-      → by-trees (suc fuel) next es
-      ≡ (elim (leb (occurrences es) 1927 && leb next 2147483648) as (λ _. Outcome Scoped) [ true ↦ scope-body rows (λ n l. by-trees fuel n l) next es | false ↦ refused (by 23) ])
+      (fuel left next : ℕ) (es : List Tree)
+      → by-trees (suc fuel) left next es
+      ≡ (elim (leb (occurrences es) left && (leb (occurrences es) 1927 && leb next 2147483648)) as (λ _. Outcome Scoped) [
+        | true ↦ scope-body rows (λ i n l. by-trees fuel i n l) left next es
+        | false ↦ refused (by 23)
+      ])
   unfolding cse-scope-by opens scope-rows
-  more-open fuel next es = refl
+  more-open fuel left next es = refl
 
   -- its numbers don't go back, and it has a value for each tree
-  pub by-trees-proper : (fuel next : ℕ) (es : List Tree) → Good (Proper next es) (by-trees fuel next es)
-  by-trees-proper fuel next es = scoped-proper rows by-trees none-open more-open fuel next es
+  pub by-trees-proper : (fuel left next : ℕ) (es : List Tree) → Good (Proper next es) (by-trees fuel left next es)
+  by-trees-proper fuel left next es = scoped-proper rows by-trees none-open more-open fuel left next es
 
   module _
       (Sound : ℕ → List ℕ → Type 0) (whole : (next : ℕ) (ws : List ℕ) → Sound next ws → (m : ℕ) × (trees-in ws ≡ some m)) (keeps : Keeps-sound rows Sound)
-      (ordered : (fuel : ℕ) → Keeps-order rows Sound (λ n l. cse-scope-by (text-of [] (name-in rows)) fuel true n l))
+      (ordered : (fuel left : ℕ) → Keeps-order rows Sound (λ n l. cse-scope-by (text-of [] (name-in rows)) fuel left true n l))
     where
       pub scope-told-is :
-          (fuel row next : ℕ) (ws : List ℕ) → Sound next ws
-          → scope-told rows fuel row next ws ≡ (cse-scope-by (text-of [] (name-in rows)) fuel true next (read numbered ws) >>= λ a. ok (told row a))
-      scope-told-is fuel row next ws s = told-is rows by-trees none-open more-open Sound whole keeps ordered fuel row next ws s
+          (fuel left row next : ℕ) (ws : List ℕ) → Sound next ws
+          → scope-told rows fuel left row next ws ≡ (cse-scope-by (text-of [] (name-in rows)) fuel left true next (read numbered ws) >>= λ a. ok (told row a))
+      scope-told-is fuel left row next ws s = told-is rows by-trees none-open more-open Sound whole keeps ordered fuel left row next ws s

@@ -13,7 +13,7 @@ use Rattle.tree.specs.Facts.{all-operations}
 use Rattle.rewrite.proofs.Counts.{well-formed-all}
 use Rattle.rewrite.proofs.Names.{holds-all}
 use Rattle.cse.specs.Extract.{roots}
-use Rattle.cse.specs.Scope.{opens}
+use Rattle.cse.specs.Scope.{left-after, opens}
 use Rattle.cselaws.proofs.Outcomes.{Good, good-at}
 use Rattle.cselaws.proofs.ScopeValue.{under}
 use Rattle.cselaws.proofs.ScopeRoom.{or-no-room, or-not-held}
@@ -28,16 +28,19 @@ use Rattle.fusion.specs.Whole.{divisors-of, settled-roots}
 use Rattle.scopeneedlaws.proofs.Statements.{next-is}
 
 module _ (shown : Tree → List ℕ) where
-  pub scope-same-by : (fuel : ℕ) (scoped : Bool) (start : ℕ) (es : List Tree) → T (well-formed-all es) → Good (Same-names start es) (cse-scope-by shown fuel scoped start es)
+  pub scope-same-by :
+      (fuel left : ℕ) (scoped : Bool) (start : ℕ) (es : List Tree) → T (well-formed-all es) → Good (Same-names start es) (cse-scope-by shown fuel left scoped start es)
   unfolding cse-scope-by
-  scope-same-by zero scoped start es w = (unfold Good in tt)
-  scope-same-by (suc fuel) false start es w =
+  scope-same-by zero left scoped start es w = (unfold Good in tt)
+  scope-same-by (suc fuel) left false start es w =
       from-input-by shown false start es w _ (λ s B. plain-finished start es (length (s .lets)) (reciprocals-by shown false s) B)
-  scope-same-by (suc fuel) true start es w =
-      or-no-room (Good (Same-names start es)) (unfold Good in tt) (opens start es) _
+  scope-same-by (suc fuel) left true start es w =
+      or-no-room (Good (Same-names start es)) (unfold Good in tt) (opens left start es) _
       (from-input-by shown true start es w _
-      (λ s B. or-not-held (Good (Same-names start es)) (unfold Good in tt) (λ n l. cse-scope-by shown fuel true n l) (length (s .lets)) (reciprocals-by shown true s)
-      (fused-finished (λ n l. cse-scope-by shown fuel true n l) (λ n l v. scope-same-by fuel true n l v) start es (length (s .lets)) (reciprocals-by shown true s) B)))
+      (λ s B.
+      let m = left-after left (length (s .lets)) (reciprocals-by shown true s) in
+      or-not-held (Good (Same-names start es)) (unfold Good in tt) (λ n l. cse-scope-by shown fuel m true n l) left (length (s .lets)) (reciprocals-by shown true s)
+      (fused-finished (λ n l. cse-scope-by shown fuel m true n l) (λ n l v. scope-same-by fuel m true n l v) start es (length (s .lets)) (reciprocals-by shown true s) B)))
 
   -- ---- after the rounds
 

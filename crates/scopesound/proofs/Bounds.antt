@@ -35,11 +35,11 @@ use Rattle.fusion.specs.Words.{numbers-from}
 use Rattle.fusion.proofs.Members.{numbers-count}
 use Rattle.scopeplaces.specs.Parts.{place-groups, joined-groups, group-at, group-start, reciprocals-first, held-words, match-run}
 use Rattle.scopeplaces.specs.Whole.{Told, Arms-told, Walk, arms-told, group-told, walked, stmts-count, tree-run, stmts-order, stmts-runs, values-runs, ordered-scope, room-for, fused-scope, scope-told}
-use Rattle.scopeplaces.proofs.Room.{held-few, stmts-few}
+use Rattle.scopeplaces.proofs.Room.{switches-few, stmts-few}
 use Rattle.scopesound.proofs.Columns.{armed-past, column-sound, column-pass, Fused, group-fused}
 use Rattle.scopesound.proofs.Rounds.{rounds-sound, rounds-short, rounds-pass, rounds-results}
 use Rattle.scopesound.proofs.Sums.{sum-each, each-append}
-use Rattle.scopesound.proofs.Counting.{arms-some, places-there, held-extractable, held-passes, held-words-ok, first-lets, last-most, trees-few, members-few, made-are}
+use Rattle.scopesound.proofs.Counting.{arms-some, places-there, held-extractable, held-passes, held-words-ok, first-lets, last-most, trees-few, places-small, members-few, made-are}
 use Rattle.scopesound.proofs.Sizes.{tree-run-length, match-run-length, stmts-length, values-length}
 
 -- the rows that a scope may have beside those that its numbers pay for, and what a number pays for
@@ -49,9 +49,9 @@ per-scope = 3721037
 abbrev pub per-number : ℕ
 per-number = 67108864
 
--- the rows of a match beside its arms'
+-- the rows of a match beside its arms': its own, those of its key, and one for each member
 abbrev pub per-match : ℕ
-per-match = 10923
+per-match = 5570
 
 -- ---- what is bounded
 
@@ -313,7 +313,7 @@ module _ (rows : List Row) (good : ℕ → Bool) (k first : ℕ) (vs : List ℕ)
   held-sounds = held-extractable rows good k first vs sound pass
 
   module _ (short : length vs ≤ 1927) (results : k ≤ length (read numbered vs)) (low : first ≤ most-number) where
-    module _ (room : T (room-for vs k first ps)) (l : Walk) (w : Walk-bound (place-groups hs) start (length (place-groups hs)) l) where
+    module _ (left : ℕ) (room : T (room-for left vs k first ps)) (l : Walk) (w : Walk-bound (place-groups hs) start (length (place-groups hs)) l) where
       lets-short : (i : ℕ) → suc (length (tree-run vs k first ps (l .numbers) i)) ≤ 1930
       lets-short i =
           let r = ready-of rows (next-number k first (read numbered vs)) vs sound in
@@ -322,11 +322,10 @@ module _ (rows : List Row) (good : ℕ → Bool) (k first : ℕ) (vs : List ℕ)
 
       matches-short : (run : List ℕ) (g : ℕ) → g < length (place-groups hs) → length (match-run hs (place-groups hs) (l .numbers) run g) ≤ per-match + length run
       matches-short run g h =
-          let r = ready-of rows start hs held-sounds in
-          let m = match-run-length hs (r .trees) (r .complete) (place-groups hs) (l .numbers) run g in
+          let m = match-run-length hs 1929 (places-small rows good k first vs sound pass short) (place-groups hs) (l .numbers) run g in
           let a = group-within (place-groups hs) g in
-          let b = members-few rows good k first vs sound pass short (held-few vs k first ps room) in
-          omega (arith, m, a, b, held-few vs k first ps room)
+          let b = members-few rows good k first vs sound pass (switches-few left vs k first ps room) in
+          omega (arith, m, a, b)
 
       pub ordered-bounded : (row : ℕ) → Good (Scope-bound first) (ordered-scope row vs k first ps l)
       unfolding ordered-scope
@@ -371,7 +370,7 @@ module _ (rows : List Row) (good : ℕ → Bool) (k first : ℕ) (vs : List ℕ)
                 forth = omega (arith, d, forth);
                 most = w .most (most-number + 2048) (omega (arith, f, low)) (omega arith);
                 made = omega (arith, made, d, g, h);
-                few = stmts-few vs k first ps room (l .numbers);
+                few = stmts-few left vs k first ps room (l .numbers);
                 rows = omega (arith, a, b, c, d, i, results, paid);
               }
 
@@ -381,58 +380,62 @@ module _ (rows : List Row) (good : ℕ → Bool) (k first : ℕ) (vs : List ℕ)
       groups-bounded n h =
           walk-bounded rows good scope bounded start hs held-sounds (held-passes rows good k first vs sound pass) (held-words-ok rows good k first vs sound pass) n h
 
-      pub fused-bounded : (row : ℕ) → Good (Scope-bound first) (fused-scope scope row vs k first ps)
+      pub fused-bounded : (left row : ℕ) → Good (Scope-bound first) (fused-scope scope left row vs k first ps)
       unfolding fused-scope
-      fused-bounded row =
-          tested (Scope-bound first) (room-for vs k first ps) (walked scope hs (place-groups hs) start (length (place-groups hs)) >>= λ l. ordered-scope row vs k first ps l) (by 23)
+      fused-bounded left row =
+          tested (Scope-bound first) (room-for left vs k first ps) (walked scope hs (place-groups hs) start (length (place-groups hs)) >>= λ l. ordered-scope row vs k first ps l) (by 23)
           (λ t.
           then-good (Walk-bound (place-groups hs) start (length (place-groups hs))) (Scope-bound first) (walked scope hs (place-groups hs) start (length (place-groups hs)))
-          (groups-bounded (length (place-groups hs)) (omega arith)) (λ l. ordered-scope row vs k first ps l) (λ l w. ordered-bounded t l w row))
+          (groups-bounded (length (place-groups hs)) (omega arith)) (λ l. ordered-scope row vs k first ps l) (λ l w. ordered-bounded left t l w row))
 
 -- ---- a whole scope, arms and all
 
 module _ (rows : List Row) (good : ℕ → Bool) where
-  pub scope-bounded : (fuel row next : ℕ) (ws : List ℕ) → T (extractable rows next ws) → T (symbols-pass good ws) → Good (Scope-bound next) (scope-told rows fuel row next ws)
+  pub scope-bounded :
+      (fuel left row next : ℕ) (ws : List ℕ) → T (extractable rows next ws) → T (symbols-pass good ws) → Good (Scope-bound next) (scope-told rows fuel left row next ws)
   unfolding scope-told Good
-  scope-bounded zero row next ws sound pass = tt
-  scope-bounded (suc fuel) row next ws sound pass =
-      tested (Scope-bound next) (leb (length ws) 1927 && leb next most-number)
-      (all-rounds rows true next ws >>= λ vs.
-      fused-scope (λ n cs. scope-told rows fuel value-row n cs) row vs (length (read numbered ws)) next (divisors-to-bind vs (name-in rows) true))
-      (by 23)
-      (λ t.
+  scope-bounded zero left row next ws sound pass = tt
+  scope-bounded (suc fuel) left row next ws sound pass =
+      let k = length (read numbered ws) in
+      let places : List ℕ → List ℕ = λ vs. divisors-to-bind vs (name-in rows) true in
+      let after : List ℕ → ℕ = λ vs. left - length (held-words vs k next (places vs)) in
+      let fused : List ℕ → Outcome Told = λ vs. fused-scope (λ n cs. scope-told rows fuel (after vs) value-row n cs) left row vs k next (places vs) in
+      tested (Scope-bound next) (leb (length ws) left && (leb (length ws) 1927 && leb next most-number)) (all-rounds rows true next ws >>= fused) (by 23)
+      (λ both.
+      let t = and-right (leb (length ws) left) (leb (length ws) 1927 && leb next most-number) both in
       let few = leb→le (length ws) 1927 (and-left (leb (length ws) 1927) (leb next most-number) t) in
       let low = leb→le next most-number (and-right (leb (length ws) 1927) (leb next most-number) t) in
       then-good (λ (vs : List ℕ). all-rounds rows true next ws ≡ ok vs) (Scope-bound next) (all-rounds rows true next ws) (known (all-rounds rows true next ws))
-      (λ vs. fused-scope (λ n cs. scope-told rows fuel value-row n cs) row vs (length (read numbered ws)) next (divisors-to-bind vs (name-in rows) true))
+      fused
       (λ vs e.
       let short = rounds-short rows true good next ws sound pass vs e in
-      fused-bounded rows good (length (read numbered ws)) next vs (rounds-sound rows true good next ws sound pass vs e) (rounds-pass rows true good next ws sound pass vs e)
-      (omega (arith, few, short)) (rounds-results rows true good next ws sound pass vs e) low (λ n cs. scope-told rows fuel value-row n cs)
-      (λ n cs s p. scope-bounded fuel value-row n cs s p) row))
+      fused-bounded rows good k next vs (rounds-sound rows true good next ws sound pass vs e) (rounds-pass rows true good next ws sound pass vs e)
+      (omega (arith, few, short)) (rounds-results rows true good next ws sound pass vs e) low (λ n cs. scope-told rows fuel (after vs) value-row n cs)
+      (λ n cs s p. scope-bounded fuel (after vs) value-row n cs s p) left row))
 
   -- an answer that was given
-  pub scope-bound : (fuel row next : ℕ) (ws : List ℕ) → T (extractable rows next ws) → T (symbols-pass good ws) → (a : Told) → scope-told rows fuel row next ws ≡ ok a → Scope-bound next a
-  scope-bound fuel row next ws sound pass a e = good-at (Scope-bound next) (scope-told rows fuel row next ws) a e (scope-bounded fuel row next ws sound pass)
+  pub scope-bound :
+      (fuel left row next : ℕ) (ws : List ℕ) → T (extractable rows next ws) → T (symbols-pass good ws) → (a : Told) → scope-told rows fuel left row next ws ≡ ok a → Scope-bound next a
+  scope-bound fuel left row next ws sound pass a e = good-at (Scope-bound next) (scope-told rows fuel left row next ws) a e (scope-bounded fuel left row next ws sound pass)
 
-  module _ (fuel from : ℕ) (hs : List ℕ) (sound : T (extractable rows from hs)) (pass : T (symbols-pass good hs)) where
+  module _ (fuel left from : ℕ) (hs : List ℕ) (sound : T (extractable rows from hs)) (pass : T (symbols-pass good hs)) where
     abbrev inner : ℕ → List ℕ → Outcome Told
-    inner n cs = scope-told rows fuel value-row n cs
+    inner n cs = scope-told rows fuel left value-row n cs
 
     inner-bounded : Bounds-all rows good inner
-    inner-bounded n cs s p = scope-bounded fuel value-row n cs s p
+    inner-bounded n cs s p = scope-bounded fuel left value-row n cs s p
 
     -- the first n arms of a group that were given
     pub arms-bound :
         (g : List ℕ) → Fused hs g → (start : ℕ) → from ≤ start → (n : ℕ) → n ≤ arm-count hs (getD g 0 0) → (a : Arms-told)
-        → arms-told (λ n cs. scope-told rows fuel value-row n cs) hs g start n ≡ ok a → Arms-bound start n a
+        → arms-told (λ n cs. scope-told rows fuel left value-row n cs) hs g start n ≡ ok a → Arms-bound start n a
     arms-bound g f start s n h a e =
         good-at (Arms-bound start n) (arms-told inner hs g start n) a e (arms-bounded rows good inner inner-bounded from hs sound pass g f start s n h)
 
     -- the first n groups that were given
     pub walk-bound :
         T (every (word-ok rows) hs) → (n : ℕ) → n ≤ length (place-groups hs) → (l : Walk)
-        → walked (λ n cs. scope-told rows fuel value-row n cs) hs (place-groups hs) from n ≡ ok l → Walk-bound (place-groups hs) from n l
+        → walked (λ n cs. scope-told rows fuel left value-row n cs) hs (place-groups hs) from n ≡ ok l → Walk-bound (place-groups hs) from n l
     walk-bound words n h l e =
         good-at (Walk-bound (place-groups hs) from n) (walked inner hs (place-groups hs) from n) l e (walk-bounded rows good inner inner-bounded from hs sound pass words n h)
 

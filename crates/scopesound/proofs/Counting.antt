@@ -13,6 +13,7 @@ use Rattle.tree.specs.Bytes.{every}
 use Rattle.tree.specs.Kinds.{Div, arity-ok, is-switch}
 use Rattle.tree.specs.Passes.{operands-ok}
 use Rattle.tree.specs.Tree.{Tree}
+use Rattle.tree.specs.Facts.{size}
 use Rattle.tree.specs.Rows.{Row}
 use Rattle.tree.specs.Tokens.{kind-of, below-of, takes, read, numbered, name-in, trees-in}
 use Rattle.text.specs.Text.{before}
@@ -24,6 +25,7 @@ use Rattle.checked.proofs.RunLaws.{operation-word}
 use Rattle.renaming.specs.Names.{symbols-pass}
 use Rattle.renaming.specs.Rounds.{next-number}
 use Rattle.renaming.specs.Places.{numbered-at, outside-at, divides-at, second-at, divisor-places, among-places, count-places, text-at, distinct-places, shared-places, insert-place, sort-places, divisors-to-bind}
+use Rattle.renaming.proofs.Extraction.{Every}
 use Rattle.reciprocals.proofs.Parts.{settle-tree, settled-reciprocals, All-there}
 use Rattle.reciprocals.proofs.There.{to-bind-there}
 use Rattle.kept.specs.Sound.{extractable}
@@ -35,7 +37,8 @@ use Rattle.switchplaces.specs.Switches.{switch-at, arm-count, switches-passing,
 use Rattle.switchplaces.proofs.Collected.{Switching}
 use Rattle.scopeplaces.specs.Parts.{place-groups, joined-groups, trees-held, words-held, reciprocals-first, lets-count, held-words}
 use Rattle.scopeplaces.specs.Whole.{stmts-count}
-use Rattle.scopesound.proofs.Held.{held-sound, held-pass, held-complete}
+use Rattle.scopeplaces.proofs.Small.{Small, place-small, divisors-small, held-small}
+use Rattle.scopesound.proofs.Held.{held-sound, held-pass, held-complete, held-read}
 use Rattle.scopesound.proofs.Columns.{members-count, groups-count}
 use Rattle.scopesound.proofs.Sums.{sum-first, sum-each, first-entries}
 
@@ -246,21 +249,15 @@ module _ (rows : List Row) (good : ℕ → Bool) (k first : ℕ) (vs : List ℕ)
   pub held-trees : trees-in held ≡ some (length (trees-held vs n places))
   held-trees = ap trees-in held-is ∙ held-complete rows good n vs sound pass places places-there
 
+  held-again : read numbered held ≡ trees-held vs n places
+  held-again = ap (read numbered) held-is ∙ held-read rows good n vs sound pass places places-there
+
   pub held-words-ok : T (every (word-ok rows) held)
   held-words-ok =
       let r = ready-of rows (reciprocals-first vs k first places + length places) held held-extractable in
       subst T (sym (words-taken rows held (r .trees) (r .complete))) (r .taken)
 
-  -- as many trees at least as rounds leave
-  held-many : length (read numbered vs) ≤ length (trees-held vs n places)
-  unfolding trees-held
-  held-many =
-      let ds = map (numbered-at vs) places in
-      let a = length-append (map (settle-tree ds n) (read numbered vs)) (with-switches (settled-reciprocals ds n)) in
-      let b = length-map (read numbered vs) (settle-tree ds n) in
-      omega (arith, a, b)
-
-  -- and no more than these and a reciprocal for each divisor
+  -- no more trees than rounds leave and a reciprocal for each divisor
   some-switched : (l : List Tree) → length (with-switches l) ≤ length l
   unfolding with-switches
   some-switched [] = omega arith
@@ -298,9 +295,6 @@ module _ (rows : List Row) (good : ℕ → Bool) (k first : ℕ) (vs : List ℕ)
   divisors-most : 2 * length places + length (read numbered vs) ≤ length vs
   divisors-most = (let d = divisors-few vs (name-in rows) true (ready .trees) (ready .complete) in omega (arith, d, trees-count))
 
-  switches-most : 2 * length (switch-places held) + length (read numbered vs) ≤ length held
-  switches-most = (let d = switches-few rows held held-words-ok (length (trees-held vs n places)) held-trees in omega (arith, d, held-many))
-
   -- the number of the first reciprocal, and the number after the last
   pub first-from : first ≤ reciprocals-first vs k first places
   first-from = omega (arith, first-is, number-is)
@@ -327,9 +321,15 @@ module _ (rows : List Row) (good : ℕ → Bool) (k first : ℕ) (vs : List ℕ)
     pub last-most : reciprocals-first vs k first places + length places ≤ first + 1927
     last-most = omega (arith, first-lets, lets-few)
 
-    module _ (held-short : length held ≤ 7281) where
-      pub members-few : length (joined-groups (place-groups held)) ≤ 3640
-      members-few = (let m = members-count held (length (trees-held vs n places)) held-trees in omega (arith, m, switches-most, held-short))
+    -- no tree at a place of what is held is larger than a reciprocal
+    pub places-small : (p : ℕ) → size (numbered-at held p) ≤ 1929
+    places-small p =
+        place-small 1929 held (omega arith)
+        (subst (λ (l : List Tree). Every (Small 1929) l) (sym held-again) (held-small 1927 vs short places (divisors-small 1927 vs (omega arith) short places) n)) p
 
-      pub groups-few : length (place-groups held) ≤ 3640
-      groups-few = (let g = groups-count held (length (trees-held vs n places)) held-trees in omega (arith, g, switches-most, held-short))
+  module _ (switched : length (switch-places held) ≤ 3640) where
+    pub members-few : length (joined-groups (place-groups held)) ≤ 3640
+    members-few = (let m = members-count held (length (trees-held vs n places)) held-trees in omega (arith, m, switched))
+
+    pub groups-few : length (place-groups held) ≤ 3640
+    groups-few = (let g = groups-count held (length (trees-held vs n places)) held-trees in omega (arith, g, switched))

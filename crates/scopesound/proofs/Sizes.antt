@@ -2,17 +2,16 @@
 -- (01, "Scoped fusion", "Turned down", refusal 12). Assumes nothing.
 use Prim.Native.Nat.{ℕ, zero, suc, _+_, _*_, _-_, _≤_, _<_}
 use native.Mathlib.Omega.{arith}
-use mathlib.Core.Path.{_≡_, refl, sym, _∙_, ap}
+use mathlib.Core.Path.{_≡_, refl, sym, ap}
 use mathlib.Core.Bool.{Bool, true, false, cond}
 use mathlib.Core.Option.{some}
 use mathlib.Core.List.{List, [], _∷_, _++_, map}
-use borrow.Author.Tests.{ltb-true, ltb-false, lt-ltb, le-ltb}
-use lib.ListN.{length, getD, take, drop, replicate, length-append, List·getD-eq-default}
+use borrow.Author.Tests.{lt-ltb, le-ltb}
+use lib.ListN.{length, getD, take, drop, replicate, length-append}
 use lib.Dec.{ltb}
 use Rattle.tree.specs.Tree.{Tree, Op, nil}
 use Rattle.tree.specs.Facts.{size}
-use Rattle.tree.specs.Tokens.{numbered, trees-at, trees-in}
-use Rattle.tree.proofs.TokenLaws.{trees-length}
+use Rattle.tree.specs.Tokens.{trees-in}
 use Rattle.tree.proofs.TokenCode.{unnumbered, tokens-length}
 use Rattle.cse.specs.Order.{positions-taken}
 use Rattle.cselaws.proofs.OrderLaws.{taken-ok}
@@ -26,7 +25,7 @@ use Rattle.fusion.specs.Settled.{fused-tree}
 use Rattle.fusion.proofs.Sizes.{fused-size}
 use Rattle.scopeplaces.specs.Parts.{place-groups, group-at, group-start, group-end, opener, lets-count, held-words, settled-trees, steps-from, fused-run, key-run, name-rows, names-run, match-run, let-run, value-run}
 use Rattle.scopeplaces.specs.Whole.{stmts-count, tree-run, needs-table, stmts-order, stmt-run, stmts-runs, values-runs}
-use Rattle.scopeplaces.proofs.Small.{Small, default-small, small-at, settled-small}
+use Rattle.scopeplaces.proofs.Small.{Small, small-at, settled-small}
 use Rattle.scopesound.proofs.Held.{there-within}
 use Rattle.scopesound.proofs.Sums.{sum-first, sum-each, first-more, first-none, first-entries, each-reversed, runs-length, first-most, different-most}
 
@@ -35,18 +34,6 @@ use Rattle.scopesound.proofs.Sums.{sum-first, sum-each, first-more, fir
 module _ (ws : List ℕ) (m : ℕ) (complete : trees-in ws ≡ some m) where
   pub place-size : (i : ℕ) → i < length ws → size (numbered-at ws i) ≤ length ws
   place-size i h = (let e = ends-within ws m complete i h in omega arith)
-
-  past-size : (i : ℕ) → length ws ≤ i → size (numbered-at ws i) ≡ 1
-  unfolding numbered-at
-  past-size i h = (let l = trees-length numbered ws in ap size (List·getD-eq-default (trees-at numbered ws) (Op 0 nil) (omega arith)) ∙ default-small)
-
-  -- at any number
-  pub any-size : (i : ℕ) → size (numbered-at ws i) ≤ suc (length ws)
-  any-size i = go (ltb i (length ws)) refl
-    where
-      go : (b : Bool) → ltb i (length ws) ≡ b → size (numbered-at ws i) ≤ suc (length ws)
-      go true e = (let p = place-size i (ltb-true i (length ws) e) in omega arith)
-      go false e = (let p = past-size i (ltb-false i (length ws) e) in omega arith)
 
   divisors-small : (l : List ℕ) → All-there ws l → Every (Small (length ws)) (map (numbered-at ws) l)
   divisors-small [] h = tt
@@ -70,13 +57,14 @@ module _ (ws : List ℕ) (m : ℕ) (complete : trees-in ws ≡ some m) where
 
 -- ---- a match's rows
 
-module _ (hs : List ℕ) (m : ℕ) (complete : trees-in hs ≡ some m) (gs : List (List ℕ)) (numbers : List ℕ) where
-  pub key-run-length : (g : ℕ) → length (key-run hs gs numbers g) ≤ suc (length hs)
+-- a key is no larger than a tree at a place
+module _ (hs : List ℕ) (c : ℕ) (small : (p : ℕ) → size (numbered-at hs p) ≤ c) (gs : List (List ℕ)) (numbers : List ℕ) where
+  pub key-run-length : (g : ℕ) → length (key-run hs gs numbers g) ≤ c
   unfolding key-run
   key-run-length g =
       let s = steps-from hs gs numbers (group-end gs g) in
       let t = numbered-at hs (key-place (opener gs g)) in
-      omega (arith, tokens-length unnumbered (fused-tree s t), fused-size s t, any-size hs m complete (key-place (opener gs g)))
+      omega (arith, tokens-length unnumbered (fused-tree s t), fused-size s t, small (key-place (opener gs g)))
 
   name-rows-length : (l : List ℕ) → length (name-rows hs gs numbers l) ≡ length l
   unfolding name-rows
@@ -94,7 +82,7 @@ module _ (hs : List ℕ) (m : ℕ) (complete : trees-in hs ≡ some m) (gs : Lis
       let l = take (length (group-at gs g)) (drop (group-start gs g) numbers) in
       omega (arith, name-rows-length l, take-few (length (group-at gs g)) (drop (group-start gs g) numbers))
 
-  pub match-run-length : (arms : List ℕ) (g : ℕ) → length (match-run hs gs numbers arms g) ≤ 2 + length hs + length (group-at gs g) + length arms
+  pub match-run-length : (arms : List ℕ) (g : ℕ) → length (match-run hs gs numbers arms g) ≤ suc c + length (group-at gs g) + length arms
   unfolding match-run
   match-run-length arms g =
       let a = length-append (key-run hs gs numbers g) (names-run hs gs numbers g ++ arms) in
