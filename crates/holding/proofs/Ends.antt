@@ -57,31 +57,31 @@ whole-so ws places e = go (trees-in ws) refl e
 module _ (words places first lent : ℕ) where
   pub words-many : 1927 < words → false ≡ room-to-hold words places first lent
   unfolding room-to-hold
-  words-many h = sym (ap (λ (b : Bool). b && (leb first 4294967296 && (leb places 4294967296 && leb 1927 lent))) (lt-leb words 1927 h))
+  words-many h = sym (ap (λ (b : Bool). b && (leb first 4294967296 && (leb places 4294967296 && leb words lent))) (lt-leb words 1927 h))
 
   pub first-large : 4294967296 < first → false ≡ room-to-hold words places first lent
   unfolding room-to-hold
-  first-large h = sym (ap (λ (b : Bool). leb words 1927 && (b && (leb places 4294967296 && leb 1927 lent))) (lt-leb first 4294967296 h) ∙ and-false (leb words 1927))
+  first-large h = sym (ap (λ (b : Bool). leb words 1927 && (b && (leb places 4294967296 && leb words lent))) (lt-leb first 4294967296 h) ∙ and-false (leb words 1927))
 
   pub places-many : 4294967296 < places → false ≡ room-to-hold words places first lent
   unfolding room-to-hold
   places-many h =
-      sym (ap (λ (b : Bool). leb words 1927 && (leb first 4294967296 && (b && leb 1927 lent))) (lt-leb places 4294967296 h)
+      sym (ap (λ (b : Bool). leb words 1927 && (leb first 4294967296 && (b && leb words lent))) (lt-leb places 4294967296 h)
       ∙ (ap (λ (b : Bool). leb words 1927 && b) (and-false (leb first 4294967296)) ∙ and-false (leb words 1927)))
 
-  pub room-told : words ≤ 1927 → first ≤ 4294967296 → places ≤ 4294967296 → leb 1927 lent ≡ room-to-hold words places first lent
+  pub room-told : words ≤ 1927 → first ≤ 4294967296 → places ≤ 4294967296 → leb words lent ≡ room-to-hold words places first lent
   unfolding room-to-hold
   room-told w f p =
-      sym (ap (λ (b : Bool). b && (leb first 4294967296 && (leb places 4294967296 && leb 1927 lent))) (le-leb words 1927 w)
-      ∙ (ap (λ (b : Bool). b && (leb places 4294967296 && leb 1927 lent)) (le-leb first 4294967296 f) ∙ ap (λ (b : Bool). b && leb 1927 lent) (le-leb places 4294967296 p)))
+      sym (ap (λ (b : Bool). b && (leb first 4294967296 && (leb places 4294967296 && leb words lent))) (le-leb words 1927 w)
+      ∙ (ap (λ (b : Bool). b && (leb places 4294967296 && leb words lent)) (le-leb first 4294967296 f) ∙ ap (λ (b : Bool). b && leb words lent) (le-leb places 4294967296 p)))
 
-  room-so : room-to-hold words places first lent ≡ true → (words ≤ 1927) × ((first ≤ 4294967296) × ((places ≤ 4294967296) × (1927 ≤ lent)))
+  room-so : room-to-hold words places first lent ≡ true → (words ≤ 1927) × ((first ≤ 4294967296) × ((places ≤ 4294967296) × (words ≤ lent)))
   unfolding room-to-hold
   room-so e =
-      let a = both-true (leb words 1927) (leb first 4294967296 && (leb places 4294967296 && leb 1927 lent)) e in
-      let b = both-true (leb first 4294967296) (leb places 4294967296 && leb 1927 lent) (a .1) in
-      let c = both-true (leb places 4294967296) (leb 1927 lent) (b .1) in
-      (leb-true words 1927 (a .0), (leb-true first 4294967296 (b .0), (leb-true places 4294967296 (c .0), leb-true 1927 lent (c .1))))
+      let a = both-true (leb words 1927) (leb first 4294967296 && (leb places 4294967296 && leb words lent)) e in
+      let b = both-true (leb first 4294967296) (leb places 4294967296 && leb words lent) (a .1) in
+      let c = both-true (leb places 4294967296) (leb words lent) (b .1) in
+      (leb-true words 1927 (a .0), (leb-true first 4294967296 (b .0), (leb-true places 4294967296 (c .0), leb-true words lent (c .1))))
 
 -- ---- the answers
 
@@ -116,10 +116,10 @@ module _ (ws places : List ℕ) (first : ℕ) (old : List ℕ) where
     held-full r g f = ends (record { answer = held.NoRoom; out = old }) (by-tests true false (leb (length new) (length old)) (sym e ∙ t) (sym g ∙ f) refl)
 
     module _ (r : Bool) (g : r ≡ room-to-hold (length ws) (length places) first (length old)) (u : r ≡ true) where
-      room-is : (length ws ≤ 1927) × ((first ≤ 4294967296) × ((length places ≤ 4294967296) × (1927 ≤ length old)))
+      room-is : (length ws ≤ 1927) × ((first ≤ 4294967296) × ((length places ≤ 4294967296) × (length ws ≤ length old)))
       room-is = room-so (length ws) (length places) first (length old) (sym g ∙ u)
 
-      pub ready-so : Ready ws places first × (1927 ≤ length old)
+      pub ready-so : Ready ws places first × (length ws ≤ length old)
       ready-so = let q = room-is in ((whole-so ws places (sym e ∙ t), (q .0, (q .1 .0, q .1 .1 .0))), q .1 .1 .1)
 
       module _ (n : ℕ) (c : n ≡ length (words-held ws first places)) (out : List ℕ) (w : out ≡ overlay 0 (words-held ws first places) (overlay 0 ws old)) where

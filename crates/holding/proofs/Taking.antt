@@ -60,19 +60,22 @@ module _ (ws places : List ℕ) (first : ℕ) (ready : Ready ws places first) wh
   unfolding settled-held
   S-is = refl
 
-  pub settled-short : length (settled-held ws first places) ≤ 1927
-  settled-short = omega (arith, ready .1 .0, ap length S-is, first-no-more ws places there first (ready .0 .0 .0) (ready .0 .0 .1))
+  settled-within : length (settled-held ws first places) ≤ length ws
+  settled-within = omega (arith, ap length S-is, first-no-more ws places there first (ready .0 .0 .0) (ready .0 .0 .1))
 
-  module _ (old mid : List ℕ) (long : 1927 ≤ length old) (copy : mid ≡ overlay 0 ws old) where
+  pub settled-short : length (settled-held ws first places) ≤ 1927
+  settled-short = omega (arith, ready .1 .0, settled-within)
+
+  module _ (old mid : List ℕ) (long : length ws ≤ length old) (copy : mid ≡ overlay 0 ws old) where
     copied : take (length ws) mid ≡ ws
-    copied = ap (take (length ws)) (copy ∙ overlay-front ws old (omega (arith, long, ready .1 .0))) ∙ take-at ws (drop (length ws) old) (length ws) refl
+    copied = ap (take (length ws)) (copy ∙ overlay-front ws old (omega (arith, long))) ∙ take-at ws (drop (length ws) old) (length ws) refl
 
     mid-long : length mid ≡ length old
     mid-long = ap length copy ∙ overlay-length 0 ws old
 
     settling-so : settling ws places 0 first mid (length ws) ≡ record { answer = settled.Words (length (settled-held ws first places)); out = settled-held ws first places ++ drop (length (settled-held ws first places)) mid }
     settling-so =
-        first-settled ws places there first (ready .0 .0 .0) (ready .0 .0 .1) mid copied (omega (arith, long, mid-long, ready .1 .0)) (omega (arith, ready .1 .0)) (ready .1 .1 .0) (ready .1 .1 .1)
+        first-settled ws places there first (ready .0 .0 .0) (ready .0 .0 .1) mid copied (omega (arith, long, mid-long)) (omega (arith, ready .1 .0)) (ready .1 .1 .0) (ready .1 .1 .1)
         ∙ ap (λ (l : List ℕ). record { answer = settled.Words (length l); out = l ++ drop (length l) mid }) (sym S-is)
 
     pub settled-all :
@@ -84,7 +87,7 @@ module _ (ws places : List ℕ) (first : ℕ) (ready : Ready ws places first) wh
           p,
           f
               ∙ (ap (λ (s : Settling). s .out) settling-so
-              ∙ (sym (overlay-front S mid (omega (arith, long, mid-long, settled-short))) ∙ ap (λ (m : List ℕ). overlay 0 (settled-held ws first places) m) copy)),
+              ∙ (sym (overlay-front S mid (omega (arith, long, mid-long, settled-within))) ∙ ap (λ (m : List ℕ). overlay 0 (settled-held ws first places) m) copy)),
         )
 
     pub settled-always : (b : Settled) → b ≡ settling ws places 0 first mid (length ws) .answer → (b ≡ settled.Broken → ⊥) × (b ≡ settled.NoRoom → ⊥)

@@ -46,8 +46,9 @@ unfoldable pub whole-there : List ℕ → List ℕ → Bool
 unfolding trees-in some-trees all-there
 whole-there ws places = some-trees (trees-in ws) && all-there ws places
 
+-- as many words lent as there are, so that the settled trees always have room
 unfoldable pub room-to-hold : ℕ → ℕ → ℕ → ℕ → Bool
-room-to-hold words places first lent = leb words 1927 && (leb first 4294967296 && (leb places 4294967296 && leb 1927 lent))
+room-to-hold words places first lent = leb words 1927 && (leb first 4294967296 && (leb places 4294967296 && leb words lent))
 
 -- both, as the parts of the work ask it
 abbrev pub Ready : List ℕ → List ℕ → ℕ → Type 0

@@ -19,7 +19,7 @@ use tables::put;
 use tokens::Trees;
 use tokens::count_trees;
 
-// The most words that are taken, and the fewest lent for what is held: so the settled trees always have room.
+// The most words that are taken.
 const AREA: usize = 1927;
 
 // A reciprocal is at most two words more than its divisor.
@@ -40,7 +40,7 @@ pub enum Held {
     TooMany,
     // A word lacks operands, or a divisor isn't there.
     Broken,
-    // Too many words, places or numbers, or too few words lent.
+    // Too many words, places or numbers, or fewer words lent than there are.
     NoRoom,
 }
 
@@ -130,7 +130,7 @@ fn hold_reciprocals(
 
 // Settles all trees in a copy. That it can't be done never comes up.
 fn settle_all(tokens: &[u64], places: &[u64], first: u64, work: &mut [u64]) -> usize
-    requires { ⌜ Ready (now tokens) (now places) first × (1927 ≤ length (now work)) ⌝ }
+    requires { ⌜ Ready (now tokens) (now places) first × (length (now tokens) ≤ length (now work)) ⌝ }
     ensures { λ r. ⌜ r ≡ length (settled-held (now (tokens .entry)) first (now (places .entry))) ⌝ }
     ensures { λ _. ⌜ now (work .exit) ≡ overlay 0 (settled-held (now (tokens .entry)) first (now (places .entry))) (overlay 0 (now (tokens .entry)) (now (work .entry))) ⌝ }
 {
@@ -145,7 +145,7 @@ fn settle_all(tokens: &[u64], places: &[u64], first: u64, work: &mut [u64]) -> u
 
 // Writes what is held to the front of work, and answers how many words it is. Those past the end are dropped.
 fn hold_all(tokens: &[u64], places: &[u64], first: u64, work: &mut [u64]) -> usize
-    requires { ⌜ Ready (now tokens) (now places) first × (1927 ≤ length (now work)) ⌝ }
+    requires { ⌜ Ready (now tokens) (now places) first × (length (now tokens) ≤ length (now work)) ⌝ }
     ensures { λ r. ⌜ r ≡ length (words-held (now (tokens .entry)) first (now (places .entry))) ⌝ }
     ensures { λ _. ⌜ now (work .exit) ≡ overlay 0 (words-held (now (tokens .entry)) first (now (places .entry))) (overlay 0 (now (tokens .entry)) (now (work .entry))) ⌝ }
 {
@@ -163,7 +163,7 @@ fn whole(tokens: &[u64], places: &[u64]) -> bool
     all_there(tokens, places)
 }
 
-// Whether there is room to hold them.
+// Whether there is room to hold them. With as many words lent as there are, the settled trees always have room.
 fn room_for(words: usize, places: usize, first: u64, lent: usize) -> bool
     ensures { λ r. ⌜ r ≡ room-to-hold words places first lent ⌝ }
 {
@@ -176,7 +176,7 @@ fn room_for(words: usize, places: usize, first: u64, lent: usize) -> bool
     if places as u64 > NUMBERS {
         return false;
     }
-    lent >= AREA
+    lent >= words
 }
 
 // Writes what a scope holds to the front of held: the divisors to bind stand at the places, and `first` is the number of the first one's reciprocal.

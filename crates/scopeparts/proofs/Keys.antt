@@ -205,7 +205,7 @@ module _ {held members ends numbers : List ℕ} (G : Grouped held members ends n
     w-is : w ≡ getD held q 0
     w-is = ap (λ (i : ℕ). getD held i 0) first-member
 
-    pub kind-there : (26 ≤ getD held (getD members b 0) 0 % 64) × ((1 ≤ getD held (getD members b 0) 0 / 64) × (getD held (getD members b 0) 0 / 64 ≤ 7281))
+    pub kind-there : (26 ≤ getD held (getD members b 0) 0 % 64) × ((1 ≤ getD held (getD members b 0) 0 / 64) × (getD held (getD members b 0) 0 / 64 ≤ 65536))
     kind-there =
         let a = has-key held q (switching .1) in
         let o = operation-takes (getD held q 0) (omega (arith, a .1)) in
@@ -216,7 +216,7 @@ module _ {held members ends numbers : List ℕ} (G : Grouped held members ends n
         let m = length-drop (suc q) held in
         (omega (arith, w-is, a .1), (omega (arith, w-is, a .0, o), omega (arith, w-is, o, n, l, v, m, G .short)))
 
-    pub part-few : getD ends g 0 - b ≤ 7281
+    pub part-few : getD ends g 0 - b ≤ 65536
     part-few = omega (arith, part-long, group-switches held g group-there .0 .1, G .short)
 
     pub head-is :

@@ -35,7 +35,7 @@ pub record Prepared (ws : List ℕ) (k first : ℕ) (places held starts members 
   pub few : length ws ≤ 1927
   pub low : first ≤ 2147483648
   pub held-is : held ≡ held-words ws k first places
-  pub short : length held ≤ 7281
+  pub short : length held ≤ 65536
   pub starts-are : starts ≡ take (length starts) (starts-of held)
   pub members-are : members ≡ joined-groups (place-groups held)
   pub ends-are : ends ≡ ends-from 0 (place-groups held)
@@ -50,7 +50,7 @@ Readied ws k first places held starts members numbers = (ends : List ℕ) × Pre
 -- The part of it that speaks of the groups only. Where `held` comes from isn't said, but that the tree at each of its places, a key too, has room where one tree has.
 pub record Grouped (held members ends numbers : List ℕ) : Type 0 where
   pub complete : Complete held
-  pub short : length held ≤ 7281
+  pub short : length held ≤ 65536
   pub members-are : members ≡ joined-groups (place-groups held)
   pub ends-are : ends ≡ ends-from 0 (place-groups held)
   pub numbered : length numbers ≡ length members

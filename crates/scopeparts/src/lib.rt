@@ -54,7 +54,7 @@ const MATCH: u64 = 4;
 
 // The tree of number i among some words, at the front of `tree`. That it lacks words never comes up.
 fn take_held(held: &[u64], starts: &[u64], i: usize, tree: &mut [u64]) -> usize
-    requires { ⌜ Complete (now held) × (length (now held) ≤ 7281) ⌝ }
+    requires { ⌜ Complete (now held) × (length (now held) ≤ 65536) ⌝ }
     requires { ⌜ (now starts ≡ take (length (now starts)) (starts-of (now held))) × (i < length (now starts)) ⌝ }
     requires { ⌜ length (run-number (now held) i) ≤ length (now tree) ⌝ }
     ensures { λ r. ⌜ Stands (run-number (now (held .entry)) i) (now (tree .exit)) r ⌝ }

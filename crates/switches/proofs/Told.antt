@@ -1,47 +1,73 @@
--- What `list_switches` tells those who ask for trees with room enough. Assumes nothing.
-use Prim.Native.Nat.{ℕ, _≤_}
+-- What `list_switches` tells those who ask for trees with a mark for each word. Assumes nothing.
+use Prim.Native.Nat.{ℕ, _≤_, _<_}
 use native.Mathlib.Omega.{arith}
-use mathlib.Core.Path.{_≡_, sym, _∙_, ap}
-use mathlib.Core.Bool.{Bool, true}
-use mathlib.Core.List.{List, _++_}
-use borrow.Author.Tests.{le-leb}
+use mathlib.Core.Path.{_≡_, refl, sym, _∙_, ap}
+use mathlib.Core.Bool.{Bool, true, false}
+use mathlib.Core.List.{List}
+use borrow.Author.Tests.{leb-true, leb-false}
 use lib.ListN.{length, take, drop}
 use lib.Seq.{take-at}
-use Rattle.words.specs.Words.{some-trees, Complete}
+use lib.Dec.{leb}
+use Rattle.words.specs.Words.{Complete}
 use Rattle.switchplaces.specs.Switches.{switch-places}
 use Rattle.switchplaces.proofs.Stepping.{places-end, places-few}
-use Rattle.switches.specs.Listing.{Listed, Listing, listing-by, room-for, listing}
+use Rattle.switches.specs.Listing.{Listed, Listing, put-by, put-front, listing}
+use Rattle.switches.specs.declared.SwitchList.{SwitchList}
 use Rattle.switches.specs.declared.SwitchList.the-variants as switch-list
+use Rattle.switches.proofs.Listed.{puts-all}
+use Rattle.switches.proofs.Giving.{puts-are}
 
 -- no more switches than words
 pub switches-few : (ws : List ℕ) → length (switch-places ws) ≤ length ws
 switches-few ws = omega (arith, ap length (places-end ws), places-few ws (length ws))
 
-module _ (ws : List ℕ) (marks : ℕ) (old : List ℕ) (complete : Complete ws) (marked : length ws ≤ marks) (lent : length ws ≤ length old) where
-  listing-is : listing ws marks old ≡ record { answer = switch-list.Count (length (switch-places ws)); out = switch-places ws ++ drop (length (switch-places ws)) old }
-  unfolding listing listing-by some-trees room-for
-  listing-is =
-      let room : room-for (length ws) marks (length old) ≡ true = rw (le-leb (length ws) marks marked, le-leb (length ws) (length old) lent) in
-      ap (λ (b : Bool). listing-by b (room-for (length ws) marks (length old)) (switch-places ws) old) (ap some-trees (complete .1))
-      ∙ ap (λ (b : Bool). listing-by true b (switch-places ws) old) room
+module _ (ws : List ℕ) (marks : ℕ) (old : List ℕ) (complete : Complete ws) (marked : length ws ≤ marks) where
+  answered : (r : SwitchList) → r ≡ listing ws marks old .answer → r ≡ put-front (switch-places ws) old .answer
+  answered r e = e ∙ ap (λ (x : Listing). x .answer) (puts-are ws marks old complete marked)
+
+  -- a count is told where there is a place for each
+  counted : (b : Bool) (n : ℕ) → switch-list.Count n ≡ put-by b (switch-places ws) old .answer → b ≡ true
+  unfolding put-by
+  counted true n e = refl
+  counted false n e = absurd (let z : _≡_ {A = ℕ} 0 1 = cc in omega arith)
+
+  uncounted : (b : Bool) → switch-list.TooMany ≡ put-by b (switch-places ws) old .answer → b ≡ false
+  unfolding put-by
+  uncounted true e = absurd (let z : _≡_ {A = ℕ} 0 1 = cc in omega arith)
+  uncounted false e = refl
+
+  pub all-fit : (n : ℕ) → switch-list.Count n ≡ listing ws marks old .answer → length (switch-places ws) ≤ length old
+  unfolding put-front
+  all-fit n e = leb-true (length (switch-places ws)) (length old) (counted (leb (length (switch-places ws)) (length old)) n (answered (switch-list.Count n) e))
+
+  pub more-than-lent : switch-list.TooMany ≡ listing ws marks old .answer → length old < length (switch-places ws)
+  unfolding put-front
+  more-than-lent e = leb-false (length (switch-places ws)) (length old) (uncounted (leb (length (switch-places ws)) (length old)) (answered switch-list.TooMany e))
 
   pub listed-all : (n : ℕ) (out : List ℕ) → switch-list.Count n ≡ listing ws marks old .answer → out ≡ listing ws marks old .out → Listed (switch-places ws) old n out
   listed-all n out e f =
-      let q : switch-list.Count n ≡ switch-list.Count (length (switch-places ws)) = e ∙ ap (λ (x : Listing). x .answer) listing-is in
+      let s = puts-are ws marks old complete marked ∙ puts-all (switch-places ws) old (all-fit n e) in
+      let q : switch-list.Count n ≡ switch-list.Count (length (switch-places ws)) = e ∙ ap (λ (x : Listing). x .answer) s in
       let c : n ≡ length (switch-places ws) = cc in
-      record { count = c; places = f ∙ ap (λ (x : Listing). x .out) listing-is }
+      record { count = c; places = f ∙ ap (λ (x : Listing). x .out) s }
+
+  never-broken : (b : Bool) → switch-list.Broken ≡ put-by b (switch-places ws) old .answer → ⊥
+  unfolding put-by
+  never-broken true e = let z : _≡_ {A = ℕ} 0 1 = cc in omega arith
+  never-broken false e = let z : _≡_ {A = ℕ} 0 1 = cc in omega arith
+
+  never-full : (b : Bool) → switch-list.NoRoom ≡ put-by b (switch-places ws) old .answer → ⊥
+  unfolding put-by
+  never-full true e = let z : _≡_ {A = ℕ} 0 1 = cc in omega arith
+  never-full false e = let z : _≡_ {A = ℕ} 0 1 = cc in omega arith
 
   pub not-broken : switch-list.Broken ≡ listing ws marks old .answer → ⊥
-  not-broken e =
-      let q : switch-list.Broken ≡ switch-list.Count (length (switch-places ws)) = e ∙ ap (λ (x : Listing). x .answer) listing-is in
-      let z : _≡_ {A = ℕ} 0 1 = cc in
-      omega arith
+  unfolding put-front
+  not-broken e = never-broken (leb (length (switch-places ws)) (length old)) (answered switch-list.Broken e)
 
   pub not-full : switch-list.NoRoom ≡ listing ws marks old .answer → ⊥
-  not-full e =
-      let q : switch-list.NoRoom ≡ switch-list.Count (length (switch-places ws)) = e ∙ ap (λ (x : Listing). x .answer) listing-is in
-      let z : _≡_ {A = ℕ} 0 1 = cc in
-      omega arith
+  unfolding put-front
+  not-full e = never-full (leb (length (switch-places ws)) (length old)) (answered switch-list.NoRoom e)
 
 -- the first places are the switches
 pub front-is : {new old : List ℕ} {n : ℕ} {out : List ℕ} → Listed new old n out → take n out ≡ new

@@ -3,7 +3,7 @@ use Prim.Native.Nat.{ℕ, _≤_, _<_}
 use mathlib.Core.Path.{_≡_}
 use mathlib.Core.Bool.{Bool, true, false, _&&_}
 use mathlib.Core.List.{List, [], _∷_, _++_}
-use lib.ListN.{length, drop}
+use lib.ListN.{length, take, drop}
 use lib.Dec.{leb}
 use Rattle.tree.specs.Kinds.{is-switch}
 use Rattle.tree.specs.Tokens.{kind-of, takes, trees-in}
@@ -39,17 +39,23 @@ pub record Listing : Type 0 where
   pub answer : SwitchList
   pub out : List ℕ
 
--- by whether no word lacks an operand, and whether there is room: the places in front of what stood after as many, or nothing written
-unfoldable pub listing-by : Bool → Bool → List ℕ → List ℕ → Listing
-listing-by false room new old = record { answer = switch-list.Broken; out = old }
-listing-by true false new old = record { answer = switch-list.NoRoom; out = old }
-listing-by true true new old = record { answer = switch-list.Count (length new); out = new ++ drop (length new) old }
+-- by whether there is a place for each: the places in front of what stood after as many, or the first of them, in every place lent
+unfoldable pub put-by : Bool → List ℕ → List ℕ → Listing
+put-by true new old = record { answer = switch-list.Count (length new); out = new ++ drop (length new) old }
+put-by false new old = record { answer = switch-list.TooMany; out = take (length old) new }
 
--- a mark and a place for each word
-unfoldable pub room-for : ℕ → ℕ → ℕ → Bool
-room-for words marks lent = leb words marks && leb words lent
+unfoldable pub put-front : List ℕ → List ℕ → Listing
+unfolding put-by
+put-front new old = put-by (leb (length new) (length old)) new old
+
+-- by whether no word lacks an operand, and whether there is a mark for each word: what is put, or nothing
+unfoldable pub listing-by : Bool → Bool → List ℕ → List ℕ → Listing
+unfolding put-front
+listing-by false marked new old = record { answer = switch-list.Broken; out = old }
+listing-by true false new old = record { answer = switch-list.NoRoom; out = old }
+listing-by true true new old = put-front new old
 
 -- by the words, how many marks are lent, and the places lent
 unfoldable pub listing : List ℕ → ℕ → List ℕ → Listing
-unfolding listing-by trees-in some-trees room-for switch-places
-listing ws marks old = listing-by (some-trees (trees-in ws)) (room-for (length ws) marks (length old)) (switch-places ws) old
+unfolding listing-by trees-in some-trees switch-places
+listing ws marks old = listing-by (some-trees (trees-in ws)) (leb (length ws) marks) (switch-places ws) old

@@ -1,12 +1,12 @@
 // The switches outside arms (01, "Scoped fusion") as places among words of trees, each tree once, where it stands first.
 ghost use mathlib.Core.Path.{_≡_};
-ghost use Prim.Native.Nat.{_≤_, _<_};
+ghost use Prim.Native.Nat.{_<_};
 ghost use lib.ListN.{length};
 ghost use Rattle.tree.specs.Tree.{eq-tree};
 ghost use Rattle.words.specs.Words.{Complete};
 ghost use Rattle.renaming.specs.Places.{numbered-at, among-places};
 ghost use Rattle.switchplaces.specs.Switches.{switch-places, new-switch};
-ghost use Rattle.switches.specs.Listing.{switch-word, Inside, Outsides, Listed, listing};
+ghost use Rattle.switches.specs.Listing.{switch-word, Inside, Outsides, put-front, listing};
 use tokens::Equality;
 use tokens::Trees;
 use tokens::count_trees;
@@ -22,9 +22,11 @@ const BRANCH: u64 = 26;
 pub enum SwitchList {
     // How many places were written.
     Count(usize),
+    // More switches than places; the first of them are written.
+    TooMany,
     // A word lacks operands.
     Broken,
-    // Fewer marks or places than words.
+    // Fewer marks than words.
     NoRoom,
 }
 
@@ -83,16 +85,19 @@ fn is_new(tokens: &[u64], marks: &[u64], met: &[u64], p: usize) -> bool
     !is_among(tokens, met, p)
 }
 
-// Lists the switches at marked places, each once, and returns how many there are.
-fn list(tokens: &[u64], marks: &[u64], places: &mut [u64]) -> usize
-    requires { ⌜ Complete (now tokens) × (length (now tokens) ≤ length (now places)) ⌝ }
-    requires { ⌜ Outsides (now tokens) (now marks) ⌝ }
-    ensures { λ r. ⌜ Listed (switch-places (now (tokens .entry))) (now (places .entry)) r (now (places .exit)) ⌝ }
+// Lists the switches at marked places, each once. It stops at a switch that no place is left for.
+fn list(tokens: &[u64], marks: &[u64], places: &mut [u64]) -> SwitchList
+    requires { ⌜ Complete (now tokens) × Outsides (now tokens) (now marks) ⌝ }
+    ensures { λ r. ⌜ (r ≡ put-front (switch-places (now (tokens .entry))) (now (places .entry)) .answer)
+        × (now (places .exit) ≡ put-front (switch-places (now (tokens .entry))) (now (places .entry)) .out) ⌝ }
 {
     let mut n = 0;
     let mut p = 0;
     while p < tokens.len() {
         if is_new(tokens, marks, &places[..n], p) {
+            if n >= places.len() {
+                return SwitchList::TooMany;
+            }
             places[n] = p as u64;
             n += 1;
             p += 1;
@@ -100,10 +105,10 @@ fn list(tokens: &[u64], marks: &[u64], places: &mut [u64]) -> usize
             p += 1;
         }
     }
-    n
+    SwitchList::Count(n)
 }
 
-// The places of the switches outside arms, in front of what stood after as many. The marks are work space: what is left there is free.
+// The places of the switches outside arms, in front of what stood after as many; if there are more than places lent, the first of them. The marks are work space: what is left there is free.
 pub fn list_switches(tokens: &[u64], marks: &mut [u64], places: &mut [u64]) -> SwitchList
     ensures { λ r. ⌜ (r ≡ listing (now (tokens .entry)) (length (now (marks .entry))) (now (places .entry)) .answer)
         × (now (places .exit) ≡ listing (now (tokens .entry)) (length (now (marks .entry))) (now (places .entry)) .out) ⌝ }
@@ -114,10 +119,6 @@ pub fn list_switches(tokens: &[u64], marks: &mut [u64], places: &mut [u64]) -> S
     if marks.len() < tokens.len() {
         return SwitchList::NoRoom;
     }
-    if places.len() < tokens.len() {
-        return SwitchList::NoRoom;
-    }
     mark_outside(tokens, true, marks);
-    let n = list(tokens, marks, places);
-    SwitchList::Count(n)
+    list(tokens, marks, places)
 }

@@ -3,7 +3,7 @@ use native.Mathlib.Omega.{arith}
 use mathlib.Core.Path.{sym, _∙_}
 use Prim.Native.Nat.{_-_}
 use lib.ListN.{length}
-use Rattle.switches.proofs.Listed.{State, starts, few, met-long, met-inside, list-long, turn-none, turn-one, list-ends}
+use Rattle.switches.proofs.Listed.{State, starts, few, met-long, met-inside, list-long, turn-none, turn-one, list-full, list-ends}
 use Rattle.switches.proofs.list.Statement.{statement}
 use Rattle.switches.proofs.list.Tie as tie
 
@@ -20,17 +20,19 @@ list-spec =
     Inv-loop
     μ-loop
     (λ c. starts (c .before .before .before .args .tokens .now) (c .before .before .before .args .places .now))
-    (λ c. omega (arith, few (c .before .before .before .before .before .args .tokens .now) (c .before .loop .inv), list-long (c .before .before .before .before .before .args .tokens .now) (c .before .loop .inv) (c .before .before .before .before .before .pre .0 .1), c .loop-test .taken, c .before .before .before .before .before .pre .0 .1))
+    (λ c. omega (arith, list-long (c .before .before .before .before .before .args .tokens .now) (c .before .loop .inv), c .before .loop .inv .lent))
     (λ c. met-long (c .before .before .before .before .before .before .args .tokens .now) (c .before .before .loop .inv))
-    (λ c κs. ((c .before .before .before .before .before .before .pre .0 .0, c .before .loop-test .taken), (c .before .before .before .before .before .before .pre .1, met-inside (c .before .before .before .before .before .before .args .tokens .now) (c .before .before .loop .inv))))
-    (λ c. omega (arith, few (c .before .before .before .before .before .before .before .before .args .tokens .now) (c .before .before .before .before .loop .inv), list-long (c .before .before .before .before .before .before .before .before .args .tokens .now) (c .before .before .before .before .loop .inv) (c .before .before .before .before .before .before .before .before .pre .0 .1), c .before .before .before .loop-test .taken, c .before .before .before .before .before .before .before .before .pre .0 .1, c .before .before .before .before .before .before .before .before .good))
-    (λ c. omega (arith, few (c .before .before .before .before .before .before .before .before .args .tokens .now) (c .before .before .before .before .loop .inv), list-long (c .before .before .before .before .before .before .before .before .args .tokens .now) (c .before .before .before .before .loop .inv) (c .before .before .before .before .before .before .before .before .pre .0 .1), c .before .before .before .loop-test .taken, c .before .before .before .before .before .before .before .before .pre .0 .1))
-    (λ c. omega (arith, few (c .before .before .before .before .before .before .before .before .args .tokens .now) (c .before .before .before .before .loop .inv), c .before .before .before .loop-test .taken, c .before .before .before .before .before .before .before .before .good))
-    (λ c. omega (arith, c .before .before .before .loop-test .taken, c .before .before .before .before .before .before .before .before .good))
-    (λ c. omega (arith, c .before .before .before .loop-test .taken))
-    (λ c. turn-one (c .before .before .before .before .before .before .before .before .args .tokens .now) (c .before .before .before .before .loop .inv) (c .before .before .before .loop-test .taken) (c .before .before .before .before .before .before .before .before .pre .0 .1) (sym (c .if1 .taken) ∙ c .before .is-new .ensures))
+    (λ c κs. ((c .before .before .before .before .before .before .pre .0, c .before .loop-test .taken), (c .before .before .before .before .before .before .pre .1, met-inside (c .before .before .before .before .before .before .args .tokens .now) (c .before .before .loop .inv))))
+    (λ c. list-long (c .before .before .before .before .before .before .before .before .before .args .tokens .now) (c .before .before .before .before .before .loop .inv))
+    (λ c. list-full (c .before .before .before .before .before .before .before .before .before .args .tokens .now) (c .before .before .before .before .before .loop .inv) (c .before .before .before .before .loop-test .taken) (omega (arith, list-long (c .before .before .before .before .before .before .before .before .before .args .tokens .now) (c .before .before .before .before .before .loop .inv), c .if2 .taken)) (sym (c .before .if1 .taken) ∙ c .before .before .is-new .ensures))
+    (λ c. omega (arith, few (c .before .before .before .before .before .before .before .before .before .args .tokens .now) (c .before .before .before .before .before .loop .inv), list-long (c .before .before .before .before .before .before .before .before .before .args .tokens .now) (c .before .before .before .before .before .loop .inv), c .if2 .left, c .before .before .before .before .loop-test .taken, c .before .before .before .before .before .before .before .before .before .good))
+    (λ c. omega (arith, c .if2 .left))
+    (λ c. omega (arith, few (c .before .before .before .before .before .before .before .before .before .args .tokens .now) (c .before .before .before .before .before .loop .inv), c .before .before .before .before .loop-test .taken, c .before .before .before .before .before .before .before .before .before .good))
+    (λ c. omega (arith, c .before .before .before .before .loop-test .taken, c .before .before .before .before .before .before .before .before .before .good))
+    (λ c. omega (arith, c .before .before .before .before .loop-test .taken))
+    (λ c. turn-one (c .before .before .before .before .before .before .before .before .before .args .tokens .now) (c .before .before .before .before .before .loop .inv) (c .before .before .before .before .loop-test .taken) (omega (arith, list-long (c .before .before .before .before .before .before .before .before .before .args .tokens .now) (c .before .before .before .before .before .loop .inv), c .if2 .left)) (sym (c .before .if1 .taken) ∙ c .before .before .is-new .ensures))
     (λ c. omega (arith, c .before .before .before .loop-test .taken, c .before .before .before .before .before .before .before .before .good))
     (λ c. omega (arith, c .before .before .before .loop-test .taken))
     (λ c. turn-none (c .before .before .before .before .before .before .before .before .args .tokens .now) (c .before .before .before .before .loop .inv) (c .before .before .before .loop-test .taken) (sym (c .if1 .left) ∙ c .before .is-new .ensures))
-    (λ c. list-long (c .before .before .before .before .before .args .tokens .now) (c .before .loop .inv) (c .before .before .before .before .before .pre .0 .1))
+    (λ c. list-long (c .before .before .before .before .before .args .tokens .now) (c .before .loop .inv))
     (λ c. list-ends (c .before .before .before .before .before .args .tokens .now) (c .before .loop .inv) (c .loop-test .left)))
