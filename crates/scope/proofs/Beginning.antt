@@ -9,7 +9,6 @@ use lib.ListN.{length, getD, take, drop, length-append, length-drop, length-take
 use lib.Seq.{take-at, length-take-le, take-all}
 use lib.Dec.{T, leb}
 use borrow.Author.Tests.{le-leb, lt-leb}
-use borrow.Rule.Slice.PartMut.{putMid}
 use Rattle.tree.specs.Outcome.{Refusal, Outcome, ok, refused, by, _>>=_}
 use Rattle.tree.specs.Rows.{Row}
 use Rattle.tree.specs.Tokens.{read, numbered, trees-in, name-in}
@@ -32,11 +31,11 @@ use Rattle.scopeplaces.specs.Whole.{Told, Walk, walked, stmts-count, ordered-sc
 use Rattle.tables.proofs.Laws.{overlay-front}
 use Rattle.scopesound.proofs.Bounds.{Walk-bound, walk-bound, numbers-small, numbers-all}
 use Rattle.scopesound.proofs.Columns.{members-count, groups-count}
-use Rattle.scopesound.proofs.Counting.{switches-few, places-there, first-is, held-extractable, held-passes, held-trees, first-lets, trees-few, lets-few, last-most, held-trees-few}
+use Rattle.scopesound.proofs.Counting.{places-there, first-is, held-extractable, held-passes, held-trees, first-lets, trees-few, lets-few, last-most, held-trees-few}
 use Rattle.scopeparts.specs.Prepared.{Prepared}
 use Rattle.scopeparts.proofs.Groups.{ends-count}
 use Rattle.scope.specs.Answers.{inner, scope-answer, scope-table, told-rows, walk-answer, Walk-wrote, walk-refusal, Holding-so}
-use Rattle.scope.specs.Frame.{most-rows, Lent, Holds, Members, Ready, groups-told, grouped-scope, Sized, Numbered, Left, Grouping-so}
+use Rattle.scope.specs.Frame.{most-rows, Lent, Holds, Members, Ready, groups-told, grouped-scope, Sized, Numbered, Left, left-scope, Grouping-so}
 use Rattle.scope.specs.declared.Scoped.{Scoped}
 use Rattle.scope.specs.declared.Scoped.the-variants as scoped
 use Rattle.scope.specs.declared.Holding.{Holding}
@@ -56,7 +55,7 @@ and-false false = refl
 
 -- ---- from the groups on
 
-module _ (rows : List Row) (fuel row : ℕ) (ws : List ℕ) (k first : ℕ) (places held starts members ends : List ℕ)
+module _ (rows : List Row) (fuel left row : ℕ) (ws : List ℕ) (k first : ℕ) (places held starts members ends : List ℕ)
     (h : Holds rows (reciprocals-first ws k first places + length places) held) (rd : Ready ws k first places held starts members ends) where
   abbrev from : ℕ
   from = reciprocals-first ws k first places + length places
@@ -87,10 +86,10 @@ module _ (rows : List Row) (fuel row : ℕ) (ws : List ℕ) (k first : ℕ) (pla
   pub ends-short : length ends ≤ 2048
   ends-short = omega (arith, few-stmts, ap length (rd .grouped .ends-are), ends-count 0 gs)
 
-  module _ (w : Walked) (numbers stops old kept : List ℕ) (given : (w ≡ walk-answer (groups-told rows fuel (first + lets) held)) × Walk-wrote (groups-told rows fuel (first + lets) held) numbers stops old kept) where
+  module _ (w : Walked) (numbers stops old kept : List ℕ) (given : (w ≡ walk-answer (groups-told rows fuel left (first + lets) held)) × Walk-wrote (groups-told rows fuel left (first + lets) held) numbers stops old kept) where
     pub record Walk-done (after extracted : ℕ) : Type 0 where
       pub walk : Walk
-      pub told : groups-told rows fuel from held ≡ ok walk
+      pub told : groups-told rows fuel left from held ≡ ok walk
       pub after-is : after ≡ walk .next
       pub extracted-is : extracted ≡ walk .extracted
       pub numbers-are : take (length (walk .numbers)) numbers ≡ walk .numbers
@@ -99,25 +98,25 @@ module _ (rows : List Row) (fuel row : ℕ) (ws : List ℕ) (k first : ℕ) (pla
 
     abbrev By : Walked → Type 0
     By (walked-enum.Done after extracted) = Walk-done after extracted
-    By (walked-enum.Refused q) = (i : Refusal) × (groups-told rows fuel from held ≡ refused i) × (i .number ≡ q)
+    By (walked-enum.Refused q) = (i : Refusal) × (groups-told rows fuel left from held ≡ refused i) × (i .number ≡ q)
 
-    by-outcome : (o : Outcome Walk) → groups-told rows fuel from held ≡ o → Walk-wrote o numbers stops old kept → By (walk-answer o)
+    by-outcome : (o : Outcome Walk) → groups-told rows fuel left from held ≡ o → Walk-wrote o numbers stops old kept → By (walk-answer o)
     unfolding walk-answer
     by-outcome (ok l) e x = record { walk = l; told = e; after-is = refl; extracted-is = refl; numbers-are = x .0; stops-are = x .1; kept-is = x .2 }
     by-outcome (refused i) e x = (i, e, refl)
 
     by-answer : By w
     by-answer =
-        let s = ap (λ (n : ℕ). groups-told rows fuel n held) (rd .last) in
-        subst By (sym (given .0 ∙ ap walk-answer s)) (by-outcome (groups-told rows fuel from held) refl (subst (λ (o : Outcome Walk). Walk-wrote o numbers stops old kept) s (given .1)))
+        let s = ap (λ (n : ℕ). groups-told rows fuel left n held) (rd .last) in
+        subst By (sym (given .0 ∙ ap walk-answer s)) (by-outcome (groups-told rows fuel left from held) refl (subst (λ (o : Outcome Walk). Walk-wrote o numbers stops old kept) s (given .1)))
 
-    pub walk-refused : (q : ℕ) → w ≡ walked-enum.Refused q → (z : ℕ) → z ≡ walk-refusal w → (at : ℕ) (old : List ℕ) → Scope-done (grouped-scope rows fuel row ws k first places) at old (scoped.Refused z) old
+    pub walk-refused : (q : ℕ) → w ≡ walked-enum.Refused q → (z : ℕ) → z ≡ walk-refusal w → (at : ℕ) (old : List ℕ) → Scope-done (grouped-scope rows fuel left row ws k first places) at old (scoped.Refused z) old
     unfolding grouped-scope walk-refusal
     walk-refused q e z f at old =
         let m = subst By e by-answer in
-        let s : grouped-scope rows fuel row ws k first places ≡ refused (m .0) =
-        ap (λ (y : List ℕ). groups-told rows fuel from y >>= λ l. ordered-scope row ws k first places l) (sym (rd .held-is)) ∙ ap (λ (o : Outcome Walk). o >>= λ l. ordered-scope row ws k first places l) (m .1) in
-        subst (λ (n : ℕ). Scope-done (grouped-scope rows fuel row ws k first places) at old (scoped.Refused n) old) (m .2 ∙ sym (f ∙ ap walk-refusal e)) (scope-refused (grouped-scope rows fuel row ws k first places) (m .0) s at old)
+        let s : grouped-scope rows fuel left row ws k first places ≡ refused (m .0) =
+        ap (λ (y : List ℕ). groups-told rows fuel left from y >>= λ l. ordered-scope row ws k first places l) (sym (rd .held-is)) ∙ ap (λ (o : Outcome Walk). o >>= λ l. ordered-scope row ws k first places l) (m .1) in
+        subst (λ (n : ℕ). Scope-done (grouped-scope rows fuel left row ws k first places) at old (scoped.Refused n) old) (m .2 ∙ sym (f ∙ ap walk-refusal e)) (scope-refused (grouped-scope rows fuel left row ws k first places) (m .0) s at old)
 
     module _ (after extracted : ℕ) (e : w ≡ walked-enum.Done after extracted) where
       d : Walk-done after extracted
@@ -125,7 +124,7 @@ module _ (rows : List Row) (fuel row : ℕ) (ws : List ℕ) (k first : ℕ) (pla
 
       bound : Walk-bound gs from (length gs) (d .walk)
       unfolding groups-told
-      bound = walk-bound rows (is-number rows) fuel from held (h .good) (h .pass) (words-ok rows from held h) (length gs) (omega arith) (d .walk) (d .told)
+      bound = walk-bound rows (is-number rows) fuel left from held (h .good) (h .pass) (words-ok rows from held h) (length gs) (omega arith) (d .walk) (d .told)
 
       numbers-many : length (d .walk .numbers) ≡ length members
       numbers-many = numbers-all gs from (length gs) (d .walk) bound refl ∙ sym (ap length (rd .grouped .members-are))
@@ -136,7 +135,7 @@ module _ (rows : List Row) (fuel row : ℕ) (ws : List ℕ) (k first : ℕ) (pla
       numbers-here : take (length members) numbers ≡ d .walk .numbers
       numbers-here = ap (λ (n : ℕ). take n numbers) (sym numbers-many) ∙ d .numbers-are
 
-      pub numbered-so : Numbered rows fuel from held (take (length members) numbers) (take (length ends) stops) kept after extracted
+      pub numbered-so : Numbered rows fuel left from held (take (length members) numbers) (take (length ends) stops) kept after extracted
       numbered-so = record {
         sized = record { walk = d .walk; old = old; told = d .told; numbers-are = numbers-here; stops-are = ap (λ (n : ℕ). take n stops) (sym arms-many) ∙ d .stops-are; kept-is = d .kept-is };
         after-is = d .after-is;
@@ -187,39 +186,61 @@ stmts-are ws k first places numbers trees whole = omega (arith, lets-of ws k fir
 groups-many : (held : List ℕ) (m g : ℕ) (members ends : List ℕ) → Grouping-so held m g members ends → g ≡ length (place-groups held)
 groups-many held m g members ends s = omega (arith, length-take-le g ends (s .ends-in), ap length (s .ends-are), ends-count 0 (place-groups held))
 
--- with room for what is held and for the statements, or without
-module _ (rows : List Row) (fuel row : ℕ) (ws : List ℕ) (k first : ℕ) (places : List ℕ) where
+-- with room for what is held, for the switches and for the statements, or without
+module _ (rows : List Row) (fuel left row : ℕ) (ws : List ℕ) (k first : ℕ) (places : List ℕ) where
+  abbrev hs : List ℕ
+  hs = held-words ws k first places
+
   abbrev stmts : ℕ
-  stmts = lets-count ws k first places + length (place-groups (held-words ws k first places))
+  stmts = lets-count ws k first places + length (place-groups hs)
 
-  fused-so : length (held-words ws k first places) ≤ 7281 → stmts ≤ 2048 → fused-scope (inner rows fuel) row ws k first places ≡ grouped-scope rows fuel row ws k first places
-  unfolding fused-scope grouped-scope groups-told room-for
-  fused-so h s =
-      by-test (leb (length (held-words ws k first places)) 7281 && leb stmts 2048) _ (refused (by 23))
-      (ap₂ (λ (a b : Bool). a && b) (le-leb (length (held-words ws k first places)) 7281 h) (le-leb stmts 2048 s))
+  abbrev outcome : Outcome Told
+  outcome = left-scope rows fuel left row ws k first places
 
-  held-many-refused : 7281 < length (held-words ws k first places) → fused-scope (inner rows fuel) row ws k first places ≡ refused (by 23)
-  unfolding fused-scope room-for
-  held-many-refused h =
-      by-no-test (leb (length (held-words ws k first places)) 7281 && leb stmts 2048) _ (refused (by 23))
-      (ap (λ (b : Bool). b && leb stmts 2048) (lt-leb (length (held-words ws k first places)) 7281 h))
+  -- by the three tests
+  tested : (a b c : Bool) → leb (length hs) left ≡ a → leb (length (switch-places hs)) 3640 ≡ b → leb stmts 2048 ≡ c → (leb (length hs) left && (leb (length (switch-places hs)) 3640 && leb stmts 2048)) ≡ (a && (b && c))
+  tested a b c e f g = ap₂ (λ (x y : Bool). x && y) e (ap₂ (λ (x y : Bool). x && y) f g)
 
-  stmts-many-refused : 2048 < stmts → fused-scope (inner rows fuel) row ws k first places ≡ refused (by 23)
-  unfolding fused-scope room-for
-  stmts-many-refused s =
-      by-no-test (leb (length (held-words ws k first places)) 7281 && leb stmts 2048) _ (refused (by 23))
-      (ap (λ (b : Bool). leb (length (held-words ws k first places)) 7281 && b) (lt-leb stmts 2048 s) ∙ and-false (leb (length (held-words ws k first places)) 7281))
+  fused-so : length hs ≤ left → length (switch-places hs) ≤ 3640 → stmts ≤ 2048 → left-scope rows fuel left row ws k first places ≡ grouped-scope rows fuel (left - length hs) row ws k first places
+  unfolding left-scope fused-scope grouped-scope groups-told room-for
+  fused-so h n s =
+      by-test (leb (length hs) left && (leb (length (switch-places hs)) 3640 && leb stmts 2048)) _ (refused (by 23))
+      (tested true true true (le-leb (length hs) left h) (le-leb (length (switch-places hs)) 3640 n) (le-leb stmts 2048 s))
 
-  -- by how many groups there are
-  module _ (trees : ℕ) (whole : trees-in ws ≡ some trees) (held : List ℕ) (held-is : held ≡ held-words ws k first places) (m g : ℕ) (members ends : List ℕ) (s : Grouping-so held m g members ends) where
-    count-so : stmts ≡ ((trees - k) + length places) + g
-    count-so = omega (arith, lets-of ws k first places trees whole, groups-many held m g members ends s, ap (λ (hs : List ℕ). length (place-groups hs)) held-is)
+  refused-so : (leb (length hs) left && (leb (length (switch-places hs)) 3640 && leb stmts 2048)) ≡ false → left-scope rows fuel left row ws k first places ≡ refused (by 23)
+  unfolding left-scope fused-scope room-for
+  refused-so e = by-no-test (leb (length hs) left && (leb (length (switch-places hs)) 3640 && leb stmts 2048)) _ (refused (by 23)) e
 
-    pub too-many-stmts : 2048 < ((trees - k) + length places) + g → (at : ℕ) (table : List ℕ) → Scope-done (fused-scope (inner rows fuel) row ws k first places) at table (scoped.Refused 23) table
-    too-many-stmts h at table = scope-refused (fused-scope (inner rows fuel) row ws k first places) (by 23) (stmts-many-refused (omega (arith, count-so))) at table
+  held-many-refused : left < length hs → left-scope rows fuel left row ws k first places ≡ refused (by 23)
+  held-many-refused h = refused-so (tested false (leb (length (switch-places hs)) 3640) (leb stmts 2048) (lt-leb (length hs) left h) refl refl)
 
-    pub outcome-is : length held ≤ 7281 → ((trees - k) + length places) + g ≤ 2048 → fused-scope (inner rows fuel) row ws k first places ≡ grouped-scope rows fuel row ws k first places
-    outcome-is h few = fused-so (omega (arith, h, ap length held-is)) (omega (arith, count-so))
+  switches-many-refused : 3640 < length (switch-places hs) → left-scope rows fuel left row ws k first places ≡ refused (by 23)
+  switches-many-refused h =
+      refused-so (tested (leb (length hs) left) false (leb stmts 2048) refl (lt-leb (length (switch-places hs)) 3640 h) refl ∙ and-false (leb (length hs) left))
+
+  stmts-many-refused : 2048 < stmts → left-scope rows fuel left row ws k first places ≡ refused (by 23)
+  stmts-many-refused h =
+      refused-so
+      (tested (leb (length hs) left) (leb (length (switch-places hs)) 3640) false refl refl (lt-leb stmts 2048 h)
+      ∙ (ap (λ (b : Bool). leb (length hs) left && b) (and-false (leb (length (switch-places hs)) 3640)) ∙ and-false (leb (length hs) left)))
+
+  module _ (held : List ℕ) (held-is : held ≡ held-words ws k first places) where
+    pub too-many-switches : 3640 < length (switch-places held) → (at : ℕ) (table : List ℕ) → Scope-done (left-scope rows fuel left row ws k first places) at table (scoped.Refused 23) table
+    too-many-switches h at table = scope-refused outcome (by 23) (switches-many-refused (omega (arith, h, ap (λ (z : List ℕ). length (switch-places z)) held-is))) at table
+
+    -- by how many groups there are
+    module _ (trees : ℕ) (whole : trees-in ws ≡ some trees) (m g : ℕ) (members ends : List ℕ) (s : Grouping-so held m g members ends) where
+      count-so : stmts ≡ ((trees - k) + length places) + g
+      count-so = omega (arith, lets-of ws k first places trees whole, groups-many held m g members ends s, ap (λ (z : List ℕ). length (place-groups z)) held-is)
+
+      pub too-many-stmts : 2048 < ((trees - k) + length places) + g → (at : ℕ) (table : List ℕ) → Scope-done (left-scope rows fuel left row ws k first places) at table (scoped.Refused 23) table
+      too-many-stmts h at table = scope-refused outcome (by 23) (stmts-many-refused (omega (arith, count-so))) at table
+
+      pub outcome-is : length held ≤ left → length (switch-places held) ≤ 3640 → ((trees - k) + length places) + g ≤ 2048 → (rest : ℕ) → rest ≡ left - length held
+          → left-scope rows fuel left row ws k first places ≡ grouped-scope rows fuel rest row ws k first places
+      outcome-is h n few rest e =
+          fused-so (omega (arith, h, ap length held-is)) (omega (arith, n, ap (λ (z : List ℕ). length (switch-places z)) held-is)) (omega (arith, count-so))
+          ∙ ap (λ (j : ℕ). grouped-scope rows fuel j row ws k first places) (omega (arith, e, ap length held-is))
 
 module _ (rows : List Row) (ws : List ℕ) (k first : ℕ) (places : List ℕ) (l : Left rows ws k first places) where
   abbrev good : ℕ → Bool
@@ -231,15 +252,19 @@ module _ (rows : List Row) (ws : List ℕ) (k first : ℕ) (places : List ℕ) (
   pub left-there : T (all-there ws places)
   left-there = there-tested ws places (subst (All-there ws) (sym (l .places-are)) (places-there rows good k first ws (l .good) (l .pass)))
 
-  module _ (held : List ℕ) (held-is : held ≡ held-words ws k first places) (short : length held ≤ 7281) where
+  module _ (held : List ℕ) (held-is : held ≡ held-words ws k first places) where
     at-places : (P : List ℕ → Type 0) → P (divisors-to-bind ws (name-in rows) true) → P places
     at-places P x = subst P (sym (l .places-are)) x
 
-    pub left-holds : Holds rows (reciprocals-first ws k first places + length places) held
-    left-holds = record {
-      good = subst (λ (z : List ℕ). T (extractable rows (reciprocals-first ws k first places + length places) z)) (sym held-is) (at-places (λ ps. T (extractable rows (reciprocals-first ws k first ps + length ps) (held-words ws k first ps))) (held-extractable rows good k first ws (l .good) (l .pass)));
+    held-good : T (extractable rows (reciprocals-first ws k first places + length places) held)
+    held-good = subst (λ (z : List ℕ). T (extractable rows (reciprocals-first ws k first places + length places) z)) (sym held-is) (at-places (λ ps. T (extractable rows (reciprocals-first ws k first ps + length ps) (held-words ws k first ps))) (held-extractable rows good k first ws (l .good) (l .pass)))
+
+    pub left-holds : length held ≤ 65536 → length (switch-places held) ≤ 3640 → Holds rows (reciprocals-first ws k first places + length places) held
+    left-holds short few = record {
+      good = held-good;
       pass = subst (λ (z : List ℕ). T (symbols-pass good z)) (sym held-is) (at-places (λ ps. T (symbols-pass good (held-words ws k first ps))) (held-passes rows good k first ws (l .good) (l .pass)));
       few = short;
+      switches = few;
     }
 
     trees-here : trees-in held ≡ some (length (trees-held ws (next-number k first (read numbered ws)) places))
@@ -253,16 +278,20 @@ module _ (rows : List Row) (ws : List ℕ) (k first : ℕ) (places : List ℕ) (
     after = reciprocals-first ws k first places + length places
 
     module _ (members ends : List ℕ) (mm gg : ℕ) (g : Grouping-so held mm gg members ends) where
-      switches-short : 2 * length (switch-places held) ≤ length held
-      switches-short = let r = ready-of rows after held (left-holds .good) in omega (arith, switches-few rows held (words-ok rows after held left-holds) (r .trees) (r .complete))
+      -- as many members as switches
+      members-are : length (take mm members) ≡ length (switch-places held)
+      members-are = let r = ready-of rows after held held-good in ap length (g .members-are) ∙ members-count held (r .trees) (r .complete)
 
-      pub groups-short : gg ≤ 3640
-      groups-short =
-          let r = ready-of rows after held (left-holds .good) in
-          omega (arith, groups-many held mm gg members ends g, groups-count held (r .trees) (r .complete), switches-short, short)
+      pub switches-here : length members ≡ 3640 → length (switch-places held) ≤ 3640
+      switches-here long = omega (arith, members-are, length-take-le mm members (g .members-in), g .members-in, long)
 
-      pub members-short : length (take mm members) ≤ length held
-      members-short = let r = ready-of rows after held (left-holds .good) in omega (arith, ap length (g .members-are), members-count held (r .trees) (r .complete), switches-short)
+      pub groups-short : length members ≡ 3640 → gg ≤ 3640
+      groups-short long =
+          let r = ready-of rows after held held-good in
+          omega (arith, groups-many held mm gg members ends g, groups-count held (r .trees) (r .complete), switches-here long)
+
+      pub members-short : length members ≡ 3640 → length (take mm members) ≤ 3640
+      members-short long = omega (arith, members-are, switches-here long)
 
     module _ (trees : ℕ) (whole : trees-in ws ≡ some trees) where
       pub trees-short : trees ≤ 1927
@@ -316,7 +345,7 @@ pub whole-so : (rows : List Row) (n : ℕ) (ws : List ℕ) → T (extractable ro
 unfolding some-trees
 whole-so rows n ws g = let r = ready-of rows n ws g in subst (λ (o : Option ℕ). T (some-trees o)) (sym (r .complete)) tt
 
-module _ (rows : List Row) (fuel row : ℕ) (ws : List ℕ) (k first : ℕ) (places : List ℕ) (l : Left rows ws k first places) (trees : ℕ) (whole : trees-in ws ≡ some trees) where
+module _ (rows : List Row) (fuel left row : ℕ) (ws : List ℕ) (k first : ℕ) (places : List ℕ) (l : Left rows ws k first places) (trees : ℕ) (whole : trees-in ws ≡ some trees) where
   pub trees-enough : k ≤ trees
   trees-enough = omega (arith, l .enough, complete-length numbered ws trees whole)
 
@@ -338,10 +367,10 @@ module _ (rows : List Row) (fuel row : ℕ) (ws : List ℕ) (k first : ℕ) (pla
     unfolding held-words
     words-are = ap (λ (n : ℕ). words-held ws n places) number-is
 
-    pub too-many : r ≡ holding.TooMany → 7281 ≤ length held → (at : ℕ) (table : List ℕ) → Scope-done (fused-scope (inner rows fuel) row ws k first places) at table (scoped.Refused 23) table
+    pub too-many : r ≡ holding.TooMany → length held ≡ left → (at : ℕ) (table : List ℕ) → Scope-done (left-scope rows fuel left row ws k first places) at table (scoped.Refused 23) table
     too-many e long at table =
         let g = subst (λ (q : Holding). Holding-so (words-held ws (first + (trees - k)) places) q held) e given in
-        scope-refused (fused-scope (inner rows fuel) row ws k first places) (by 23) (held-many-refused rows fuel row ws k first places (omega (arith, g, ap length words-are, long))) at table
+        scope-refused (left-scope rows fuel left row ws k first places) (by 23) (held-many-refused rows fuel left row ws k first places (omega (arith, g, ap length words-are, long))) at table
 
     module _ (n : ℕ) (e : r ≡ holding.Words n) where
       so : Holding-so (words-held ws (first + (trees - k)) places) (holding.Words n) held
@@ -358,14 +387,7 @@ module _ (rows : List Row) (fuel row : ℕ) (ws : List ℕ) (k first : ℕ) (pla
 
 -- ---- from the rounds on
 
--- the rest of the work area is what is lent on, and what comes back stands after the words used
-pub rest-is : (w : List ℕ) (u : ℕ) → take (length w - u) (drop u w) ≡ drop u w
-rest-is w u = take-all (length w - u) (drop u w) (omega (arith, length-drop u w))
-
-pub lent-rest : (fuel : ℕ) (work text : List ℕ) (u : ℕ) → Lent (suc fuel) work text → u ≤ 1927 → Lent fuel (take (length work - u) (drop u work)) text
-lent-rest fuel work text u l h = record { words = omega (arith, l .words, ap length (rest-is work u), length-drop u work); bytes = l .bytes }
-
-module _ (rows : List Row) (fuel row : ℕ) (work : List ℕ) (used k first : ℕ) (places : List ℕ) (there : used ≤ length work) (l : Left rows (take used work) k first places) where
+module _ (rows : List Row) (fuel left row : ℕ) (work : List ℕ) (used k first : ℕ) (places : List ℕ) (there : used ≤ length work) (l : Left rows (take used work) k first places) where
   abbrev vs : List ℕ
   vs = take used work
 
@@ -375,12 +397,15 @@ module _ (rows : List Row) (fuel row : ℕ) (work : List ℕ) (used k first : �
   pub used-few : used ≤ 1927
   used-few = omega (arith, used-long, l .few)
 
-  abbrev outcome : Outcome Told
-  outcome = fused-scope (inner rows fuel) row vs k first places
+  abbrev as-left : Outcome Told
+  as-left = left-scope rows fuel left row vs k first places
 
   module _ (old tokens : List ℕ) (long : length old ≡ 1927) (copied : tokens ≡ overlay 0 vs old) where
     pub tokens-are : take used tokens ≡ vs
     tokens-are = ap (take used) (copied ∙ overlay-front vs old (omega (arith, used-long, used-few, long))) ∙ take-at vs (drop (length vs) old) used used-long
+
+    pub tokens-inside : length (take used tokens) ≤ length work
+    tokens-inside = omega (arith, ap length tokens-are, used-long, there)
 
     pub tokens-left : Left rows (take used tokens) k first places
     tokens-left = subst (λ (z : List ℕ). Left rows z k first places) (sym tokens-are) l
@@ -388,5 +413,5 @@ module _ (rows : List Row) (fuel row : ℕ) (work : List ℕ) (used k first : �
     pub tokens-whole : T (some-trees (trees-in (take used tokens)))
     tokens-whole = whole-so rows (next-number k first (read numbered (take used tokens))) (take used tokens) (tokens-left .good)
 
-    pub same-outcome : outcome ≡ fused-scope (inner rows fuel) row (take used tokens) k first places
-    same-outcome = ap (λ (z : List ℕ). fused-scope (inner rows fuel) row z k first places) (sym tokens-are)
+    pub same-outcome : as-left ≡ left-scope rows fuel left row (take used tokens) k first places
+    same-outcome = ap (λ (z : List ℕ). left-scope rows fuel left row z k first places) (sym tokens-are)

@@ -82,9 +82,9 @@ order-inside ws k first places numbers q h =
 
 -- ---- the end
 
-module _ (rows : List Row) (fuel : ℕ) (ws : List ℕ) (k first : ℕ) (places held starts members ends numbers stops kept : List ℕ) (after extracted row : ℕ)
+module _ (rows : List Row) (fuel left : ℕ) (ws : List ℕ) (k first : ℕ) (places held starts members ends numbers stops kept : List ℕ) (after extracted row : ℕ)
     (h : Holds rows (reciprocals-first ws k first places + length places) held) (p : Prepared ws k first places held starts members ends numbers)
-    (nb : Numbered rows fuel (reciprocals-first ws k first places + length places) held numbers stops kept after extracted) where
+    (nb : Numbered rows fuel left (reciprocals-first ws k first places + length places) held numbers stops kept after extracted) where
   abbrev order : List ℕ
   order = stmts-order ws k first places numbers
 
@@ -92,21 +92,21 @@ module _ (rows : List Row) (fuel : ℕ) (ws : List ℕ) (k first : ℕ) (places 
   count = stmts-count ws k first places numbers
 
   abbrev outcome : Outcome Told
-  outcome = grouped-scope rows fuel row ws k first places
+  outcome = grouped-scope rows fuel left row ws k first places
 
   abbrev arms : List (List ℕ)
-  arms = scope-arms rows fuel ws k first places
+  arms = scope-arms rows fuel left ws k first places
 
   abbrev walk : Walk
   walk = record { numbers = numbers; arms = arms; next = after; extracted = extracted }
 
   walk-is : nb .sized .walk ≡ walk
-  walk-is = λ i. record { numbers = sym (nb .sized .numbers-are) i; arms = sym (arms-are rows fuel ws k first places held starts members ends numbers stops kept h p (nb .sized)) i; next = sym (nb .after-is) i; extracted = sym (nb .extracted-is) i }
+  walk-is = λ i. record { numbers = sym (nb .sized .numbers-are) i; arms = sym (arms-are rows fuel left ws k first places held starts members ends numbers stops kept h p (nb .sized)) i; next = sym (nb .after-is) i; extracted = sym (nb .extracted-is) i }
 
   outcome-is : outcome ≡ ordered-scope row ws k first places walk
   unfolding grouped-scope
   outcome-is =
-      ap (λ (z : List ℕ). groups-told rows fuel (reciprocals-first ws k first places + length places) z >>= λ l. ordered-scope row ws k first places l) (sym (p .held-is))
+      ap (λ (z : List ℕ). groups-told rows fuel left (reciprocals-first ws k first places + length places) z >>= λ l. ordered-scope row ws k first places l) (sym (p .held-is))
       ∙ (ap (λ (o : Outcome Walk). o >>= λ l. ordered-scope row ws k first places l) (nb .sized .told) ∙ ap (ordered-scope row ws k first places) walk-is)
 
   abbrev told : Told
@@ -132,7 +132,7 @@ module _ (rows : List Row) (fuel : ℕ) (ws : List ℕ) (k first : ℕ) (places 
   unfolding groups-told
   extracted-low =
       let from = reciprocals-first ws k first places + length places in
-      let b = walk-bound rows (is-number rows) fuel from held (h .good) (h .pass) (words-ok rows from held h) (length (place-groups held)) (omega arith) (nb .sized .walk) (nb .sized .told) in
+      let b = walk-bound rows (is-number rows) fuel left from held (h .good) (h .pass) (words-ok rows from held h) (length (place-groups held)) (omega arith) (nb .sized .walk) (nb .sized .told) in
       let low : from ≤ 4294967296 = omega (arith, first-number p, lets-are p, count-is p, p .statements, p .low) in
       omega (arith, nb .extracted-is, b .made, b .most 4294967296 low (omega arith))
 

@@ -1,14 +1,17 @@
 -- What the steps that a scope asks of other crates answer where they can be done (01, "Scoped fusion"). Assumes nothing.
 use Prim.Native.Nat.{ℕ, zero, suc, _+_, _-_, _≤_, _<_}
 use native.Mathlib.Omega.{arith}
+use types.Run
+use denote.Enum.Declared
 use mathlib.Core.Path.{_≡_, refl, sym, _∙_, ap, ap₂, subst}
+use mathlib.Core.Logic.{inl, inr}
 use mathlib.Core.Bool.{Bool, true, false, _&&_}
 use mathlib.Core.Option.{Option, none, some}
 use mathlib.Core.List.{List, [], _∷_, _++_}
-use lib.ListN.{length, getD, take, drop, set, length-append}
-use lib.Seq.{take-at}
+use lib.ListN.{length, getD, take, drop, set, length-append, length-drop}
+use lib.Seq.{take-at, drop-at, length-take-le}
 use lib.Dec.{T, leb, ltb, lt→ltb, leb→le}
-use borrow.Author.Tests.{le-leb, lt-leb, leb-true, leb-false}
+use borrow.Author.Tests.{le-leb, leb-true, leb-false}
 use Rattle.tree.specs.Kinds.{is-switch}
 use Rattle.tree.specs.Tokens.{trees-in, takes, kind-of}
 use Rattle.tree.proofs.Logic.{and-both, and-right}
@@ -29,22 +32,26 @@ use Rattle.switches.specs.Listing.{Listed}
 use Rattle.grouping.specs.Answers.{groups-at, all-stand, Groups-written}
 use Rattle.grouping.proofs.Told.{are-place-groups, places-stand}
 use Rattle.scopeplaces.specs.Overlay.{overlay}
-use Rattle.tables.proofs.Laws.{overlay-none, overlay-word, overlay-append}
+use Rattle.tables.proofs.Laws.{overlay-none, overlay-word, overlay-append, overlay-fits}
 use Rattle.scopeparts.specs.Prepared.{begin-of}
 use Rattle.scopeparts.proofs.Groups.{ends-count}
 use Rattle.columns.specs.Copying.{armed-at, all-armed, Copying, copying-by, column-there, copying}
 use Rattle.columns.specs.declared.Column.{Column}
 use Rattle.columns.specs.declared.Column.the-variants as column-enum
+use Rattle.columns.proofs.Column as column-type
 use Rattle.holding.specs.Holding.{whole-there, room-to-hold, Holding as Held-so, holding-by, holding}
 use Rattle.holding.specs.declared.Held.{Held}
 use Rattle.holding.proofs.Front.{held-front, held-length}
 use Rattle.holding.specs.declared.Held.the-variants as held-enum
 use Rattle.scopeplaces.specs.Parts.{place-groups, joined-groups, ends-from, words-held}
 use Rattle.scopesound.proofs.Columns.{Fused, group-fused, members-count}
-use Rattle.scope.specs.Answers.{Holding-so}
+use Rattle.scope.specs.Answers.{Holding-so, Copied-so, Switches-so}
 use Rattle.scope.specs.Frame.{Is-group, Grouping-so}
+use Rattle.scope.specs.declared.Copied.the-variants as copied-enum
 use Rattle.scope.specs.declared.Holding.{Holding}
 use Rattle.scope.specs.declared.Holding.the-variants as holding-enum
+use Rattle.scope.specs.declared.Switches.{Switches}
+use Rattle.scope.specs.declared.Switches.the-variants as switches-enum
 
 pub complete-so : (ws : List ℕ) → T (some-trees (trees-in ws)) → Complete ws
 unfolding some-trees
@@ -56,7 +63,7 @@ complete-so ws t = go (trees-in ws) refl t
 
 -- ---- a column
 
-module _ (held group : List ℕ) (complete : T (some-trees (trees-in held))) (g : Is-group held group) (a : ℕ) (l : a < arm-count held (getD group 0 0)) (work : List ℕ) (room : length held ≤ length work) where
+module _ (held group : List ℕ) (complete : T (some-trees (trees-in held))) (g : Is-group held group) (a : ℕ) (l : a < arm-count held (getD group 0 0)) (input : List ℕ) (lent : length input ≡ 1927) where
   fused : Fused held group
   fused = let c = complete-so held complete in subst (Fused held) (sym (g .is)) (group-fused held (c .0) (c .1) (g .number) (g .there))
 
@@ -75,35 +82,63 @@ module _ (held group : List ℕ) (complete : T (some-trees (trees-in held))) (g 
   abbrev words : List ℕ
   words = column-words held group a
 
-  copied : copying held group a work ≡ record { answer = column-enum.Words (length words); out = words ++ drop (length words) work }
-  unfolding copying copying-by
-  copied =
-      ap (λ (b : Bool). copying-by b (leb (length words) (length work)) words work) there
-      ∙ ap (λ (b : Bool). copying-by true b words work) (le-leb (length words) (length work) (omega (arith, fused .short a l)))
+  copied-by : copying held group a input ≡ copying-by true (leb (length words) (length input)) words input
+  unfolding copying
+  copied-by = ap (λ (b : Bool). copying-by b (leb (length words) (length input)) words input) there
 
-  module _ (r : Column) (out : List ℕ) (given : (r ≡ copying held group a work .answer) × (out ≡ copying held group a work .out)) where
+  module _ (r : Column) (out : List ℕ) (given : (r ≡ copying held group a input .answer) × (out ≡ copying held group a input .out)) where
     abbrev By : Column → Type 0
-    By (column-enum.Words n) = (take n out ≡ words) × (n ≤ length out)
+    By (column-enum.Words n) = (take n out ≡ words) × ((n ≡ length words) × ((n ≤ length out) × (n ≤ 1927)))
     By column-enum.Broken = ⊥
-    By column-enum.NoRoom = ⊥
+    By column-enum.NoRoom = 1927 < length words
+
+    by-room : (b : Bool) → leb (length words) (length input) ≡ b → out ≡ copying-by true b words input .out → By (copying-by true b words input .answer)
+    unfolding copying-by
+    by-room true q e =
+        let n = length words in
+        let f = leb-true n (length input) q in
+        (ap (take n) e ∙ take-at words (drop n input) n refl, (refl, (omega (arith, ap length e, length-append words (drop n input)), omega (arith, f, lent))))
+    by-room false q e = omega (arith, leb-false (length words) (length input) q, lent)
 
     by-answer : By r
-    by-answer =
-        let e = given .1 ∙ ap (λ (x : Copying). x .out) copied in
-        subst By (sym (given .0 ∙ ap (λ (x : Copying). x .answer) copied)) (ap (take (length words)) e ∙ take-at words (drop (length words) work) (length words) refl, omega (arith, ap length e, length-append words (drop (length words) work)))
+    by-answer = subst By (sym (given .0 ∙ ap (λ (x : Copying). x .answer) copied-by)) (by-room (leb (length words) (length input)) refl (given .1 ∙ ap (λ (x : Copying). x .out) copied-by))
 
-    pub column-words-are : (n : ℕ) → r ≡ column-enum.Words n → (take n out ≡ words) × (n ≤ length out)
-    column-words-are n e = subst By e by-answer
+    words-so : (n : ℕ) → r ≡ column-enum.Words n → By (column-enum.Words n)
+    words-so n e = subst By e by-answer
 
-    pub column-never-broken : r ≡ column-enum.Broken → ⊥
-    column-never-broken e = subst By e by-answer
+    pub column-in : (n : ℕ) → r ≡ column-enum.Words n → n ≤ length out
+    column-in n e = words-so n e .1 .1 .0
 
-    pub column-never-full : r ≡ column-enum.NoRoom → ⊥
-    column-never-full e = subst By e by-answer
+    not-words : (q : Column) → By q → Run.OneOf (1 ∷ 2 ∷ []) (Declared.tagOf column-type.the-type q) → 1927 < length words
+    not-words (column-enum.Words n) h (inl e) = absurd (omega arith)
+    not-words (column-enum.Words n) h (inr e) = absurd (omega arith)
+    not-words column-enum.Broken h e = absurd h
+    not-words column-enum.NoRoom h e = h
+
+    -- longer than can be worked on
+    pub column-too-long : (rest : List ℕ) → Run.OneOf (1 ∷ 2 ∷ []) (Declared.tagOf column-type.the-type r) → Copied-so words copied-enum.TooMany rest
+    column-too-long rest k few = absurd (let m = not-words r by-answer k in omega (arith, m, few))
+
+    -- longer than what is left
+    pub column-over : (n h : ℕ) (work : List ℕ) → r ≡ column-enum.Words n → length work - h < n → Copied-so words copied-enum.TooMany (drop h work)
+    column-over n h work e over few = omega (arith, over, words-so n e .1 .0, length-drop h work)
+
+    -- put after what is held
+    pub column-put : (n h : ℕ) (work work' : List ℕ) → r ≡ column-enum.Words n → h ≤ length work → n ≤ length work - h → work' ≡ overlay h (take n out) work
+        → Copied-so words (copied-enum.Words n) (drop h work') × (take h work' ≡ take h work)
+    column-put n h work work' e inside fits w =
+        let s = words-so n e in
+        let p : work' ≡ take h work ++ (words ++ drop (h + length words) work) =
+        w ∙ (ap (λ (l : List ℕ). overlay h l work) (s .0) ∙ overlay-fits h words work (omega (arith, s .1 .0))) in
+        let k : length (take h work) ≡ h = length-take-le h work inside in
+        let d : drop h work' ≡ words ++ drop (h + length words) work = ap (drop h) p ∙ drop-at (take h work) (words ++ drop (h + length words) work) h k in (
+          (ap (take n) d ∙ take-at words (drop (h + length words) work) n (sym (s .1 .0)), omega (arith, s .1 .0, ap length d, length-append words (drop (h + length words) work)), s .1 .1 .1),
+          ap (take h) p ∙ take-at (take h work) (words ++ drop (h + length words) work) h k,
+        )
 
 -- ---- what is held
 
-module _ (ws places : List ℕ) (number : ℕ) (old : List ℕ) (complete : T (some-trees (trees-in ws))) (at-all : T (all-there ws places)) (few : length ws ≤ 1927) (short : length places ≤ 1927) (low : number ≤ 4294967296) (lent : 1927 ≤ length old) where
+module _ (ws places : List ℕ) (number : ℕ) (old : List ℕ) (complete : T (some-trees (trees-in ws))) (at-all : T (all-there ws places)) (few : length ws ≤ 1927) (short : length places ≤ 1927) (low : number ≤ 4294967296) (lent : length ws ≤ length old) where
   abbrev hs : List ℕ
   hs = words-held ws number places
 
@@ -113,7 +148,7 @@ module _ (ws places : List ℕ) (number : ℕ) (old : List ℕ) (complete : T (s
 
   roomy : room-to-hold (length ws) (length places) number (length old) ≡ true
   unfolding room-to-hold
-  roomy = rw (le-leb (length ws) 1927 few, le-leb number 4294967296 low, le-leb (length places) 4294967296 (omega arith), le-leb 1927 (length old) lent)
+  roomy = rw (le-leb (length ws) 1927 few, le-leb number 4294967296 low, le-leb (length places) 4294967296 (omega arith), le-leb (length ws) (length old) lent)
 
   held-by : holding ws places number old ≡ holding-by true true (leb (length hs) (length old)) ws hs old
   unfolding holding
@@ -150,6 +185,13 @@ module _ (ws places : List ℕ) (number : ℕ) (old : List ℕ) (complete : T (s
 
 pub listed-in : {new old : List ℕ} {n : ℕ} {out : List ℕ} → Listed new old n out → n ≤ length out
 listed-in {new} {old} {n} {out} l = omega (arith, l .count, ap length (l .places), length-append new (drop (length new) old))
+
+module _ (held places : List ℕ) (r : Switches) (so : Switches-so held r places) where
+  pub switches-there : (n : ℕ) → r ≡ switches-enum.Count n → (take n places ≡ switch-places held) × (n ≤ length places)
+  switches-there n e = subst (λ (q : Switches). Switches-so held q places) e so
+
+  pub switches-over : r ≡ switches-enum.TooMany → length places < length (switch-places held)
+  switches-over e = subst (λ (q : Switches). Switches-so held q places) e so
 
 pub stand-so : (held places : List ℕ) → places ≡ switch-places held → T (all-stand held places)
 stand-so held places e = subst (λ (z : List ℕ). T (all-stand held z)) (sym e) (places-stand held)

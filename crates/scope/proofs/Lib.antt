@@ -6,6 +6,7 @@ pub mod Walking
 pub mod Writing
 pub mod Statements
 pub mod Ending
+pub mod Areas
 pub mod Beginning
 pub mod Scoping
 pub mod Leaves

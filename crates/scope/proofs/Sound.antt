@@ -24,7 +24,7 @@ use Rattle.switchplaces.proofs.GroupColumns.{every-at}
 use Rattle.scopeplaces.specs.Parts.{place-groups, group-at, joined-groups}
 use Rattle.scopeplaces.specs.Whole.{Told, scope-told}
 use Rattle.scopesound.proofs.Columns.{Fused, group-fused, armed-past, column-sound, column-pass, members-count}
-use Rattle.scopesound.proofs.Counting.{arms-some, switches-few}
+use Rattle.scopesound.proofs.Counting.{arms-some}
 use Rattle.scopesound.proofs.Bounds.{Scope-bound, scope-bound, rows-most, group-within}
 use Rattle.scope.specs.Frame.{Lent, Holds, Is-group}
 
@@ -36,10 +36,10 @@ pub record Small (next : ℕ) (t : Told) : Type 0 where
   pub grows : next ≤ t .next
   pub low : t .next ≤ 2147485696
 
-pub told-small : (rows : List Row) (fuel row next : ℕ) (ws : List ℕ) → T (extractable rows next ws) → T (symbols-pass (is-number rows) ws)
-    → (t : Told) → scope-told rows fuel row next ws ≡ ok t → Small next t
-told-small rows fuel row next ws g p t e =
-    let b = scope-bound rows (is-number rows) fuel row next ws g p t e in
+pub told-small : (rows : List Row) (fuel left row next : ℕ) (ws : List ℕ) → T (extractable rows next ws) → T (symbols-pass (is-number rows) ws)
+    → (t : Told) → scope-told rows fuel left row next ws ≡ ok t → Small next t
+told-small rows fuel left row next ws g p t e =
+    let b = scope-bound rows (is-number rows) fuel left row next ws g p t e in
     record { rows = rows-most next t b; steps = b .few; made = omega (arith, b .made, b .most); grows = b .forth; low = b .most }
 
 module _ (rows : List Row) (next : ℕ) (held : List ℕ) (h : Holds rows next held) where
@@ -55,7 +55,7 @@ module _ (rows : List Row) (next : ℕ) (held : List ℕ) (h : Holds rows next h
   pub all-few : length (joined-groups (place-groups held)) ≤ 3640
   all-few =
       let r = ready-of rows next held (h .good) in
-      omega (arith, members-count held (r .trees) (r .complete), switches-few rows held words-ok (r .trees) (r .complete), h .few)
+      omega (arith, members-count held (r .trees) (r .complete), h .switches)
 
 module _ (rows : List Row) (next : ℕ) (held group : List ℕ) (h : Holds rows next held) (g : Is-group held group) where
   pub fused : Fused held group
@@ -97,4 +97,5 @@ holds-later rows next later held l h =
       good = and-both (some-trees (trees-in held)) (every (word-ok rows) held && every (numbered-below later) held) (held-whole rows next held h) (and-both (every (word-ok rows) held) (every (numbered-below later) held) (words-ok rows next held h) (all-later next later held l b));
       pass = h .pass;
       few = h .few;
+      switches = h .switches;
     }

@@ -63,9 +63,9 @@ part-same f n x y e = sym (drop-of f n x) ∙ (ap (drop f) e ∙ drop-of f n y)
     drop-of (suc f) n [] = ap (λ (k : ℕ). drop (suc f) (take k [])) (let e : suc f + n ≡ suc (f + n) = omega arith in e) ∙ sym (none n)
     drop-of (suc f) n (w ∷ z) = ap (λ (k : ℕ). drop (suc f) (take k (w ∷ z))) (let e : suc f + n ≡ suc (f + n) = omega arith in e) ∙ drop-of f n z
 
-module _ (rows : List Row) (fuel : ℕ) (ws : List ℕ) (k first : ℕ) (places held starts members ends numbers stops kept : List ℕ)
+module _ (rows : List Row) (fuel left : ℕ) (ws : List ℕ) (k first : ℕ) (places held starts members ends numbers stops kept : List ℕ)
     (h : Holds rows (reciprocals-first ws k first places + length places) held) (p : Prepared ws k first places held starts members ends numbers)
-    (sz : Sized rows fuel (reciprocals-first ws k first places + length places) held numbers stops kept) where
+    (sz : Sized rows fuel left (reciprocals-first ws k first places + length places) held numbers stops kept) where
   abbrev from : ℕ
   from = reciprocals-first ws k first places + length places
 
@@ -73,7 +73,7 @@ module _ (rows : List Row) (fuel : ℕ) (ws : List ℕ) (k first : ℕ) (places 
   lets = (length starts - k) + length places
 
   abbrev arms : List (List ℕ)
-  arms = scope-arms rows fuel ws k first places
+  arms = scope-arms rows fuel left ws k first places
 
   abbrev gs : List (List ℕ)
   gs = place-groups held
@@ -99,16 +99,16 @@ module _ (rows : List Row) (fuel : ℕ) (ws : List ℕ) (k first : ℕ) (places 
 
   -- ---- a match
 
-  all-told : walked (inner rows fuel) held gs from (length gs) ≡ ok (sz .walk)
+  all-told : walked (inner rows fuel left) held gs from (length gs) ≡ ok (sz .walk)
   unfolding groups-told
   all-told = sz .told
 
   pub arms-are : arms ≡ sz .walk .arms
   unfolding scope-arms arms-of
-  arms-are = ap (λ (z : List ℕ). arms-of (groups-told rows fuel from z)) (sym (p .held-is)) ∙ ap arms-of (sz .told)
+  arms-are = ap (λ (z : List ℕ). arms-of (groups-told rows fuel left from z)) (sym (p .held-is)) ∙ ap arms-of (sz .told)
 
-  bound : (n : ℕ) (r : Walk) → n ≤ length gs → walked (inner rows fuel) held gs from n ≡ ok r → Walk-bound gs from n r
-  bound n r l e = walk-bound rows (is-number rows) fuel from held (h .good) (h .pass) (words-ok rows from held h) n l r e
+  bound : (n : ℕ) (r : Walk) → n ≤ length gs → walked (inner rows fuel left) held gs from n ≡ ok r → Walk-bound gs from n r
+  bound n r l e = walk-bound rows (is-number rows) fuel left from held (h .good) (h .pass) (words-ok rows from held h) n l r e
 
   module _ (q : ℕ) (l : q < stmts-count ws k first places numbers) (past : lets ≤ q) where
     abbrev g : ℕ
@@ -120,12 +120,12 @@ module _ (rows : List Row) (fuel : ℕ) (ws : List ℕ) (k first : ℕ) (places 
     pub group-there : g < length ends
     group-there = omega (arith, inside, ap length (p .ends-are) ∙ ends-count 0 gs)
 
-    at-g : Walked-at (inner rows fuel) held gs from (λ n r i e. (let b = bound n r i e in (b .numbers-many, b .arms-many))) (λ j i. (let r = ready-of rows from held (h .good) in group-fused held (r .trees) (r .complete) j i .some-member)) (sz .walk) g
-    at-g = walked-at (inner rows fuel) held gs from (λ n r i e. (let b = bound n r i e in (b .numbers-many, b .arms-many))) (λ j i. (let r = ready-of rows from held (h .good) in group-fused held (r .trees) (r .complete) j i .some-member)) (length gs) (omega arith) (sz .walk) all-told g inside
+    at-g : Walked-at (inner rows fuel left) held gs from (λ n r i e. (let b = bound n r i e in (b .numbers-many, b .arms-many))) (λ j i. (let r = ready-of rows from held (h .good) in group-fused held (r .trees) (r .complete) j i .some-member)) (sz .walk) g
+    at-g = walked-at (inner rows fuel left) held gs from (λ n r i e. (let b = bound n r i e in (b .numbers-many, b .arms-many))) (λ j i. (let r = ready-of rows from held (h .good) in group-fused held (r .trees) (r .complete) j i .some-member)) (length gs) (omega arith) (sz .walk) all-told g inside
 
-    again : group-again rows fuel held numbers g ≡ ok (at-g .arms)
+    again : group-again rows fuel left held numbers g ≡ ok (at-g .arms)
     unfolding group-again
-    again = subst (λ (z : List ℕ). group-again rows fuel held z g ≡ ok (at-g .arms)) (sym (sz .numbers-are)) (at-g .told)
+    again = subst (λ (z : List ℕ). group-again rows fuel left held z g ≡ ok (at-g .arms)) (sym (sz .numbers-are)) (at-g .told)
 
     abbrev all-arms : List (List ℕ)
     all-arms = sz .walk .arms
@@ -171,7 +171,7 @@ module _ (rows : List Row) (fuel : ℕ) (ws : List ℕ) (k first : ℕ) (places 
           (omega (arith, last, group-inside all-arms g arms-there)) (omega (arith, within, ap length (sz .kept-is), overlay-length 0 (joined-groups all-arms) (sz .old))))
           ∙ (ap₂ (λ (k : ℕ) (b : ℕ). take k (drop b (joined-groups all-arms))) long begin-at ∙ (group-part all-arms g arms-there ∙ at-g .rows))
 
-      pub group-sized : Group-sized rows fuel held numbers g begin (getD stops g 0 - begin) kept
+      pub group-sized : Group-sized rows fuel left held numbers g begin (getD stops g 0 - begin) kept
       group-sized = record {
         arms = at-g .arms;
         told = again;
@@ -184,12 +184,12 @@ module _ (rows : List Row) (fuel : ℕ) (ws : List ℕ) (k first : ℕ) (places 
     number-holds =
         let b = bound (length gs) (sz .walk) (omega arith) all-told in
         let i : group-start gs g < length (sz .walk .numbers) =
-        omega (arith, b .numbers-many, starts-grow (inner rows fuel) held gs from (λ n r i e. (let b = bound n r i e in (b .numbers-many, b .arms-many))) (λ j i. (let r = ready-of rows from held (h .good) in group-fused held (r .trees) (r .complete) j i .some-member)) (length gs) g inside (omega arith)) in
+        omega (arith, b .numbers-many, starts-grow (inner rows fuel left) held gs from (λ n r i e. (let b = bound n r i e in (b .numbers-many, b .arms-many))) (λ j i. (let r = ready-of rows from held (h .good) in group-fused held (r .trees) (r .complete) j i .some-member)) (length gs) g inside (omega arith)) in
         let e = every-at (λ (j : ℕ). (from ≤ j) × (j < sz .walk .next)) 0 (sz .walk .numbers) (b .numbers-between) (group-start gs g) i in
         let f : getD numbers (group-start gs g) 0 ≡ getD (sz .walk .numbers) (group-start gs g) 0 = ap (λ (z : List ℕ). getD z (group-start gs g) 0) (sz .numbers-are) in
         holds-later rows from (getD numbers (group-start gs g) 0) held (omega (arith, e .0, f)) h
 
-    pub match-is : run q ≡ match-run held gs numbers (words-of (group-again rows fuel held numbers g)) g
+    pub match-is : run q ≡ match-run held gs numbers (words-of (group-again rows fuel left held numbers g)) g
     unfolding stmt-run words-of
     match-is =
         by-no-test (ltb q (lets-count ws k first places)) _ _ (le-ltb q (lets-count ws k first places) (omega (arith, lets-are p)))

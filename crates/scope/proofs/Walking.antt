@@ -12,7 +12,6 @@ use Rattle.scopeplaces.specs.Parts.{place-groups, joined-groups, ends-from, gro
 use Rattle.scopeplaces.specs.Whole.{Told, Arms-told, Walk, walked, group-told}
 use Rattle.kept.proofs.Steps.{ready-of}
 use Rattle.scopesound.proofs.Columns.{groups-count}
-use Rattle.scopesound.proofs.Counting.{switches-few}
 use Rattle.scopesound.proofs.Sums.{sum-each}
 use Rattle.scopesound.proofs.Bounds.{per-match, per-number, Walk-bound, walk-bound}
 use Rattle.scope.specs.Answers.{inner, arms-answer, Arms-wrote}
@@ -28,7 +27,7 @@ unfolding joined-groups sum-each
 joined-low [] = omega arith
 joined-low (x ∷ l) = (let r = joined-low l in let a = length-append x (joined-groups l) in omega arith)
 
-module _ (rows : List Row) (fuel next : ℕ) (held members ends : List ℕ) (h : Holds rows next held) (m : Members held members ends) (low : next ≤ 4294967296) where
+module _ (rows : List Row) (fuel left next : ℕ) (held members ends : List ℕ) (h : Holds rows next held) (m : Members held members ends) (low : next ≤ 4294967296) where
   abbrev gs : List (List ℕ)
   gs = place-groups held
 
@@ -38,11 +37,11 @@ module _ (rows : List Row) (fuel next : ℕ) (held members ends : List ℕ) (h :
   pub ends-few : length ends ≤ 3640
   ends-few =
       let r = ready-of rows next held (h .good) in
-      omega (arith, ends-many, groups-count held (r .trees) (r .complete), switches-few rows held (words-ok rows next held h) (r .trees) (r .complete), h .few)
+      omega (arith, ends-many, groups-count held (r .trees) (r .complete), h .switches)
 
-  module _ (old : List ℕ) (n number extracted start to : ℕ) (numbers stops kept : List ℕ) (so : Walk-so (inner rows fuel) held gs next old n number extracted start to numbers stops kept) where
+  module _ (old : List ℕ) (n number extracted start to : ℕ) (numbers stops kept : List ℕ) (so : Walk-so (inner rows fuel left) held gs next old n number extracted start to numbers stops kept) where
     pub so-bound : n ≤ length ends → Walk-bound gs next n (so .done)
-    so-bound l = walk-bound rows (is-number rows) fuel next held (h .good) (h .pass) (words-ok rows next held h) n (omega (arith, ends-many)) (so .done) (so .told)
+    so-bound l = walk-bound rows (is-number rows) fuel left next held (h .good) (h .pass) (words-ok rows next held h) n (omega (arith, ends-many)) (so .done) (so .told)
 
     pub number-low : n ≤ length ends → number ≤ 4294967296
     number-low l = let b = so-bound l in omega (arith, so .number-is, b .most 4294967296 low (omega arith))
@@ -83,11 +82,11 @@ module _ (rows : List Row) (fuel next : ℕ) (held members ends : List ℕ) (h :
       group-here = record { number = n; there = inside; is = members-here }
 
       pub answer-here : (r : Armed) (new : List ℕ)
-          → (r ≡ arms-answer (group-told (inner rows fuel) held (take (getD ends n 0 - start) (drop start members)) number) to)
-          × Arms-wrote (group-told (inner rows fuel) held (take (getD ends n 0 - start) (drop start members)) number) to kept new
-          → (r ≡ arms-answer (group-told (inner rows fuel) held (group-at gs n) number) to) × Arms-wrote (group-told (inner rows fuel) held (group-at gs n) number) to kept new
+          → (r ≡ arms-answer (group-told (inner rows fuel left) held (take (getD ends n 0 - start) (drop start members)) number) to)
+          × Arms-wrote (group-told (inner rows fuel left) held (take (getD ends n 0 - start) (drop start members)) number) to kept new
+          → (r ≡ arms-answer (group-told (inner rows fuel left) held (group-at gs n) number) to) × Arms-wrote (group-told (inner rows fuel left) held (group-at gs n) number) to kept new
       answer-here r new e =
-          subst (λ (z : List ℕ). (r ≡ arms-answer (group-told (inner rows fuel) held z number) to) × Arms-wrote (group-told (inner rows fuel) held z number) to kept new) members-here e
+          subst (λ (z : List ℕ). (r ≡ arms-answer (group-told (inner rows fuel left) held z number) to) × Arms-wrote (group-told (inner rows fuel left) held z number) to kept new) members-here e
 
       pub count-here : getD ends n 0 - start ≡ length (group-at gs n)
       count-here = omega (arith, end-long)

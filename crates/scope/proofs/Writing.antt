@@ -26,7 +26,7 @@ pub match-is : (hs : List ℕ) (gs : List (List ℕ)) (numbers arms : List ℕ) 
 unfolding match-run head-run
 match-is hs gs numbers arms g = ap (λ (l : List ℕ). match-head hs gs numbers g ∷ l) (sym (append-assoc (key-run hs gs numbers g) (names-run hs gs numbers g) arms))
 
-module _ (rows : List Row) (fuel : ℕ) (held members ends numbers : List ℕ) (g from size : ℕ) (kept : List ℕ) (at : ℕ) where
+module _ (rows : List Row) (fuel left : ℕ) (held members ends numbers : List ℕ) (g from size : ℕ) (kept : List ℕ) (at : ℕ) where
   abbrev gs : List (List ℕ)
   gs = place-groups held
 
@@ -34,7 +34,7 @@ module _ (rows : List Row) (fuel : ℕ) (held members ends numbers : List ℕ) (
   first = getD numbers (group-start gs g) 0
 
   abbrev arms-rows : List ℕ
-  arms-rows = words-of (group-again rows fuel held numbers g)
+  arms-rows = words-of (group-again rows fuel left held numbers g)
 
   abbrev run : List ℕ
   run = match-run held gs numbers arms-rows g
@@ -42,7 +42,7 @@ module _ (rows : List Row) (fuel : ℕ) (held members ends numbers : List ℕ) (
   abbrev head : List ℕ
   head = head-run held gs numbers g
 
-  module _ (h : Holds rows first held) (gr : Grouped held members ends numbers) (sz : Group-sized rows fuel held numbers g from size kept) (l : g < length ends) (fits : at + length run ≤ most-rows) where
+  module _ (h : Holds rows first held) (gr : Grouped held members ends numbers) (sz : Group-sized rows fuel left held numbers g from size kept) (l : g < length ends) (fits : at + length run ≤ most-rows) where
     arms-are : arms-rows ≡ sz .arms .words
     unfolding words-of
     arms-are = ap words-of (sz .told)
@@ -120,19 +120,19 @@ module _ (rows : List Row) (fuel : ℕ) (held members ends numbers : List ℕ) (
       pub part-holds : Holds rows (getD numbers start 0 + count) held
       part-holds = holds-later rows first (getD numbers start 0 + count) held (omega (arith, number-is)) h
 
-      told : arms-told (inner rows fuel) held part (getD numbers start 0 + count) (arm-count held (getD part 0 0)) ≡ ok (sz .arms)
+      told : arms-told (inner rows fuel left) held part (getD numbers start 0 + count) (arm-count held (getD part 0 0)) ≡ ok (sz .arms)
       unfolding group-again group-told
       told =
-          ap (λ (z : List ℕ). arms-told (inner rows fuel) held z (getD numbers start 0 + count) (arm-count held (getD z 0 0))) part-is
-          ∙ (ap (λ (k : ℕ). arms-told (inner rows fuel) held (group-at gs g) k (arm-count held (getD (group-at gs g) 0 0))) number-is ∙ sz .told)
+          ap (λ (z : List ℕ). arms-told (inner rows fuel left) held z (getD numbers start 0 + count) (arm-count held (getD z 0 0))) part-is
+          ∙ (ap (λ (k : ℕ). arms-told (inner rows fuel left) held (group-at gs g) k (arm-count held (getD (group-at gs g) 0 0))) number-is ∙ sz .told)
 
-      pub part-fits : Arms-fit rows fuel held part (getD numbers start 0 + count) (at + length head)
+      pub part-fits : Arms-fit rows fuel left held part (getD numbers start 0 + count) (at + length head)
       part-fits n r q e =
-          omega (arith, arms-within (inner rows fuel) held part (getD numbers start 0 + count) (arm-count held (getD part 0 0)) (sz .arms) told n r q e, sz .size-is, all-fits)
+          omega (arith, arms-within (inner rows fuel left) held part (getD numbers start 0 + count) (arm-count held (getD part 0 0)) (sz .arms) told n r q e, sz .size-is, all-fits)
 
       module _ (r : Armed) (old table new : List ℕ) (headed : table ≡ overlay at head old) (body : ℕ) (bodied : body ≡ at + length head)
-          (given : (r ≡ arms-answer (arms-told (inner rows fuel) held part (getD numbers start 0 + count) (arm-count held (getD part 0 0))) body)
-          × Arms-wrote (arms-told (inner rows fuel) held part (getD numbers start 0 + count) (arm-count held (getD part 0 0))) body table new) where
+          (given : (r ≡ arms-answer (arms-told (inner rows fuel left) held part (getD numbers start 0 + count) (arm-count held (getD part 0 0))) body)
+          × Arms-wrote (arms-told (inner rows fuel left) held part (getD numbers start 0 + count) (arm-count held (getD part 0 0))) body table new) where
         abbrev Done-by : Armed → Type 0
         Done-by (armed.Rows place after more) = (place ≡ at + length run) × (new ≡ overlay at run old)
         Done-by (armed.Refused q) = ⊥

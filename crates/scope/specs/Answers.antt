@@ -8,6 +8,7 @@ use Rattle.tree.specs.Outcome.{Refusal, Outcome, ok, refused, _>>=_}
 use Rattle.tree.specs.Rows.{Row}
 use Rattle.tree.specs.Tokens.{word, name-in}
 use Rattle.cse.specs.AnswerRows.{arm-row, value-row}
+use Rattle.switchplaces.specs.Switches.{switch-places}
 use Rattle.switchplaces.specs.Columns.{column-words}
 use Rattle.renaming.specs.Places.{divisors-to-bind}
 use Rattle.rounds.specs.Rounds.{all-rounds}
@@ -22,6 +23,10 @@ use Rattle.scope.specs.declared.Walked.{Walked}
 use Rattle.scope.specs.declared.Walked.the-variants as walked
 use Rattle.scope.specs.declared.Holding.{Holding}
 use Rattle.scope.specs.declared.Holding.the-variants as holding
+use Rattle.scope.specs.declared.Copied.{Copied}
+use Rattle.scope.specs.declared.Copied.the-variants as copied
+use Rattle.scope.specs.declared.Switches.{Switches}
+use Rattle.scope.specs.declared.Switches.the-variants as switches
 use Rattle.scope.specs.declared.Listed.{Listed}
 use Rattle.scope.specs.declared.Listed.the-variants as listed
 
@@ -51,9 +56,9 @@ Lists rows first ws listed.Refused tokens places = (i : Refusal) × (all-rounds 
 
 -- ---- arms
 
--- what an arm's scope gives
-abbrev pub inner : List Row → ℕ → ℕ → List ℕ → Outcome Told
-inner rows fuel n cs = scope-told rows fuel value-row n cs
+-- what an arm's scope gives in the rows that are left
+abbrev pub inner : List Row → ℕ → ℕ → ℕ → List ℕ → Outcome Told
+inner rows fuel left n cs = scope-told rows fuel left value-row n cs
 
 -- one arm of a group
 unfoldable pub arm-told : (ℕ → List ℕ → Outcome Told) → List ℕ → List ℕ → ℕ → ℕ → Outcome Arms-told
@@ -95,6 +100,16 @@ arms-of (refused i) = []
 unfoldable pub words-of : Outcome Arms-told → List ℕ
 words-of (ok t) = t .words
 words-of (refused i) = []
+
+-- an arm's words stand in front of what is left, or are more than that, or than can be worked on
+abbrev pub Copied-so : List ℕ → Copied → List ℕ → Type 0
+Copied-so cs (copied.Words n) rest = (take n rest ≡ cs) × (n ≤ length rest) × (n ≤ 1927)
+Copied-so cs copied.TooMany rest = length cs ≤ 1927 → length rest < length cs
+
+-- the switches of words stand in front, or are more than there are places
+abbrev pub Switches-so : List ℕ → Switches → List ℕ → Type 0
+Switches-so held (switches.Count n) places = (take n places ≡ switch-places held) × (n ≤ length places)
+Switches-so held switches.TooMany places = length places < length (switch-places held)
 
 -- what a scope holds in front, or more than are lent
 abbrev pub Holding-so : List ℕ → Holding → List ℕ → Type 0

@@ -16,28 +16,32 @@ use Rattle.renaming.specs.Rounds.{next-number}
 use Rattle.kept.specs.Sound.{extractable}
 use Rattle.treelist.specs.Starts.{starts-of}
 use Rattle.reciprocal.specs.Bindings.{all-there}
-use Rattle.switchplaces.specs.Switches.{arm-count}
+use Rattle.switchplaces.specs.Switches.{arm-count, switch-places}
 use Rattle.switchplaces.specs.Columns.{column-words}
 use Rattle.scopeplaces.specs.Overlay.{overlay}
 use Rattle.scopeplaces.specs.Parts.{place-groups, joined-groups, ends-from, group-at, group-start, reciprocals-first, lets-count, held-words}
 use Rattle.cse.specs.Scope.{most-number}
-use Rattle.scopeplaces.specs.Whole.{Told, Arms-told, Walk, arms-told, group-told, walked, ordered-scope, stmts-count}
+use Rattle.scopeplaces.specs.Whole.{Told, Arms-told, Walk, arms-told, group-told, walked, ordered-scope, fused-scope, stmts-count}
 use Rattle.scope.specs.Answers.{told-rows, inner, arms-of}
+use Rattle.scope.specs.declared.Found.{Found}
+use Rattle.scope.specs.declared.Found.the-variants as found
 
 -- the most rows: sums of them are words
 abbrev pub most-rows : ℕ
 most-rows = 9223372036854775808
 
--- a part for each scope that may still be opened, and the text
-pub record Lent (fuel : ℕ) (work text : List ℕ) : Type 0 where
-  pub words : 7281 * fuel ≤ length work
+-- no more words than the area has, some of them in use, and the text
+pub record Lent (used : ℕ) (work text : List ℕ) : Type 0 where
+  pub words : length work ≤ 65536
+  pub inside : used ≤ length work
   pub bytes : 131072 ≤ length text
 
 -- words whose columns may be scopes, with numbers from `next` on
 pub record Holds (rows : List Row) (next : ℕ) (held : List ℕ) : Type 0 where
   pub good : T (extractable rows next held)
   pub pass : T (symbols-pass (is-number rows) held)
-  pub few : length held ≤ 7281
+  pub few : length held ≤ 65536
+  pub switches : length (switch-places held) ≤ 3640
 
 -- some places are a group of the words'
 pub record Is-group (held group : List ℕ) : Type 0 where
@@ -46,14 +50,14 @@ pub record Is-group (held group : List ℕ) : Type 0 where
   pub is : group ≡ group-at (place-groups held) number
 
 -- an arm's rows, its own before those of its scope
-abbrev pub Arm-fits : List Row → ℕ → List ℕ → List ℕ → ℕ → ℕ → ℕ → Type 0
-Arm-fits rows fuel held group next a at = at + suc (told-rows (inner rows fuel next (column-words held group a))) ≤ most-rows
+abbrev pub Arm-fits : List Row → ℕ → ℕ → List ℕ → List ℕ → ℕ → ℕ → ℕ → Type 0
+Arm-fits rows fuel left held group next a at = at + suc (told-rows (inner rows fuel left next (column-words held group a))) ≤ most-rows
 
 -- each arm's rows after those of the arms before it
-abbrev pub Arms-fit : List Row → ℕ → List ℕ → List ℕ → ℕ → ℕ → Type 0
-Arms-fit rows fuel held group next at =
-    (n : ℕ) (r : Arms-told) → n < arm-count held (getD group 0 0) → arms-told (inner rows fuel) held group next n ≡ ok r
-    → Arm-fits rows fuel held group (r .next) n (at + length (r .words))
+abbrev pub Arms-fit : List Row → ℕ → ℕ → List ℕ → List ℕ → ℕ → ℕ → Type 0
+Arms-fit rows fuel left held group next at =
+    (n : ℕ) (r : Arms-told) → n < arm-count held (getD group 0 0) → arms-told (inner rows fuel left) held group next n ≡ ok r
+    → Arm-fits rows fuel left held group (r .next) n (at + length (r .words))
 
 -- all members and where each group's end among them
 pub record Members (held members ends : List ℕ) : Type 0 where
@@ -61,9 +65,9 @@ pub record Members (held members ends : List ℕ) : Type 0 where
   pub ends-are : ends ≡ ends-from 0 (place-groups held)
 
 -- the outcome of all groups
-unfoldable pub groups-told : List Row → ℕ → ℕ → List ℕ → Outcome Walk
+unfoldable pub groups-told : List Row → ℕ → ℕ → ℕ → List ℕ → Outcome Walk
 unfolding place-groups walked
-groups-told rows fuel next held = walked (inner rows fuel) held (place-groups held) next (length (place-groups held))
+groups-told rows fuel left next held = walked (inner rows fuel left) held (place-groups held) next (length (place-groups held))
 
 -- a scope after its rounds, what it holds, and its groups: all that its parts are given but its members' numbers
 pub record Ready (ws : List ℕ) (k first : ℕ) (places held starts members ends : List ℕ) : Type 0 where
@@ -79,43 +83,43 @@ pub record Ready (ws : List ℕ) (k first : ℕ) (places held starts members end
   pub last : first + ((length starts - k) + length places) ≡ reciprocals-first ws k first places + length places
 
 -- the rest of the scope: its groups, and then its statements in order
-unfoldable pub grouped-scope : List Row → ℕ → ℕ → List ℕ → ℕ → ℕ → List ℕ → Outcome Told
+unfoldable pub grouped-scope : List Row → ℕ → ℕ → ℕ → List ℕ → ℕ → ℕ → List ℕ → Outcome Told
 unfolding groups-told held-words reciprocals-first ordered-scope
-grouped-scope rows fuel row ws k first places =
-    groups-told rows fuel (reciprocals-first ws k first places + length places) (held-words ws k first places) >>= λ l. ordered-scope row ws k first places l
+grouped-scope rows fuel left row ws k first places =
+    groups-told rows fuel left (reciprocals-first ws k first places + length places) (held-words ws k first places) >>= λ l. ordered-scope row ws k first places l
 
 -- the members' numbers, where each group's arms end among the rows of all, and these laid over some words
-pub record Sized (rows : List Row) (fuel next : ℕ) (held numbers stops kept : List ℕ) : Type 0 where
+pub record Sized (rows : List Row) (fuel left next : ℕ) (held numbers stops kept : List ℕ) : Type 0 where
   pub walk : Walk
   pub old : List ℕ
-  pub told : groups-told rows fuel next held ≡ ok walk
+  pub told : groups-told rows fuel left next held ≡ ok walk
   pub numbers-are : numbers ≡ walk .numbers
   pub stops-are : stops ≡ ends-from 0 (walk .arms)
   pub kept-is : kept ≡ overlay 0 (joined-groups (walk .arms)) old
 
 -- and the next number and the extraction count after them
-pub record Numbered (rows : List Row) (fuel next : ℕ) (held numbers stops kept : List ℕ) (after extracted : ℕ) : Type 0 where
-  pub sized : Sized rows fuel next held numbers stops kept
+pub record Numbered (rows : List Row) (fuel left next : ℕ) (held numbers stops kept : List ℕ) (after extracted : ℕ) : Type 0 where
+  pub sized : Sized rows fuel left next held numbers stops kept
   pub after-is : after ≡ sized .walk .next
   pub extracted-is : extracted ≡ sized .walk .extracted
 
 -- the arms of group g, by the number of its first member
-unfoldable pub group-again : List Row → ℕ → List ℕ → List ℕ → ℕ → Outcome Arms-told
+unfoldable pub group-again : List Row → ℕ → ℕ → List ℕ → List ℕ → ℕ → Outcome Arms-told
 unfolding group-told group-at group-start place-groups
-group-again rows fuel held numbers g = group-told (inner rows fuel) held (group-at (place-groups held) g) (getD numbers (group-start (place-groups held) g) 0)
+group-again rows fuel left held numbers g = group-told (inner rows fuel left) held (group-at (place-groups held) g) (getD numbers (group-start (place-groups held) g) 0)
 
 -- they are done and this many rows, which stand in what is kept, if they all do, from a place on
-pub record Group-sized (rows : List Row) (fuel : ℕ) (held numbers : List ℕ) (g from size : ℕ) (kept : List ℕ) : Type 0 where
+pub record Group-sized (rows : List Row) (fuel left : ℕ) (held numbers : List ℕ) (g from size : ℕ) (kept : List ℕ) : Type 0 where
   pub arms : Arms-told
-  pub told : group-again rows fuel held numbers g ≡ ok arms
+  pub told : group-again rows fuel left held numbers g ≡ ok arms
   pub size-is : size ≡ length (arms .words)
   pub low : from + size ≤ most-rows
   pub here : from + size ≤ length kept → take size (drop from kept) ≡ arms .words
 
 -- the rows of all groups' arms
-unfoldable pub scope-arms : List Row → ℕ → List ℕ → ℕ → ℕ → List ℕ → List (List ℕ)
+unfoldable pub scope-arms : List Row → ℕ → ℕ → List ℕ → ℕ → ℕ → List ℕ → List (List ℕ)
 unfolding arms-of groups-told reciprocals-first held-words
-scope-arms rows fuel ws k first places = arms-of (groups-told rows fuel (reciprocals-first ws k first places + length places) (held-words ws k first places))
+scope-arms rows fuel left ws k first places = arms-of (groups-told rows fuel left (reciprocals-first ws k first places + length places) (held-words ws k first places))
 
 -- positions of statements
 abbrev pub Positions : List ℕ → ℕ → Type 0
@@ -130,9 +134,19 @@ pub record Left (rows : List Row) (ws : List ℕ) (k first : ℕ) (places : List
   pub few : length ws ≤ 1927
   pub low : first ≤ most-number
 
+-- the scope after its rounds in the rows that are left: its arms have those after what it holds
+unfoldable pub left-scope : List Row → ℕ → ℕ → ℕ → List ℕ → ℕ → ℕ → List ℕ → Outcome Told
+unfolding held-words fused-scope
+left-scope rows fuel left row ws k first places = fused-scope (inner rows fuel (left - length (held-words ws k first places))) left row ws k first places
+
 -- what the groups of words are put into
 pub record Grouping-so (held : List ℕ) (m g : ℕ) (members ends : List ℕ) : Type 0 where
   pub members-are : take m members ≡ joined-groups (place-groups held)
   pub ends-are : take g ends ≡ ends-from 0 (place-groups held)
   pub members-in : m ≤ length members
   pub ends-in : g ≤ length ends
+
+-- and that there are more switches than can be listed
+abbrev pub Found-so : List ℕ → Found → List ℕ → List ℕ → Type 0
+Found-so held (found.Groups m g) members ends = Grouping-so held m g members ends
+Found-so held found.TooMany members ends = 3640 < length (switch-places held)

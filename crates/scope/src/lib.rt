@@ -18,9 +18,9 @@ ghost use Rattle.switchplaces.specs.Columns.{column-words};
 ghost use Rattle.fusion.specs.Words.{numbers-from};
 ghost use Rattle.scopeplaces.specs.Overlay.{overlay};
 ghost use Rattle.scopeplaces.specs.Parts.{place-groups, group-start, match-run, let-run, reciprocals-first, lets-count, words-held, held-words};
-ghost use Rattle.scopeplaces.specs.Whole.{arms-told, group-told, stmts-count, tree-run, stmt-run, stmts-runs, values-runs, stmts-order, fused-scope, scope-told};
-ghost use Rattle.scope.specs.Answers.{scope-answer, scope-table, told-rows, Lists, inner, arm-told, arms-answer, Arms-wrote, walk-answer, Walk-wrote, words-of, Holding-so, walk-refusal, refusal-number};
-ghost use Rattle.scope.specs.Frame.{most-rows, Lent, Holds, Is-group, Arm-fits, Arms-fit, Members, groups-told, Ready, grouped-scope, Sized, Numbered, group-again, Group-sized, scope-arms, Positions, Left, Grouping-so};
+ghost use Rattle.scopeplaces.specs.Whole.{arms-told, group-told, stmts-count, tree-run, stmt-run, stmts-runs, values-runs, stmts-order, scope-told};
+ghost use Rattle.scope.specs.Answers.{scope-answer, scope-table, told-rows, Lists, inner, arm-told, arms-answer, Arms-wrote, walk-answer, Walk-wrote, words-of, Holding-so, walk-refusal, refusal-number, Copied-so, Switches-so};
+ghost use Rattle.scope.specs.Frame.{most-rows, Lent, Holds, Is-group, Arm-fits, Arms-fit, Members, groups-told, Ready, grouped-scope, Sized, Numbered, group-again, Group-sized, scope-arms, Positions, Left, left-scope, Grouping-so, Found-so};
 ghost use Rattle.scopeparts.specs.Prepared.{Prepared, Readied, Grouped, begin-of, order-told, head-run};
 use columns::Column;
 use columns::copy_column;
@@ -49,8 +49,11 @@ use treelist::list_trees;
 // The most words of a scope's input, and of what its rounds leave.
 const MOST: usize = 1927;
 
-// The most words that a scope holds: nine parts of as many are the work area.
-const PART: usize = 7281;
+// The words of the whole work area.
+const AREA: usize = 65536;
+
+// The most switches outside arms.
+const MOST_SWITCHES: usize = 3640;
 
 // The most statements of a scope.
 const MOST_STMTS: usize = 2048;
@@ -104,10 +107,25 @@ enum Holding {
     TooMany,
 }
 
-// How many members all groups have, and how many groups there are.
-struct Found {
-    members: usize,
-    groups: usize,
+enum Copied {
+    // How many words an arm of all members has.
+    Words(usize),
+    // More than are left, or than can be worked on.
+    TooMany,
+}
+
+enum Switches {
+    // How many switches there are.
+    Count(usize),
+    // More than there are places for.
+    TooMany,
+}
+
+enum Found {
+    // How many members all groups have, and how many groups there are.
+    Groups(usize, usize),
+    // More members than there are places for.
+    TooMany,
 }
 
 enum Listed {
@@ -117,17 +135,21 @@ enum Listed {
     Refused,
 }
 
-// The words of one arm of each member, in front of the work area.
-fn column(held: &[u64], group: &[u64], a: usize, work: &mut [u64]) -> usize
-    requires { ⌜ Is-group (now held) (now group) × (a < arm-count (now held) (getD (now group) 0 0)) × (length (now held) ≤ length (now work)) × T (some-trees (trees-in (now held))) ⌝ }
-    ensures { λ r. ⌜ (take r (now (work .exit)) ≡ column-words (now (held .entry)) (now (group .entry)) a) × (r ≤ length (now (work .exit))) ⌝ }
+// The words of one arm of each member, after what is held in the work area.
+fn copy_arm(work: &mut [u64], h: usize, group: &[u64], a: usize) -> Copied
+    requires { ⌜ (h ≤ length (now work)) × Is-group (take h (now work)) (now group) × (a < arm-count (take h (now work)) (getD (now group) 0 0)) × T (some-trees (trees-in (take h (now work)))) ⌝ }
+    ensures { λ r. ⌜ Copied-so (column-words (take h (now (work .entry))) (now (group .entry)) a) r (drop h (now (work .exit))) × (take h (now (work .exit)) ≡ take h (now (work .entry))) ⌝ }
 {
-    let copied = copy_column(held, group, a, work);
-    match copied {
-        Column::Words(n) => n,
-        Column::Broken => 0,
-        Column::NoRoom => 0,
+    let mut input = [0u64; MOST];
+    let column = copy_column(&work[..h], group, a, &mut input);
+    let Column::Words(n) = column else {
+        return Copied::TooMany;
+    };
+    if n > work.len() - h {
+        return Copied::TooMany;
     }
+    put(&input[..n], h, work);
+    Copied::Words(n)
 }
 
 // How many trees some words are.
@@ -144,7 +166,7 @@ fn tree_count(tokens: &[u64]) -> usize
 // What the scope holds, at the front of `held`.
 fn hold_all(tokens: &[u64], places: &[u64], number: u64, held: &mut [u64]) -> Holding
     requires { ⌜ T (some-trees (trees-in (now tokens))) × T (all-there (now tokens) (now places)) ⌝ }
-    requires { ⌜ (length (now tokens) ≤ 1927) × (length (now places) ≤ 1927) × (number ≤ 4294967296) × (1927 ≤ length (now held)) ⌝ }
+    requires { ⌜ (length (now tokens) ≤ 1927) × (length (now places) ≤ 1927) × (number ≤ 4294967296) × (length (now tokens) ≤ length (now held)) ⌝ }
     ensures { λ r. ⌜ Holding-so (words-held (now (tokens .entry)) number (now (places .entry))) r (now (held .exit)) ⌝ }
 {
     let done = hold(tokens, places, number, held);
@@ -156,16 +178,22 @@ fn hold_all(tokens: &[u64], places: &[u64], number: u64, held: &mut [u64]) -> Ho
     }
 }
 
-// The switches of words, at the front of `places`. The marks are for the work. That they can't be listed never comes up.
-fn list_all(held: &[u64], marks: &mut [u64], places: &mut [u64]) -> usize
-    requires { ⌜ T (some-trees (trees-in (now held))) × (length (now held) ≤ length (now marks)) × (length (now held) ≤ length (now places)) ⌝ }
-    ensures { λ r. ⌜ (take r (now (places .exit)) ≡ switch-places (now (held .entry))) × (r ≤ length (now (places .exit))) ⌝ }
+// The switches of words, at the front of `places`. The marks are for the work; where they are too few, more are lent. Since this function calls itself, the compiler
+// keeps its frame apart from its caller's, so that these marks are on the stack only while switches are listed.
+fn list_all(held: &[u64], marks: &mut [u64], places: &mut [u64]) -> Switches
+    requires { ⌜ T (some-trees (trees-in (now held))) × (length (now held) ≤ 65536) ⌝ }
+    ensures { λ r. ⌜ Switches-so (now (held .entry)) r (now (places .exit)) ⌝ }
 {
+    if marks.len() < held.len() {
+        let mut more = [0u64; AREA];
+        return list_all(held, &mut more, places);
+    }
     let listed = list_switches(held, marks, places);
     match listed {
-        SwitchList::Count(n) => n,
-        SwitchList::Broken => 0,
-        SwitchList::NoRoom => 0,
+        SwitchList::Count(n) => Switches::Count(n),
+        SwitchList::TooMany => Switches::TooMany,
+        SwitchList::Broken => Switches::TooMany,
+        SwitchList::NoRoom => Switches::TooMany,
     }
 }
 
@@ -186,16 +214,16 @@ fn group_listed(held: &[u64], places: &[u64], members: &mut [u64], ends: &mut [u
 // The groups of the switches of words: all members at the front of `members`, and where each group ends among them at the front of `ends`. Before the groups are
 // made, `members` is for the work, and the switches stand in `switches`.
 fn group_all(held: &[u64], switches: &mut [u64], members: &mut [u64], ends: &mut [u64]) -> Found
-    requires { ⌜ T (some-trees (trees-in (now held))) × (length (now held) ≤ length (now switches)) ⌝ }
-    requires { ⌜ (length (now held) ≤ length (now members)) × (length (now held) ≤ length (now ends)) ⌝ }
-    ensures { λ r. ⌜ Grouping-so (now (held .entry)) (r .members) (r .groups) (now (members .exit)) (now (ends .exit)) ⌝ }
+    requires { ⌜ T (some-trees (trees-in (now held))) × (length (now held) ≤ 65536) ⌝ }
+    requires { ⌜ (length (now switches) ≡ 3640) × (length (now members) ≡ 3640) × (length (now ends) ≡ 3640) ⌝ }
+    ensures { λ r. ⌜ Found-so (now (held .entry)) r (now (members .exit)) (now (ends .exit)) ⌝ }
 {
-    let count = list_all(held, members, switches);
+    let listed = list_all(held, members, switches);
+    let Switches::Count(count) = listed else {
+        return Found::TooMany;
+    };
     let groups = group_listed(held, &switches[..count], members, ends);
-    Found {
-        members: count,
-        groups,
-    }
+    Found::Groups(count, groups)
 }
 
 // The rounds on the first `len` words, and then the places of the divisors to bind. That these can't be listed never comes up: rounds keep words that print takes.
@@ -236,7 +264,7 @@ fn group_begin(ends: &[u64], g: usize) -> usize
 
 // How many arms each switch of a group has.
 fn count_arms(held: &[u64], group: &[u64]) -> usize
-    requires { ⌜ Is-group (now held) (now group) × (length (now held) ≤ 7281) × T (some-trees (trees-in (now held))) ⌝ }
+    requires { ⌜ Is-group (now held) (now group) × (length (now held) ≤ 65536) × T (some-trees (trees-in (now held))) ⌝ }
     ensures { λ r. ⌜ r ≡ arm-count (now (held .entry)) (getD (now (group .entry)) 0 0) ⌝ }
 {
     let opener = group[0] as usize;
@@ -247,7 +275,7 @@ fn count_arms(held: &[u64], group: &[u64]) -> usize
 fn arm(
     rows: &[u64],
     work: &mut [u64],
-    held: &[u64],
+    h: usize,
     group: &[u64],
     a: usize,
     fuel: usize,
@@ -256,17 +284,31 @@ fn arm(
     at: usize,
     table: &mut [u64],
 ) -> Armed
-    requires { ⌜ Lent fuel (now work) (now text) × Holds (rows-in (now rows)) next (now held) ⌝ }
-    requires { ⌜ Is-group (now held) (now group) × (a < arm-count (now held) (getD (now group) 0 0)) ⌝ }
-    requires { ⌜ Arm-fits (rows-in (now rows)) fuel (now held) (now group) next a at ⌝ }
-    ensures { λ r. ⌜ (r ≡ arms-answer (arm-told (inner (rows-in (now (rows .entry))) fuel) (now (held .entry)) (now (group .entry)) next a) at)
-        × Arms-wrote (arm-told (inner (rows-in (now (rows .entry))) fuel) (now (held .entry)) (now (group .entry)) next a) at (now (table .entry)) (now (table .exit)) ⌝ }
+    requires { ⌜ Lent h (now work) (now text) × Holds (rows-in (now rows)) next (take h (now work)) ⌝ }
+    requires { ⌜ Is-group (take h (now work)) (now group) × (a < arm-count (take h (now work)) (getD (now group) 0 0)) ⌝ }
+    requires { ⌜ Arm-fits (rows-in (now rows)) fuel (length (now work) - h) (take h (now work)) (now group) next a at ⌝ }
+    ensures { λ r. ⌜ (r ≡ arms-answer (arm-told (inner (rows-in (now (rows .entry))) fuel (length (now (work .entry)) - h)) (take h (now (work .entry))) (now (group .entry)) next a) at)
+        × Arms-wrote (arm-told (inner (rows-in (now (rows .entry))) fuel (length (now (work .entry)) - h)) (take h (now (work .entry))) (now (group .entry)) next a) at (now (table .entry)) (now (table .exit)) ⌝ }
+    ensures { λ _. ⌜ take h (now (work .exit)) ≡ take h (now (work .entry)) ⌝ }
 {
     if fuel == 0 {
         return Armed::Refused(TOO_MUCH);
     }
-    let n = column(held, group, a, work);
-    let told = scope(rows, work, n, fuel, VALUE, next, text, at + 1, table);
+    let copied = copy_arm(work, h, group, a);
+    let Copied::Words(n) = copied else {
+        return Armed::Refused(TOO_MUCH);
+    };
+    let told = scope(
+        rows,
+        &mut work[h..],
+        n,
+        fuel,
+        VALUE,
+        next,
+        text,
+        at + 1,
+        table,
+    );
     match told {
         Scoped::Told(end, steps, after, extracted) => {
             put_word(ARM + KINDS * (steps as u64 + group.len() as u64), at, table);
@@ -298,7 +340,7 @@ fn walk_refusal(walked: Walked) -> u64
 fn arms(
     rows: &[u64],
     work: &mut [u64],
-    held: &[u64],
+    h: usize,
     group: &[u64],
     fuel: usize,
     next: u64,
@@ -306,19 +348,20 @@ fn arms(
     at: usize,
     table: &mut [u64],
 ) -> Armed
-    requires { ⌜ Lent fuel (now work) (now text) × Holds (rows-in (now rows)) next (now held) ⌝ }
-    requires { ⌜ Is-group (now held) (now group) ⌝ }
-    requires { ⌜ Arms-fit (rows-in (now rows)) fuel (now held) (now group) next at × (at ≤ most-rows) ⌝ }
-    ensures { λ r. ⌜ (r ≡ arms-answer (arms-told (inner (rows-in (now (rows .entry))) fuel) (now (held .entry)) (now (group .entry)) next (arm-count (now (held .entry)) (getD (now (group .entry)) 0 0))) at)
-        × Arms-wrote (arms-told (inner (rows-in (now (rows .entry))) fuel) (now (held .entry)) (now (group .entry)) next (arm-count (now (held .entry)) (getD (now (group .entry)) 0 0))) at (now (table .entry)) (now (table .exit)) ⌝ }
+    requires { ⌜ Lent h (now work) (now text) × Holds (rows-in (now rows)) next (take h (now work)) ⌝ }
+    requires { ⌜ Is-group (take h (now work)) (now group) ⌝ }
+    requires { ⌜ Arms-fit (rows-in (now rows)) fuel (length (now work) - h) (take h (now work)) (now group) next at × (at ≤ most-rows) ⌝ }
+    ensures { λ r. ⌜ (r ≡ arms-answer (arms-told (inner (rows-in (now (rows .entry))) fuel (length (now (work .entry)) - h)) (take h (now (work .entry))) (now (group .entry)) next (arm-count (take h (now (work .entry))) (getD (now (group .entry)) 0 0))) at)
+        × Arms-wrote (arms-told (inner (rows-in (now (rows .entry))) fuel (length (now (work .entry)) - h)) (take h (now (work .entry))) (now (group .entry)) next (arm-count (take h (now (work .entry))) (getD (now (group .entry)) 0 0))) at (now (table .entry)) (now (table .exit)) ⌝ }
+    ensures { λ _. ⌜ take h (now (work .exit)) ≡ take h (now (work .entry)) ⌝ }
 {
-    let count = count_arms(held, group);
+    let count = count_arms(&work[..h], group);
     let mut end = at;
     let mut number = next;
     let mut extracted = 0;
     let mut a = 0;
     while a < count {
-        let armed = arm(rows, work, held, group, a, fuel, number, text, end, table);
+        let armed = arm(rows, work, h, group, a, fuel, number, text, end, table);
         let Armed::Rows(place, after, more) = armed else {
             return Armed::Refused(refusal_of(armed));
         };
@@ -334,7 +377,7 @@ fn arms(
 fn measure(
     rows: &[u64],
     work: &mut [u64],
-    held: &[u64],
+    h: usize,
     group: &[u64],
     fuel: usize,
     next: u64,
@@ -342,13 +385,14 @@ fn measure(
     at: usize,
     kept: &mut [u64],
 ) -> Armed
-    requires { ⌜ Lent fuel (now work) (now text) × Holds (rows-in (now rows)) next (now held) ⌝ }
-    requires { ⌜ Is-group (now held) (now group) × (next ≤ 4294967296) × (at ≤ 288230376151711744) ⌝ }
-    ensures { λ r. ⌜ (r ≡ arms-answer (group-told (inner (rows-in (now (rows .entry))) fuel) (now (held .entry)) (now (group .entry)) next) at)
-        × Arms-wrote (group-told (inner (rows-in (now (rows .entry))) fuel) (now (held .entry)) (now (group .entry)) next) at (now (kept .entry)) (now (kept .exit)) ⌝ }
+    requires { ⌜ Lent h (now work) (now text) × Holds (rows-in (now rows)) next (take h (now work)) ⌝ }
+    requires { ⌜ Is-group (take h (now work)) (now group) × (next ≤ 4294967296) × (at ≤ 288230376151711744) ⌝ }
+    ensures { λ r. ⌜ (r ≡ arms-answer (group-told (inner (rows-in (now (rows .entry))) fuel (length (now (work .entry)) - h)) (take h (now (work .entry))) (now (group .entry)) next) at)
+        × Arms-wrote (group-told (inner (rows-in (now (rows .entry))) fuel (length (now (work .entry)) - h)) (take h (now (work .entry))) (now (group .entry)) next) at (now (kept .entry)) (now (kept .exit)) ⌝ }
+    ensures { λ _. ⌜ take h (now (work .exit)) ≡ take h (now (work .entry)) ⌝ }
 {
     let first = next + group.len() as u64;
-    arms(rows, work, held, group, fuel, first, text, at, kept)
+    arms(rows, work, h, group, fuel, first, text, at, kept)
 }
 
 // The numbers of a group's members.
@@ -368,7 +412,7 @@ fn number_members(first: u64, count: usize, at: usize, numbers: &mut [u64])
 fn walk(
     rows: &[u64],
     work: &mut [u64],
-    held: &[u64],
+    h: usize,
     members: &[u64],
     ends: &[u64],
     fuel: usize,
@@ -378,11 +422,12 @@ fn walk(
     stops: &mut [u64],
     kept: &mut [u64],
 ) -> Walked
-    requires { ⌜ Lent fuel (now work) (now text) × Holds (rows-in (now rows)) next (now held) ⌝ }
-    requires { ⌜ Members (now held) (now members) (now ends) × (next ≤ 4294967296) ⌝ }
+    requires { ⌜ Lent h (now work) (now text) × Holds (rows-in (now rows)) next (take h (now work)) ⌝ }
+    requires { ⌜ Members (take h (now work)) (now members) (now ends) × (next ≤ 4294967296) ⌝ }
     requires { ⌜ (length (now members) ≤ length (now numbers)) × (length (now ends) ≤ length (now stops)) ⌝ }
-    ensures { λ r. ⌜ (r ≡ walk-answer (groups-told (rows-in (now (rows .entry))) fuel next (now (held .entry))))
-        × Walk-wrote (groups-told (rows-in (now (rows .entry))) fuel next (now (held .entry))) (now (numbers .exit)) (now (stops .exit)) (now (kept .entry)) (now (kept .exit)) ⌝ }
+    ensures { λ r. ⌜ (r ≡ walk-answer (groups-told (rows-in (now (rows .entry))) fuel (length (now (work .entry)) - h) next (take h (now (work .entry)))))
+        × Walk-wrote (groups-told (rows-in (now (rows .entry))) fuel (length (now (work .entry)) - h) next (take h (now (work .entry)))) (now (numbers .exit)) (now (stops .exit)) (now (kept .entry)) (now (kept .exit)) ⌝ }
+    ensures { λ _. ⌜ take h (now (work .exit)) ≡ take h (now (work .entry)) ⌝ }
 {
     let mut number = next;
     let mut extracted = 0;
@@ -395,7 +440,7 @@ fn walk(
         let armed = measure(
             rows,
             work,
-            held,
+            h,
             &members[start..end],
             fuel,
             number,
@@ -421,7 +466,7 @@ fn walk(
 fn write_match(
     rows: &[u64],
     work: &mut [u64],
-    held: &[u64],
+    h: usize,
     members: &[u64],
     ends: &[u64],
     numbers: &[u64],
@@ -434,13 +479,14 @@ fn write_match(
     at: usize,
     table: &mut [u64],
 ) -> usize
-    requires { ⌜ Lent fuel (now work) (now text) × Holds (rows-in (now rows)) (getD (now numbers) (group-start (place-groups (now held)) g) 0) (now held) ⌝ }
-    requires { ⌜ Grouped (now held) (now members) (now ends) (now numbers) × Group-sized (rows-in (now rows)) fuel (now held) (now numbers) g from size (now kept) ⌝ }
-    requires { ⌜ (g < length (now ends)) × (at + length (match-run (now held) (place-groups (now held)) (now numbers) (words-of (group-again (rows-in (now rows)) fuel (now held) (now numbers) g)) g) ≤ most-rows) ⌝ }
-    ensures { λ r. ⌜ (r ≡ at + length (match-run (now (held .entry)) (place-groups (now (held .entry))) (now (numbers .entry)) (words-of (group-again (rows-in (now (rows .entry))) fuel (now (held .entry)) (now (numbers .entry)) g)) g))
-        × (now (table .exit) ≡ overlay at (match-run (now (held .entry)) (place-groups (now (held .entry))) (now (numbers .entry)) (words-of (group-again (rows-in (now (rows .entry))) fuel (now (held .entry)) (now (numbers .entry)) g)) g) (now (table .entry))) ⌝ }
+    requires { ⌜ Lent h (now work) (now text) × Holds (rows-in (now rows)) (getD (now numbers) (group-start (place-groups (take h (now work))) g) 0) (take h (now work)) ⌝ }
+    requires { ⌜ Grouped (take h (now work)) (now members) (now ends) (now numbers) × Group-sized (rows-in (now rows)) fuel (length (now work) - h) (take h (now work)) (now numbers) g from size (now kept) ⌝ }
+    requires { ⌜ (g < length (now ends)) × (at + length (match-run (take h (now work)) (place-groups (take h (now work))) (now numbers) (words-of (group-again (rows-in (now rows)) fuel (length (now work) - h) (take h (now work)) (now numbers) g)) g) ≤ most-rows) ⌝ }
+    ensures { λ r. ⌜ (r ≡ at + length (match-run (take h (now (work .entry))) (place-groups (take h (now (work .entry)))) (now (numbers .entry)) (words-of (group-again (rows-in (now (rows .entry))) fuel (length (now (work .entry)) - h) (take h (now (work .entry))) (now (numbers .entry)) g)) g))
+        × (now (table .exit) ≡ overlay at (match-run (take h (now (work .entry))) (place-groups (take h (now (work .entry)))) (now (numbers .entry)) (words-of (group-again (rows-in (now (rows .entry))) fuel (length (now (work .entry)) - h) (take h (now (work .entry))) (now (numbers .entry)) g)) g) (now (table .entry))) ⌝ }
+    ensures { λ _. ⌜ take h (now (work .exit)) ≡ take h (now (work .entry)) ⌝ }
 {
-    let body = write_match_head(held, members, ends, numbers, g, at, table);
+    let body = write_match_head(&work[..h], members, ends, numbers, g, at, table);
     if body >= table.len() {
         return body + size;
     }
@@ -454,7 +500,7 @@ fn write_match(
     let armed = arms(
         rows,
         work,
-        held,
+        h,
         &members[start..end],
         fuel,
         first,
@@ -476,7 +522,7 @@ fn write_stmt(
     results: usize,
     first: u64,
     places: &[u64],
-    held: &[u64],
+    h: usize,
     starts: &[u64],
     members: &[u64],
     ends: &[u64],
@@ -489,11 +535,12 @@ fn write_stmt(
     at: usize,
     table: &mut [u64],
 ) -> usize
-    requires { ⌜ Lent fuel (now work) (now text) × Holds (rows-in (now rows)) (reciprocals-first (now tokens) results first (now places) + length (now places)) (now held) ⌝ }
-    requires { ⌜ Prepared (now tokens) results first (now places) (now held) (now starts) (now members) (now ends) (now numbers) × Sized (rows-in (now rows)) fuel (reciprocals-first (now tokens) results first (now places) + length (now places)) (now held) (now numbers) (now stops) (now kept) ⌝ }
-    requires { ⌜ (p < stmts-count (now tokens) results first (now places) (now numbers)) × (at + length (stmt-run (now tokens) results first (now places) (now numbers) (scope-arms (rows-in (now rows)) fuel (now tokens) results first (now places)) p) ≤ most-rows) ⌝ }
-    ensures { λ r. ⌜ (r ≡ at + length (stmt-run (now (tokens .entry)) results first (now (places .entry)) (now (numbers .entry)) (scope-arms (rows-in (now (rows .entry))) fuel (now (tokens .entry)) results first (now (places .entry))) p))
-        × (now (table .exit) ≡ overlay at (stmt-run (now (tokens .entry)) results first (now (places .entry)) (now (numbers .entry)) (scope-arms (rows-in (now (rows .entry))) fuel (now (tokens .entry)) results first (now (places .entry))) p) (now (table .entry))) ⌝ }
+    requires { ⌜ Lent h (now work) (now text) × Holds (rows-in (now rows)) (reciprocals-first (now tokens) results first (now places) + length (now places)) (take h (now work)) ⌝ }
+    requires { ⌜ Prepared (now tokens) results first (now places) (take h (now work)) (now starts) (now members) (now ends) (now numbers) × Sized (rows-in (now rows)) fuel (length (now work) - h) (reciprocals-first (now tokens) results first (now places) + length (now places)) (take h (now work)) (now numbers) (now stops) (now kept) ⌝ }
+    requires { ⌜ (p < stmts-count (now tokens) results first (now places) (now numbers)) × (at + length (stmt-run (now tokens) results first (now places) (now numbers) (scope-arms (rows-in (now rows)) fuel (length (now work) - h) (now tokens) results first (now places)) p) ≤ most-rows) ⌝ }
+    ensures { λ r. ⌜ (r ≡ at + length (stmt-run (now (tokens .entry)) results first (now (places .entry)) (now (numbers .entry)) (scope-arms (rows-in (now (rows .entry))) fuel (length (now (work .entry)) - h) (now (tokens .entry)) results first (now (places .entry))) p))
+        × (now (table .exit) ≡ overlay at (stmt-run (now (tokens .entry)) results first (now (places .entry)) (now (numbers .entry)) (scope-arms (rows-in (now (rows .entry))) fuel (length (now (work .entry)) - h) (now (tokens .entry)) results first (now (places .entry))) p) (now (table .entry))) ⌝ }
+    ensures { λ _. ⌜ take h (now (work .exit)) ≡ take h (now (work .entry)) ⌝ }
 {
     let lets = starts.len() - results + places.len();
     if p < lets {
@@ -502,7 +549,7 @@ fn write_stmt(
             results,
             first,
             places,
-            held,
+            &work[..h],
             starts,
             members,
             numbers,
@@ -517,7 +564,7 @@ fn write_stmt(
     write_match(
         rows,
         work,
-        held,
+        h,
         members,
         ends,
         numbers,
@@ -540,7 +587,7 @@ fn write_stmts(
     results: usize,
     first: u64,
     places: &[u64],
-    held: &[u64],
+    h: usize,
     starts: &[u64],
     members: &[u64],
     ends: &[u64],
@@ -553,11 +600,12 @@ fn write_stmts(
     at: usize,
     table: &mut [u64],
 ) -> usize
-    requires { ⌜ Lent fuel (now work) (now text) × Holds (rows-in (now rows)) (reciprocals-first (now tokens) results first (now places) + length (now places)) (now held) ⌝ }
-    requires { ⌜ Prepared (now tokens) results first (now places) (now held) (now starts) (now members) (now ends) (now numbers) × Sized (rows-in (now rows)) fuel (reciprocals-first (now tokens) results first (now places) + length (now places)) (now held) (now numbers) (now stops) (now kept) ⌝ }
-    requires { ⌜ Positions (now taken) (stmts-count (now tokens) results first (now places) (now numbers)) × (at + length (stmts-runs (now tokens) results first (now places) (now numbers) (scope-arms (rows-in (now rows)) fuel (now tokens) results first (now places)) (now taken) (length (now taken))) ≤ most-rows) ⌝ }
-    ensures { λ r. ⌜ (r ≡ at + length (stmts-runs (now (tokens .entry)) results first (now (places .entry)) (now (numbers .entry)) (scope-arms (rows-in (now (rows .entry))) fuel (now (tokens .entry)) results first (now (places .entry))) (now (taken .entry)) (length (now (taken .entry)))))
-        × (now (table .exit) ≡ overlay at (stmts-runs (now (tokens .entry)) results first (now (places .entry)) (now (numbers .entry)) (scope-arms (rows-in (now (rows .entry))) fuel (now (tokens .entry)) results first (now (places .entry))) (now (taken .entry)) (length (now (taken .entry)))) (now (table .entry))) ⌝ }
+    requires { ⌜ Lent h (now work) (now text) × Holds (rows-in (now rows)) (reciprocals-first (now tokens) results first (now places) + length (now places)) (take h (now work)) ⌝ }
+    requires { ⌜ Prepared (now tokens) results first (now places) (take h (now work)) (now starts) (now members) (now ends) (now numbers) × Sized (rows-in (now rows)) fuel (length (now work) - h) (reciprocals-first (now tokens) results first (now places) + length (now places)) (take h (now work)) (now numbers) (now stops) (now kept) ⌝ }
+    requires { ⌜ Positions (now taken) (stmts-count (now tokens) results first (now places) (now numbers)) × (at + length (stmts-runs (now tokens) results first (now places) (now numbers) (scope-arms (rows-in (now rows)) fuel (length (now work) - h) (now tokens) results first (now places)) (now taken) (length (now taken))) ≤ most-rows) ⌝ }
+    ensures { λ r. ⌜ (r ≡ at + length (stmts-runs (now (tokens .entry)) results first (now (places .entry)) (now (numbers .entry)) (scope-arms (rows-in (now (rows .entry))) fuel (length (now (work .entry)) - h) (now (tokens .entry)) results first (now (places .entry))) (now (taken .entry)) (length (now (taken .entry)))))
+        × (now (table .exit) ≡ overlay at (stmts-runs (now (tokens .entry)) results first (now (places .entry)) (now (numbers .entry)) (scope-arms (rows-in (now (rows .entry))) fuel (length (now (work .entry)) - h) (now (tokens .entry)) results first (now (places .entry))) (now (taken .entry)) (length (now (taken .entry)))) (now (table .entry))) ⌝ }
+    ensures { λ _. ⌜ take h (now (work .exit)) ≡ take h (now (work .entry)) ⌝ }
 {
     let mut to = at;
     let mut q = 0;
@@ -570,7 +618,7 @@ fn write_stmts(
             results,
             first,
             places,
-            held,
+            h,
             starts,
             members,
             ends,
@@ -596,7 +644,7 @@ fn write_scope(
     results: usize,
     first: u64,
     places: &[u64],
-    held: &[u64],
+    h: usize,
     starts: &[u64],
     members: &[u64],
     ends: &[u64],
@@ -611,11 +659,11 @@ fn write_scope(
     at: usize,
     table: &mut [u64],
 ) -> Scoped
-    requires { ⌜ Lent fuel (now work) (now text) × Holds (rows-in (now rows)) (reciprocals-first (now tokens) results first (now places) + length (now places)) (now held) ⌝ }
-    requires { ⌜ Prepared (now tokens) results first (now places) (now held) (now starts) (now members) (now ends) (now numbers) × Numbered (rows-in (now rows)) fuel (reciprocals-first (now tokens) results first (now places) + length (now places)) (now held) (now numbers) (now stops) (now kept) after extracted ⌝ }
-    requires { ⌜ at + told-rows (grouped-scope (rows-in (now rows)) fuel row (now tokens) results first (now places)) ≤ most-rows ⌝ }
-    ensures { λ r. ⌜ (r ≡ scope-answer (grouped-scope (rows-in (now (rows .entry))) fuel row (now (tokens .entry)) results first (now (places .entry))) at)
-        × (now (table .exit) ≡ scope-table (grouped-scope (rows-in (now (rows .entry))) fuel row (now (tokens .entry)) results first (now (places .entry))) at (now (table .entry))) ⌝ }
+    requires { ⌜ Lent h (now work) (now text) × Holds (rows-in (now rows)) (reciprocals-first (now tokens) results first (now places) + length (now places)) (take h (now work)) ⌝ }
+    requires { ⌜ Prepared (now tokens) results first (now places) (take h (now work)) (now starts) (now members) (now ends) (now numbers) × Numbered (rows-in (now rows)) fuel (length (now work) - h) (reciprocals-first (now tokens) results first (now places) + length (now places)) (take h (now work)) (now numbers) (now stops) (now kept) after extracted ⌝ }
+    requires { ⌜ at + told-rows (grouped-scope (rows-in (now rows)) fuel (length (now work) - h) row (now tokens) results first (now places)) ≤ most-rows ⌝ }
+    ensures { λ r. ⌜ (r ≡ scope-answer (grouped-scope (rows-in (now (rows .entry))) fuel (length (now (work .entry)) - h) row (now (tokens .entry)) results first (now (places .entry))) at)
+        × (now (table .exit) ≡ scope-table (grouped-scope (rows-in (now (rows .entry))) fuel (length (now (work .entry)) - h) row (now (tokens .entry)) results first (now (places .entry))) at (now (table .entry))) ⌝ }
 {
     let mut taken = [0u64; MOST_STMTS];
     let made = starts.len() - results;
@@ -625,7 +673,7 @@ fn write_scope(
         results,
         first,
         places,
-        held,
+        &work[..h],
         starts,
         members,
         ends,
@@ -641,7 +689,7 @@ fn write_scope(
                 results,
                 first,
                 places,
-                held,
+                h,
                 starts,
                 members,
                 ends,
@@ -659,7 +707,7 @@ fn write_scope(
                 results,
                 first,
                 places,
-                held,
+                &work[..h],
                 starts,
                 members,
                 numbers,
@@ -682,7 +730,7 @@ fn scope_grouped(
     results: usize,
     first: u64,
     places: &[u64],
-    held: &[u64],
+    h: usize,
     starts: &[u64],
     members: &[u64],
     ends: &[u64],
@@ -693,11 +741,11 @@ fn scope_grouped(
     at: usize,
     table: &mut [u64],
 ) -> Scoped
-    requires { ⌜ Lent fuel (now work) (now text) × Holds (rows-in (now rows)) (reciprocals-first (now tokens) results first (now places) + length (now places)) (now held) ⌝ }
-    requires { ⌜ Ready (now tokens) results first (now places) (now held) (now starts) (now members) (now ends) × (length (now members) ≤ length (now numbers)) ⌝ }
-    requires { ⌜ at + told-rows (grouped-scope (rows-in (now rows)) fuel row (now tokens) results first (now places)) ≤ most-rows ⌝ }
-    ensures { λ r. ⌜ (r ≡ scope-answer (grouped-scope (rows-in (now (rows .entry))) fuel row (now (tokens .entry)) results first (now (places .entry))) at)
-        × (now (table .exit) ≡ scope-table (grouped-scope (rows-in (now (rows .entry))) fuel row (now (tokens .entry)) results first (now (places .entry))) at (now (table .entry))) ⌝ }
+    requires { ⌜ Lent h (now work) (now text) × Holds (rows-in (now rows)) (reciprocals-first (now tokens) results first (now places) + length (now places)) (take h (now work)) ⌝ }
+    requires { ⌜ Ready (now tokens) results first (now places) (take h (now work)) (now starts) (now members) (now ends) × (length (now members) ≤ length (now numbers)) ⌝ }
+    requires { ⌜ at + told-rows (grouped-scope (rows-in (now rows)) fuel (length (now work) - h) row (now tokens) results first (now places)) ≤ most-rows ⌝ }
+    ensures { λ r. ⌜ (r ≡ scope-answer (grouped-scope (rows-in (now (rows .entry))) fuel (length (now (work .entry)) - h) row (now (tokens .entry)) results first (now (places .entry))) at)
+        × (now (table .exit) ≡ scope-table (grouped-scope (rows-in (now (rows .entry))) fuel (length (now (work .entry)) - h) row (now (tokens .entry)) results first (now (places .entry))) at (now (table .entry))) ⌝ }
 {
     let mut stops = [0u64; MOST_STMTS];
     let mut kept = [0u64; KEPT];
@@ -705,7 +753,7 @@ fn scope_grouped(
     let walked = walk(
         rows,
         work,
-        held,
+        h,
         members,
         ends,
         fuel,
@@ -727,7 +775,7 @@ fn scope_grouped(
         results,
         first,
         places,
-        held,
+        h,
         starts,
         members,
         ends,
@@ -744,38 +792,38 @@ fn scope_grouped(
     )
 }
 
-// The scope from what it holds on: where its trees begin there, its groups, and whether its statements are too many. What is lent for members, ends and numbers is
-// for the work.
+// The scope from what it holds on, which stands in front of the work area: where its trees begin there, its groups, and whether its switches or its statements are
+// too many.
 fn scope_held(
     rows: &[u64],
     work: &mut [u64],
+    h: usize,
     tokens: &[u64],
     results: usize,
     trees: usize,
     first: u64,
     places: &[u64],
-    held: &[u64],
-    members: &mut [u64],
-    ends: &mut [u64],
-    numbers: &mut [u64],
     fuel: usize,
     row: u64,
     text: &mut [u8],
     at: usize,
     table: &mut [u64],
 ) -> Scoped
-    requires { ⌜ Lent fuel (now work) (now text) × Left (rows-in (now rows)) (now tokens) results first (now places) ⌝ }
-    requires { ⌜ (trees-in (now tokens) ≡ some trees) × (now held ≡ held-words (now tokens) results first (now places)) × (length (now held) ≤ 7281) ⌝ }
-    requires { ⌜ (length (now held) ≤ length (now members)) × (length (now held) ≤ length (now ends)) × (length (now held) ≤ length (now numbers)) ⌝ }
-    requires { ⌜ at + told-rows (fused-scope (inner (rows-in (now rows)) fuel) row (now tokens) results first (now places)) ≤ most-rows ⌝ }
-    ensures { λ r. ⌜ (r ≡ scope-answer (fused-scope (inner (rows-in (now (rows .entry))) fuel) row (now (tokens .entry)) results first (now (places .entry))) at)
-        × (now (table .exit) ≡ scope-table (fused-scope (inner (rows-in (now (rows .entry))) fuel) row (now (tokens .entry)) results first (now (places .entry))) at (now (table .entry))) ⌝ }
+    requires { ⌜ Lent h (now work) (now text) × Left (rows-in (now rows)) (now tokens) results first (now places) ⌝ }
+    requires { ⌜ (trees-in (now tokens) ≡ some trees) × (take h (now work) ≡ held-words (now tokens) results first (now places)) ⌝ }
+    requires { ⌜ at + told-rows (left-scope (rows-in (now rows)) fuel (length (now work)) row (now tokens) results first (now places)) ≤ most-rows ⌝ }
+    ensures { λ r. ⌜ (r ≡ scope-answer (left-scope (rows-in (now (rows .entry))) fuel (length (now (work .entry))) row (now (tokens .entry)) results first (now (places .entry))) at)
+        × (now (table .exit) ≡ scope-table (left-scope (rows-in (now (rows .entry))) fuel (length (now (work .entry))) row (now (tokens .entry)) results first (now (places .entry))) at (now (table .entry))) ⌝ }
 {
     let mut starts = [0u64; MOST];
-    list_trees(held, &mut starts);
-    let found = group_all(held, numbers, members, ends);
-    let m = found.members;
-    let g = found.groups;
+    let mut members = [0u64; MOST_SWITCHES];
+    let mut ends = [0u64; MOST_SWITCHES];
+    let mut numbers = [0u64; MOST_SWITCHES];
+    list_trees(&work[..h], &mut starts);
+    let found = group_all(&work[..h], &mut numbers, &mut members, &mut ends);
+    let Found::Groups(m, g) = found else {
+        return Scoped::Refused(TOO_MUCH);
+    };
     if trees - results + places.len() + g > MOST_STMTS {
         return Scoped::Refused(TOO_MUCH);
     }
@@ -786,79 +834,10 @@ fn scope_held(
         results,
         first,
         places,
-        held,
+        h,
         &starts[..trees],
         &members[..m],
         &ends[..g],
-        numbers,
-        fuel,
-        row,
-        text,
-        at,
-        table,
-    )
-}
-
-// The scope after its rounds, where it holds more than its input can have. What is lent is for what it holds; where that is shorter than a part, a part of its own is
-// lent. Since this function calls itself, the compiler keeps its frame apart from its caller's, so that scopes which hold less don't have its arrays on the stack.
-fn scope_large(
-    rows: &[u64],
-    work: &mut [u64],
-    tokens: &[u64],
-    results: usize,
-    trees: usize,
-    first: u64,
-    places: &[u64],
-    held: &mut [u64],
-    fuel: usize,
-    row: u64,
-    text: &mut [u8],
-    at: usize,
-    table: &mut [u64],
-) -> Scoped
-    requires { ⌜ Lent fuel (now work) (now text) × Left (rows-in (now rows)) (now tokens) results first (now places) ⌝ }
-    requires { ⌜ (trees-in (now tokens) ≡ some trees) × (length (now held) ≤ 7281) ⌝ }
-    requires { ⌜ at + told-rows (fused-scope (inner (rows-in (now rows)) fuel) row (now tokens) results first (now places)) ≤ most-rows ⌝ }
-    ensures { λ r. ⌜ (r ≡ scope-answer (fused-scope (inner (rows-in (now (rows .entry))) fuel) row (now (tokens .entry)) results first (now (places .entry))) at)
-        × (now (table .exit) ≡ scope-table (fused-scope (inner (rows-in (now (rows .entry))) fuel) row (now (tokens .entry)) results first (now (places .entry))) at (now (table .entry))) ⌝ }
-{
-    if held.len() < PART {
-        let mut part = [0u64; PART];
-        return scope_large(
-            rows,
-            work,
-            tokens,
-            results,
-            trees,
-            first,
-            places,
-            &mut part,
-            fuel,
-            row,
-            text,
-            at,
-            table,
-        );
-    }
-    let number = first + (trees - results) as u64;
-    let holding = hold_all(tokens, places, number, held);
-    let Holding::Words(n) = holding else {
-        return Scoped::Refused(TOO_MUCH);
-    };
-    let mut members = [0u64; PART];
-    let mut ends = [0u64; PART];
-    let mut numbers = [0u64; PART];
-    scope_held(
-        rows,
-        work,
-        tokens,
-        results,
-        trees,
-        first,
-        places,
-        &held[..n],
-        &mut members,
-        &mut ends,
         &mut numbers,
         fuel,
         row,
@@ -868,71 +847,7 @@ fn scope_large(
     )
 }
 
-// The scope after its rounds, with room for as much as its input can have.
-fn scope_small(
-    rows: &[u64],
-    work: &mut [u64],
-    tokens: &[u64],
-    results: usize,
-    trees: usize,
-    first: u64,
-    places: &[u64],
-    fuel: usize,
-    row: u64,
-    text: &mut [u8],
-    at: usize,
-    table: &mut [u64],
-) -> Scoped
-    requires { ⌜ Lent fuel (now work) (now text) × Left (rows-in (now rows)) (now tokens) results first (now places) ⌝ }
-    requires { ⌜ trees-in (now tokens) ≡ some trees ⌝ }
-    requires { ⌜ at + told-rows (fused-scope (inner (rows-in (now rows)) fuel) row (now tokens) results first (now places)) ≤ most-rows ⌝ }
-    ensures { λ r. ⌜ (r ≡ scope-answer (fused-scope (inner (rows-in (now (rows .entry))) fuel) row (now (tokens .entry)) results first (now (places .entry))) at)
-        × (now (table .exit) ≡ scope-table (fused-scope (inner (rows-in (now (rows .entry))) fuel) row (now (tokens .entry)) results first (now (places .entry))) at (now (table .entry))) ⌝ }
-{
-    let mut held = [0u64; MOST];
-    let number = first + (trees - results) as u64;
-    let holding = hold_all(tokens, places, number, &mut held);
-    let Holding::Words(n) = holding else {
-        return scope_large(
-            rows,
-            work,
-            tokens,
-            results,
-            trees,
-            first,
-            places,
-            &mut held,
-            fuel,
-            row,
-            text,
-            at,
-            table,
-        );
-    };
-    let mut members = [0u64; MOST];
-    let mut ends = [0u64; MOST];
-    let mut numbers = [0u64; MOST];
-    scope_held(
-        rows,
-        work,
-        tokens,
-        results,
-        trees,
-        first,
-        places,
-        &held[..n],
-        &mut members,
-        &mut ends,
-        &mut numbers,
-        fuel,
-        row,
-        text,
-        at,
-        table,
-    )
-}
-
-// The scope after its rounds. Its words are copied out of the work area, whose rest is lent on to the scopes of its arms: a slice can't be used in two parts at once.
+// The scope after its rounds. The words that they leave are copied out of the work area, and what the scope holds takes their place there: the rest is for its arms.
 fn scope_listed(
     rows: &[u64],
     work: &mut [u64],
@@ -946,18 +861,23 @@ fn scope_listed(
     at: usize,
     table: &mut [u64],
 ) -> Scoped
-    requires { ⌜ Lent (suc fuel) (now work) (now text) × (used ≤ length (now work)) ⌝ }
-    requires { ⌜ Left (rows-in (now rows)) (take used (now work)) results first (now places) ⌝ }
-    requires { ⌜ at + told-rows (fused-scope (inner (rows-in (now rows)) fuel) row (take used (now work)) results first (now places)) ≤ most-rows ⌝ }
-    ensures { λ r. ⌜ (r ≡ scope-answer (fused-scope (inner (rows-in (now (rows .entry))) fuel) row (take used (now (work .entry))) results first (now (places .entry))) at)
-        × (now (table .exit) ≡ scope-table (fused-scope (inner (rows-in (now (rows .entry))) fuel) row (take used (now (work .entry))) results first (now (places .entry))) at (now (table .entry))) ⌝ }
+    requires { ⌜ Lent used (now work) (now text) × Left (rows-in (now rows)) (take used (now work)) results first (now places) ⌝ }
+    requires { ⌜ at + told-rows (left-scope (rows-in (now rows)) fuel (length (now work)) row (take used (now work)) results first (now places)) ≤ most-rows ⌝ }
+    ensures { λ r. ⌜ (r ≡ scope-answer (left-scope (rows-in (now (rows .entry))) fuel (length (now (work .entry))) row (take used (now (work .entry))) results first (now (places .entry))) at)
+        × (now (table .exit) ≡ scope-table (left-scope (rows-in (now (rows .entry))) fuel (length (now (work .entry))) row (take used (now (work .entry))) results first (now (places .entry))) at (now (table .entry))) ⌝ }
 {
     let mut tokens = [0u64; MOST];
     put(&work[..used], 0, &mut tokens);
     let trees = tree_count(&tokens[..used]);
-    scope_small(
+    let number = first + (trees - results) as u64;
+    let holding = hold_all(&tokens[..used], places, number, work);
+    let Holding::Words(h) = holding else {
+        return Scoped::Refused(TOO_MUCH);
+    };
+    scope_held(
         rows,
-        &mut work[used..],
+        work,
+        h,
         &tokens[..used],
         results,
         trees,
@@ -972,7 +892,7 @@ fn scope_listed(
 }
 
 // The scope of the first `len` words of the work area, with numbers from `next` on and values in rows of the kind `row`: its rows are laid over the table from `at`
-// on, those past its end dropped. A refusal writes nothing. `fuel` is how many scopes may be open at once from here on.
+// on, those past its end dropped. A refusal writes nothing. `fuel` is how many scopes may be open at once from here on, and the work area is what is left for them.
 pub fn scope(
     rows: &[u64],
     work: &mut [u64],
@@ -985,10 +905,10 @@ pub fn scope(
     table: &mut [u64],
 ) -> Scoped
     requires { ⌜ T (extractable (rows-in (now rows)) next (take len (now work))) × T (symbols-pass (is-number (rows-in (now rows))) (take len (now work))) ⌝ }
-    requires { ⌜ Lent fuel (now work) (now text) × (len ≤ length (now work)) ⌝ }
-    requires { ⌜ at + told-rows (scope-told (rows-in (now rows)) fuel row next (take len (now work))) ≤ most-rows ⌝ }
-    ensures { λ r. ⌜ (r ≡ scope-answer (scope-told (rows-in (now (rows .entry))) fuel row next (take len (now (work .entry)))) at)
-        × (now (table .exit) ≡ scope-table (scope-told (rows-in (now (rows .entry))) fuel row next (take len (now (work .entry)))) at (now (table .entry))) ⌝ }
+    requires { ⌜ Lent len (now work) (now text) ⌝ }
+    requires { ⌜ at + told-rows (scope-told (rows-in (now rows)) fuel (length (now work)) row next (take len (now work))) ≤ most-rows ⌝ }
+    ensures { λ r. ⌜ (r ≡ scope-answer (scope-told (rows-in (now (rows .entry))) fuel (length (now (work .entry))) row next (take len (now (work .entry)))) at)
+        × (now (table .exit) ≡ scope-table (scope-told (rows-in (now (rows .entry))) fuel (length (now (work .entry))) row next (take len (now (work .entry)))) at (now (table .entry))) ⌝ }
 {
     if fuel == 0 {
         return Scoped::Refused(TOO_MUCH);
