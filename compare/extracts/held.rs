@@ -17,8 +17,8 @@ pub const STATEMENTS: usize = 5;
 /// The area's rows, which all open scopes share.
 pub const ROWS: usize = 65_536;
 
-/// The most that a scope may have of each.
-pub const LIMITS: Sizes = [1927, ROWS, ROWS, ROWS, 3640, 2048];
+/// The most that a scope may have of each. What one holds has no limit but the rows that are left.
+pub const LIMITS: Sizes = [1927, usize::MAX, ROWS, ROWS, 3640, 2048];
 
 /// The largest number that a scope may start with.
 const MOST_NUMBER: usize = 1 << 31;

@@ -162,7 +162,7 @@ enum Copied {
     Keys,
 }
 
-/// Such divisions of at most so many occurrences, up to each limit of a scope and past it.
+/// Such divisions of at most so many occurrences, up to what a scope may be given and state and past it, or up to most of the area's rows.
 pub fn copies(r: &mut Random, most: usize) -> Vec<T> {
     loop {
         let es = divisions(r, most);
