@@ -1,6 +1,5 @@
 //! Random lists near the limit of 1,024 occurrences, each from parts that repeat.
 use crate::asked::asked;
-use crate::held;
 use crate::lists::{self, ANY, DEEPEST, DIVISIONS, MIXED, SWITCHES, Soil, TEXTS, arity, one};
 use crate::random::Random;
 use crate::tree::*;
@@ -26,12 +25,16 @@ pub enum Family {
     Tangled,
     Nested,
     Copies,
+    Shared,
 }
 
 use Family::*;
 
 /// A list of at most so many occurrences, and mostly not many fewer; one dense in switches, or any.
 pub fn list(r: &mut Random, most: usize, switches: bool) -> Vec<T> {
+    if switches && r.chance(3) {
+        return of_family(r, Shared, most);
+    }
     if switches && r.chance(75) {
         let family = *r.pick(&[Switches, Tangled, Tangled, Tangled, Nested, Nested, Nested, Nested, Nested, Copies, Copies]);
         return of_family(r, family, most);
@@ -80,6 +83,7 @@ pub fn of_family(r: &mut Random, family: Family, most: usize) -> Vec<T> {
             let mut first = copies(r, most - most / 20);
             filled(r, most, |r| if first.is_empty() { answered(r, ALPHABETS, lists::nested) } else { std::mem::take(&mut first) })
         }
+        Shared => sharing(r, most),
     };
     joined(r, es, most)
 }
@@ -150,7 +154,7 @@ fn in_set(t: &T, set: usize, renamed: &mut HashMap<*const Tree, T>) -> T {
 
 #[derive(Clone, Copy)]
 enum Copied {
-    /// equal copies, about as many occurrences as a scope may hold
+    /// equal copies, which are most of the area's rows or fewer
     Equal,
     /// with arms of their own: a match of many switches, whose arms have about as many occurrences as a scope may be given
     Arms,
@@ -158,7 +162,7 @@ enum Copied {
     Keys,
 }
 
-/// Such divisions of at most so many occurrences, up to each limit of a scope and past it.
+/// Such divisions of at most so many occurrences, up to what a scope may be given and state and past it, or up to most of the area's rows.
 pub fn copies(r: &mut Random, most: usize) -> Vec<T> {
     loop {
         let es = divisions(r, most);
@@ -175,7 +179,7 @@ fn divisions(r: &mut Random, most: usize) -> Vec<T> {
     let copied = *r.pick(&all[..if most < MOST / 2 { 9 } else { 10 }]);
     let uses = if r.chance(80) { 2 } else { 3 };
     let (lowest, tallest) = match copied {
-        Equal => (1, *r.pick(&[12, 30, 50, 100])),
+        Equal => (1, *r.pick(&[12, 30, 50, 100, 200])),
         Arms => (4, 40),
         Keys => (8, 24),
     };
@@ -184,7 +188,8 @@ fn divisions(r: &mut Random, most: usize) -> Vec<T> {
     let room = (most / uses).saturating_sub(2 * height + 10);
     let mut t = match copied {
         Equal => {
-            let each = (r.below(9000) / height).min(room);
+            let rows = *r.pick(&[9000, 9000, 60_000]);
+            let each = (r.below(rows) / height).min(room);
             switch(r, num(1), &[], each)
         }
         Arms => {
@@ -251,27 +256,117 @@ fn plain(r: &mut Random, most: usize) -> T {
     t
 }
 
-/// A list that comes near one of a scope's limits, by its number: what an arm's scope is given, what the list's scope holds, and its statements. The last tree
-/// adds so many.
-pub fn edge(limit: usize, more: usize) -> Vec<T> {
-    let heights = [7, 24, 16];
-    let height = heights[limit];
-    let numbers: Vec<i64> = (0..height).map(|n| 101 + 2 * n).collect();
-    let sum = (0..7).fold(num(2), |t, _| op(ADD, vec![t.clone(), t]));
+// ---- lists whose rows several scopes share
+
+/// The switch with a sign before it, and each of so many numbers divided by all before. The texts of these divisors ascend, so that each is bound with all
+/// those in it, and the switch.
+fn divisor(height: usize, switch: T) -> T {
+    stacked((0..height).map(number), switch)
+}
+
+fn number(n: usize) -> T {
+    num(100 + 2 * n as i64)
+}
+
+fn stacked(numbers: impl Iterator<Item = T>, switch: T) -> T {
+    numbers.fold(op(NEG, vec![switch]), |t, n| op(DIV, vec![n, t]))
+}
+
+fn in_arm(t: T) -> T {
+    op(SELECT, vec![num(1), t])
+}
+
+/// Divisions by divisors in one another around a switch, whose arm divides by others around a switch, and so on, with so many in each scope. The last switch
+/// has this arm. Each arm also divides by a number that is bound in the scope above it: two of the switch's copies differ, so that the arm's scope has
+/// the same divisors twice. So many signs stand in the first division, each a row of the first scope.
+fn shared(heights: &[usize], last: T, signs: usize) -> Vec<T> {
+    let between = |level: usize| num(101 + 2 * level as i64);
+    let mut arm = last;
+    for (level, height) in heights.iter().enumerate().skip(1).rev() {
+        let mut t = op(DIV, vec![num(3), between(level - 1)]);
+        if level + 1 < heights.len() {
+            t = op(DIV, vec![t, between(level)]);
+        }
+        arm = op(DIV, vec![t, divisor(*height, in_arm(arm))]);
+    }
+    let mut p = negated(sym("p"), signs);
+    if heights.len() > 1 {
+        p = op(DIV, vec![p, between(0)]);
+    }
+    let t = divisor(heights[0], in_arm(arm));
+    vec![op(DIV, vec![p, t.clone()]), op(DIV, vec![sym("q"), t])]
+}
+
+fn negated(t: T, signs: usize) -> T {
+    (0..signs).fold(t, |t, _| op(NEG, vec![t]))
+}
+
+/// A tree that divides twice by two divisors around a switch, so that its scope holds more than it is given.
+fn twice_divided() -> T {
+    let t = divisor(1, in_arm(num(2)));
+    op(ADD, vec![op(DIV, vec![num(2), t.clone()]), op(DIV, vec![num(3), t])])
+}
+
+/// Such divisions in one to four scopes, with up to as many scopes in all as can be open, of as many occurrences as may be: they come near the area's rows,
+/// and some go past them.
+pub fn sharing(r: &mut Random, most: usize) -> Vec<T> {
+    let mut last = if r.chance(50) { num(2) } else { twice_divided() };
+    let levels = 1 + r.below(4);
+    let deeper = r.below(DEEPEST + 1 - levels - nesting(&last));
+    last = (0..deeper).fold(last, |t, _| in_arm(t));
+    let mut heights = vec![3; levels];
+    // the first scope's or each one's in turn, or any
+    let (first, even) = (r.chance(30), r.chance(30));
+    let mut next = 0;
+    while shared(&heights, last.clone(), 0).iter().map(size).sum::<usize>() + 4 <= most {
+        let level = if first { 0 } else if even { next % levels } else { r.below(levels) };
+        heights[level] += 1;
+        next += 1;
+    }
+    let left = most - shared(&heights, last.clone(), 0).iter().map(size).sum::<usize>();
+    shared(&heights, last, r.below(left + 1))
+}
+
+// ---- lists at the limits
+
+/// What a list comes near.
+#[derive(Clone, Copy, Debug)]
+pub enum Edge {
+    /// what an arm's scope is given
+    Given,
+    /// the area's rows, with two scopes open, of which the second is given far more than one
+    Arm,
+    /// the area's rows, with two scopes open, nearly all of them the first one's
+    Two,
+    /// with three open
+    Three,
+    /// with nine open
+    Nine,
+    /// the statements of a scope
+    Statements,
+}
+
+pub const EDGES: [Edge; 6] = [Edge::Given, Edge::Arm, Edge::Two, Edge::Three, Edge::Nine, Edge::Statements];
+
+/// Such a list, with so many more of what it is near. Rows are more in the first scope; the last one is given a single row but in `Arm`.
+pub fn edge(edge: Edge, more: usize) -> Vec<T> {
+    let between = |count: i64| -> Vec<i64> { (0..count).map(|n| 101 + 2 * n).collect() };
+    let sum = |times: usize| (0..times).fold(num(2), |t, _| op(ADD, vec![t.clone(), t]));
     let selects = |key: T, count: usize| (0..count).fold(key, |key, _| op(SELECT, vec![key, num(0)]));
-    let negated = |t: T| (1..more).fold(t, |t, _| op(NEG, vec![t]));
-    let switch = match limit {
-        held::GIVEN => op(SELECT, vec![num(1), over(sum, &numbers)]),
-        held::HELD => op(SELECT, vec![num(1), sum]),
-        _ => selects(over(num(1), &numbers), 118),
+    let divided = |t: T, numbers: Vec<i64>, last: T| vec![op(DIV, vec![sym("p"), t.clone()]), op(DIV, vec![sym("q"), t]), over(sym("d"), &numbers), last];
+    // at one place a product instead of a number, since no height comes near enough
+    let filling = |height: usize, at: usize, switch: T, first: T| {
+        let t = stacked((0..height).map(|n| if n == at { op(MUL, vec![number(n), num(1)]) } else { number(n) }), switch);
+        vec![op(DIV, vec![first, t.clone()]), op(DIV, vec![sym("q"), t])]
     };
-    let t = (0..height).fold(op(NEG, vec![switch]), |t, n| op(DIV, vec![num(100 + 2 * n), t]));
-    let last = match limit {
-        held::GIVEN => op(SELECT, vec![num(1), negated(num(2))]),
-        held::HELD => negated(sym("z")),
-        _ => selects(num(2), more),
-    };
-    vec![op(DIV, vec![sym("p"), t.clone()]), op(DIV, vec![sym("q"), t]), over(sym("d"), &numbers), last]
+    match edge {
+        Edge::Given => divided(divisor(7, in_arm(over(sum(7), &between(7)))), between(7), in_arm(negated(num(2), more))),
+        Edge::Arm => filling(240, 55, in_arm(over(sum(3), &between(3))), over(negated(sym("p"), more), &between(3))),
+        Edge::Two => filling(250, 116, in_arm(num(2)), negated(sym("p"), more)),
+        Edge::Three => shared(&[154, 94], num(2), more),
+        Edge::Nine => shared(&[183, 52], (0..5).fold(twice_divided(), |t, _| in_arm(t)), more),
+        Edge::Statements => divided(divisor(16, selects(over(num(1), &between(16)), 118)), between(16), selects(num(2), more)),
+    }
 }
 
 /// Two roots become one until there are few enough, and each tree is now and then read by another.

@@ -31,8 +31,9 @@ pub use arael::{E, Expr, FuncKind, symbol};
 pub(crate) use arael::{as_exact_int, expand_func};
 
 use answers::{EVENTS, Event, Events};
-use held::{GIVEN, HELD, LIMITS, STATEMENTS, Sizes};
+use held::{GIVEN, HELD, LIMITS, ROWS_GIVEN, ROWS_HELD, STATEMENTS, SWITCHES, Sizes};
 use laid::List;
+use large::Edge;
 use paddlecrook::Extractor;
 use port::{BAD_COEFFICIENT, BAD_ROWS, Call, Expected, FEW_ROWS, LARGE_SCOPE, NO_ANSWER, Port, RING, SHORT_WORK, TEXT, WORK, nothing};
 use random::Random;
@@ -79,7 +80,7 @@ pub struct Given {
     pub extracted: usize,
     pub printed: String,
     pub events: Events,
-    /// the most that a scope is given, holds and states
+    /// the most that a scope is given, holds and states, and the most rows
     pub reached: Sizes,
 }
 
@@ -218,22 +219,37 @@ impl Scopes {
         }
     }
 
-    /// What neither has met.
+    /// What neither has met. No list is known that has too many switches, and not too many statements first.
     fn missing(a: &Scopes, b: &Scopes) -> Vec<String> {
         let past = |i: usize| a.past[i] + b.past[i];
-        let limits = [("too much given to a scope", past(GIVEN)), ("too much held", past(HELD)), ("too many statements", past(STATEMENTS))];
+        let limits = [
+            ("too much given to a scope", past(GIVEN)),
+            ("too few rows left for a scope's input", past(ROWS_GIVEN)),
+            ("too few rows left for what a scope holds", past(ROWS_HELD)),
+            ("too many statements", past(STATEMENTS)),
+        ];
         let met = limits.into_iter().chain([("answers of full scopes", a.full + b.full)]);
         met.filter(|(_, n)| *n == 0).map(|(name, _)| name.to_string()).collect()
     }
 
     fn say(&self) {
         println!(
-            "    23 because a scope is given too much {}, holds too much {}, has too many statements {}; answered with more than {} held {}",
-            self.past[GIVEN], self.past[HELD], self.past[STATEMENTS], LIMITS[GIVEN], self.full
+            "    23 because a scope is given too much {}, its input has too few rows left {}, what it holds has {}, it has too many switches {}, too many statements {}; answered with more than {} held {}",
+            self.past[GIVEN],
+            self.past[ROWS_GIVEN],
+            self.past[ROWS_HELD],
+            self.past[SWITCHES],
+            self.past[STATEMENTS],
+            LIMITS[GIVEN],
+            self.full
         );
         println!(
-            "    the most in a scope of an answered list: given {}, held {}, statements {}",
-            self.most[GIVEN], self.most[HELD], self.most[STATEMENTS]
+            "    the most in a scope of an answered list: given {}, held {}, switches {}, statements {}; rows of all open scopes {}",
+            self.most[GIVEN],
+            self.most[HELD],
+            self.most[SWITCHES],
+            self.most[STATEMENTS],
+            self.most[ROWS_GIVEN].max(self.most[ROWS_HELD])
         );
     }
 }
@@ -511,7 +527,8 @@ fn compare(scoped: bool, small_lists: usize, large_lists: usize) {
     }
 }
 
-/// For each limit of a scope a list that comes to it, which is answered, and one that is one past it, which is refused.
+/// Lists that come to a limit, which are answered, and others that are one past it, which are refused. Where rows are shared, the last scope's input
+/// is past it, or by one more what the scope around it holds.
 fn hold_edges(r: &mut Random, port: &mut Port, extractor: &mut Extractor, tally: &mut Tally) {
     let reached = |trees: &[T]| {
         let mut maker = tree::Maker::new(true);
@@ -520,12 +537,19 @@ fn hold_edges(r: &mut Random, port: &mut Port, extractor: &mut Extractor, tally:
         let refused = asked::asked(&es, true).err();
         (held::take_reached(), refused)
     };
-    for (i, limit) in LIMITS.into_iter().enumerate() {
-        let more = limit - reached(&large::edge(i, 1)).0[i];
-        for past in [0, 1] {
-            let trees = large::edge(i, 1 + more + past);
+    for edge in large::EDGES {
+        let at: &[usize] = match edge {
+            Edge::Given => &[GIVEN, GIVEN],
+            Edge::Statements => &[STATEMENTS, STATEMENTS],
+            Edge::Arm => &[ROWS_GIVEN, ROWS_GIVEN],
+            Edge::Two | Edge::Three | Edge::Nine => &[ROWS_GIVEN, ROWS_GIVEN, ROWS_HELD],
+        };
+        let more = LIMITS[at[0]] - reached(&large::edge(edge, 0)).0[at[0]];
+        for (past, i) in at.iter().enumerate() {
+            let trees = large::edge(edge, more + past);
             let (sizes, refused) = reached(&trees);
-            assert_eq!((sizes[i], refused.is_some()), (limit + past, past > 0), "a list at the limit");
+            let (met, others) = (sizes[*i] - LIMITS[*i], (0..LIMITS.len()).all(|j| j == *i || sizes[j] <= LIMITS[j]));
+            assert_eq!((met, others, refused.is_some()), (past.min(1), true, past > 0), "{edge:?} {past} past the limit");
             hold_one(r, port, extractor, tally, &trees, LARGE);
         }
     }

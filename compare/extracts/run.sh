@@ -17,11 +17,11 @@ driver() {
 # measured without them.
 count_held() {
     rm "$build/cse.rs"
-    sed -e 's|^    let mut results = exprs\.to_vec();$|&\n    crate::held::start(scoped, exprs);|' \
+    sed -e 's|^    let mut results = exprs\.to_vec();$|&\n    let open = crate::held::open(scoped, *counter, exprs);|' \
         -e 's|^    // Post-pass: extract common divisors as reciprocals\.$|    let rounds = lets.len();|' \
-        -e 's|^    for (switch, n_arms, has_default, members) in groups {$|    crate::held::fuse(\&results, \&intermediates, rounds, groups.len());\n&|' \
+        -e 's|^    for (switch, n_arms, has_default, members) in groups {$|    open.fuse(\&results, \&intermediates, rounds, \&groups);\n&|' \
         "$source/cse.rs" >"$build/cse.rs"
-    [ "$(grep -c '^    crate::held::' "$build/cse.rs")" -eq 2 ] || { echo 'compare: cse.rs has no place for the tests of 23'; exit 1; }
+    [ "$(grep -cE '^    (let open = |let rounds = |open\.fuse)' "$build/cse.rs")" -eq 3 ] || { echo 'compare: cse.rs has no place for the tests of 23'; exit 1; }
 }
 
 compared() {
