@@ -2,7 +2,7 @@
 use Prim.Native.Nat.{ℕ, suc, _+_, _≤_}
 use native.Mathlib.Nat.{zero-add}
 use native.Mathlib.Omega.{arith}
-use mathlib.Core.Path.{_≡_, refl, sym, _∙_, ap, subst}
+use mathlib.Core.Path.{_≡_, refl, sym, _∙_, ap, ap₂, subst}
 use mathlib.Core.Bool.{Bool, true, false, _||_, cond}
 use mathlib.Core.List.{List, _++_}
 use lib.ListN.{length, take, drop}
@@ -12,6 +12,7 @@ use Rattle.tree.specs.Outcome.{Outcome, ok, refused, by, _>>=_}
 use Rattle.tree.specs.Layout.{table-of, laid-out}
 use Rattle.tree.proofs.Tests.{is-true}
 use Rattle.cse.specs.AnswerRows.{result-row}
+use Rattle.cse.specs.Scope.{area-rows}
 use Rattle.cse.specs.Call.{Extracted, work-words, work-bytes, extract-call, table-after}
 use Rattle.checked.specs.Check.{rows-in}
 use Rattle.renaming.proofs.RowNames.{tree-words}
@@ -39,7 +40,7 @@ Scopes-by o old r new = (r ≡ scope-answer o 0) × (new ≡ scope-table o 0 old
 
 module _ (rows roots : List ℕ) where
   abbrev by-layout : Bool → Outcome Told
-  by-layout b = cond b (scope-told (rows-in rows) scopes result-row 0 (tree-words (table-of rows roots))) (refused (by 9))
+  by-layout b = cond b (scope-told (rows-in rows) scopes area-rows result-row 0 (tree-words (table-of rows roots))) (refused (by 9))
 
   roots-are : roots-told rows roots ≡ by-layout (laid-out rows roots)
   unfolding roots-told
@@ -49,14 +50,15 @@ module _ (rows roots : List ℕ) where
   unfolding scope-answer scope-table
   scope-nine e table = subst (λ (o : Outcome Told). Scopes-by o table (scoped.Refused 9) table) (sym (roots-are ∙ ap by-layout e)) (refl, refl)
 
-  module _ (h : T (laid-out rows roots)) (ws : List ℕ) (same : ws ≡ tree-words (table-of rows roots)) where
-    roots-scope : roots-told rows roots ≡ scope-told (rows-in rows) scopes result-row 0 ws
-    roots-scope = roots-are ∙ ap by-layout (is-true (laid-out rows roots) h) ∙ ap (scope-told (rows-in rows) scopes result-row 0) (sym same)
+  -- with the whole area left
+  module _ (h : T (laid-out rows roots)) (ws : List ℕ) (same : ws ≡ tree-words (table-of rows roots)) (left : ℕ) (all : left ≡ area-rows) where
+    roots-scope : roots-told rows roots ≡ scope-told (rows-in rows) scopes left result-row 0 ws
+    roots-scope = roots-are ∙ ap by-layout (is-true (laid-out rows roots) h) ∙ ap₂ (λ (n : ℕ) (z : List ℕ). scope-told (rows-in rows) scopes n result-row 0 z) (sym all) (sym same)
 
-    pub scope-within : (n : ℕ) → told-rows (roots-told rows roots) ≤ n → 0 + told-rows (scope-told (rows-in rows) scopes result-row 0 ws) ≤ n
+    pub scope-within : (n : ℕ) → told-rows (roots-told rows roots) ≤ n → 0 + told-rows (scope-told (rows-in rows) scopes left result-row 0 ws) ≤ n
     scope-within n b = omega (arith, ap told-rows roots-scope, b)
 
-    pub scope-there : (old : List ℕ) (r : Scoped) (new : List ℕ) → Scopes-by (scope-told (rows-in rows) scopes result-row 0 ws) old r new → Scopes-by (roots-told rows roots) old r new
+    pub scope-there : (old : List ℕ) (r : Scoped) (new : List ℕ) → Scopes-by (scope-told (rows-in rows) scopes left result-row 0 ws) old r new → Scopes-by (roots-told rows roots) old r new
     scope-there old r new g = subst (λ (o : Outcome Told). Scopes-by o old r new) (sym roots-scope) g
 
 -- ---- its rows, counted

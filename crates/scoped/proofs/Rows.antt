@@ -8,6 +8,7 @@ use lib.Dec.{T}
 use Rattle.tree.specs.Outcome.{Outcome, ok, refused, by}
 use Rattle.tree.specs.Layout.{table-of, laid-out}
 use Rattle.cse.specs.AnswerRows.{result-row}
+use Rattle.cse.specs.Scope.{area-rows}
 use Rattle.cselaws.proofs.Outcomes.{Good}
 use Rattle.checked.specs.Check.{rows-in}
 use Rattle.renaming.specs.Names.{is-number}
@@ -31,9 +32,9 @@ rows-within rows roots = go (laid-out rows roots) refl
     start : List ℕ
     start = tree-words (table-of rows roots)
 
-    go : (b : Bool) → laid-out rows roots ≡ b → told-rows (cond b (scope-told (rows-in rows) scopes result-row 0 (tree-words (table-of rows roots))) (refused (by 9))) ≤ most-rows
+    go : (b : Bool) → laid-out rows roots ≡ b → told-rows (cond b (scope-told (rows-in rows) scopes area-rows result-row 0 (tree-words (table-of rows roots))) (refused (by 9))) ≤ most-rows
     go true e =
         let h = subst T (sym e) tt in
-        few-rows (scope-told (rows-in rows) scopes result-row 0 start)
-        (scope-bounded (rows-in rows) (is-number (rows-in rows)) scopes result-row 0 start (flat-extractable rows roots 0 h start refl) (flat-symbols rows roots 0 h start refl))
+        few-rows (scope-told (rows-in rows) scopes area-rows result-row 0 start)
+        (scope-bounded (rows-in rows) (is-number (rows-in rows)) scopes area-rows result-row 0 start (flat-extractable rows roots 0 h start refl) (flat-symbols rows roots 0 h start refl))
     go false e = few-rows (refused (by 9)) (unfold Good in tt)

@@ -18,6 +18,9 @@ use unfold::Unfolded;
 use unfold::unfold;
 use workarea::is_short;
 
+// The words of the work area, which the open scopes share.
+const AREA: usize = 65536;
+
 // How many scopes may be open at once.
 const SCOPES: usize = 9;
 
@@ -41,7 +44,7 @@ fn scope_roots(
     text: &mut [u8],
     table: &mut [u64],
 ) -> Scoped
-    requires { ⌜ (65536 ≤ length (now work)) × (131072 ≤ length (now text)) ⌝ }
+    requires { ⌜ (length (now work) ≡ 65536) × (131072 ≤ length (now text)) ⌝ }
     requires { ⌜ told-rows (roots-told (now rows) (now roots)) ≤ most-rows ⌝ }
     ensures { λ r. ⌜ (r ≡ scope-answer (roots-told (now (rows .entry)) (now (roots .entry))) 0)
         × (now (table .exit) ≡ scope-table (roots-told (now (rows .entry)) (now (roots .entry))) 0 (now (table .entry))) ⌝ }
@@ -63,7 +66,7 @@ fn lay_rows(
     end: usize,
     table: &mut [u64],
 )
-    requires { ⌜ (65536 ≤ length (now work)) × (131072 ≤ length (now text)) ⌝ }
+    requires { ⌜ (length (now work) ≡ 65536) × (131072 ≤ length (now text)) ⌝ }
     requires { ⌜ told-rows (roots-told (now rows) (now roots)) ≤ most-rows ⌝ }
     requires { ⌜ Keeps (roots-told (now rows) (now roots)) end (now kept) ⌝ }
     ensures { λ _. ⌜ now (table .exit) ≡ scope-table (roots-told (now (rows .entry)) (now (roots .entry))) 0 (now (table .entry)) ⌝ }
@@ -83,7 +86,7 @@ fn write_rows(
     text: &mut [u8],
     table: &mut [u64],
 ) -> Extraction
-    requires { ⌜ (65536 ≤ length (now work)) × (131072 ≤ length (now text)) ⌝ }
+    requires { ⌜ (length (now work) ≡ 65536) × (131072 ≤ length (now text)) ⌝ }
     requires { ⌜ told-rows (roots-told (now rows) (now roots)) ≤ most-rows ⌝ }
     ensures { λ r. ⌜ (r ≡ extraction-answer (roots-rows (now (rows .entry)) (now (roots .entry)) (length (now (table .entry)))))
         × (now (table .exit) ≡ table-after (roots-rows (now (rows .entry)) (now (roots .entry)) (length (now (table .entry)))) (now (table .entry))) ⌝ }
@@ -117,5 +120,5 @@ pub fn cse_scoped(
     if is_short(work.len(), text.len()) {
         return Extraction::Refused(SHORT_WORK);
     }
-    write_rows(rows, roots, work, text, table)
+    write_rows(rows, roots, &mut work[..AREA], text, table)
 }
