@@ -14,12 +14,12 @@ use Rattle.cse.specs.AnswerRows.{arm-row}
 use Rattle.switchplaces.specs.Columns.{column-words}
 use Rattle.scopeplaces.specs.Overlay.{overlay}
 use Rattle.scopeplaces.specs.Whole.{Told, Arms-told, arms-told}
-use Rattle.scope.specs.Answers.{scope-answer, scope-table, told-rows, arm-told, arms-answer, Arms-wrote, refusal-number}
+use Rattle.scope.specs.Answers.{scope-answer, Laid, Scope-laid, told-rows, arm-told, arms-answer, Arms-wrote, refusal-number}
 use Rattle.scope.specs.declared.Scoped.{Scoped}
 use Rattle.scope.specs.declared.Scoped.the-variants as scoped
 use Rattle.scope.specs.declared.Armed.{Armed}
 use Rattle.scope.specs.declared.Armed.the-variants as armed
-use Rattle.tables.proofs.Laws.{overlay-none, overlay-append, overlay-row-last}
+use Rattle.scope.proofs.Laying.{laid-none, laid-append, laid-row}
 
 -- arms and then one more
 abbrev pub and-arm : Arms-told → Arms-told → Arms-told
@@ -80,7 +80,7 @@ module _ (scope : ℕ → List ℕ → Outcome Told) (hs g : List ℕ) where
 abbrev pub Arm-done : Outcome Arms-told → ℕ → List ℕ → Armed → List ℕ → Type 0
 Arm-done o at old r new = (r ≡ arms-answer o at) × Arms-wrote o at old new
 
-pub done-ok : (o : Outcome Arms-told) (a : Arms-told) → o ≡ ok a → (at : ℕ) (old new : List ℕ) → new ≡ overlay at (a .words) old → (end : ℕ) → end ≡ at + length (a .words) → Arm-done o at old (armed.Rows end (a .next) (a .extracted)) new
+pub done-ok : (o : Outcome Arms-told) (a : Arms-told) → o ≡ ok a → (at : ℕ) (old new : List ℕ) → Laid at (a .words) old new → (end : ℕ) → end ≡ at + length (a .words) → Arm-done o at old (armed.Rows end (a .next) (a .extracted)) new
 unfolding arms-answer
 done-ok o a e at old new h end f =
     subst (λ (o : Outcome Arms-told). Arm-done o at old (armed.Rows end (a .next) (a .extracted)) new) (sym e) (ap (λ (k : ℕ). armed.Rows k (a .next) (a .extracted)) f, h)
@@ -90,7 +90,7 @@ unfolding arms-answer
 done-refused o i e at old new = subst (λ (o : Outcome Arms-told). Arm-done o at old (armed.Refused (i .number)) new) (sym e) (refl, tt)
 
 module _ (scope : ℕ → List ℕ → Outcome Told) (hs g : List ℕ) (next a at : ℕ) (old : List ℕ) (r : Scoped) (after-scope : List ℕ)
-    (given : (r ≡ scope-answer (scope next (column-words hs g a)) (at + 1)) × (after-scope ≡ scope-table (scope next (column-words hs g a)) (at + 1) old)) where
+    (given : (r ≡ scope-answer (scope next (column-words hs g a)) (at + 1)) × Scope-laid (scope next (column-words hs g a)) (at + 1) old after-scope) where
   abbrev arm-outcome : Outcome Arms-told
   arm-outcome = arm-told scope hs g next a
 
@@ -99,11 +99,11 @@ module _ (scope : ℕ → List ℕ → Outcome Told) (hs g : List ℕ) (next a a
       (new : List ℕ) → new ≡ overlay at (word arm-row (steps + length g) ∷ []) after-scope → Arm-done arm-outcome at old (armed.Rows end after extracted) new
   Arm-by (scoped.Refused n) = Arm-done arm-outcome at old (armed.Refused n) after-scope
 
-  arm-by-outcome : (o : Outcome Told) → scope next (column-words hs g a) ≡ o → after-scope ≡ scope-table o (at + 1) old → Arm-by (scope-answer o (at + 1))
-  unfolding scope-answer scope-table
+  arm-by-outcome : (o : Outcome Told) → scope next (column-words hs g a) ≡ o → Scope-laid o (at + 1) old after-scope → Arm-by (scope-answer o (at + 1))
+  unfolding scope-answer
   arm-by-outcome (ok t) e s = λ new h.
       done-ok arm-outcome (arm-of g t) (arm-ok scope hs g next a t e) at old new
-      (h ∙ (ap (λ (l : List ℕ). overlay at (word arm-row (t .steps + length g) ∷ []) l) s ∙ sym (overlay-row-last at (word arm-row (t .steps + length g)) (t .words) old)))
+      (laid-row at (word arm-row (t .steps + length g)) (t .words) old after-scope new s h)
       (at + 1 + length (t .words)) (omega arith)
   arm-by-outcome (refused i) e s = done-refused arm-outcome i (arm-refused scope hs g next a i e) at old after-scope
 
@@ -126,11 +126,11 @@ module _ (scope : ℕ → List ℕ → Outcome Told) (hs g : List ℕ) (next at 
     pub end-is : end ≡ at + length (done .words)
     pub number-is : number ≡ done .next
     pub extracted-is : extracted ≡ done .extracted
-    pub table-is : table ≡ overlay at (done .words) old
+    pub table-is : Laid at (done .words) old table
 
   pub arms-begin : Arms-so 0 at next 0 old
   unfolding arms-told
-  arms-begin = record { done = record { words = []; next = next; extracted = 0 }; told = refl; end-is = omega arith; number-is = refl; extracted-is = refl; table-is = sym (overlay-none at old) }
+  arms-begin = record { done = record { words = []; next = next; extracted = 0 }; told = refl; end-is = omega arith; number-is = refl; extracted-is = refl; table-is = laid-none at old }
 
   module _ (n end number extracted : ℕ) (table : List ℕ) (so : Arms-so n end number extracted table) (r : Armed) (new : List ℕ)
       (given : Arm-done (arm-told scope hs g number n) end table r new) where
@@ -146,10 +146,7 @@ module _ (scope : ℕ → List ℕ → Outcome Told) (hs g : List ℕ) (next at 
       end-is = omega (arith, so .end-is, length-append (so .done .words) (a .words));
       number-is = refl;
       extracted-is = ap (λ (k : ℕ). k + a .extracted) (so .extracted-is);
-      table-is =
-          w
-          ∙ (ap (λ (l : List ℕ). overlay end (a .words) l) (so .table-is)
-          ∙ (ap (λ (k : ℕ). overlay k (a .words) (overlay at (so .done .words) old)) (so .end-is) ∙ sym (overlay-append at (so .done .words) (a .words) old)));
+      table-is = laid-append at (so .done .words) (a .words) old table new (so .table-is) end (so .end-is) w;
     }
     more-by-outcome (refused i) e w = (i, arms-stop scope hs g next n (so .done) i (so .told) (subst (λ (k : ℕ). arm-told scope hs g k n ≡ refused i) (so .number-is) e), refl)
 

@@ -12,7 +12,7 @@ use Rattle.kept.specs.Sound.{extractable}
 use Rattle.switchplaces.specs.Switches.{arm-count}
 use Rattle.switchplaces.specs.Columns.{column-words}
 use Rattle.scopeplaces.specs.Whole.{Told, Arms-told, arms-told, group-told, scope-told}
-use Rattle.scope.specs.Answers.{Arms-wrote, scope-answer, scope-table, told-rows, inner, arm-told, arms-answer}
+use Rattle.scope.specs.Answers.{Arms-wrote, scope-answer, Scope-laid, told-rows, inner, arm-told, arms-answer}
 use Rattle.scope.specs.Frame.{most-rows, Lent, Holds, Is-group, Arm-fits, Arms-fit}
 use Rattle.scope.specs.declared.Scoped.{Scoped}
 use Rattle.scope.specs.declared.Scoped.the-variants as scoped
@@ -62,11 +62,11 @@ module _ (rows : List Row) (fuel left next : ℕ) (held group : List ℕ) (h : H
 -- what the scope of a column in front of what is left answers is what that of the column does
 pub column-answers : (rows : List Row) (fuel left next : ℕ) (held group : List ℕ) (a at : ℕ) (old : List ℕ) (n : ℕ) (work : List ℕ) → length work ≡ left → take n work ≡ column-words held group a
     → (r : Scoped) (new : List ℕ)
-    → (r ≡ scope-answer (scope-told rows fuel (length work) 35 next (take n work)) (at + 1)) × (new ≡ scope-table (scope-told rows fuel (length work) 35 next (take n work)) (at + 1) old)
-    → (r ≡ scope-answer (inner rows fuel left next (column-words held group a)) (at + 1)) × (new ≡ scope-table (inner rows fuel left next (column-words held group a)) (at + 1) old)
+    → (r ≡ scope-answer (scope-told rows fuel (length work) 35 next (take n work)) (at + 1)) × Scope-laid (scope-told rows fuel (length work) 35 next (take n work)) (at + 1) old new
+    → (r ≡ scope-answer (inner rows fuel left next (column-words held group a)) (at + 1)) × Scope-laid (inner rows fuel left next (column-words held group a)) (at + 1) old new
 column-answers rows fuel left next held group a at old n work long is r new given =
-    subst (λ (m : ℕ). (r ≡ scope-answer (scope-told rows fuel m 35 next (column-words held group a)) (at + 1)) × (new ≡ scope-table (scope-told rows fuel m 35 next (column-words held group a)) (at + 1) old)) long
-    (subst (λ (ws : List ℕ). (r ≡ scope-answer (scope-told rows fuel (length work) 35 next ws) (at + 1)) × (new ≡ scope-table (scope-told rows fuel (length work) 35 next ws) (at + 1) old)) is given)
+    subst (λ (m : ℕ). (r ≡ scope-answer (scope-told rows fuel m 35 next (column-words held group a)) (at + 1)) × Scope-laid (scope-told rows fuel m 35 next (column-words held group a)) (at + 1) old new) long
+    (subst (λ (ws : List ℕ). (r ≡ scope-answer (scope-told rows fuel (length work) 35 next ws) (at + 1)) × Scope-laid (scope-told rows fuel (length work) 35 next ws) (at + 1) old new) is given)
 
 -- ---- all arms of a group
 

@@ -34,7 +34,7 @@ use Rattle.scopesound.proofs.Columns.{members-count, groups-count}
 use Rattle.scopesound.proofs.Counting.{places-there, first-is, held-extractable, held-passes, held-trees, first-lets, trees-few, lets-few, last-most, held-trees-few}
 use Rattle.scopeparts.specs.Prepared.{Prepared}
 use Rattle.scopeparts.proofs.Groups.{ends-count}
-use Rattle.scope.specs.Answers.{inner, scope-answer, scope-table, told-rows, walk-answer, Walk-wrote, walk-refusal, Holding-so}
+use Rattle.scope.specs.Answers.{inner, scope-answer, told-rows, walk-answer, Kept-so, Walk-wrote, walk-refusal, Holding-so}
 use Rattle.scope.specs.Frame.{most-rows, Lent, Holds, Members, Ready, groups-told, grouped-scope, Sized, Numbered, Left, left-scope, Grouping-so}
 use Rattle.scope.specs.declared.Scoped.{Scoped}
 use Rattle.scope.specs.declared.Scoped.the-variants as scoped
@@ -86,7 +86,7 @@ module _ (rows : List Row) (fuel left row : ℕ) (ws : List ℕ) (k first : ℕ)
   pub ends-short : length ends ≤ 2048
   ends-short = omega (arith, few-stmts, ap length (rd .grouped .ends-are), ends-count 0 gs)
 
-  module _ (w : Walked) (numbers stops old kept : List ℕ) (given : (w ≡ walk-answer (groups-told rows fuel left (first + lets) held)) × Walk-wrote (groups-told rows fuel left (first + lets) held) numbers stops old kept) where
+  module _ (w : Walked) (numbers stops kept : List ℕ) (given : (w ≡ walk-answer (groups-told rows fuel left (first + lets) held)) × Walk-wrote (groups-told rows fuel left (first + lets) held) numbers stops kept) where
     pub record Walk-done (after extracted : ℕ) : Type 0 where
       pub walk : Walk
       pub told : groups-told rows fuel left from held ≡ ok walk
@@ -94,13 +94,13 @@ module _ (rows : List Row) (fuel left row : ℕ) (ws : List ℕ) (k first : ℕ)
       pub extracted-is : extracted ≡ walk .extracted
       pub numbers-are : take (length (walk .numbers)) numbers ≡ walk .numbers
       pub stops-are : take (length (walk .arms)) stops ≡ ends-from 0 (walk .arms)
-      pub kept-is : kept ≡ overlay 0 (joined-groups (walk .arms)) old
+      pub kept-is : Kept-so (walk .arms) kept
 
     abbrev By : Walked → Type 0
     By (walked-enum.Done after extracted) = Walk-done after extracted
     By (walked-enum.Refused q) = (i : Refusal) × (groups-told rows fuel left from held ≡ refused i) × (i .number ≡ q)
 
-    by-outcome : (o : Outcome Walk) → groups-told rows fuel left from held ≡ o → Walk-wrote o numbers stops old kept → By (walk-answer o)
+    by-outcome : (o : Outcome Walk) → groups-told rows fuel left from held ≡ o → Walk-wrote o numbers stops kept → By (walk-answer o)
     unfolding walk-answer
     by-outcome (ok l) e x = record { walk = l; told = e; after-is = refl; extracted-is = refl; numbers-are = x .0; stops-are = x .1; kept-is = x .2 }
     by-outcome (refused i) e x = (i, e, refl)
@@ -108,7 +108,7 @@ module _ (rows : List Row) (fuel left row : ℕ) (ws : List ℕ) (k first : ℕ)
     by-answer : By w
     by-answer =
         let s = ap (λ (n : ℕ). groups-told rows fuel left n held) (rd .last) in
-        subst By (sym (given .0 ∙ ap walk-answer s)) (by-outcome (groups-told rows fuel left from held) refl (subst (λ (o : Outcome Walk). Walk-wrote o numbers stops old kept) s (given .1)))
+        subst By (sym (given .0 ∙ ap walk-answer s)) (by-outcome (groups-told rows fuel left from held) refl (subst (λ (o : Outcome Walk). Walk-wrote o numbers stops kept) s (given .1)))
 
     pub walk-refused : (q : ℕ) → w ≡ walked-enum.Refused q → (z : ℕ) → z ≡ walk-refusal w → (at : ℕ) (old : List ℕ) → Scope-done (grouped-scope rows fuel left row ws k first places) at old (scoped.Refused z) old
     unfolding grouped-scope walk-refusal
@@ -137,7 +137,7 @@ module _ (rows : List Row) (fuel left row : ℕ) (ws : List ℕ) (k first : ℕ)
 
       pub numbered-so : Numbered rows fuel left from held (take (length members) numbers) (take (length ends) stops) kept after extracted
       numbered-so = record {
-        sized = record { walk = d .walk; old = old; told = d .told; numbers-are = numbers-here; stops-are = ap (λ (n : ℕ). take n stops) (sym arms-many) ∙ d .stops-are; kept-is = d .kept-is };
+        sized = record { walk = d .walk; told = d .told; numbers-are = numbers-here; stops-are = ap (λ (n : ℕ). take n stops) (sym arms-many) ∙ d .stops-are; kept-is = d .kept-is };
         after-is = d .after-is;
         extracted-is = d .extracted-is;
       }

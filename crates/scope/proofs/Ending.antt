@@ -21,14 +21,14 @@ use Rattle.order.specs.declared.Ordered.the-variants as ordered
 use Rattle.scopeplaces.specs.Overlay.{overlay}
 use Rattle.scopeplaces.specs.Parts.{place-groups, reciprocals-first, lets-count, held-words}
 use Rattle.scopeplaces.specs.Whole.{Told, Walk, walked, stmts-count, stmts-order, needs-table, stmts-runs, values-runs, ordered-scope}
-use Rattle.tables.proofs.Laws.{overlay-append}
+use Rattle.scope.proofs.Laying.{laid-exact, laid-append, laid-as}
 use Rattle.renaming.specs.Names.{is-number}
 use Rattle.scopesound.proofs.Bounds.{walk-bound}
 use Rattle.scope.proofs.Sound.{words-ok}
 use Rattle.scopeparts.specs.Prepared.{Prepared, order-told}
 use Rattle.scopeparts.proofs.Groups.{ends-count}
 use Rattle.scopeparts.proofs.Held.{first-number, lets-are, count-is}
-use Rattle.scope.specs.Answers.{scope-answer, scope-table, told-rows}
+use Rattle.scope.specs.Answers.{scope-answer, Laid, Scope-laid, told-rows}
 use Rattle.scope.specs.Frame.{most-rows, Holds, Positions, groups-told, grouped-scope, Sized, Numbered, scope-arms}
 use Rattle.scope.specs.declared.Scoped.{Scoped}
 use Rattle.scope.specs.declared.Scoped.the-variants as scoped
@@ -37,14 +37,14 @@ use Rattle.scope.proofs.Statements.{arms-are, by-test, by-no-test}
 -- ---- what a scope answers, from its outcome
 
 abbrev pub Scope-done : Outcome Told → ℕ → List ℕ → Scoped → List ℕ → Type 0
-Scope-done o at old r new = (r ≡ scope-answer o at) × (new ≡ scope-table o at old)
+Scope-done o at old r new = (r ≡ scope-answer o at) × Scope-laid o at old new
 
 pub scope-refused : (o : Outcome Told) (i : Refusal) → o ≡ refused i → (at : ℕ) (old : List ℕ) → Scope-done o at old (scoped.Refused (i .number)) old
-unfolding scope-answer scope-table
+unfolding scope-answer
 scope-refused o i e at old = subst (λ (o : Outcome Told). Scope-done o at old (scoped.Refused (i .number)) old) (sym e) (refl, refl)
 
-pub scope-ok : (o : Outcome Told) (t : Told) → o ≡ ok t → (at : ℕ) (old new : List ℕ) (place : ℕ) → place ≡ at + length (t .words) → new ≡ overlay at (t .words) old → Scope-done o at old (scoped.Told place (t .steps) (t .next) (t .extracted)) new
-unfolding scope-answer scope-table
+pub scope-ok : (o : Outcome Told) (t : Told) → o ≡ ok t → (at : ℕ) (old new : List ℕ) (place : ℕ) → place ≡ at + length (t .words) → Laid at (t .words) old new → Scope-done o at old (scoped.Told place (t .steps) (t .next) (t .extracted)) new
+unfolding scope-answer
 scope-ok o t e at old new place p q =
     subst (λ (o : Outcome Told). Scope-done o at old (scoped.Told place (t .steps) (t .next) (t .extracted)) new) (sym e) (ap (λ (j : ℕ). scoped.Told j (t .steps) (t .next) (t .extracted)) p, q)
 
@@ -191,7 +191,7 @@ module _ (rows : List Row) (fuel left : ℕ) (ws : List ℕ) (k first : ℕ) (pl
         pub values-fit : (end : ℕ) → end ≡ at + length (stmts (take n taken')) → end + length values ≤ 9223372036854775808
         values-fit end q = omega (arith, total)
 
-        pub all-done : (end : ℕ) (table : List ℕ) → (end ≡ at + length (stmts (take n taken'))) × (table ≡ overlay at (stmts (take n taken')) old)
+        pub all-done : (end : ℕ) (table : List ℕ) → (end ≡ at + length (stmts (take n taken'))) × Laid at (stmts (take n taken')) old table
             → (place : ℕ) (new : List ℕ) → (place ≡ end + length values) × (new ≡ overlay end values table) → (made : ℕ) → made ≡ (length starts - k) + extracted
             → Scope-done outcome at old (scoped.Told place n after made) new
         all-done end table (q, w) place new (x, y) made m =
@@ -199,9 +199,8 @@ module _ (rows : List Row) (fuel left : ℕ) (ws : List ℕ) (k first : ℕ) (pl
             (subst (λ (j : ℕ). Scope-done outcome at old (scoped.Told place count after j) new) (ap (λ (j : ℕ). j + extracted) made-here ∙ sym m)
             (scope-ok outcome told (outcome-ok is-all) at old new place
             (omega (arith, q, x, ap length same, length-append (stmts-runs ws k first places numbers arms order count) values))
-            (y
-            ∙ (ap₂ (λ (j : ℕ) (t : List ℕ). overlay j values t) q w
-            ∙ (sym (overlay-append at (stmts (take n taken')) values old) ∙ ap (λ (z : List ℕ). overlay at (z ++ values) old) same)))))
+            (laid-as at (stmts-runs ws k first places numbers arms order count ++ values) (stmts (take n taken') ++ values) old new (ap (λ (z : List ℕ). z ++ values) (sym same))
+            (laid-append at (stmts (take n taken')) values old table new w end q (laid-exact end values table new y)))))
 
 -- the same by an equal outcome
 pub done-as : (o p : Outcome Told) → o ≡ p → (at : ℕ) (old : List ℕ) (r : Scoped) (new : List ℕ) → Scope-done p at old r new → Scope-done o at old r new

@@ -1,3 +1,4 @@
+pub mod Laying
 pub mod ArmLaws
 pub mod Sound
 pub mod Asking

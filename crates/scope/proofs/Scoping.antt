@@ -21,7 +21,7 @@ use Rattle.cse.specs.Scope.{most-number}
 use Rattle.scopeplaces.specs.Whole.{Told, scope-told}
 use Rattle.scopesound.proofs.Rounds.{rounds-sound, rounds-short, rounds-pass, rounds-results, rounds-ten}
 use Rattle.switchplaces.specs.Columns.{column-words}
-use Rattle.scope.specs.Answers.{inner, arm-told, scope-answer, scope-table, told-rows, Lists, Copied-so}
+use Rattle.scope.specs.Answers.{inner, arm-told, scope-answer, told-rows, Lists, Copied-so}
 use Rattle.scope.specs.Frame.{most-rows, Lent, Left, left-scope}
 use Rattle.scope.specs.declared.Scoped.{Scoped}
 use Rattle.scope.specs.declared.Scoped.the-variants as scoped

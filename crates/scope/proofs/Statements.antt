@@ -4,8 +4,8 @@ use native.Mathlib.Omega.{arith}
 use mathlib.Core.Path.{_≡_, refl, sym, _∙_, ap, ap₂, subst}
 use mathlib.Core.Bool.{Bool, true, false, cond}
 use mathlib.Core.List.{List, [], _∷_, _++_}
-use lib.ListN.{length, getD, take, drop, length-append, take-append-drop}
-use lib.Seq.{take-at, length-take-le}
+use lib.ListN.{length, getD, take, drop, length-append}
+use lib.Seq.{take-at}
 use lib.Dec.{T, ltb, lt→ltb}
 use borrow.Author.Tests.{lt-ltb, le-ltb}
 use Rattle.tree.specs.Outcome.{Refusal, Outcome, ok, refused}
@@ -17,7 +17,6 @@ use Rattle.kept.proofs.Steps.{ready-of}
 use Rattle.scopeplaces.specs.Overlay.{overlay}
 use Rattle.scopeplaces.specs.Parts.{place-groups, joined-groups, group-at, group-start, group-end, match-run, let-run, reciprocals-first, lets-count, held-words}
 use Rattle.scopeplaces.specs.Whole.{Told, Arms-told, Walk, walked, tree-run, stmts-count, stmt-run, stmts-runs}
-use Rattle.tables.proofs.Laws.{overlay-none, overlay-length, overlay-append, overlay-before, overlay-front}
 use Rattle.scopesound.proofs.Columns.{group-fused}
 use Rattle.scopesound.proofs.Sums.{runs-within}
 use Rattle.scopesound.proofs.Bounds.{per-match, per-number, Walk-bound, walk-bound}
@@ -25,11 +24,12 @@ use Rattle.scopeparts.specs.Prepared.{Prepared, Readied, Grouped, begin-of}
 use Rattle.scopeparts.proofs.Groups.{ends-count, end-is, begin-is, group-long, group-inside, group-part}
 use Rattle.scopeparts.proofs.Held.{lets-are, count-is, trees-few, places-few, first-number}
 use Rattle.scopeparts.proofs.Keys.{grouped as all-grouped}
-use Rattle.scope.specs.Answers.{inner, arms-of, words-of}
+use Rattle.scope.specs.Answers.{inner, Laid, arms-of, words-of}
 use Rattle.scope.specs.Frame.{most-rows, Lent, Holds, groups-told, Sized, group-again, Group-sized, scope-arms}
 use Rattle.scope.proofs.Sound.{words-ok, holds-later}
 use Rattle.scope.proofs.Walking.{joined-low}
-use Rattle.scope.proofs.WalkLaws.{Walked-at, walked-at, starts-grow}
+use Rattle.scope.proofs.WalkLaws.{joined-first, Walked-at, walked-at, starts-grow}
+use Rattle.scope.proofs.Laying.{laid-none, laid-exact, laid-append, laid-as}
 
 pub by-test : {A : Type 0} (b : Bool) (x y : A) → b ≡ true → cond b x y ≡ x
 by-test true x y e = refl
@@ -38,17 +38,6 @@ by-test false x y e = absurd (let z : _≡_ {A = ℕ} 0 1 = cc in omega arith)
 pub by-no-test : {A : Type 0} (b : Bool) (x y : A) → b ≡ false → cond b x y ≡ y
 by-no-test true x y e = absurd (let z : _≡_ {A = ℕ} 0 1 = cc in omega arith)
 by-no-test false x y e = refl
-
--- words laid over the front of others, up to a place where both go on
-overlay-taken : (n : ℕ) (ws old : List ℕ) → n ≤ length ws → n ≤ length old → take n (overlay 0 ws old) ≡ take n ws
-overlay-taken n ws old h l =
-    let a = take n ws in
-    let b = drop n ws in
-    let e : length a ≡ n = length-take-le n ws h in
-    let rest = overlay (0 + length a) b old in
-    let long : length rest ≡ length old = overlay-length (0 + length a) b old in
-    ap (λ (z : List ℕ). take n (overlay 0 z old)) (sym (take-append-drop n ws))
-    ∙ (ap (take n) (overlay-before 0 a b old ∙ overlay-front a rest (omega (arith, e, long))) ∙ take-at a (drop (length a) rest) n e)
 
 -- what begins alike has the same part there
 part-same : (f n : ℕ) (x y : List ℕ) → take (f + n) x ≡ take (f + n) y → take n (drop f x) ≡ take n (drop f y)
@@ -159,16 +148,23 @@ module _ (rows : List Row) (fuel left : ℕ) (ws : List ℕ) (k first : ℕ) (pl
           let first-low : from ≤ 4294967296 = omega (arith, first-number p, lets-are p, count-is p, p .statements, p .low) in
           omega (arith, stop-is, group-inside all-arms g arms-there, joined-low all-arms, b .rows, b .most 4294967296 first-low (omega arith))
 
+      end-here : group-end all-arms g ≡ length (joined-groups (take (suc g) all-arms))
+      unfolding group-end group-start
+      end-here = refl
+
       stands : begin + (getD stops g 0 - begin) ≤ length kept → take (getD stops g 0 - begin) (drop begin kept) ≡ at-g .arms .words
       unfolding group-at
       stands within =
           let size = getD stops g 0 - begin in
           let last : begin + size ≡ group-end all-arms g = omega (arith, stop-over, stop-is) in
           let long : size ≡ group-end all-arms g - group-start all-arms g = omega (arith, begin-at, stop-is) in
+          let first = joined-groups (take (suc g) all-arms) in
+          let upto : begin + size ≡ length first = last ∙ end-here in
           part-same begin size kept (joined-groups all-arms)
-          (ap (take (begin + size)) (sz .kept-is)
-          ∙ overlay-taken (begin + size) (joined-groups all-arms) (sz .old)
-          (omega (arith, last, group-inside all-arms g arms-there)) (omega (arith, within, ap length (sz .kept-is), overlay-length 0 (joined-groups all-arms) (sz .old))))
+          (ap (λ (j : ℕ). take j kept) upto
+          ∙ (sz .kept-is (suc g) (omega (arith, upto, within))
+          ∙ (sym (take-at first (joined-groups (drop (suc g) all-arms)) (length first) refl)
+          ∙ ap₂ (λ (j : ℕ) (z : List ℕ). take j z) (sym upto) (sym (joined-first (suc g) all-arms)))))
           ∙ (ap₂ (λ (k : ℕ) (b : ℕ). take k (drop b (joined-groups all-arms))) long begin-at ∙ (group-part all-arms g arms-there ∙ at-g .rows))
 
       pub group-sized : Group-sized rows fuel left held numbers g begin (getD stops g 0 - begin) kept
@@ -222,29 +218,31 @@ module _ (rows : List Row) (fuel left : ℕ) (ws : List ℕ) (k first : ℕ) (pl
       -- after the first n
       pub record Stmts-so (n to : ℕ) (table : List ℕ) : Type 0 where
         pub to-is : to ≡ at + length (all-runs n)
-        pub table-is : table ≡ overlay at (all-runs n) old
+        pub table-is : Laid at (all-runs n) old table
 
       pub stmts-begin : Stmts-so 0 at old
-      stmts-begin = record { to-is = omega (arith, ap length no-runs); table-is = sym (ap (λ (z : List ℕ). overlay at z old) no-runs ∙ overlay-none at old) }
+      stmts-begin = record { to-is = omega (arith, ap length no-runs); table-is = laid-as at (all-runs 0) [] old old no-runs (laid-none at old) }
 
       module _ (n to : ℕ) (table : List ℕ) (so : Stmts-so n to table) where
         pub entry-fits : n < length taken → to + length (entry n) ≤ most-rows
         entry-fits l = omega (arith, so .to-is, ap length (next-run n), length-append (all-runs n) (entry n), runs-under (suc n) (length taken) (omega arith))
 
-        pub stmts-on : (r : ℕ) (new : List ℕ) → (r ≡ to + length (entry n)) × (new ≡ overlay to (entry n) table) → Stmts-so (n + 1) r new
+        pub stmts-on : (r : ℕ) (new : List ℕ) → (r ≡ to + length (entry n)) × Laid to (entry n) table new → Stmts-so (n + 1) r new
         stmts-on r new (e, f) =
             subst (λ (j : ℕ). Stmts-so j r new) (omega arith)
             (record {
               to-is = omega (arith, e, so .to-is, ap length (next-run n), length-append (all-runs n) (entry n));
               table-is =
-                  f
-                  ∙ (ap₂ (λ (j : ℕ) (t : List ℕ). overlay j (entry n) t) (so .to-is) (so .table-is)
-                  ∙ (sym (overlay-append at (all-runs n) (entry n) old) ∙ ap (λ (z : List ℕ). overlay at z old) (sym (next-run n))));
+                  laid-as at (all-runs (suc n)) (all-runs n ++ entry n) old new (next-run n) (laid-append at (all-runs n) (entry n) old table new (so .table-is) to (so .to-is) f);
             })
 
-        pub stmts-end : n ≡ length taken → (to ≡ at + length (all-runs (length taken))) × (table ≡ overlay at (all-runs (length taken)) old)
-        stmts-end e = (so .to-is ∙ ap (λ (j : ℕ). at + length (all-runs j)) e, so .table-is ∙ ap (λ (j : ℕ). overlay at (all-runs j) old) e)
+        pub stmts-end : n ≡ length taken → (to ≡ at + length (all-runs (length taken))) × Laid at (all-runs (length taken)) old table
+        stmts-end e = (so .to-is ∙ ap (λ (j : ℕ). at + length (all-runs j)) e, subst (λ (j : ℕ). Laid at (all-runs j) old table) e (so .table-is))
 
 -- the same by an equal run
-pub rows-as : (x y : List ℕ) → x ≡ y → (at : ℕ) (old : List ℕ) (r : ℕ) (new : List ℕ) → (r ≡ at + length y) × (new ≡ overlay at y old) → (r ≡ at + length x) × (new ≡ overlay at x old)
-rows-as x y e at old r new d = subst (λ (z : List ℕ). (r ≡ at + length z) × (new ≡ overlay at z old)) (sym e) d
+pub rows-as : (x y : List ℕ) → x ≡ y → (at : ℕ) (old : List ℕ) (r : ℕ) (new : List ℕ) → (r ≡ at + length y) × Laid at y old new → (r ≡ at + length x) × Laid at x old new
+rows-as x y e at old r new d = subst (λ (z : List ℕ). (r ≡ at + length z) × Laid at z old new) (sym e) d
+
+-- and of a run that is written as far as it has room
+pub rows-exact : (y : List ℕ) (at : ℕ) (old : List ℕ) (r : ℕ) (new : List ℕ) → (r ≡ at + length y) × (new ≡ overlay at y old) → (r ≡ at + length y) × Laid at y old new
+rows-exact y at old r new d = (d .0, laid-exact at y old new (d .1))

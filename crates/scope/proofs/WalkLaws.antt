@@ -6,6 +6,8 @@ use native.Mathlib.Omega.{arith}
 use mathlib.Core.Path.{_≡_, refl, sym, _∙_, ap, ap₂, subst}
 use mathlib.Core.List.{List, [], _∷_, _++_, append-assoc}
 use lib.ListN.{length, getD, take, drop, set, length-append, List·getD-append}
+use mathlib.Core.Bool.{Bool, true, false, not}
+use lib.Dec.{T, ltb, ltb→lt, nltb→le}
 use lib.Seq.{take-at, length-take-le, getD-append-add}
 use Rattle.tree.specs.Outcome.{Refusal, Outcome, ok, refused, _>>=_}
 use Rattle.fusion.specs.Words.{numbers-from}
@@ -13,12 +15,13 @@ use Rattle.fusion.proofs.Members.{numbers-count}
 use Rattle.scopeplaces.specs.Overlay.{overlay}
 use Rattle.scopeplaces.specs.Parts.{joined-groups, ends-from, group-at, group-start}
 use Rattle.scopeplaces.specs.Whole.{Told, Arms-told, Walk, arms-told, group-told, walked}
-use Rattle.tables.proofs.Laws.{overlay-none, overlay-fits, overlay-word, overlay-append}
-use Rattle.scope.specs.Answers.{arms-answer, Arms-wrote, walk-answer, Walk-wrote, refusal-number}
+use Rattle.tables.proofs.Laws.{overlay-fits, overlay-word}
+use Rattle.scope.specs.Answers.{Laid, arms-answer, Arms-wrote, walk-answer, Kept-so, Walk-wrote, refusal-number}
 use Rattle.scope.specs.declared.Armed.{Armed}
 use Rattle.scope.specs.declared.Armed.the-variants as armed
 use Rattle.scope.specs.declared.Walked.{Walked}
 use Rattle.scope.specs.declared.Walked.the-variants as walked-enum
+use Rattle.scope.proofs.Laying.{front-less}
 use Rattle.scope.proofs.ArmLaws.{got, never-ok, Or, first, second, lt-or-eq}
 use Rattle.scopesound.proofs.Bounds.{start-next}
 use Rattle.scopeparts.proofs.Groups.{ends-count}
@@ -48,6 +51,65 @@ ends-more n [] x = ap (λ (k : ℕ). k ∷ []) (omega arith)
 ends-more n (y ∷ l) x =
     ap (λ (k : List ℕ). (n + length y) ∷ k)
     (ends-more (n + length y) l x ∙ ap (λ (k : ℕ). ends-from (n + length y) l ++ (k ∷ [])) (omega (arith, length-append y (joined-groups l))))
+
+-- ---- rows that are kept
+
+none-taken : (i : ℕ) → _≡_ {A = List (List ℕ)} (take i []) []
+none-taken zero = refl
+none-taken (suc i) = refl
+
+none-kept : (kept : List ℕ) → Kept-so [] kept
+unfolding joined-groups
+none-kept kept i h = subst (λ (z : List (List ℕ)). take (length (joined-groups z)) kept ≡ joined-groups z) (sym (none-taken i)) refl
+
+-- the first of some groups, and of those with one more
+taken-before : (i : ℕ) (l : List (List ℕ)) (x : List ℕ) → i ≤ length l → take i (l ++ (x ∷ [])) ≡ take i l
+taken-before zero l x h = refl
+taken-before (suc i) [] x h = absurd (omega arith)
+taken-before (suc i) (y ∷ l) x h = ap (λ (k : List (List ℕ)). y ∷ k) (taken-before i l x (omega arith))
+
+taken-all : (i : ℕ) (l : List (List ℕ)) → length l ≤ i → take i l ≡ l
+taken-all i [] h = none-taken i
+taken-all zero (y ∷ l) h = absurd (omega arith)
+taken-all (suc i) (y ∷ l) h = ap (λ (k : List (List ℕ)). y ∷ k) (taken-all i l (omega arith))
+
+pub joined-first : (i : ℕ) (l : List (List ℕ)) → joined-groups l ≡ joined-groups (take i l) ++ joined-groups (drop i l)
+unfolding joined-groups
+joined-first zero l = refl
+joined-first (suc i) [] = refl
+joined-first (suc i) (y ∷ l) = ap (λ (k : List ℕ). y ++ k) (joined-first i l) ∙ sym (append-assoc y (joined-groups (take i l)) (joined-groups (drop i l)))
+
+more-kept : (arms : List (List ℕ)) (x kept kept' : List ℕ) → Kept-so arms kept → (to : ℕ) → to ≡ length (joined-groups arms) → Laid to x kept kept' → Kept-so (arms ++ (x ∷ [])) kept'
+more-kept arms x kept kept' k to e l i h = go (lt-or-eq' i (length arms))
+  where
+    lt-or-eq' : (m n : ℕ) → Or (m ≤ n) (n < m)
+    lt-or-eq' m n = decide (ltb n m) (ltb→lt n m) (nltb→le n m)
+      where
+        decide : (t : Bool) → (T t → n < m) → (T (not t) → m ≤ n) → Or (m ≤ n) (n < m)
+        decide true y z = second (y tt)
+        decide false y z = first (z tt)
+
+    Stands : List (List ℕ) → Type 0
+    Stands z = take (length (joined-groups z)) kept' ≡ joined-groups z
+
+    go : Or (i ≤ length arms) (length arms < i) → Stands (take i (arms ++ (x ∷ [])))
+    go (first q) =
+        let s : take i (arms ++ (x ∷ [])) ≡ take i arms = taken-before i arms x q in
+        let m = length (joined-groups (take i arms)) in
+        let low : m ≤ to = omega (arith, e, ap length (joined-first i arms), length-append (joined-groups (take i arms)) (joined-groups (drop i arms))) in
+        let fits : m ≤ length kept = omega (arith, h, l .long, ap (λ (z : List (List ℕ)). length (joined-groups z)) s) in
+        subst Stands (sym s) (front-less m to low kept' kept (l .front) ∙ k i fits)
+    go (second q) =
+        let s : take i (arms ++ (x ∷ [])) ≡ arms ++ (x ∷ []) = taken-all i (arms ++ (x ∷ [])) (omega (arith, q, length-append arms (x ∷ []))) in
+        let j = joined-groups arms in
+        let more = joined-more arms x in
+        let fits : to + length x ≤ length kept = omega (arith, h, e, l .long, ap (λ (z : List (List ℕ)). length (joined-groups z)) s, ap length more, length-append j x) in
+        let all : take (length arms) arms ≡ arms = taken-all (length arms) arms (omega arith) in
+        let before : take (length j) kept ≡ j =
+        subst (λ (z : List (List ℕ)). take (length (joined-groups z)) kept ≡ joined-groups z) all
+        (k (length arms) (omega (arith, fits, e, ap (λ (z : List (List ℕ)). length (joined-groups z)) all))) in
+        subst Stands (sym s)
+        (ap₂ (λ (z y : List ℕ). take (length z) y) more (l .all fits) ∙ (front-grows j x kept to e before fits ∙ sym more))
 
 module _ (scope : ℕ → List ℕ → Outcome Told) (hs : List ℕ) (gs : List (List ℕ)) where
   abbrev pub with-group : ℕ → Walk → Arms-told → Walk
@@ -95,7 +157,7 @@ module _ (scope : ℕ → List ℕ → Outcome Told) (hs : List ℕ) (gs : List 
 
   -- ---- the loop
 
-  module _ (next : ℕ) (old : List ℕ) where
+  module _ (next : ℕ) where
     -- after the first n groups
     pub record Walk-so (n number extracted start to : ℕ) (numbers stops kept : List ℕ) : Type 0 where
       pub done : Walk
@@ -107,11 +169,11 @@ module _ (scope : ℕ → List ℕ → Outcome Told) (hs : List ℕ) (gs : List 
       pub numbers-are : take (length (done .numbers)) numbers ≡ done .numbers
       pub to-is : to ≡ length (joined-groups (done .arms))
       pub stops-are : take (length (ends-from 0 (done .arms))) stops ≡ ends-from 0 (done .arms)
-      pub kept-is : kept ≡ overlay 0 (joined-groups (done .arms)) old
+      pub kept-is : Kept-so (done .arms) kept
 
-    pub walk-begin : (numbers stops : List ℕ) → Walk-so 0 next 0 0 0 numbers stops old
+    pub walk-begin : (numbers stops kept : List ℕ) → Walk-so 0 next 0 0 0 numbers stops kept
     unfolding walked joined-groups ends-from
-    walk-begin numbers stops =
+    walk-begin numbers stops kept =
         record {
           done = record { numbers = []; arms = []; next = next; extracted = 0 };
           told = refl;
@@ -122,7 +184,7 @@ module _ (scope : ℕ → List ℕ → Outcome Told) (hs : List ℕ) (gs : List 
           numbers-are = refl;
           to-is = refl;
           stops-are = refl;
-          kept-is = sym (overlay-none 0 old);
+          kept-is = none-kept kept;
         }
 
     module _ (n number extracted start to : ℕ) (numbers stops kept : List ℕ) (so : Walk-so n number extracted start to numbers stops kept) (r : Armed) (kept' : List ℕ)
@@ -133,7 +195,7 @@ module _ (scope : ℕ → List ℕ → Outcome Told) (hs : List ℕ) (gs : List 
           → (numbers' : List ℕ) → numbers' ≡ overlay start (numbers-from number count) numbers → Walk-so (n + 1) after (extracted + more) end place numbers' (set stops n place) kept'
       Step-by (armed.Refused q) = (i : Refusal) × (walked scope hs gs next (suc n) ≡ refused i) × (i .number ≡ q)
 
-      step-ok : (a : Arms-told) → group-told scope hs (group-at gs n) number ≡ ok a → kept' ≡ overlay to (a .words) kept → Step-by (armed.Rows (to + length (a .words)) (a .next) (a .extracted))
+      step-ok : (a : Arms-told) → group-told scope hs (group-at gs n) number ≡ ok a → Laid to (a .words) kept kept' → Step-by (armed.Rows (to + length (a .words)) (a .next) (a .extracted))
       step-ok a e w count c end f fits inside numbers' p =
           let d = so .done in
           let nums = numbers-from (d .next) (length (group-at gs n)) in
@@ -156,12 +218,7 @@ module _ (scope : ℕ → List ℕ → Outcome Told) (hs : List ℕ) (gs : List 
                 let z : ends-from 0 (d .arms ++ (a .words ∷ [])) ≡ m ++ (place ∷ []) = ends-more 0 (d .arms) (a .words) ∙ ap (λ (j : ℕ). m ++ (j ∷ [])) (omega (arith, so .to-is)) in
                 ap₂ (λ (l : List ℕ) (s : List ℕ). take (length l) s) z (sym (overlay-word n place stops))
                 ∙ (front-grows m (place ∷ []) stops n (so .arms-many ∙ sym (ends-count 0 (d .arms))) (so .stops-are) (omega (arith, inside)) ∙ sym z);
-            kept-is =
-                let j = joined-groups (d .arms) in
-                let z : to ≡ 0 + length j = omega (arith, so .to-is) in
-                w
-                ∙ (ap₂ (λ (k : ℕ) (t : List ℕ). overlay k (a .words) t) z (so .kept-is)
-                ∙ (sym (overlay-append 0 j (a .words) old) ∙ ap (λ (l : List ℕ). overlay 0 l old) (sym (joined-more (d .arms) (a .words)))));
+            kept-is = more-kept (d .arms) (a .words) kept kept' (so .kept-is) to (so .to-is) w;
           }
 
       step-by-outcome : (o : Outcome Arms-told) → group-told scope hs (group-at gs n) number ≡ o → Arms-wrote o to kept kept' → Step-by (arms-answer o to)
@@ -176,20 +233,20 @@ module _ (scope : ℕ → List ℕ → Outcome Told) (hs : List ℕ) (gs : List 
       walk-goes-on place after more e = subst Step-by e step-by
 
       pub walk-ends-refused : (count : ℕ) → n < count → (q : ℕ) → r ≡ armed.Refused q → (z : ℕ) → z ≡ refusal-number r → (numbers' stops' last : List ℕ)
-          → (walked-enum.Refused z ≡ walk-answer (walked scope hs gs next count)) × Walk-wrote (walked scope hs gs next count) numbers' stops' old last
+          → (walked-enum.Refused z ≡ walk-answer (walked scope hs gs next count)) × Walk-wrote (walked scope hs gs next count) numbers' stops' last
       unfolding refusal-number walk-answer
       walk-ends-refused count h q e z f numbers' stops' last =
           let m = subst Step-by e step-by in
           let s : walked scope hs gs next count ≡ refused (m .0) = subst (λ (k : ℕ). walked scope hs gs next k ≡ refused (m .0)) (omega arith) (walked-stopped next (suc n) (count - suc n) (m .0) (m .1)) in
           let y : z ≡ m .0 .number = f ∙ (ap refusal-number e ∙ sym (m .2)) in
-          subst (λ (o : Outcome Walk). (walked-enum.Refused z ≡ walk-answer o) × Walk-wrote o numbers' stops' old last) (sym s) (ap (λ (k : ℕ). walked-enum.Refused k) y, tt)
+          subst (λ (o : Outcome Walk). (walked-enum.Refused z ≡ walk-answer o) × Walk-wrote o numbers' stops' last) (sym s) (ap (λ (k : ℕ). walked-enum.Refused k) y, tt)
 
     pub walk-all : (n number extracted start to : ℕ) (numbers stops kept : List ℕ) → Walk-so n number extracted start to numbers stops kept → (count : ℕ) → n ≡ count
-        → (walked-enum.Done number extracted ≡ walk-answer (walked scope hs gs next count)) × Walk-wrote (walked scope hs gs next count) numbers stops old kept
+        → (walked-enum.Done number extracted ≡ walk-answer (walked scope hs gs next count)) × Walk-wrote (walked scope hs gs next count) numbers stops kept
     unfolding walk-answer
     walk-all n number extracted start to numbers stops kept so count e =
         let s : walked scope hs gs next count ≡ ok (so .done) = subst (λ (k : ℕ). walked scope hs gs next k ≡ ok (so .done)) e (so .told) in
-        subst (λ (o : Outcome Walk). (walked-enum.Done number extracted ≡ walk-answer o) × Walk-wrote o numbers stops old kept) (sym s)
+        subst (λ (o : Outcome Walk). (walked-enum.Done number extracted ≡ walk-answer o) × Walk-wrote o numbers stops kept) (sym s)
         (ap₂ walked-enum.Done (so .number-is) (so .extracted-is), (so .numbers-are, ap (λ (k : ℕ). take k stops) (sym (ends-count 0 (so .done .arms))) ∙ so .stops-are, so .kept-is))
 
 -- ---- one group of those walked

@@ -39,7 +39,7 @@ module _ (rows : List Row) (fuel left next : ℕ) (held members ends : List ℕ)
       let r = ready-of rows next held (h .good) in
       omega (arith, ends-many, groups-count held (r .trees) (r .complete), h .switches)
 
-  module _ (old : List ℕ) (n number extracted start to : ℕ) (numbers stops kept : List ℕ) (so : Walk-so (inner rows fuel left) held gs next old n number extracted start to numbers stops kept) where
+  module _ (n number extracted start to : ℕ) (numbers stops kept : List ℕ) (so : Walk-so (inner rows fuel left) held gs next n number extracted start to numbers stops kept) where
     pub so-bound : n ≤ length ends → Walk-bound gs next n (so .done)
     so-bound l = walk-bound rows (is-number rows) fuel left next held (h .good) (h .pass) (words-ok rows next held h) n (omega (arith, ends-many)) (so .done) (so .told)
 

@@ -11,12 +11,12 @@ use Rattle.switchplaces.specs.Switches.{arm-count}
 use Rattle.scopeplaces.specs.Overlay.{overlay}
 use Rattle.scopeplaces.specs.Parts.{place-groups, joined-groups, ends-from, group-at, group-start, group-end, match-run, match-head, key-run, names-run}
 use Rattle.scopeplaces.specs.Whole.{Told, Arms-told, Walk, arms-told, group-told}
-use Rattle.tables.proofs.Laws.{overlay-append, overlay-past}
-use Rattle.scope.specs.Answers.{inner, arms-answer, Arms-wrote, words-of}
+use Rattle.scope.specs.Answers.{inner, Laid, arms-answer, Arms-wrote, words-of}
 use Rattle.scope.specs.Frame.{most-rows, Lent, Holds, Is-group, Arms-fit, group-again, Group-sized}
 use Rattle.scopeparts.specs.Prepared.{Grouped, begin-of, head-run}
 use Rattle.scope.specs.declared.Armed.{Armed}
 use Rattle.scope.specs.declared.Armed.the-variants as armed
+use Rattle.scope.proofs.Laying.{laid-exact, laid-append, laid-past, laid-as}
 use Rattle.scope.proofs.ArmLaws.{arms-within, never-ok}
 use Rattle.scopeparts.proofs.Groups.{ends-count, end-is, begin-is, group-long, group-inside, group-part}
 use Rattle.scope.proofs.Sound.{fused, all-few, holds-later}
@@ -49,6 +49,9 @@ module _ (rows : List Row) (fuel left : ℕ) (held members ends numbers : List �
 
     run-long : length run ≡ length head + size
     run-long = ap length (match-is held gs numbers arms-rows g) ∙ (length-append head arms-rows ∙ ap (λ (k : ℕ). length head + k) (ap length arms-are ∙ sym (sz .size-is)))
+
+    run-laid : (ws old new : List ℕ) → arms-rows ≡ ws → Laid at (head ++ ws) old new → Laid at run old new
+    run-laid ws old new e l = laid-as at run (head ++ ws) old new (match-is held gs numbers arms-rows g ∙ ap (λ (z : List ℕ). head ++ z) e) l
 
     pub head-fits : at + length head ≤ 9223372036854775808
     head-fits = omega (arith, run-long)
@@ -134,51 +137,48 @@ module _ (rows : List Row) (fuel left : ℕ) (held members ends numbers : List �
           (given : (r ≡ arms-answer (arms-told (inner rows fuel left) held part (getD numbers start 0 + count) (arm-count held (getD part 0 0))) body)
           × Arms-wrote (arms-told (inner rows fuel left) held part (getD numbers start 0 + count) (arm-count held (getD part 0 0))) body table new) where
         abbrev Done-by : Armed → Type 0
-        Done-by (armed.Rows place after more) = (place ≡ at + length run) × (new ≡ overlay at run old)
+        Done-by (armed.Rows place after more) = (place ≡ at + length run) × Laid at run old new
         Done-by (armed.Refused q) = ⊥
 
-        wrote : new ≡ overlay body (sz .arms .words) table
+        wrote : Laid body (sz .arms .words) table new
         wrote = subst (λ (o : Outcome Arms-told). Arms-wrote o body table new) told (given .1)
 
         done-by : Done-by (armed.Rows (body + length (sz .arms .words)) (sz .arms .next) (sz .arms .extracted))
         done-by = (
           omega (arith, bodied, run-long, sz .size-is),
-          wrote
-              ∙ (ap₂ (λ (k : ℕ) (t : List ℕ). overlay k (sz .arms .words) t) bodied headed
-              ∙ (sym (overlay-append at head (sz .arms .words) old) ∙ ap (λ (z : List ℕ). overlay at z old) (ap (λ (z : List ℕ). head ++ z) (sym arms-are) ∙ sym (match-is held gs numbers arms-rows g)))),
+          run-laid (sz .arms .words) old new arms-are (laid-append at head (sz .arms .words) old table new (laid-exact at head old table headed) body bodied wrote),
         )
 
         answered : r ≡ armed.Rows (body + length (sz .arms .words)) (sz .arms .next) (sz .arms .extracted)
         unfolding arms-answer
         answered = given .0 ∙ ap (λ (o : Outcome Arms-told). arms-answer o body) told
 
-        pub match-done : (place after more : ℕ) → r ≡ armed.Rows place after more → (place ≡ at + length run) × (new ≡ overlay at run old)
+        pub match-done : (place after more : ℕ) → r ≡ armed.Rows place after more → (place ≡ at + length run) × Laid at run old new
         match-done place after more e = subst Done-by (sym answered ∙ e) done-by
 
         pub match-never : (q : ℕ) → r ≡ armed.Refused q → ⊥
         match-never q e = subst Done-by (sym answered ∙ e) done-by
 
-    -- where nothing would be written the place moves on
-    pub match-past : (old table : List ℕ) → table ≡ overlay at head old → (body : ℕ) → body ≡ at + length head → length table ≤ body → (body + size ≡ at + length run) × (table ≡ overlay at run old)
-    match-past old table headed body bodied past = (
-      omega (arith, bodied, run-long),
-      sym (ap (λ (z : List ℕ). overlay at z old) (match-is held gs numbers arms-rows g)
-          ∙ (overlay-append at head arms-rows old
-          ∙ (ap₂ (λ (k : ℕ) (t : List ℕ). overlay k arms-rows t) (sym bodied) (sym headed) ∙ overlay-past body arms-rows table past))),
-    )
+    -- where they have no room the place moves on
+    pub match-past : (old table : List ℕ) → table ≡ overlay at head old → (body : ℕ) → body ≡ at + length head → length table < body + size → (body + size ≡ at + length run) × Laid at run old table
+    match-past old table headed body bodied past =
+        let l = laid-exact at head old table headed in
+        let same = match-is held gs numbers arms-rows g in (
+          omega (arith, bodied, run-long),
+          laid-as at run (head ++ arms-rows) old table same (laid-past at head arms-rows old table l (omega (arith, past, bodied, run-long, ap length same, l .long))),
+        )
 
     -- where the arms' rows are kept they are copied
     pub kept-low : from + size ≤ 9223372036854775808
     kept-low = sz .low
 
     pub match-kept : (old table new : List ℕ) → table ≡ overlay at head old → (body : ℕ) → body ≡ at + length head → from + size ≤ length kept
-        → new ≡ overlay body (take ((from + size) - from) (drop from kept)) table → (body + size ≡ at + length run) × (new ≡ overlay at run old)
+        → new ≡ overlay body (take ((from + size) - from) (drop from kept)) table → (body + size ≡ at + length run) × Laid at run old new
     match-kept old table new headed body bodied within copied =
         let same : (from + size) - from ≡ size = omega arith in
         let part : take ((from + size) - from) (drop from kept) ≡ sz .arms .words = ap (λ (k : ℕ). take k (drop from kept)) same ∙ sz .here within in (
           omega (arith, bodied, run-long),
-          copied
-              ∙ (ap (λ (z : List ℕ). overlay body z table) part
-              ∙ (ap₂ (λ (k : ℕ) (t : List ℕ). overlay k (sz .arms .words) t) bodied headed
-              ∙ (sym (overlay-append at head (sz .arms .words) old) ∙ ap (λ (z : List ℕ). overlay at z old) (ap (λ (z : List ℕ). head ++ z) (sym arms-are) ∙ sym (match-is held gs numbers arms-rows g))))),
+          run-laid (sz .arms .words) old new arms-are
+              (laid-append at head (sz .arms .words) old table new (laid-exact at head old table headed) body bodied
+              (laid-exact body (sz .arms .words) table new (copied ∙ ap (λ (z : List ℕ). overlay body z table) part))),
         )

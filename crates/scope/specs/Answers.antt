@@ -37,11 +37,17 @@ unfoldable pub scope-answer : Outcome Told → ℕ → Scoped
 scope-answer (ok t) at = scoped.Told (at + length (t .words)) (t .steps) (t .next) (t .extracted)
 scope-answer (refused i) at = scoped.Refused (i .number)
 
+-- Words laid over a table from a place on. What stands before them is as it was, and where all of them have room they stand there. Where they haven't, what is left from
+-- that place on is free: nobody reads a table that its rows don't fit.
+pub record Laid (at : ℕ) (ws old new : List ℕ) : Type 0 where
+  pub long : length new ≡ length old
+  pub front : take at new ≡ take at old
+  pub all : at + length ws ≤ length old → new ≡ overlay at ws old
+
 -- its rows laid over the table from a place on, or nothing written
-unfoldable pub scope-table : Outcome Told → ℕ → List ℕ → List ℕ
-unfolding overlay
-scope-table (ok t) at old = overlay at (t .words) old
-scope-table (refused i) at old = old
+abbrev pub Scope-laid : Outcome Told → ℕ → List ℕ → List ℕ → Type 0
+Scope-laid (ok t) at old new = Laid at (t .words) old new
+Scope-laid (refused i) at old new = new ≡ old
 
 -- how many rows it has
 unfoldable pub told-rows : Outcome Told → ℕ
@@ -74,7 +80,7 @@ arms-answer (refused i) at = armed.Refused (i .number)
 
 -- the rows laid over the table; where arms are refused the table is free
 abbrev pub Arms-wrote : Outcome Arms-told → ℕ → List ℕ → List ℕ → Type 0
-Arms-wrote (ok t) at old new = new ≡ overlay at (t .words) old
+Arms-wrote (ok t) at old new = Laid at (t .words) old new
 Arms-wrote (refused i) at old new = Unit {0}
 
 -- ---- groups
@@ -84,12 +90,17 @@ unfoldable pub walk-answer : Outcome Walk → Walked
 walk-answer (ok l) = walked.Done (l .next) (l .extracted)
 walk-answer (refused i) = walked.Refused (i .number)
 
--- The numbers of all members stand in front, and so do the places where each group's arms end among the rows of all, which are laid over what is kept. Where the groups
--- are refused all are free.
-abbrev pub Walk-wrote : Outcome Walk → List ℕ → List ℕ → List ℕ → List ℕ → Type 0
-Walk-wrote (ok l) numbers stops old kept =
-    (take (length (l .numbers)) numbers ≡ l .numbers) × (take (length (l .arms)) stops ≡ ends-from 0 (l .arms)) × (kept ≡ overlay 0 (joined-groups (l .arms)) old)
-Walk-wrote (refused i) numbers stops old kept = Unit {0}
+-- the rows of the first groups' arms stand in front, of as many groups as have room
+abbrev pub Kept-so : List (List ℕ) → List ℕ → Type 0
+Kept-so arms kept =
+    (i : ℕ) → length (joined-groups (take i arms)) ≤ length kept → take (length (joined-groups (take i arms))) kept ≡ joined-groups (take i arms)
+
+-- The numbers of all members stand in front, and so do the places where each group's arms end among the rows of all, which are kept. Where the groups are refused all
+-- are free.
+abbrev pub Walk-wrote : Outcome Walk → List ℕ → List ℕ → List ℕ → Type 0
+Walk-wrote (ok l) numbers stops kept =
+    (take (length (l .numbers)) numbers ≡ l .numbers) × (take (length (l .arms)) stops ≡ ends-from 0 (l .arms)) × Kept-so (l .arms) kept
+Walk-wrote (refused i) numbers stops kept = Unit {0}
 
 -- the rows of the groups' arms
 unfoldable pub arms-of : Outcome Walk → List (List ℕ)

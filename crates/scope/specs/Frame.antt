@@ -18,11 +18,10 @@ use Rattle.treelist.specs.Starts.{starts-of}
 use Rattle.reciprocal.specs.Bindings.{all-there}
 use Rattle.switchplaces.specs.Switches.{arm-count, switch-places}
 use Rattle.switchplaces.specs.Columns.{column-words}
-use Rattle.scopeplaces.specs.Overlay.{overlay}
 use Rattle.scopeplaces.specs.Parts.{place-groups, joined-groups, ends-from, group-at, group-start, reciprocals-first, lets-count, held-words}
 use Rattle.cse.specs.Scope.{most-number}
 use Rattle.scopeplaces.specs.Whole.{Told, Arms-told, Walk, arms-told, group-told, walked, ordered-scope, fused-scope, stmts-count}
-use Rattle.scope.specs.Answers.{told-rows, inner, arms-of}
+use Rattle.scope.specs.Answers.{told-rows, inner, arms-of, Kept-so}
 use Rattle.scope.specs.declared.Found.{Found}
 use Rattle.scope.specs.declared.Found.the-variants as found
 
@@ -88,14 +87,13 @@ unfolding groups-told held-words reciprocals-first ordered-scope
 grouped-scope rows fuel left row ws k first places =
     groups-told rows fuel left (reciprocals-first ws k first places + length places) (held-words ws k first places) >>= λ l. ordered-scope row ws k first places l
 
--- the members' numbers, where each group's arms end among the rows of all, and these laid over some words
+-- the members' numbers, where each group's arms end among the rows of all, and these as far as they are kept
 pub record Sized (rows : List Row) (fuel left next : ℕ) (held numbers stops kept : List ℕ) : Type 0 where
   pub walk : Walk
-  pub old : List ℕ
   pub told : groups-told rows fuel left next held ≡ ok walk
   pub numbers-are : numbers ≡ walk .numbers
   pub stops-are : stops ≡ ends-from 0 (walk .arms)
-  pub kept-is : kept ≡ overlay 0 (joined-groups (walk .arms)) old
+  pub kept-is : Kept-so (walk .arms) kept
 
 -- and the next number and the extraction count after them
 pub record Numbered (rows : List Row) (fuel left next : ℕ) (held numbers stops kept : List ℕ) (after extracted : ℕ) : Type 0 where

@@ -19,7 +19,7 @@ ghost use Rattle.fusion.specs.Words.{numbers-from};
 ghost use Rattle.scopeplaces.specs.Overlay.{overlay};
 ghost use Rattle.scopeplaces.specs.Parts.{place-groups, group-start, match-run, let-run, reciprocals-first, lets-count, words-held, held-words};
 ghost use Rattle.scopeplaces.specs.Whole.{arms-told, group-told, stmts-count, tree-run, stmt-run, stmts-runs, values-runs, stmts-order, scope-told};
-ghost use Rattle.scope.specs.Answers.{scope-answer, scope-table, told-rows, Lists, inner, arm-told, arms-answer, Arms-wrote, walk-answer, Walk-wrote, words-of, Holding-so, walk-refusal, refusal-number, Copied-so, Switches-so};
+ghost use Rattle.scope.specs.Answers.{scope-answer, Laid, Scope-laid, told-rows, Lists, inner, arm-told, arms-answer, Arms-wrote, walk-answer, Walk-wrote, words-of, Holding-so, walk-refusal, refusal-number, Copied-so, Switches-so};
 ghost use Rattle.scope.specs.Frame.{most-rows, Lent, Holds, Is-group, Arm-fits, Arms-fit, Members, groups-told, Ready, grouped-scope, Sized, Numbered, group-again, Group-sized, scope-arms, Positions, Left, left-scope, Grouping-so, Found-so};
 ghost use Rattle.scopeparts.specs.Prepared.{Prepared, Readied, Grouped, begin-of, order-told, head-run};
 use columns::Column;
@@ -426,7 +426,7 @@ fn walk(
     requires { ⌜ Members (take h (now work)) (now members) (now ends) × (next ≤ 4294967296) ⌝ }
     requires { ⌜ (length (now members) ≤ length (now numbers)) × (length (now ends) ≤ length (now stops)) ⌝ }
     ensures { λ r. ⌜ (r ≡ walk-answer (groups-told (rows-in (now (rows .entry))) fuel (length (now (work .entry)) - h) next (take h (now (work .entry)))))
-        × Walk-wrote (groups-told (rows-in (now (rows .entry))) fuel (length (now (work .entry)) - h) next (take h (now (work .entry)))) (now (numbers .exit)) (now (stops .exit)) (now (kept .entry)) (now (kept .exit)) ⌝ }
+        × Walk-wrote (groups-told (rows-in (now (rows .entry))) fuel (length (now (work .entry)) - h) next (take h (now (work .entry)))) (now (numbers .exit)) (now (stops .exit)) (now (kept .exit)) ⌝ }
     ensures { λ _. ⌜ take h (now (work .exit)) ≡ take h (now (work .entry)) ⌝ }
 {
     let mut number = next;
@@ -461,7 +461,7 @@ fn walk(
     Walked::Done(number, extracted)
 }
 
-// The rows of the match of group g: those before its arms, and its arms', which stand in what is kept or else are made again, unless none of them has a place in the
+// The rows of the match of group g: those before its arms, and its arms', which stand in what is kept or else are made again, unless they have no room in the
 // table. That they are refused now never comes up.
 fn write_match(
     rows: &[u64],
@@ -483,11 +483,11 @@ fn write_match(
     requires { ⌜ Grouped (take h (now work)) (now members) (now ends) (now numbers) × Group-sized (rows-in (now rows)) fuel (length (now work) - h) (take h (now work)) (now numbers) g from size (now kept) ⌝ }
     requires { ⌜ (g < length (now ends)) × (at + length (match-run (take h (now work)) (place-groups (take h (now work))) (now numbers) (words-of (group-again (rows-in (now rows)) fuel (length (now work) - h) (take h (now work)) (now numbers) g)) g) ≤ most-rows) ⌝ }
     ensures { λ r. ⌜ (r ≡ at + length (match-run (take h (now (work .entry))) (place-groups (take h (now (work .entry)))) (now (numbers .entry)) (words-of (group-again (rows-in (now (rows .entry))) fuel (length (now (work .entry)) - h) (take h (now (work .entry))) (now (numbers .entry)) g)) g))
-        × (now (table .exit) ≡ overlay at (match-run (take h (now (work .entry))) (place-groups (take h (now (work .entry)))) (now (numbers .entry)) (words-of (group-again (rows-in (now (rows .entry))) fuel (length (now (work .entry)) - h) (take h (now (work .entry))) (now (numbers .entry)) g)) g) (now (table .entry))) ⌝ }
+        × Laid at (match-run (take h (now (work .entry))) (place-groups (take h (now (work .entry)))) (now (numbers .entry)) (words-of (group-again (rows-in (now (rows .entry))) fuel (length (now (work .entry)) - h) (take h (now (work .entry))) (now (numbers .entry)) g)) g) (now (table .entry)) (now (table .exit)) ⌝ }
     ensures { λ _. ⌜ take h (now (work .exit)) ≡ take h (now (work .entry)) ⌝ }
 {
     let body = write_match_head(&work[..h], members, ends, numbers, g, at, table);
-    if body >= table.len() {
+    if body + size > table.len() {
         return body + size;
     }
     if from + size <= kept.len() {
@@ -539,7 +539,7 @@ fn write_stmt(
     requires { ⌜ Prepared (now tokens) results first (now places) (take h (now work)) (now starts) (now members) (now ends) (now numbers) × Sized (rows-in (now rows)) fuel (length (now work) - h) (reciprocals-first (now tokens) results first (now places) + length (now places)) (take h (now work)) (now numbers) (now stops) (now kept) ⌝ }
     requires { ⌜ (p < stmts-count (now tokens) results first (now places) (now numbers)) × (at + length (stmt-run (now tokens) results first (now places) (now numbers) (scope-arms (rows-in (now rows)) fuel (length (now work) - h) (now tokens) results first (now places)) p) ≤ most-rows) ⌝ }
     ensures { λ r. ⌜ (r ≡ at + length (stmt-run (now (tokens .entry)) results first (now (places .entry)) (now (numbers .entry)) (scope-arms (rows-in (now (rows .entry))) fuel (length (now (work .entry)) - h) (now (tokens .entry)) results first (now (places .entry))) p))
-        × (now (table .exit) ≡ overlay at (stmt-run (now (tokens .entry)) results first (now (places .entry)) (now (numbers .entry)) (scope-arms (rows-in (now (rows .entry))) fuel (length (now (work .entry)) - h) (now (tokens .entry)) results first (now (places .entry))) p) (now (table .entry))) ⌝ }
+        × Laid at (stmt-run (now (tokens .entry)) results first (now (places .entry)) (now (numbers .entry)) (scope-arms (rows-in (now (rows .entry))) fuel (length (now (work .entry)) - h) (now (tokens .entry)) results first (now (places .entry))) p) (now (table .entry)) (now (table .exit)) ⌝ }
     ensures { λ _. ⌜ take h (now (work .exit)) ≡ take h (now (work .entry)) ⌝ }
 {
     let lets = starts.len() - results + places.len();
@@ -604,7 +604,7 @@ fn write_stmts(
     requires { ⌜ Prepared (now tokens) results first (now places) (take h (now work)) (now starts) (now members) (now ends) (now numbers) × Sized (rows-in (now rows)) fuel (length (now work) - h) (reciprocals-first (now tokens) results first (now places) + length (now places)) (take h (now work)) (now numbers) (now stops) (now kept) ⌝ }
     requires { ⌜ Positions (now taken) (stmts-count (now tokens) results first (now places) (now numbers)) × (at + length (stmts-runs (now tokens) results first (now places) (now numbers) (scope-arms (rows-in (now rows)) fuel (length (now work) - h) (now tokens) results first (now places)) (now taken) (length (now taken))) ≤ most-rows) ⌝ }
     ensures { λ r. ⌜ (r ≡ at + length (stmts-runs (now (tokens .entry)) results first (now (places .entry)) (now (numbers .entry)) (scope-arms (rows-in (now (rows .entry))) fuel (length (now (work .entry)) - h) (now (tokens .entry)) results first (now (places .entry))) (now (taken .entry)) (length (now (taken .entry)))))
-        × (now (table .exit) ≡ overlay at (stmts-runs (now (tokens .entry)) results first (now (places .entry)) (now (numbers .entry)) (scope-arms (rows-in (now (rows .entry))) fuel (length (now (work .entry)) - h) (now (tokens .entry)) results first (now (places .entry))) (now (taken .entry)) (length (now (taken .entry)))) (now (table .entry))) ⌝ }
+        × Laid at (stmts-runs (now (tokens .entry)) results first (now (places .entry)) (now (numbers .entry)) (scope-arms (rows-in (now (rows .entry))) fuel (length (now (work .entry)) - h) (now (tokens .entry)) results first (now (places .entry))) (now (taken .entry)) (length (now (taken .entry)))) (now (table .entry)) (now (table .exit)) ⌝ }
     ensures { λ _. ⌜ take h (now (work .exit)) ≡ take h (now (work .entry)) ⌝ }
 {
     let mut to = at;
@@ -663,7 +663,7 @@ fn write_scope(
     requires { ⌜ Prepared (now tokens) results first (now places) (take h (now work)) (now starts) (now members) (now ends) (now numbers) × Numbered (rows-in (now rows)) fuel (length (now work) - h) (reciprocals-first (now tokens) results first (now places) + length (now places)) (take h (now work)) (now numbers) (now stops) (now kept) after extracted ⌝ }
     requires { ⌜ at + told-rows (grouped-scope (rows-in (now rows)) fuel (length (now work) - h) row (now tokens) results first (now places)) ≤ most-rows ⌝ }
     ensures { λ r. ⌜ (r ≡ scope-answer (grouped-scope (rows-in (now (rows .entry))) fuel (length (now (work .entry)) - h) row (now (tokens .entry)) results first (now (places .entry))) at)
-        × (now (table .exit) ≡ scope-table (grouped-scope (rows-in (now (rows .entry))) fuel (length (now (work .entry)) - h) row (now (tokens .entry)) results first (now (places .entry))) at (now (table .entry))) ⌝ }
+        × Scope-laid (grouped-scope (rows-in (now (rows .entry))) fuel (length (now (work .entry)) - h) row (now (tokens .entry)) results first (now (places .entry))) at (now (table .entry)) (now (table .exit)) ⌝ }
 {
     let mut taken = [0u64; MOST_STMTS];
     let made = starts.len() - results;
@@ -745,7 +745,7 @@ fn scope_grouped(
     requires { ⌜ Ready (now tokens) results first (now places) (take h (now work)) (now starts) (now members) (now ends) × (length (now members) ≤ length (now numbers)) ⌝ }
     requires { ⌜ at + told-rows (grouped-scope (rows-in (now rows)) fuel (length (now work) - h) row (now tokens) results first (now places)) ≤ most-rows ⌝ }
     ensures { λ r. ⌜ (r ≡ scope-answer (grouped-scope (rows-in (now (rows .entry))) fuel (length (now (work .entry)) - h) row (now (tokens .entry)) results first (now (places .entry))) at)
-        × (now (table .exit) ≡ scope-table (grouped-scope (rows-in (now (rows .entry))) fuel (length (now (work .entry)) - h) row (now (tokens .entry)) results first (now (places .entry))) at (now (table .entry))) ⌝ }
+        × Scope-laid (grouped-scope (rows-in (now (rows .entry))) fuel (length (now (work .entry)) - h) row (now (tokens .entry)) results first (now (places .entry))) at (now (table .entry)) (now (table .exit)) ⌝ }
 {
     let mut stops = [0u64; MOST_STMTS];
     let mut kept = [0u64; KEPT];
@@ -813,7 +813,7 @@ fn scope_held(
     requires { ⌜ (trees-in (now tokens) ≡ some trees) × (take h (now work) ≡ held-words (now tokens) results first (now places)) ⌝ }
     requires { ⌜ at + told-rows (left-scope (rows-in (now rows)) fuel (length (now work)) row (now tokens) results first (now places)) ≤ most-rows ⌝ }
     ensures { λ r. ⌜ (r ≡ scope-answer (left-scope (rows-in (now (rows .entry))) fuel (length (now (work .entry))) row (now (tokens .entry)) results first (now (places .entry))) at)
-        × (now (table .exit) ≡ scope-table (left-scope (rows-in (now (rows .entry))) fuel (length (now (work .entry))) row (now (tokens .entry)) results first (now (places .entry))) at (now (table .entry))) ⌝ }
+        × Scope-laid (left-scope (rows-in (now (rows .entry))) fuel (length (now (work .entry))) row (now (tokens .entry)) results first (now (places .entry))) at (now (table .entry)) (now (table .exit)) ⌝ }
 {
     let mut starts = [0u64; MOST];
     let mut members = [0u64; MOST_SWITCHES];
@@ -864,7 +864,7 @@ fn scope_listed(
     requires { ⌜ Lent used (now work) (now text) × Left (rows-in (now rows)) (take used (now work)) results first (now places) ⌝ }
     requires { ⌜ at + told-rows (left-scope (rows-in (now rows)) fuel (length (now work)) row (take used (now work)) results first (now places)) ≤ most-rows ⌝ }
     ensures { λ r. ⌜ (r ≡ scope-answer (left-scope (rows-in (now (rows .entry))) fuel (length (now (work .entry))) row (take used (now (work .entry))) results first (now (places .entry))) at)
-        × (now (table .exit) ≡ scope-table (left-scope (rows-in (now (rows .entry))) fuel (length (now (work .entry))) row (take used (now (work .entry))) results first (now (places .entry))) at (now (table .entry))) ⌝ }
+        × Scope-laid (left-scope (rows-in (now (rows .entry))) fuel (length (now (work .entry))) row (take used (now (work .entry))) results first (now (places .entry))) at (now (table .entry)) (now (table .exit)) ⌝ }
 {
     let mut tokens = [0u64; MOST];
     put(&work[..used], 0, &mut tokens);
@@ -908,7 +908,7 @@ pub fn scope(
     requires { ⌜ Lent len (now work) (now text) ⌝ }
     requires { ⌜ at + told-rows (scope-told (rows-in (now rows)) fuel (length (now work)) row next (take len (now work))) ≤ most-rows ⌝ }
     ensures { λ r. ⌜ (r ≡ scope-answer (scope-told (rows-in (now (rows .entry))) fuel (length (now (work .entry))) row next (take len (now (work .entry)))) at)
-        × (now (table .exit) ≡ scope-table (scope-told (rows-in (now (rows .entry))) fuel (length (now (work .entry))) row next (take len (now (work .entry)))) at (now (table .entry))) ⌝ }
+        × Scope-laid (scope-told (rows-in (now (rows .entry))) fuel (length (now (work .entry))) row next (take len (now (work .entry)))) at (now (table .entry)) (now (table .exit)) ⌝ }
 {
     if fuel == 0 {
         return Scoped::Refused(TOO_MUCH);

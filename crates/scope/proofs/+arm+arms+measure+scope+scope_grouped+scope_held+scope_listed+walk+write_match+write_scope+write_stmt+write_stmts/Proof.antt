@@ -11,7 +11,7 @@ use Rattle.switchplaces.specs.Columns.{column-words}
 use Rattle.scopeplaces.specs.Overlay.{overlay}
 use Rattle.scopeplaces.specs.Parts.{place-groups, reciprocals-first}
 use Rattle.scopeplaces.specs.Whole.{group-told, stmt-run, stmts-runs}
-use Rattle.scope.specs.Answers.{inner, arm-told, told-rows}
+use Rattle.scope.specs.Answers.{inner, Laid, arm-told, told-rows}
 use Rattle.scope.specs.Frame.{most-rows, Arm-fits, Arms-fit, Sized, Numbered, scope-arms, groups-told, grouped-scope}
 use Rattle.scope.proofs.Areas.{rest-long, rest-length, rest-front, front-kept, lent-rest, copied-words, holds-now, group-now, arm-now, readied-now, prepared-now, numbered-now, now-so, before-so, grouped-before, found-groups, found-none}
 use Rattle.scope.proofs.ArmLaws.{Arm-done, Arms-so, arm-ends, arm-stops, arms-begin, arms-go-on, arms-end-refused, arms-all}
@@ -20,7 +20,7 @@ use Rattle.scope.proofs.Sound.{group-few, arms-few, holds-later, all-fe
 use Rattle.scope.proofs.WalkLaws.{Walk-so, walk-begin, walk-goes-on, walk-ends-refused, walk-all}
 use Rattle.scope.proofs.Walking.{ends-many, ends-few, number-low, to-low, number-holds, made-low, end-long, end-within, group-here, answer-here, count-here}
 use Rattle.scope.proofs.Writing.{head-fits, all-fits, ends-within, members-few, start-under, start-within, number-small, part-group, part-holds, part-fits, match-done, match-never, match-past, kept-low, match-kept}
-use Rattle.scope.proofs.Statements.{rows-as, readied, grouped, lets-few, let-is, let-there, group-there, stop-in, stop-over, group-sized, number-holds as member-holds, match-is as stmt-match-is, stmts-begin, entry-fits, stmts-on, stmts-end}
+use Rattle.scope.proofs.Statements.{rows-as, rows-exact, readied, grouped, lets-few, let-is, let-there, group-there, stop-in, stop-over, group-sized, number-holds as member-holds, match-is as stmt-match-is, stmts-begin, entry-fits, stmts-on, stmts-end}
 use Rattle.scope.proofs.Ending.{Scope-done, done-as, extracted-low, count-here as statements-here, ring-done, never-broken, positions, stmts-fit, values-fit, all-done}
 use Rattle.scope.proofs.Beginning.{lets-small, from-low, holds-from, ends-short, walk-refused, numbered-so, prepared-so, left-there, left-holds, held-whole as held-complete, trees-short, switches-here, groups-short, members-short, ready-so, too-many-switches, too-many-stmts, outcome-is, whole-so, trees-enough, trees-few-here, places-short, words-whole, too-many, held-in, held-are, used-few, tokens-left, tokens-whole, tokens-inside, same-outcome}
 use Rattle.scope.proofs.Scoping.{too-deep, too-long, too-large, ten, words-in, places-in, left-so, scope-is, arm-too-many, left-now}
@@ -491,7 +491,7 @@ scope-grouped-same-length-3 : (t : ℕ) → scope-grouped-lts.Need-same-length-3
 scope-grouped-same-length-3 t c = search needs
 
 scope-grouped-returns : (t : ℕ) → scope-grouped-lts.Need-returns (walk-below t, walk.Post, walk-refusal-reads.Asked, walk-refusal-reads.Learnt, write-scope-below t, write-scope.Post) (scope-grouped-at t) scope-grouped.Post
-scope-grouped-returns t c = let s = c .before .before .before .before .before .before .before .before .before .before .before .before .before .before .before .before .before .before .before .before .before .before .before .before .before .before .before in let a = s .args in walk-refused (rows-in (a .rows .now)) (a .fuel) (length (a .work .now) - a .h) (a .row) (a .tokens .now) (a .results) (a .first) (a .places .now) (take (a .h) (a .work .now)) (a .starts .now) (a .members .now) (a .ends .now) (s .pre .1 .0 .1) (s .pre .1 .1 .0 .0) (c .before .before .before .before .before .before .before .before .before .before .before .walk .result) _ _ _ _ (c .before .before .before .before .before .before .before .before .before .before .before .walk .ensures .0) _ (c .before .enum-told .given .1) _ (c .walk-refusal .ensures) (a .at) (a .table .now)
+scope-grouped-returns t c = let s = c .before .before .before .before .before .before .before .before .before .before .before .before .before .before .before .before .before .before .before .before .before .before .before .before .before .before .before in let a = s .args in walk-refused (rows-in (a .rows .now)) (a .fuel) (length (a .work .now) - a .h) (a .row) (a .tokens .now) (a .results) (a .first) (a .places .now) (take (a .h) (a .work .now)) (a .starts .now) (a .members .now) (a .ends .now) (s .pre .1 .0 .1) (s .pre .1 .1 .0 .0) (c .before .before .before .before .before .before .before .before .before .before .before .walk .result) _ _ _ (c .before .before .before .before .before .before .before .before .before .before .before .walk .ensures .0) _ (c .before .enum-told .given .1) _ (c .walk-refusal .ensures) (a .at) (a .table .now)
 
 scope-grouped-slice-reshare-prefix-write-scope :
     (t : ℕ) → scope-grouped-lts.Need-slice-reshare-prefix-write-scope (
@@ -541,7 +541,7 @@ scope-grouped-slice-aggregate-write-scope-3 :
 scope-grouped-slice-aggregate-write-scope-3 t c = search needs
 
 scope-grouped-write-scope-requires : (t : ℕ) → scope-grouped-lts.Need-write-scope-requires (walk-below t, walk.Post, walk-refusal-reads.Asked, walk-refusal-reads.Learnt, write-scope-below t, write-scope.Post) (scope-grouped-at t) scope-grouped.Post
-scope-grouped-write-scope-requires t c κs = let s = c .before .before .before .before .before .before .before .before .before .before .before .before .before .before .before .before .before .before .before .before .before .before .before .before .before .before .before .before .before .before .before .before .before in let a = s .args in (omega (arith, s .pre .0), ((lent-on (a .h) (a .work .now) (a .text .now) _ _ (s .pre .1 .0 .0) (c .before .before .before .before .before .before .before .before .before .before .before .before .before .before .before .before .before .walk .kept .1 .0) (c .before .before .before .before .before .before .before .before .before .before .before .before .before .before .before .before .before .walk .kept .1 .1 .1 .1 .1 .1 .1 .0), holds-now (a .h) (a .work .now) _ (c .before .before .before .before .before .before .before .before .before .before .before .before .before .before .before .before .before .walk .ensures .1) (rows-in (a .rows .now)) _ (s .pre .1 .0 .1)), ((prepared-now (a .h) (a .work .now) _ (c .before .before .before .before .before .before .before .before .before .before .before .before .before .before .before .before .before .walk .ensures .1) (a .tokens .now) (a .results) (a .first) (a .places .now) _ _ _ _ (prepared-so (rows-in (a .rows .now)) (a .fuel) (length (a .work .now) - a .h) (a .row) (a .tokens .now) (a .results) (a .first) (a .places .now) (take (a .h) (a .work .now)) (a .starts .now) (a .members .now) (a .ends .now) (s .pre .1 .0 .1) (s .pre .1 .1 .0 .0) (c .before .before .before .before .before .before .before .before .before .before .before .before .before .before .before .before .before .walk .result) _ _ _ _ (c .before .before .before .before .before .before .before .before .before .before .before .before .before .before .before .before .before .walk .ensures .0) _ _ (c .before .before .before .before .before .before .before .walked .given .1)), numbered-now (a .h) (a .work .now) _ (c .before .before .before .before .before .before .before .before .before .before .before .before .before .before .before .before .before .walk .ensures .1) (c .before .before .before .before .before .before .before .before .before .before .before .before .before .before .before .before .before .walk .kept .1 .0) (rows-in (a .rows .now)) (a .fuel) _ _ _ _ _ _ (numbered-so (rows-in (a .rows .now)) (a .fuel) (length (a .work .now) - a .h) (a .row) (a .tokens .now) (a .results) (a .first) (a .places .now) (take (a .h) (a .work .now)) (a .starts .now) (a .members .now) (a .ends .now) (s .pre .1 .0 .1) (s .pre .1 .1 .0 .0) (c .before .before .before .before .before .before .before .before .before .before .before .before .before .before .before .before .before .walk .result) _ _ _ _ (c .before .before .before .before .before .before .before .before .before .before .before .before .before .before .before .before .before .walk .ensures .0) _ _ (c .before .before .before .before .before .before .before .walked .given .1))), now-so (a .h) (a .work .now) _ (c .before .before .before .before .before .before .before .before .before .before .before .before .before .before .before .before .before .walk .ensures .1) (c .before .before .before .before .before .before .before .before .before .before .before .before .before .before .before .before .before .walk .kept .1 .0) (λ hs left. a .at + told-rows (grouped-scope (rows-in (a .rows .now)) (a .fuel) left (a .row) (a .tokens .now) (a .results) (a .first) (a .places .now)) ≤ most-rows) (s .pre .1 .1 .1))))
+scope-grouped-write-scope-requires t c κs = let s = c .before .before .before .before .before .before .before .before .before .before .before .before .before .before .before .before .before .before .before .before .before .before .before .before .before .before .before .before .before .before .before .before .before in let a = s .args in (omega (arith, s .pre .0), ((lent-on (a .h) (a .work .now) (a .text .now) _ _ (s .pre .1 .0 .0) (c .before .before .before .before .before .before .before .before .before .before .before .before .before .before .before .before .before .walk .kept .1 .0) (c .before .before .before .before .before .before .before .before .before .before .before .before .before .before .before .before .before .walk .kept .1 .1 .1 .1 .1 .1 .1 .0), holds-now (a .h) (a .work .now) _ (c .before .before .before .before .before .before .before .before .before .before .before .before .before .before .before .before .before .walk .ensures .1) (rows-in (a .rows .now)) _ (s .pre .1 .0 .1)), ((prepared-now (a .h) (a .work .now) _ (c .before .before .before .before .before .before .before .before .before .before .before .before .before .before .before .before .before .walk .ensures .1) (a .tokens .now) (a .results) (a .first) (a .places .now) _ _ _ _ (prepared-so (rows-in (a .rows .now)) (a .fuel) (length (a .work .now) - a .h) (a .row) (a .tokens .now) (a .results) (a .first) (a .places .now) (take (a .h) (a .work .now)) (a .starts .now) (a .members .now) (a .ends .now) (s .pre .1 .0 .1) (s .pre .1 .1 .0 .0) (c .before .before .before .before .before .before .before .before .before .before .before .before .before .before .before .before .before .walk .result) _ _ _ (c .before .before .before .before .before .before .before .before .before .before .before .before .before .before .before .before .before .walk .ensures .0) _ _ (c .before .before .before .before .before .before .before .walked .given .1)), numbered-now (a .h) (a .work .now) _ (c .before .before .before .before .before .before .before .before .before .before .before .before .before .before .before .before .before .walk .ensures .1) (c .before .before .before .before .before .before .before .before .before .before .before .before .before .before .before .before .before .walk .kept .1 .0) (rows-in (a .rows .now)) (a .fuel) _ _ _ _ _ _ (numbered-so (rows-in (a .rows .now)) (a .fuel) (length (a .work .now) - a .h) (a .row) (a .tokens .now) (a .results) (a .first) (a .places .now) (take (a .h) (a .work .now)) (a .starts .now) (a .members .now) (a .ends .now) (s .pre .1 .0 .1) (s .pre .1 .1 .0 .0) (c .before .before .before .before .before .before .before .before .before .before .before .before .before .before .before .before .before .walk .result) _ _ _ (c .before .before .before .before .before .before .before .before .before .before .before .before .before .before .before .before .before .walk .ensures .0) _ _ (c .before .before .before .before .before .before .before .walked .given .1))), now-so (a .h) (a .work .now) _ (c .before .before .before .before .before .before .before .before .before .before .before .before .before .before .before .before .before .walk .ensures .1) (c .before .before .before .before .before .before .before .before .before .before .before .before .before .before .before .before .before .walk .kept .1 .0) (λ hs left. a .at + told-rows (grouped-scope (rows-in (a .rows .now)) (a .fuel) left (a .row) (a .tokens .now) (a .results) (a .first) (a .places .now)) ≤ most-rows) (s .pre .1 .1 .1))))
 
 scope-grouped-same-length-4 : (t : ℕ) → scope-grouped-lts.Need-same-length-4 (walk-below t, walk.Post, walk-refusal-reads.Asked, walk-refusal-reads.Learnt, write-scope-below t, write-scope.Post) (scope-grouped-at t) scope-grouped.Post
 scope-grouped-same-length-4 t c = search needs
@@ -817,7 +817,7 @@ scope-listed-returns-2 : (t : ℕ) → scope-listed-lts.Need-returns-2 (put-read
 scope-listed-returns-2 t c = let s = c .before .before .before .before .before .before .before .before .before .before .before .before .before .before .before .before .before .before .before .before .before .before .before .before .before .before .before .before .before .before in let a = s .args in done-as _ _ (same-outcome (rows-in (a .rows .now)) (a .fuel) (length (a .work .now)) (a .row) (a .work .now) (a .used) (a .results) (a .first) (a .places .now) (s .pre .1 .0 .0 .inside) (s .pre .1 .0 .1) _ _ refl (c .before .before .before .before .before .before .before .before .before .before .before .before .before .before .before .before .before .before .before .before .before .before .put .ensures) ∙ left-now (rows-in (a .rows .now)) (a .fuel) (a .row) _ (a .results) (a .first) (a .places .now) _ _ (c .before .before .before .before .before .before .before .before .before .before .before .before .before .before .before .before .hold-all .kept .1 .1 .1 .0)) (a .at) (a .table .now) _ _ (c .before .before .before .before .before .before .scope-held .ensures)
 
 abbrev walk-Inv-loop : walk-lts.InvT-loop
-walk-Inv-loop rows work₀ h members ends fuel next text₀ numbers₀ stops₀ kept₀ number₀ extracted₀ start₀ to₀ g₀ work text numbers stops kept number extracted start to g = (g ≤ length ends) × Walk-so (inner (rows-in rows) fuel (length work₀ - h)) (take h work₀) (place-groups (take h work₀)) next kept₀ g number extracted start to numbers stops kept × (length work ≡ length work₀) × (length text ≡ length text₀) × (length numbers ≡ length numbers₀) × (length stops ≡ length stops₀) × (length kept ≡ length kept₀) × (take h work ≡ take h work₀)
+walk-Inv-loop rows work₀ h members ends fuel next text₀ numbers₀ stops₀ kept₀ number₀ extracted₀ start₀ to₀ g₀ work text numbers stops kept number extracted start to g = (g ≤ length ends) × Walk-so (inner (rows-in rows) fuel (length work₀ - h)) (take h work₀) (place-groups (take h work₀)) next g number extracted start to numbers stops kept × (length work ≡ length work₀) × (length text ≡ length text₀) × (length numbers ≡ length numbers₀) × (length stops ≡ length stops₀) × (length kept ≡ length kept₀) × (take h work ≡ take h work₀)
 
 abbrev walk-μ-loop : walk-lts.MeasureT-loop
 walk-μ-loop rows work₀ h members ends fuel next text₀ numbers₀ stops₀ kept₀ number₀ extracted₀ start₀ to₀ g₀ work text numbers stops kept number extracted start to g = length ends - g
@@ -832,25 +832,25 @@ walk-shared-slice-read-end : (t : ℕ) → walk-lts.Need-shared-slice-read-end (
 walk-shared-slice-read-end t c = search needs
 
 walk-sub-number-members : (t : ℕ) → walk-lts.Need-sub-number-members (number-members-reads.Asked, number-members-reads.Learnt, measure-below t, measure.Post, refusal-of-reads.Asked, refusal-of-reads.Learnt) (walk-at t) walk.Post walk-Inv-loop walk-μ-loop
-walk-sub-number-members t c = let s = c .before .before .before .before .before .before .before .before .before .before .before in let a = s .args in omega (arith, end-long (rows-in (a .rows .now)) (a .fuel) (length (a .work .now) - a .h) (a .next) (take (a .h) (a .work .now)) (a .members .now) (a .ends .now) (s .pre .1 .0 .1) (s .pre .1 .1 .0 .0) (s .pre .1 .1 .0 .1) _ _ _ _ _ _ _ _ _ (c .before .before .loop .inv .1) (c .before .loop-test .taken))
+walk-sub-number-members t c = let s = c .before .before .before .before .before .before .before .before .before .before .before in let a = s .args in omega (arith, end-long (rows-in (a .rows .now)) (a .fuel) (length (a .work .now) - a .h) (a .next) (take (a .h) (a .work .now)) (a .members .now) (a .ends .now) (s .pre .1 .0 .1) (s .pre .1 .1 .0 .0) (s .pre .1 .1 .0 .1) _ _ _ _ _ _ _ _ (c .before .before .loop .inv .1) (c .before .loop-test .taken))
 
 walk-number-members-requires : (t : ℕ) → walk-lts.Need-number-members-requires (number-members-reads.Asked, number-members-reads.Learnt, measure-below t, measure.Post, refusal-of-reads.Asked, refusal-of-reads.Learnt) (walk-at t) walk.Post walk-Inv-loop walk-μ-loop
-walk-number-members-requires t c κs = let s = c .before .before .before .before .before .before .before .before .before .before .before .before in let a = s .args in (omega (arith, end-long (rows-in (a .rows .now)) (a .fuel) (length (a .work .now) - a .h) (a .next) (take (a .h) (a .work .now)) (a .members .now) (a .ends .now) (s .pre .1 .0 .1) (s .pre .1 .1 .0 .0) (s .pre .1 .1 .0 .1) _ _ _ _ _ _ _ _ _ (c .before .before .before .loop .inv .1) (c .before .before .loop-test .taken), end-within (rows-in (a .rows .now)) (a .fuel) (length (a .work .now) - a .h) (a .next) (take (a .h) (a .work .now)) (a .members .now) (a .ends .now) (s .pre .1 .0 .1) (s .pre .1 .1 .0 .0) (s .pre .1 .1 .0 .1) _ _ _ _ _ _ _ _ _ (c .before .before .before .loop .inv .1) (c .before .before .loop-test .taken), s .pre .1 .1 .1 .0, c .before .before .before .loop .inv .4), omega (arith, number-low (rows-in (a .rows .now)) (a .fuel) (length (a .work .now) - a .h) (a .next) (take (a .h) (a .work .now)) (a .members .now) (a .ends .now) (s .pre .1 .0 .1) (s .pre .1 .1 .0 .0) (s .pre .1 .1 .0 .1) _ _ _ _ _ _ _ _ _ (c .before .before .before .loop .inv .1) (c .before .before .before .loop .inv .0), end-long (rows-in (a .rows .now)) (a .fuel) (length (a .work .now) - a .h) (a .next) (take (a .h) (a .work .now)) (a .members .now) (a .ends .now) (s .pre .1 .0 .1) (s .pre .1 .1 .0 .0) (s .pre .1 .1 .0 .1) _ _ _ _ _ _ _ _ _ (c .before .before .before .loop .inv .1) (c .before .before .loop-test .taken), end-within (rows-in (a .rows .now)) (a .fuel) (length (a .work .now) - a .h) (a .next) (take (a .h) (a .work .now)) (a .members .now) (a .ends .now) (s .pre .1 .0 .1) (s .pre .1 .1 .0 .0) (s .pre .1 .1 .0 .1) _ _ _ _ _ _ _ _ _ (c .before .before .before .loop .inv .1) (c .before .before .loop-test .taken), all-few (rows-in (a .rows .now)) (a .next) (take (a .h) (a .work .now)) (s .pre .1 .0 .1), ap length (s .pre .1 .1 .0 .0 .members-are)))
+walk-number-members-requires t c κs = let s = c .before .before .before .before .before .before .before .before .before .before .before .before in let a = s .args in (omega (arith, end-long (rows-in (a .rows .now)) (a .fuel) (length (a .work .now) - a .h) (a .next) (take (a .h) (a .work .now)) (a .members .now) (a .ends .now) (s .pre .1 .0 .1) (s .pre .1 .1 .0 .0) (s .pre .1 .1 .0 .1) _ _ _ _ _ _ _ _ (c .before .before .before .loop .inv .1) (c .before .before .loop-test .taken), end-within (rows-in (a .rows .now)) (a .fuel) (length (a .work .now) - a .h) (a .next) (take (a .h) (a .work .now)) (a .members .now) (a .ends .now) (s .pre .1 .0 .1) (s .pre .1 .1 .0 .0) (s .pre .1 .1 .0 .1) _ _ _ _ _ _ _ _ (c .before .before .before .loop .inv .1) (c .before .before .loop-test .taken), s .pre .1 .1 .1 .0, c .before .before .before .loop .inv .4), omega (arith, number-low (rows-in (a .rows .now)) (a .fuel) (length (a .work .now) - a .h) (a .next) (take (a .h) (a .work .now)) (a .members .now) (a .ends .now) (s .pre .1 .0 .1) (s .pre .1 .1 .0 .0) (s .pre .1 .1 .0 .1) _ _ _ _ _ _ _ _ (c .before .before .before .loop .inv .1) (c .before .before .before .loop .inv .0), end-long (rows-in (a .rows .now)) (a .fuel) (length (a .work .now) - a .h) (a .next) (take (a .h) (a .work .now)) (a .members .now) (a .ends .now) (s .pre .1 .0 .1) (s .pre .1 .1 .0 .0) (s .pre .1 .1 .0 .1) _ _ _ _ _ _ _ _ (c .before .before .before .loop .inv .1) (c .before .before .loop-test .taken), end-within (rows-in (a .rows .now)) (a .fuel) (length (a .work .now) - a .h) (a .next) (take (a .h) (a .work .now)) (a .members .now) (a .ends .now) (s .pre .1 .0 .1) (s .pre .1 .1 .0 .0) (s .pre .1 .1 .0 .1) _ _ _ _ _ _ _ _ (c .before .before .before .loop .inv .1) (c .before .before .loop-test .taken), all-few (rows-in (a .rows .now)) (a .next) (take (a .h) (a .work .now)) (s .pre .1 .0 .1), ap length (s .pre .1 .1 .0 .0 .members-are)))
 
 walk-mul-measure : (t : ℕ) → walk-lts.Need-mul-measure (number-members-reads.Asked, number-members-reads.Learnt, measure-below t, measure.Post, refusal-of-reads.Asked, refusal-of-reads.Learnt) (walk-at t) walk.Post walk-Inv-loop walk-μ-loop
-walk-mul-measure t c = let s = c .before .before .before .before .before .before .before .before .before .before .before .before .before .before .before .before in let a = s .args in omega (arith, end-long (rows-in (a .rows .now)) (a .fuel) (length (a .work .now) - a .h) (a .next) (take (a .h) (a .work .now)) (a .members .now) (a .ends .now) (s .pre .1 .0 .1) (s .pre .1 .1 .0 .0) (s .pre .1 .1 .0 .1) _ _ _ _ _ _ _ _ _ (c .before .before .before .before .before .before .before .loop .inv .1) (c .before .before .before .before .before .before .loop-test .taken), end-within (rows-in (a .rows .now)) (a .fuel) (length (a .work .now) - a .h) (a .next) (take (a .h) (a .work .now)) (a .members .now) (a .ends .now) (s .pre .1 .0 .1) (s .pre .1 .1 .0 .0) (s .pre .1 .1 .0 .1) _ _ _ _ _ _ _ _ _ (c .before .before .before .before .before .before .before .loop .inv .1) (c .before .before .before .before .before .before .loop-test .taken), s .good .1 .1 .1 .0)
+walk-mul-measure t c = let s = c .before .before .before .before .before .before .before .before .before .before .before .before .before .before .before .before in let a = s .args in omega (arith, end-long (rows-in (a .rows .now)) (a .fuel) (length (a .work .now) - a .h) (a .next) (take (a .h) (a .work .now)) (a .members .now) (a .ends .now) (s .pre .1 .0 .1) (s .pre .1 .1 .0 .0) (s .pre .1 .1 .0 .1) _ _ _ _ _ _ _ _ (c .before .before .before .before .before .before .before .loop .inv .1) (c .before .before .before .before .before .before .loop-test .taken), end-within (rows-in (a .rows .now)) (a .fuel) (length (a .work .now) - a .h) (a .next) (take (a .h) (a .work .now)) (a .members .now) (a .ends .now) (s .pre .1 .0 .1) (s .pre .1 .1 .0 .0) (s .pre .1 .1 .0 .1) _ _ _ _ _ _ _ _ (c .before .before .before .before .before .before .before .loop .inv .1) (c .before .before .before .before .before .before .loop-test .taken), s .good .1 .1 .1 .0)
 
 walk-sub-measure : (t : ℕ) → walk-lts.Need-sub-measure (number-members-reads.Asked, number-members-reads.Learnt, measure-below t, measure.Post, refusal-of-reads.Asked, refusal-of-reads.Learnt) (walk-at t) walk.Post walk-Inv-loop walk-μ-loop
-walk-sub-measure t c = let s = c .before .before .before .before .before .before .before .before .before .before .before .before .before .before .before .before in let a = s .args in omega (arith, end-long (rows-in (a .rows .now)) (a .fuel) (length (a .work .now) - a .h) (a .next) (take (a .h) (a .work .now)) (a .members .now) (a .ends .now) (s .pre .1 .0 .1) (s .pre .1 .1 .0 .0) (s .pre .1 .1 .0 .1) _ _ _ _ _ _ _ _ _ (c .before .before .before .before .before .before .before .loop .inv .1) (c .before .before .before .before .before .before .loop-test .taken))
+walk-sub-measure t c = let s = c .before .before .before .before .before .before .before .before .before .before .before .before .before .before .before .before in let a = s .args in omega (arith, end-long (rows-in (a .rows .now)) (a .fuel) (length (a .work .now) - a .h) (a .next) (take (a .h) (a .work .now)) (a .members .now) (a .ends .now) (s .pre .1 .0 .1) (s .pre .1 .1 .0 .0) (s .pre .1 .1 .0 .1) _ _ _ _ _ _ _ _ (c .before .before .before .before .before .before .before .loop .inv .1) (c .before .before .before .before .before .before .loop-test .taken))
 
 walk-part-measure-start : (t : ℕ) → walk-lts.Need-part-measure-start (number-members-reads.Asked, number-members-reads.Learnt, measure-below t, measure.Post, refusal-of-reads.Asked, refusal-of-reads.Learnt) (walk-at t) walk.Post walk-Inv-loop walk-μ-loop
-walk-part-measure-start t c = let s = c .before .before .before .before .before .before .before .before .before .before .before .before .before .before .before .before in let a = s .args in omega (arith, end-long (rows-in (a .rows .now)) (a .fuel) (length (a .work .now) - a .h) (a .next) (take (a .h) (a .work .now)) (a .members .now) (a .ends .now) (s .pre .1 .0 .1) (s .pre .1 .1 .0 .0) (s .pre .1 .1 .0 .1) _ _ _ _ _ _ _ _ _ (c .before .before .before .before .before .before .before .loop .inv .1) (c .before .before .before .before .before .before .loop-test .taken), end-within (rows-in (a .rows .now)) (a .fuel) (length (a .work .now) - a .h) (a .next) (take (a .h) (a .work .now)) (a .members .now) (a .ends .now) (s .pre .1 .0 .1) (s .pre .1 .1 .0 .0) (s .pre .1 .1 .0 .1) _ _ _ _ _ _ _ _ _ (c .before .before .before .before .before .before .before .loop .inv .1) (c .before .before .before .before .before .before .loop-test .taken))
+walk-part-measure-start t c = let s = c .before .before .before .before .before .before .before .before .before .before .before .before .before .before .before .before in let a = s .args in omega (arith, end-long (rows-in (a .rows .now)) (a .fuel) (length (a .work .now) - a .h) (a .next) (take (a .h) (a .work .now)) (a .members .now) (a .ends .now) (s .pre .1 .0 .1) (s .pre .1 .1 .0 .0) (s .pre .1 .1 .0 .1) _ _ _ _ _ _ _ _ (c .before .before .before .before .before .before .before .loop .inv .1) (c .before .before .before .before .before .before .loop-test .taken), end-within (rows-in (a .rows .now)) (a .fuel) (length (a .work .now) - a .h) (a .next) (take (a .h) (a .work .now)) (a .members .now) (a .ends .now) (s .pre .1 .0 .1) (s .pre .1 .1 .0 .0) (s .pre .1 .1 .0 .1) _ _ _ _ _ _ _ _ (c .before .before .before .before .before .before .before .loop .inv .1) (c .before .before .before .before .before .before .loop-test .taken))
 
 walk-part-measure-end : (t : ℕ) → walk-lts.Need-part-measure-end (number-members-reads.Asked, number-members-reads.Learnt, measure-below t, measure.Post, refusal-of-reads.Asked, refusal-of-reads.Learnt) (walk-at t) walk.Post walk-Inv-loop walk-μ-loop
-walk-part-measure-end t c = let s = c .before .before .before .before .before .before .before .before .before .before .before .before .before .before .before .before in let a = s .args in end-within (rows-in (a .rows .now)) (a .fuel) (length (a .work .now) - a .h) (a .next) (take (a .h) (a .work .now)) (a .members .now) (a .ends .now) (s .pre .1 .0 .1) (s .pre .1 .1 .0 .0) (s .pre .1 .1 .0 .1) _ _ _ _ _ _ _ _ _ (c .before .before .before .before .before .before .before .loop .inv .1) (c .before .before .before .before .before .before .loop-test .taken)
+walk-part-measure-end t c = let s = c .before .before .before .before .before .before .before .before .before .before .before .before .before .before .before .before in let a = s .args in end-within (rows-in (a .rows .now)) (a .fuel) (length (a .work .now) - a .h) (a .next) (take (a .h) (a .work .now)) (a .members .now) (a .ends .now) (s .pre .1 .0 .1) (s .pre .1 .1 .0 .0) (s .pre .1 .1 .0 .1) _ _ _ _ _ _ _ _ (c .before .before .before .before .before .before .before .loop .inv .1) (c .before .before .before .before .before .before .loop-test .taken)
 
 walk-measure-requires : (t : ℕ) → walk-lts.Need-measure-requires (number-members-reads.Asked, number-members-reads.Learnt, measure-below t, measure.Post, refusal-of-reads.Asked, refusal-of-reads.Learnt) (walk-at t) walk.Post walk-Inv-loop walk-μ-loop
-walk-measure-requires t c κs = let s = c .before .before .before .before .before .before .before .before .before .before .before .before .before .before .before .before .before .before .before in let a = s .args in (omega (arith, s .pre .0), ((lent-on (a .h) (a .work .now) (a .text .now) _ _ (s .pre .1 .0 .0) (c .before .before .before .before .before .before .before .before .before .before .loop .inv .2) (c .before .before .before .before .before .before .before .before .before .before .loop .inv .3), holds-now (a .h) (a .work .now) (c .before .before .before .before .before .before .before .before .before .before .loop .work) (c .before .before .before .before .before .before .before .before .before .before .loop .inv .7) (rows-in (a .rows .now)) _ (number-holds (rows-in (a .rows .now)) (a .fuel) (length (a .work .now) - a .h) (a .next) (take (a .h) (a .work .now)) (a .members .now) (a .ends .now) (s .pre .1 .0 .1) (s .pre .1 .1 .0 .0) (s .pre .1 .1 .0 .1) _ _ _ _ _ _ _ _ _ (c .before .before .before .before .before .before .before .before .before .before .loop .inv .1) (c .before .before .before .before .before .before .before .before .before .before .loop .inv .0))), (group-now (a .h) (a .work .now) (c .before .before .before .before .before .before .before .before .before .before .loop .work) (c .before .before .before .before .before .before .before .before .before .before .loop .inv .7) _ (group-here (rows-in (a .rows .now)) (a .fuel) (length (a .work .now) - a .h) (a .next) (take (a .h) (a .work .now)) (a .members .now) (a .ends .now) (s .pre .1 .0 .1) (s .pre .1 .1 .0 .0) (s .pre .1 .1 .0 .1) _ _ _ _ _ _ _ _ _ (c .before .before .before .before .before .before .before .before .before .before .loop .inv .1) (c .before .before .before .before .before .before .before .before .before .loop-test .taken)), number-low (rows-in (a .rows .now)) (a .fuel) (length (a .work .now) - a .h) (a .next) (take (a .h) (a .work .now)) (a .members .now) (a .ends .now) (s .pre .1 .0 .1) (s .pre .1 .1 .0 .0) (s .pre .1 .1 .0 .1) _ _ _ _ _ _ _ _ _ (c .before .before .before .before .before .before .before .before .before .before .loop .inv .1) (c .before .before .before .before .before .before .before .before .before .before .loop .inv .0), to-low (rows-in (a .rows .now)) (a .fuel) (length (a .work .now) - a .h) (a .next) (take (a .h) (a .work .now)) (a .members .now) (a .ends .now) (s .pre .1 .0 .1) (s .pre .1 .1 .0 .0) (s .pre .1 .1 .0 .1) _ _ _ _ _ _ _ _ _ (c .before .before .before .before .before .before .before .before .before .before .loop .inv .1) (c .before .before .before .before .before .before .before .before .before .before .loop .inv .0))))
+walk-measure-requires t c κs = let s = c .before .before .before .before .before .before .before .before .before .before .before .before .before .before .before .before .before .before .before in let a = s .args in (omega (arith, s .pre .0), ((lent-on (a .h) (a .work .now) (a .text .now) _ _ (s .pre .1 .0 .0) (c .before .before .before .before .before .before .before .before .before .before .loop .inv .2) (c .before .before .before .before .before .before .before .before .before .before .loop .inv .3), holds-now (a .h) (a .work .now) (c .before .before .before .before .before .before .before .before .before .before .loop .work) (c .before .before .before .before .before .before .before .before .before .before .loop .inv .7) (rows-in (a .rows .now)) _ (number-holds (rows-in (a .rows .now)) (a .fuel) (length (a .work .now) - a .h) (a .next) (take (a .h) (a .work .now)) (a .members .now) (a .ends .now) (s .pre .1 .0 .1) (s .pre .1 .1 .0 .0) (s .pre .1 .1 .0 .1) _ _ _ _ _ _ _ _ (c .before .before .before .before .before .before .before .before .before .before .loop .inv .1) (c .before .before .before .before .before .before .before .before .before .before .loop .inv .0))), (group-now (a .h) (a .work .now) (c .before .before .before .before .before .before .before .before .before .before .loop .work) (c .before .before .before .before .before .before .before .before .before .before .loop .inv .7) _ (group-here (rows-in (a .rows .now)) (a .fuel) (length (a .work .now) - a .h) (a .next) (take (a .h) (a .work .now)) (a .members .now) (a .ends .now) (s .pre .1 .0 .1) (s .pre .1 .1 .0 .0) (s .pre .1 .1 .0 .1) _ _ _ _ _ _ _ _ (c .before .before .before .before .before .before .before .before .before .before .loop .inv .1) (c .before .before .before .before .before .before .before .before .before .loop-test .taken)), number-low (rows-in (a .rows .now)) (a .fuel) (length (a .work .now) - a .h) (a .next) (take (a .h) (a .work .now)) (a .members .now) (a .ends .now) (s .pre .1 .0 .1) (s .pre .1 .1 .0 .0) (s .pre .1 .1 .0 .1) _ _ _ _ _ _ _ _ (c .before .before .before .before .before .before .before .before .before .before .loop .inv .1) (c .before .before .before .before .before .before .before .before .before .before .loop .inv .0), to-low (rows-in (a .rows .now)) (a .fuel) (length (a .work .now) - a .h) (a .next) (take (a .h) (a .work .now)) (a .members .now) (a .ends .now) (s .pre .1 .0 .1) (s .pre .1 .1 .0 .0) (s .pre .1 .1 .0 .1) _ _ _ _ _ _ _ _ (c .before .before .before .before .before .before .before .before .before .before .loop .inv .1) (c .before .before .before .before .before .before .before .before .before .before .loop .inv .0))))
 
 walk-enum-known-armed : (t : ℕ) → walk-lts.Need-enum-known-armed (number-members-reads.Asked, number-members-reads.Learnt, measure-below t, measure.Post, refusal-of-reads.Asked, refusal-of-reads.Learnt) (walk-at t) walk.Post walk-Inv-loop walk-μ-loop
 walk-enum-known-armed t c = search needs
@@ -878,7 +878,7 @@ walk-same-length-5 t c = search needs
 
 walk-returns : (t : ℕ) → walk-lts.Need-returns (number-members-reads.Asked, number-members-reads.Learnt, measure-below t, measure.Post, refusal-of-reads.Asked, refusal-of-reads.Learnt) (walk-at t) walk.Post walk-Inv-loop walk-μ-loop
 unfolding groups-told
-walk-returns t c = let s = c .before .before .before .before .before .before .before .before .before .before .before .before .before .before .before .before .before .before .before .before .before .before .before .before .before .before .before .before .before in let a = s .args in (walk-ends-refused (inner (rows-in (a .rows .now)) (a .fuel) (length (a .work .now) - a .h)) (take (a .h) (a .work .now)) (place-groups (take (a .h) (a .work .now))) (a .next) _ _ _ _ _ _ _ _ _ (c .before .before .before .before .before .before .before .before .before .before .before .before .before .before .before .before .before .before .before .before .loop .inv .1) (c .before .before .before .before .before .before .before .before .before .measure .result) _ (answer-here (rows-in (a .rows .now)) (a .fuel) (length (a .work .now) - a .h) (a .next) (take (a .h) (a .work .now)) (a .members .now) (a .ends .now) (s .pre .1 .0 .1) (s .pre .1 .1 .0 .0) (s .pre .1 .1 .0 .1) _ _ _ _ _ _ _ _ _ (c .before .before .before .before .before .before .before .before .before .before .before .before .before .before .before .before .before .before .before .before .loop .inv .1) (c .before .before .before .before .before .before .before .before .before .before .before .before .before .before .before .before .before .before .before .loop-test .taken) (c .before .before .before .before .before .before .before .before .before .measure .result) _ (before-so (a .h) (a .work .now) (c .before .before .before .before .before .before .before .before .before .before .before .before .before .before .before .before .before .before .before .before .loop .work) (c .before .before .before .before .before .before .before .before .before .before .before .before .before .before .before .before .before .before .before .before .loop .inv .7) (c .before .before .before .before .before .before .before .before .before .before .before .before .before .before .before .before .before .before .before .before .loop .inv .2) (λ hs left. Arm-done (group-told (inner (rows-in (a .rows .now)) (a .fuel) left) hs (take (getD (a .ends .now) (c .before .before .before .before .before .before .before .before .before .before .before .before .before .before .before .before .before .before .before .before .loop .g) 0 - c .before .before .before .before .before .before .before .before .before .before .before .before .before .before .before .before .before .before .before .before .loop .start) (drop (c .before .before .before .before .before .before .before .before .before .before .before .before .before .before .before .before .before .before .before .before .loop .start) (a .members .now))) (c .before .before .before .before .before .before .before .before .before .before .before .before .before .before .before .before .before .before .before .before .loop .number)) (c .before .before .before .before .before .before .before .before .before .before .before .before .before .before .before .before .before .before .before .before .loop .to) (c .before .before .before .before .before .before .before .before .before .before .before .before .before .before .before .before .before .before .before .before .loop .kept) (c .before .before .before .before .before .before .before .before .before .measure .result) (c .before .before .before .before .before .before .before .before .before .measure .last .1 .1 .1 .1 .1 .1 .1 .1 .0)) (c .before .before .before .before .before .before .before .before .before .measure .ensures .0))) (length (place-groups (take (a .h) (a .work .now)))) (omega (arith, c .before .before .before .before .before .before .before .before .before .before .before .before .before .before .before .before .before .before .before .loop-test .taken, ends-many (rows-in (a .rows .now)) (a .fuel) (length (a .work .now) - a .h) (a .next) (take (a .h) (a .work .now)) (a .members .now) (a .ends .now) (s .pre .1 .0 .1) (s .pre .1 .1 .0 .0) (s .pre .1 .1 .0 .1))) _ (c .before .enum-told .given .1) _ (c .refusal-of .ensures) _ _ _, c .before .before .before .before .before .before .before .before .before .measure .ensures .1 ∙ c .before .before .before .before .before .before .before .before .before .before .before .before .before .before .before .before .before .before .before .before .loop .inv .7)
+walk-returns t c = let s = c .before .before .before .before .before .before .before .before .before .before .before .before .before .before .before .before .before .before .before .before .before .before .before .before .before .before .before .before .before in let a = s .args in (walk-ends-refused (inner (rows-in (a .rows .now)) (a .fuel) (length (a .work .now) - a .h)) (take (a .h) (a .work .now)) (place-groups (take (a .h) (a .work .now))) (a .next) _ _ _ _ _ _ _ _ (c .before .before .before .before .before .before .before .before .before .before .before .before .before .before .before .before .before .before .before .before .loop .inv .1) (c .before .before .before .before .before .before .before .before .before .measure .result) _ (answer-here (rows-in (a .rows .now)) (a .fuel) (length (a .work .now) - a .h) (a .next) (take (a .h) (a .work .now)) (a .members .now) (a .ends .now) (s .pre .1 .0 .1) (s .pre .1 .1 .0 .0) (s .pre .1 .1 .0 .1) _ _ _ _ _ _ _ _ (c .before .before .before .before .before .before .before .before .before .before .before .before .before .before .before .before .before .before .before .before .loop .inv .1) (c .before .before .before .before .before .before .before .before .before .before .before .before .before .before .before .before .before .before .before .loop-test .taken) (c .before .before .before .before .before .before .before .before .before .measure .result) _ (before-so (a .h) (a .work .now) (c .before .before .before .before .before .before .before .before .before .before .before .before .before .before .before .before .before .before .before .before .loop .work) (c .before .before .before .before .before .before .before .before .before .before .before .before .before .before .before .before .before .before .before .before .loop .inv .7) (c .before .before .before .before .before .before .before .before .before .before .before .before .before .before .before .before .before .before .before .before .loop .inv .2) (λ hs left. Arm-done (group-told (inner (rows-in (a .rows .now)) (a .fuel) left) hs (take (getD (a .ends .now) (c .before .before .before .before .before .before .before .before .before .before .before .before .before .before .before .before .before .before .before .before .loop .g) 0 - c .before .before .before .before .before .before .before .before .before .before .before .before .before .before .before .before .before .before .before .before .loop .start) (drop (c .before .before .before .before .before .before .before .before .before .before .before .before .before .before .before .before .before .before .before .before .loop .start) (a .members .now))) (c .before .before .before .before .before .before .before .before .before .before .before .before .before .before .before .before .before .before .before .before .loop .number)) (c .before .before .before .before .before .before .before .before .before .before .before .before .before .before .before .before .before .before .before .before .loop .to) (c .before .before .before .before .before .before .before .before .before .before .before .before .before .before .before .before .before .before .before .before .loop .kept) (c .before .before .before .before .before .before .before .before .before .measure .result) (c .before .before .before .before .before .before .before .before .before .measure .last .1 .1 .1 .1 .1 .1 .1 .1 .0)) (c .before .before .before .before .before .before .before .before .before .measure .ensures .0))) (length (place-groups (take (a .h) (a .work .now)))) (omega (arith, c .before .before .before .before .before .before .before .before .before .before .before .before .before .before .before .before .before .before .before .loop-test .taken, ends-many (rows-in (a .rows .now)) (a .fuel) (length (a .work .now) - a .h) (a .next) (take (a .h) (a .work .now)) (a .members .now) (a .ends .now) (s .pre .1 .0 .1) (s .pre .1 .1 .0 .0) (s .pre .1 .1 .0 .1))) _ (c .before .enum-told .given .1) _ (c .refusal-of .ensures) _ _ _, c .before .before .before .before .before .before .before .before .before .measure .ensures .1 ∙ c .before .before .before .before .before .before .before .before .before .before .before .before .before .before .before .before .before .before .before .before .loop .inv .7)
 
 walk-mul-stops : (t : ℕ) → walk-lts.Need-mul-stops (number-members-reads.Asked, number-members-reads.Learnt, measure-below t, measure.Post, refusal-of-reads.Asked, refusal-of-reads.Learnt) (walk-at t) walk.Post walk-Inv-loop walk-μ-loop
 walk-mul-stops t c = let s = c .before .before .before .before .before .before .before .before .before .before .before .before .before .before .before .before .before .before .before .before .before .before .before .before .before .before .before .before .before in omega (arith, s .good .1 .1 .1 .1 .1 .1 .1 .1 .1 .0, c .before .before .before .before .before .before .before .before .before .before .before .before .before .before .before .before .before .before .before .before .loop .inv .5, s .pre .1 .1 .1 .1, c .before .before .before .before .before .before .before .before .before .before .before .before .before .before .before .before .before .before .before .loop-test .taken)
@@ -887,7 +887,7 @@ walk-slice-write-stops : (t : ℕ) → walk-lts.Need-slice-write-stops (number-m
 walk-slice-write-stops t c = let s = c .before .before .before .before .before .before .before .before .before .before .before .before .before .before .before .before .before .before .before .before .before .before .before .before .before .before .before .before .before in omega (arith, c .before .before .before .before .before .before .before .before .before .before .before .before .before .before .before .before .before .before .before .before .loop .inv .5, s .pre .1 .1 .1 .1, c .before .before .before .before .before .before .before .before .before .before .before .before .before .before .before .before .before .before .before .loop-test .taken)
 
 walk-add-extracted : (t : ℕ) → walk-lts.Need-add-extracted (number-members-reads.Asked, number-members-reads.Learnt, measure-below t, measure.Post, refusal-of-reads.Asked, refusal-of-reads.Learnt) (walk-at t) walk.Post walk-Inv-loop walk-μ-loop
-walk-add-extracted t c = let s = c .before .before .before .before .before .before .before .before .before .before .before .before .before .before .before .before .before .before .before .before .before .before .before .before .before .before .before .before .before in let a = s .args in let z = (walk-goes-on (inner (rows-in (a .rows .now)) (a .fuel) (length (a .work .now) - a .h)) (take (a .h) (a .work .now)) (place-groups (take (a .h) (a .work .now))) (a .next) _ _ _ _ _ _ _ _ _ (c .before .before .before .before .before .before .before .before .before .before .before .before .before .before .before .before .before .before .before .before .loop .inv .1) (c .before .before .before .before .before .before .before .before .before .measure .result) _ (answer-here (rows-in (a .rows .now)) (a .fuel) (length (a .work .now) - a .h) (a .next) (take (a .h) (a .work .now)) (a .members .now) (a .ends .now) (s .pre .1 .0 .1) (s .pre .1 .1 .0 .0) (s .pre .1 .1 .0 .1) _ _ _ _ _ _ _ _ _ (c .before .before .before .before .before .before .before .before .before .before .before .before .before .before .before .before .before .before .before .before .loop .inv .1) (c .before .before .before .before .before .before .before .before .before .before .before .before .before .before .before .before .before .before .before .loop-test .taken) (c .before .before .before .before .before .before .before .before .before .measure .result) _ (before-so (a .h) (a .work .now) (c .before .before .before .before .before .before .before .before .before .before .before .before .before .before .before .before .before .before .before .before .loop .work) (c .before .before .before .before .before .before .before .before .before .before .before .before .before .before .before .before .before .before .before .before .loop .inv .7) (c .before .before .before .before .before .before .before .before .before .before .before .before .before .before .before .before .before .before .before .before .loop .inv .2) (λ hs left. Arm-done (group-told (inner (rows-in (a .rows .now)) (a .fuel) left) hs (take (getD (a .ends .now) (c .before .before .before .before .before .before .before .before .before .before .before .before .before .before .before .before .before .before .before .before .loop .g) 0 - c .before .before .before .before .before .before .before .before .before .before .before .before .before .before .before .before .before .before .before .before .loop .start) (drop (c .before .before .before .before .before .before .before .before .before .before .before .before .before .before .before .before .before .before .before .before .loop .start) (a .members .now))) (c .before .before .before .before .before .before .before .before .before .before .before .before .before .before .before .before .before .before .before .before .loop .number)) (c .before .before .before .before .before .before .before .before .before .before .before .before .before .before .before .before .before .before .before .before .loop .to) (c .before .before .before .before .before .before .before .before .before .before .before .before .before .before .before .before .before .before .before .before .loop .kept) (c .before .before .before .before .before .before .before .before .before .measure .result) (c .before .before .before .before .before .before .before .before .before .measure .last .1 .1 .1 .1 .1 .1 .1 .1 .0)) (c .before .before .before .before .before .before .before .before .before .measure .ensures .0))) _ _ _ (c .before .armed .given .1) _ (count-here (rows-in (a .rows .now)) (a .fuel) (length (a .work .now) - a .h) (a .next) (take (a .h) (a .work .now)) (a .members .now) (a .ends .now) (s .pre .1 .0 .1) (s .pre .1 .1 .0 .0) (s .pre .1 .1 .0 .1) _ _ _ _ _ _ _ _ _ (c .before .before .before .before .before .before .before .before .before .before .before .before .before .before .before .before .before .before .before .before .loop .inv .1) (c .before .before .before .before .before .before .before .before .before .before .before .before .before .before .before .before .before .before .before .loop-test .taken)) (getD (a .ends .now) (c .before .before .before .before .before .before .before .before .before .before .before .before .before .before .before .before .before .before .before .before .loop .g) 0) (omega (arith, end-long (rows-in (a .rows .now)) (a .fuel) (length (a .work .now) - a .h) (a .next) (take (a .h) (a .work .now)) (a .members .now) (a .ends .now) (s .pre .1 .0 .1) (s .pre .1 .1 .0 .0) (s .pre .1 .1 .0 .1) _ _ _ _ _ _ _ _ _ (c .before .before .before .before .before .before .before .before .before .before .before .before .before .before .before .before .before .before .before .before .loop .inv .1) (c .before .before .before .before .before .before .before .before .before .before .before .before .before .before .before .before .before .before .before .loop-test .taken))) (omega (arith, end-long (rows-in (a .rows .now)) (a .fuel) (length (a .work .now) - a .h) (a .next) (take (a .h) (a .work .now)) (a .members .now) (a .ends .now) (s .pre .1 .0 .1) (s .pre .1 .1 .0 .0) (s .pre .1 .1 .0 .1) _ _ _ _ _ _ _ _ _ (c .before .before .before .before .before .before .before .before .before .before .before .before .before .before .before .before .before .before .before .before .loop .inv .1) (c .before .before .before .before .before .before .before .before .before .before .before .before .before .before .before .before .before .before .before .loop-test .taken), end-within (rows-in (a .rows .now)) (a .fuel) (length (a .work .now) - a .h) (a .next) (take (a .h) (a .work .now)) (a .members .now) (a .ends .now) (s .pre .1 .0 .1) (s .pre .1 .1 .0 .0) (s .pre .1 .1 .0 .1) _ _ _ _ _ _ _ _ _ (c .before .before .before .before .before .before .before .before .before .before .before .before .before .before .before .before .before .before .before .before .loop .inv .1) (c .before .before .before .before .before .before .before .before .before .before .before .before .before .before .before .before .before .before .before .loop-test .taken), s .pre .1 .1 .1 .0, c .before .before .before .before .before .before .before .before .before .before .before .before .before .before .before .before .before .before .before .before .loop .inv .4)) (omega (arith, c .before .before .before .before .before .before .before .before .before .before .before .before .before .before .before .before .before .before .before .before .loop .inv .5, s .pre .1 .1 .1 .1, c .before .before .before .before .before .before .before .before .before .before .before .before .before .before .before .before .before .before .before .loop-test .taken)) _ (c .before .before .before .before .before .before .before .before .before .before .before .before .before .before .before .before .number-members .ensures)) in omega (arith, made-low (rows-in (a .rows .now)) (a .fuel) (length (a .work .now) - a .h) (a .next) (take (a .h) (a .work .now)) (a .members .now) (a .ends .now) (s .pre .1 .0 .1) (s .pre .1 .1 .0 .0) (s .pre .1 .1 .0 .1) _ _ _ _ _ _ _ _ _ z (omega (arith, c .before .before .before .before .before .before .before .before .before .before .before .before .before .before .before .before .before .before .before .loop-test .taken)))
+walk-add-extracted t c = let s = c .before .before .before .before .before .before .before .before .before .before .before .before .before .before .before .before .before .before .before .before .before .before .before .before .before .before .before .before .before in let a = s .args in let z = (walk-goes-on (inner (rows-in (a .rows .now)) (a .fuel) (length (a .work .now) - a .h)) (take (a .h) (a .work .now)) (place-groups (take (a .h) (a .work .now))) (a .next) _ _ _ _ _ _ _ _ (c .before .before .before .before .before .before .before .before .before .before .before .before .before .before .before .before .before .before .before .before .loop .inv .1) (c .before .before .before .before .before .before .before .before .before .measure .result) _ (answer-here (rows-in (a .rows .now)) (a .fuel) (length (a .work .now) - a .h) (a .next) (take (a .h) (a .work .now)) (a .members .now) (a .ends .now) (s .pre .1 .0 .1) (s .pre .1 .1 .0 .0) (s .pre .1 .1 .0 .1) _ _ _ _ _ _ _ _ (c .before .before .before .before .before .before .before .before .before .before .before .before .before .before .before .before .before .before .before .before .loop .inv .1) (c .before .before .before .before .before .before .before .before .before .before .before .before .before .before .before .before .before .before .before .loop-test .taken) (c .before .before .before .before .before .before .before .before .before .measure .result) _ (before-so (a .h) (a .work .now) (c .before .before .before .before .before .before .before .before .before .before .before .before .before .before .before .before .before .before .before .before .loop .work) (c .before .before .before .before .before .before .before .before .before .before .before .before .before .before .before .before .before .before .before .before .loop .inv .7) (c .before .before .before .before .before .before .before .before .before .before .before .before .before .before .before .before .before .before .before .before .loop .inv .2) (λ hs left. Arm-done (group-told (inner (rows-in (a .rows .now)) (a .fuel) left) hs (take (getD (a .ends .now) (c .before .before .before .before .before .before .before .before .before .before .before .before .before .before .before .before .before .before .before .before .loop .g) 0 - c .before .before .before .before .before .before .before .before .before .before .before .before .before .before .before .before .before .before .before .before .loop .start) (drop (c .before .before .before .before .before .before .before .before .before .before .before .before .before .before .before .before .before .before .before .before .loop .start) (a .members .now))) (c .before .before .before .before .before .before .before .before .before .before .before .before .before .before .before .before .before .before .before .before .loop .number)) (c .before .before .before .before .before .before .before .before .before .before .before .before .before .before .before .before .before .before .before .before .loop .to) (c .before .before .before .before .before .before .before .before .before .before .before .before .before .before .before .before .before .before .before .before .loop .kept) (c .before .before .before .before .before .before .before .before .before .measure .result) (c .before .before .before .before .before .before .before .before .before .measure .last .1 .1 .1 .1 .1 .1 .1 .1 .0)) (c .before .before .before .before .before .before .before .before .before .measure .ensures .0))) _ _ _ (c .before .armed .given .1) _ (count-here (rows-in (a .rows .now)) (a .fuel) (length (a .work .now) - a .h) (a .next) (take (a .h) (a .work .now)) (a .members .now) (a .ends .now) (s .pre .1 .0 .1) (s .pre .1 .1 .0 .0) (s .pre .1 .1 .0 .1) _ _ _ _ _ _ _ _ (c .before .before .before .before .before .before .before .before .before .before .before .before .before .before .before .before .before .before .before .before .loop .inv .1) (c .before .before .before .before .before .before .before .before .before .before .before .before .before .before .before .before .before .before .before .loop-test .taken)) (getD (a .ends .now) (c .before .before .before .before .before .before .before .before .before .before .before .before .before .before .before .before .before .before .before .before .loop .g) 0) (omega (arith, end-long (rows-in (a .rows .now)) (a .fuel) (length (a .work .now) - a .h) (a .next) (take (a .h) (a .work .now)) (a .members .now) (a .ends .now) (s .pre .1 .0 .1) (s .pre .1 .1 .0 .0) (s .pre .1 .1 .0 .1) _ _ _ _ _ _ _ _ (c .before .before .before .before .before .before .before .before .before .before .before .before .before .before .before .before .before .before .before .before .loop .inv .1) (c .before .before .before .before .before .before .before .before .before .before .before .before .before .before .before .before .before .before .before .loop-test .taken))) (omega (arith, end-long (rows-in (a .rows .now)) (a .fuel) (length (a .work .now) - a .h) (a .next) (take (a .h) (a .work .now)) (a .members .now) (a .ends .now) (s .pre .1 .0 .1) (s .pre .1 .1 .0 .0) (s .pre .1 .1 .0 .1) _ _ _ _ _ _ _ _ (c .before .before .before .before .before .before .before .before .before .before .before .before .before .before .before .before .before .before .before .before .loop .inv .1) (c .before .before .before .before .before .before .before .before .before .before .before .before .before .before .before .before .before .before .before .loop-test .taken), end-within (rows-in (a .rows .now)) (a .fuel) (length (a .work .now) - a .h) (a .next) (take (a .h) (a .work .now)) (a .members .now) (a .ends .now) (s .pre .1 .0 .1) (s .pre .1 .1 .0 .0) (s .pre .1 .1 .0 .1) _ _ _ _ _ _ _ _ (c .before .before .before .before .before .before .before .before .before .before .before .before .before .before .before .before .before .before .before .before .loop .inv .1) (c .before .before .before .before .before .before .before .before .before .before .before .before .before .before .before .before .before .before .before .loop-test .taken), s .pre .1 .1 .1 .0, c .before .before .before .before .before .before .before .before .before .before .before .before .before .before .before .before .before .before .before .before .loop .inv .4)) (omega (arith, c .before .before .before .before .before .before .before .before .before .before .before .before .before .before .before .before .before .before .before .before .loop .inv .5, s .pre .1 .1 .1 .1, c .before .before .before .before .before .before .before .before .before .before .before .before .before .before .before .before .before .before .before .loop-test .taken)) _ (c .before .before .before .before .before .before .before .before .before .before .before .before .before .before .before .before .number-members .ensures)) in omega (arith, made-low (rows-in (a .rows .now)) (a .fuel) (length (a .work .now) - a .h) (a .next) (take (a .h) (a .work .now)) (a .members .now) (a .ends .now) (s .pre .1 .0 .1) (s .pre .1 .1 .0 .0) (s .pre .1 .1 .0 .1) _ _ _ _ _ _ _ _ z (omega (arith, c .before .before .before .before .before .before .before .before .before .before .before .before .before .before .before .before .before .before .before .loop-test .taken)))
 
 walk-add-g : (t : ℕ) → walk-lts.Need-add-g (number-members-reads.Asked, number-members-reads.Learnt, measure-below t, measure.Post, refusal-of-reads.Asked, refusal-of-reads.Learnt) (walk-at t) walk.Post walk-Inv-loop walk-μ-loop
 walk-add-g t c = let s = c .before .before .before .before .before .before .before .before .before .before .before .before .before .before .before .before .before .before .before .before .before .before .before .before .before .before .before .before .before in let a = s .args in omega (arith, c .before .before .before .before .before .before .before .before .before .before .before .before .before .before .before .before .before .before .before .loop-test .taken, ends-few (rows-in (a .rows .now)) (a .fuel) (length (a .work .now) - a .h) (a .next) (take (a .h) (a .work .now)) (a .members .now) (a .ends .now) (s .pre .1 .0 .1) (s .pre .1 .1 .0 .0) (s .pre .1 .1 .0 .1))
@@ -896,7 +896,7 @@ walk-loop-less : (t : ℕ) → walk-lts.Need-loop-less (number-members-reads.Ask
 walk-loop-less t c = search needs
 
 walk-loop-again : (t : ℕ) → walk-lts.Need-loop-again (number-members-reads.Asked, number-members-reads.Learnt, measure-below t, measure.Post, refusal-of-reads.Asked, refusal-of-reads.Learnt) (walk-at t) walk.Post walk-Inv-loop walk-μ-loop
-walk-loop-again t c = let s = c .before .before .before .before .before .before .before .before .before .before .before .before .before .before .before .before .before .before .before .before .before .before .before .before .before .before .before .before .before in let a = s .args in (omega (arith, c .before .before .before .before .before .before .before .before .before .before .before .before .before .before .before .before .before .before .before .loop-test .taken), (walk-goes-on (inner (rows-in (a .rows .now)) (a .fuel) (length (a .work .now) - a .h)) (take (a .h) (a .work .now)) (place-groups (take (a .h) (a .work .now))) (a .next) _ _ _ _ _ _ _ _ _ (c .before .before .before .before .before .before .before .before .before .before .before .before .before .before .before .before .before .before .before .before .loop .inv .1) (c .before .before .before .before .before .before .before .before .before .measure .result) _ (answer-here (rows-in (a .rows .now)) (a .fuel) (length (a .work .now) - a .h) (a .next) (take (a .h) (a .work .now)) (a .members .now) (a .ends .now) (s .pre .1 .0 .1) (s .pre .1 .1 .0 .0) (s .pre .1 .1 .0 .1) _ _ _ _ _ _ _ _ _ (c .before .before .before .before .before .before .before .before .before .before .before .before .before .before .before .before .before .before .before .before .loop .inv .1) (c .before .before .before .before .before .before .before .before .before .before .before .before .before .before .before .before .before .before .before .loop-test .taken) (c .before .before .before .before .before .before .before .before .before .measure .result) _ (before-so (a .h) (a .work .now) (c .before .before .before .before .before .before .before .before .before .before .before .before .before .before .before .before .before .before .before .before .loop .work) (c .before .before .before .before .before .before .before .before .before .before .before .before .before .before .before .before .before .before .before .before .loop .inv .7) (c .before .before .before .before .before .before .before .before .before .before .before .before .before .before .before .before .before .before .before .before .loop .inv .2) (λ hs left. Arm-done (group-told (inner (rows-in (a .rows .now)) (a .fuel) left) hs (take (getD (a .ends .now) (c .before .before .before .before .before .before .before .before .before .before .before .before .before .before .before .before .before .before .before .before .loop .g) 0 - c .before .before .before .before .before .before .before .before .before .before .before .before .before .before .before .before .before .before .before .before .loop .start) (drop (c .before .before .before .before .before .before .before .before .before .before .before .before .before .before .before .before .before .before .before .before .loop .start) (a .members .now))) (c .before .before .before .before .before .before .before .before .before .before .before .before .before .before .before .before .before .before .before .before .loop .number)) (c .before .before .before .before .before .before .before .before .before .before .before .before .before .before .before .before .before .before .before .before .loop .to) (c .before .before .before .before .before .before .before .before .before .before .before .before .before .before .before .before .before .before .before .before .loop .kept) (c .before .before .before .before .before .before .before .before .before .measure .result) (c .before .before .before .before .before .before .before .before .before .measure .last .1 .1 .1 .1 .1 .1 .1 .1 .0)) (c .before .before .before .before .before .before .before .before .before .measure .ensures .0))) _ _ _ (c .before .armed .given .1) _ (count-here (rows-in (a .rows .now)) (a .fuel) (length (a .work .now) - a .h) (a .next) (take (a .h) (a .work .now)) (a .members .now) (a .ends .now) (s .pre .1 .0 .1) (s .pre .1 .1 .0 .0) (s .pre .1 .1 .0 .1) _ _ _ _ _ _ _ _ _ (c .before .before .before .before .before .before .before .before .before .before .before .before .before .before .before .before .before .before .before .before .loop .inv .1) (c .before .before .before .before .before .before .before .before .before .before .before .before .before .before .before .before .before .before .before .loop-test .taken)) (getD (a .ends .now) (c .before .before .before .before .before .before .before .before .before .before .before .before .before .before .before .before .before .before .before .before .loop .g) 0) (omega (arith, end-long (rows-in (a .rows .now)) (a .fuel) (length (a .work .now) - a .h) (a .next) (take (a .h) (a .work .now)) (a .members .now) (a .ends .now) (s .pre .1 .0 .1) (s .pre .1 .1 .0 .0) (s .pre .1 .1 .0 .1) _ _ _ _ _ _ _ _ _ (c .before .before .before .before .before .before .before .before .before .before .before .before .before .before .before .before .before .before .before .before .loop .inv .1) (c .before .before .before .before .before .before .before .before .before .before .before .before .before .before .before .before .before .before .before .loop-test .taken))) (omega (arith, end-long (rows-in (a .rows .now)) (a .fuel) (length (a .work .now) - a .h) (a .next) (take (a .h) (a .work .now)) (a .members .now) (a .ends .now) (s .pre .1 .0 .1) (s .pre .1 .1 .0 .0) (s .pre .1 .1 .0 .1) _ _ _ _ _ _ _ _ _ (c .before .before .before .before .before .before .before .before .before .before .before .before .before .before .before .before .before .before .before .before .loop .inv .1) (c .before .before .before .before .before .before .before .before .before .before .before .before .before .before .before .before .before .before .before .loop-test .taken), end-within (rows-in (a .rows .now)) (a .fuel) (length (a .work .now) - a .h) (a .next) (take (a .h) (a .work .now)) (a .members .now) (a .ends .now) (s .pre .1 .0 .1) (s .pre .1 .1 .0 .0) (s .pre .1 .1 .0 .1) _ _ _ _ _ _ _ _ _ (c .before .before .before .before .before .before .before .before .before .before .before .before .before .before .before .before .before .before .before .before .loop .inv .1) (c .before .before .before .before .before .before .before .before .before .before .before .before .before .before .before .before .before .before .before .loop-test .taken), s .pre .1 .1 .1 .0, c .before .before .before .before .before .before .before .before .before .before .before .before .before .before .before .before .before .before .before .before .loop .inv .4)) (omega (arith, c .before .before .before .before .before .before .before .before .before .before .before .before .before .before .before .before .before .before .before .before .loop .inv .5, s .pre .1 .1 .1 .1, c .before .before .before .before .before .before .before .before .before .before .before .before .before .before .before .before .before .before .before .loop-test .taken)) _ (c .before .before .before .before .before .before .before .before .before .before .before .before .before .before .before .before .number-members .ensures)), c .before .before .before .before .before .before .before .before .before .measure .kept .1 .0 ∙ c .before .before .before .before .before .before .before .before .before .before .before .before .before .before .before .before .before .before .before .before .loop .inv .2, c .before .before .before .before .before .before .before .before .before .measure .kept .1 .1 .1 .1 .1 .1 .0 ∙ c .before .before .before .before .before .before .before .before .before .before .before .before .before .before .before .before .before .before .before .before .loop .inv .3, c .before .before .before .before .before .before .before .before .before .before .before .before .before .before .before .before .number-members .kept .1 .1 .1 .0 ∙ c .before .before .before .before .before .before .before .before .before .before .before .before .before .before .before .before .before .before .before .before .loop .inv .4, length-set (c .before .before .before .before .before .before .before .before .before .before .before .before .before .before .before .before .before .before .before .before .loop .stops) (c .before .before .before .before .before .before .before .before .before .before .before .before .before .before .before .before .before .before .before .before .loop .g) (c .before .armed .given .0 .0) ∙ c .before .before .before .before .before .before .before .before .before .before .before .before .before .before .before .before .before .before .before .before .loop .inv .5, c .before .before .before .before .before .before .before .before .before .measure .kept .1 .1 .1 .1 .1 .1 .1 .1 .0 ∙ c .before .before .before .before .before .before .before .before .before .before .before .before .before .before .before .before .before .before .before .before .loop .inv .6, c .before .before .before .before .before .before .before .before .before .measure .ensures .1 ∙ c .before .before .before .before .before .before .before .before .before .before .before .before .before .before .before .before .before .before .before .before .loop .inv .7)
+walk-loop-again t c = let s = c .before .before .before .before .before .before .before .before .before .before .before .before .before .before .before .before .before .before .before .before .before .before .before .before .before .before .before .before .before in let a = s .args in (omega (arith, c .before .before .before .before .before .before .before .before .before .before .before .before .before .before .before .before .before .before .before .loop-test .taken), (walk-goes-on (inner (rows-in (a .rows .now)) (a .fuel) (length (a .work .now) - a .h)) (take (a .h) (a .work .now)) (place-groups (take (a .h) (a .work .now))) (a .next) _ _ _ _ _ _ _ _ (c .before .before .before .before .before .before .before .before .before .before .before .before .before .before .before .before .before .before .before .before .loop .inv .1) (c .before .before .before .before .before .before .before .before .before .measure .result) _ (answer-here (rows-in (a .rows .now)) (a .fuel) (length (a .work .now) - a .h) (a .next) (take (a .h) (a .work .now)) (a .members .now) (a .ends .now) (s .pre .1 .0 .1) (s .pre .1 .1 .0 .0) (s .pre .1 .1 .0 .1) _ _ _ _ _ _ _ _ (c .before .before .before .before .before .before .before .before .before .before .before .before .before .before .before .before .before .before .before .before .loop .inv .1) (c .before .before .before .before .before .before .before .before .before .before .before .before .before .before .before .before .before .before .before .loop-test .taken) (c .before .before .before .before .before .before .before .before .before .measure .result) _ (before-so (a .h) (a .work .now) (c .before .before .before .before .before .before .before .before .before .before .before .before .before .before .before .before .before .before .before .before .loop .work) (c .before .before .before .before .before .before .before .before .before .before .before .before .before .before .before .before .before .before .before .before .loop .inv .7) (c .before .before .before .before .before .before .before .before .before .before .before .before .before .before .before .before .before .before .before .before .loop .inv .2) (λ hs left. Arm-done (group-told (inner (rows-in (a .rows .now)) (a .fuel) left) hs (take (getD (a .ends .now) (c .before .before .before .before .before .before .before .before .before .before .before .before .before .before .before .before .before .before .before .before .loop .g) 0 - c .before .before .before .before .before .before .before .before .before .before .before .before .before .before .before .before .before .before .before .before .loop .start) (drop (c .before .before .before .before .before .before .before .before .before .before .before .before .before .before .before .before .before .before .before .before .loop .start) (a .members .now))) (c .before .before .before .before .before .before .before .before .before .before .before .before .before .before .before .before .before .before .before .before .loop .number)) (c .before .before .before .before .before .before .before .before .before .before .before .before .before .before .before .before .before .before .before .before .loop .to) (c .before .before .before .before .before .before .before .before .before .before .before .before .before .before .before .before .before .before .before .before .loop .kept) (c .before .before .before .before .before .before .before .before .before .measure .result) (c .before .before .before .before .before .before .before .before .before .measure .last .1 .1 .1 .1 .1 .1 .1 .1 .0)) (c .before .before .before .before .before .before .before .before .before .measure .ensures .0))) _ _ _ (c .before .armed .given .1) _ (count-here (rows-in (a .rows .now)) (a .fuel) (length (a .work .now) - a .h) (a .next) (take (a .h) (a .work .now)) (a .members .now) (a .ends .now) (s .pre .1 .0 .1) (s .pre .1 .1 .0 .0) (s .pre .1 .1 .0 .1) _ _ _ _ _ _ _ _ (c .before .before .before .before .before .before .before .before .before .before .before .before .before .before .before .before .before .before .before .before .loop .inv .1) (c .before .before .before .before .before .before .before .before .before .before .before .before .before .before .before .before .before .before .before .loop-test .taken)) (getD (a .ends .now) (c .before .before .before .before .before .before .before .before .before .before .before .before .before .before .before .before .before .before .before .before .loop .g) 0) (omega (arith, end-long (rows-in (a .rows .now)) (a .fuel) (length (a .work .now) - a .h) (a .next) (take (a .h) (a .work .now)) (a .members .now) (a .ends .now) (s .pre .1 .0 .1) (s .pre .1 .1 .0 .0) (s .pre .1 .1 .0 .1) _ _ _ _ _ _ _ _ (c .before .before .before .before .before .before .before .before .before .before .before .before .before .before .before .before .before .before .before .before .loop .inv .1) (c .before .before .before .before .before .before .before .before .before .before .before .before .before .before .before .before .before .before .before .loop-test .taken))) (omega (arith, end-long (rows-in (a .rows .now)) (a .fuel) (length (a .work .now) - a .h) (a .next) (take (a .h) (a .work .now)) (a .members .now) (a .ends .now) (s .pre .1 .0 .1) (s .pre .1 .1 .0 .0) (s .pre .1 .1 .0 .1) _ _ _ _ _ _ _ _ (c .before .before .before .before .before .before .before .before .before .before .before .before .before .before .before .before .before .before .before .before .loop .inv .1) (c .before .before .before .before .before .before .before .before .before .before .before .before .before .before .before .before .before .before .before .loop-test .taken), end-within (rows-in (a .rows .now)) (a .fuel) (length (a .work .now) - a .h) (a .next) (take (a .h) (a .work .now)) (a .members .now) (a .ends .now) (s .pre .1 .0 .1) (s .pre .1 .1 .0 .0) (s .pre .1 .1 .0 .1) _ _ _ _ _ _ _ _ (c .before .before .before .before .before .before .before .before .before .before .before .before .before .before .before .before .before .before .before .before .loop .inv .1) (c .before .before .before .before .before .before .before .before .before .before .before .before .before .before .before .before .before .before .before .loop-test .taken), s .pre .1 .1 .1 .0, c .before .before .before .before .before .before .before .before .before .before .before .before .before .before .before .before .before .before .before .before .loop .inv .4)) (omega (arith, c .before .before .before .before .before .before .before .before .before .before .before .before .before .before .before .before .before .before .before .before .loop .inv .5, s .pre .1 .1 .1 .1, c .before .before .before .before .before .before .before .before .before .before .before .before .before .before .before .before .before .before .before .loop-test .taken)) _ (c .before .before .before .before .before .before .before .before .before .before .before .before .before .before .before .before .number-members .ensures)), c .before .before .before .before .before .before .before .before .before .measure .kept .1 .0 ∙ c .before .before .before .before .before .before .before .before .before .before .before .before .before .before .before .before .before .before .before .before .loop .inv .2, c .before .before .before .before .before .before .before .before .before .measure .kept .1 .1 .1 .1 .1 .1 .0 ∙ c .before .before .before .before .before .before .before .before .before .before .before .before .before .before .before .before .before .before .before .before .loop .inv .3, c .before .before .before .before .before .before .before .before .before .before .before .before .before .before .before .before .number-members .kept .1 .1 .1 .0 ∙ c .before .before .before .before .before .before .before .before .before .before .before .before .before .before .before .before .before .before .before .before .loop .inv .4, length-set (c .before .before .before .before .before .before .before .before .before .before .before .before .before .before .before .before .before .before .before .before .loop .stops) (c .before .before .before .before .before .before .before .before .before .before .before .before .before .before .before .before .before .before .before .before .loop .g) (c .before .armed .given .0 .0) ∙ c .before .before .before .before .before .before .before .before .before .before .before .before .before .before .before .before .before .before .before .before .loop .inv .5, c .before .before .before .before .before .before .before .before .before .measure .kept .1 .1 .1 .1 .1 .1 .1 .1 .0 ∙ c .before .before .before .before .before .before .before .before .before .before .before .before .before .before .before .before .before .before .before .before .loop .inv .6, c .before .before .before .before .before .before .before .before .before .measure .ensures .1 ∙ c .before .before .before .before .before .before .before .before .before .before .before .before .before .before .before .before .before .before .before .before .loop .inv .7)
 
 walk-same-length-6 : (t : ℕ) → walk-lts.Need-same-length-6 (number-members-reads.Asked, number-members-reads.Learnt, measure-below t, measure.Post, refusal-of-reads.Asked, refusal-of-reads.Learnt) (walk-at t) walk.Post walk-Inv-loop walk-μ-loop
 walk-same-length-6 t c = search needs
@@ -915,7 +915,7 @@ walk-same-length-10 t c = search needs
 
 walk-returns-2 : (t : ℕ) → walk-lts.Need-returns-2 (number-members-reads.Asked, number-members-reads.Learnt, measure-below t, measure.Post, refusal-of-reads.Asked, refusal-of-reads.Learnt) (walk-at t) walk.Post walk-Inv-loop walk-μ-loop
 unfolding groups-told
-walk-returns-2 t c = let s = c .before .before .before .before .before .before .before .before .before .before in let a = s .args in (walk-all (inner (rows-in (a .rows .now)) (a .fuel) (length (a .work .now) - a .h)) (take (a .h) (a .work .now)) (place-groups (take (a .h) (a .work .now))) (a .next) _ _ _ _ _ _ _ _ _ (c .before .loop .inv .1) (length (place-groups (take (a .h) (a .work .now)))) (omega (arith, c .before .loop .inv .0, c .loop-test .left, ends-many (rows-in (a .rows .now)) (a .fuel) (length (a .work .now) - a .h) (a .next) (take (a .h) (a .work .now)) (a .members .now) (a .ends .now) (s .pre .1 .0 .1) (s .pre .1 .1 .0 .0) (s .pre .1 .1 .0 .1))), c .before .loop .inv .7)
+walk-returns-2 t c = let s = c .before .before .before .before .before .before .before .before .before .before in let a = s .args in (walk-all (inner (rows-in (a .rows .now)) (a .fuel) (length (a .work .now) - a .h)) (take (a .h) (a .work .now)) (place-groups (take (a .h) (a .work .now))) (a .next) _ _ _ _ _ _ _ _ (c .before .loop .inv .1) (length (place-groups (take (a .h) (a .work .now)))) (omega (arith, c .before .loop .inv .0, c .loop-test .left, ends-many (rows-in (a .rows .now)) (a .fuel) (length (a .work .now) - a .h) (a .next) (take (a .h) (a .work .now)) (a .members .now) (a .ends .now) (s .pre .1 .0 .1) (s .pre .1 .1 .0 .0) (s .pre .1 .1 .0 .1))), c .before .loop .inv .7)
 
 write-match-slice-reshare-prefix-write-match-head :
     (t : ℕ) → write-match-lts.Need-slice-reshare-prefix-write-match-head (
@@ -945,6 +945,9 @@ write-match-slice-aggregate-write-match-head t c = let s = c .before .before .be
 
 write-match-write-match-head-requires : (t : ℕ) → write-match-lts.Need-write-match-head-requires (write-match-head-reads.Asked, write-match-head-reads.Learnt, put-reads.Asked, put-reads.Learnt, group-begin-reads.Asked, group-begin-reads.Learnt, arms-below t, arms.Post) (write-match-at t) write-match.Post
 write-match-write-match-head-requires t c κs = let s = c .before .before .before .before .before .before .before .before .before .before in let a = s .args in (s .pre .1 .1 .0 .0, (s .pre .1 .1 .1 .0, head-fits (rows-in (a .rows .now)) (a .fuel) (length (a .work .now) - a .h) (take (a .h) (a .work .now)) (a .members .now) (a .ends .now) (a .numbers .now) (a .g) (a .from) (a .size) (a .kept .now) (a .at) (s .pre .1 .0 .1) (s .pre .1 .1 .0 .0) (s .pre .1 .1 .0 .1) (s .pre .1 .1 .1 .0) (s .pre .1 .1 .1 .1)))
+
+write-match-add-if1 : (t : ℕ) → write-match-lts.Need-add-if1 (write-match-head-reads.Asked, write-match-head-reads.Learnt, put-reads.Asked, put-reads.Learnt, group-begin-reads.Asked, group-begin-reads.Learnt, arms-below t, arms.Post) (write-match-at t) write-match.Post
+write-match-add-if1 t c = let s = c .before .before .before .before .before .before .before .before .before .before .before .before .before in let a = s .args in omega (arith, c .before .before .write-match-head .ensures .0, all-fits (rows-in (a .rows .now)) (a .fuel) (length (a .work .now) - a .h) (take (a .h) (a .work .now)) (a .members .now) (a .ends .now) (a .numbers .now) (a .g) (a .from) (a .size) (a .kept .now) (a .at) (s .pre .1 .0 .1) (s .pre .1 .1 .0 .0) (s .pre .1 .1 .0 .1) (s .pre .1 .1 .1 .0) (s .pre .1 .1 .1 .1))
 
 write-match-add-result : (t : ℕ) → write-match-lts.Need-add-result (write-match-head-reads.Asked, write-match-head-reads.Learnt, put-reads.Asked, put-reads.Learnt, group-begin-reads.Asked, group-begin-reads.Learnt, arms-below t, arms.Post) (write-match-at t) write-match.Post
 write-match-add-result t c = let s = c .before .before .before .before .before .before .before .before .before .before .before .before .before .before in let a = s .args in omega (arith, c .before .before .before .write-match-head .ensures .0, all-fits (rows-in (a .rows .now)) (a .fuel) (length (a .work .now) - a .h) (take (a .h) (a .work .now)) (a .members .now) (a .ends .now) (a .numbers .now) (a .g) (a .from) (a .size) (a .kept .now) (a .at) (s .pre .1 .0 .1) (s .pre .1 .1 .0 .0) (s .pre .1 .1 .0 .1) (s .pre .1 .1 .1 .0) (s .pre .1 .1 .1 .1))
@@ -1210,7 +1213,7 @@ write-stmt-same-length-2 : (t : ℕ) → write-stmt-lts.Need-same-length-2 (writ
 write-stmt-same-length-2 t c = search needs
 
 write-stmt-returns : (t : ℕ) → write-stmt-lts.Need-returns (write-let-reads.Asked, write-let-reads.Learnt, group-begin-reads.Asked, group-begin-reads.Learnt, write-match-below t, write-match.Post) (write-stmt-at t) write-stmt.Post
-write-stmt-returns t c = let s = c .before .before .before .before .before .before .before .before .before .before .before .before .before .before .before .before .before .before in let a = s .args in (rows-as _ _ (let-is (rows-in (a .rows .now)) (a .fuel) (length (a .work .now) - a .h) (a .tokens .now) (a .results) (a .first) (a .places .now) (take (a .h) (a .work .now)) (a .starts .now) (a .members .now) (a .ends .now) (a .numbers .now) (a .stops .now) (a .kept .now) (s .pre .1 .0 .1) (s .pre .1 .1 .0 .0) (s .pre .1 .1 .0 .1) (a .p) (c .before .before .before .before .before .if1 .taken)) (a .at) (a .table .now) _ _ (c .before .before .write-let .ensures), refl)
+write-stmt-returns t c = let s = c .before .before .before .before .before .before .before .before .before .before .before .before .before .before .before .before .before .before in let a = s .args in (rows-as _ _ (let-is (rows-in (a .rows .now)) (a .fuel) (length (a .work .now) - a .h) (a .tokens .now) (a .results) (a .first) (a .places .now) (take (a .h) (a .work .now)) (a .starts .now) (a .members .now) (a .ends .now) (a .numbers .now) (a .stops .now) (a .kept .now) (s .pre .1 .0 .1) (s .pre .1 .1 .0 .0) (s .pre .1 .1 .0 .1) (a .p) (c .before .before .before .before .before .if1 .taken)) (a .at) (a .table .now) _ _ (rows-exact _ (a .at) (a .table .now) _ _ (c .before .before .write-let .ensures)), refl)
 
 write-stmt-group-begin-requires : (t : ℕ) → write-stmt-lts.Need-group-begin-requires (write-let-reads.Asked, write-let-reads.Learnt, group-begin-reads.Asked, group-begin-reads.Learnt, write-match-below t, write-match.Post) (write-stmt-at t) write-stmt.Post
 write-stmt-group-begin-requires t c κs = let s = c .before .before .before .before .before .before .before .before .before .before .before .before .before in let a = s .args in stop-in (rows-in (a .rows .now)) (a .fuel) (length (a .work .now) - a .h) (a .tokens .now) (a .results) (a .first) (a .places .now) (take (a .h) (a .work .now)) (a .starts .now) (a .members .now) (a .ends .now) (a .numbers .now) (a .stops .now) (a .kept .now) (s .pre .1 .0 .1) (s .pre .1 .1 .0 .0) (s .pre .1 .1 .0 .1) (a .p) (s .pre .1 .1 .1 .0) (omega (arith, c .if1 .left))
@@ -1240,7 +1243,7 @@ write-stmt-returns-2 : (t : ℕ) → write-stmt-lts.Need-returns-2 (write-let-re
 write-stmt-returns-2 t c = let s = c .before .before .before .before .before .before .before .before .before .before .before .before .before .before .before .before .before .before .before .before .before .before .before .before .before in let a = s .args in (rows-as _ _ (stmt-match-is (rows-in (a .rows .now)) (a .fuel) (length (a .work .now) - a .h) (a .tokens .now) (a .results) (a .first) (a .places .now) (take (a .h) (a .work .now)) (a .starts .now) (a .members .now) (a .ends .now) (a .numbers .now) (a .stops .now) (a .kept .now) (s .pre .1 .0 .1) (s .pre .1 .1 .0 .0) (s .pre .1 .1 .0 .1) (a .p) (s .pre .1 .1 .1 .0) (omega (arith, c .before .before .before .before .before .before .before .before .before .before .before .before .if1 .left))) (a .at) (a .table .now) _ _ (c .before .before .before .before .before .before .write-match .ensures .0), c .before .before .before .before .before .before .write-match .ensures .1)
 
 abbrev write-stmts-Inv-loop : write-stmts-lts.InvT-loop
-write-stmts-Inv-loop rows work₀ tokens results first places h starts members ends numbers stops kept taken fuel text₀ at table₀ to₀ q₀ work text table to q = (q ≤ length taken) × (to ≡ at + length (stmts-runs tokens results first places numbers (scope-arms (rows-in rows) fuel (length work₀ - h) tokens results first places) taken q)) × (table ≡ overlay at (stmts-runs tokens results first places numbers (scope-arms (rows-in rows) fuel (length work₀ - h) tokens results first places) taken q) table₀) × (length work ≡ length work₀) × (length text ≡ length text₀) × (length table ≡ length table₀) × (take h work ≡ take h work₀)
+write-stmts-Inv-loop rows work₀ tokens results first places h starts members ends numbers stops kept taken fuel text₀ at table₀ to₀ q₀ work text table to q = (q ≤ length taken) × (to ≡ at + length (stmts-runs tokens results first places numbers (scope-arms (rows-in rows) fuel (length work₀ - h) tokens results first places) taken q)) × Laid at (stmts-runs tokens results first places numbers (scope-arms (rows-in rows) fuel (length work₀ - h) tokens results first places) taken q) table₀ table × (length work ≡ length work₀) × (length text ≡ length text₀) × (length table ≡ length table₀) × (take h work ≡ take h work₀)
 
 abbrev write-stmts-μ-loop : write-stmts-lts.MeasureT-loop
 write-stmts-μ-loop rows work₀ tokens results first places h starts members ends numbers stops kept taken fuel text₀ at table₀ to₀ q₀ work text table to q = length taken - q
@@ -1278,7 +1281,7 @@ write-stmts-loop-less : (t : ℕ) → write-stmts-lts.Need-loop-less (write-stmt
 write-stmts-loop-less t c = search needs
 
 write-stmts-loop-again : (t : ℕ) → write-stmts-lts.Need-loop-again (write-stmt-below t, write-stmt.Post) (write-stmts-at t) write-stmts.Post write-stmts-Inv-loop write-stmts-μ-loop
-write-stmts-loop-again t c = let s = c .before .before .before .before .before .before .before .before .before .before .before .before .before .before .before .before .before .before .before .before .before .before .before .before .before .before in let a = s .args in let z = stmts-on (rows-in (a .rows .now)) (a .fuel) (length (a .work .now) - a .h) (a .tokens .now) (a .results) (a .first) (a .places .now) (take (a .h) (a .work .now)) (a .starts .now) (a .members .now) (a .ends .now) (a .numbers .now) (a .stops .now) (a .kept .now) (s .pre .1 .0 .1) (s .pre .1 .1 .0 .0) (s .pre .1 .1 .0 .1) (a .taken .now) (a .at) (a .table .now) (s .pre .1 .1 .1 .1) (c .before .before .before .before .before .before .before .before .before .before .before .before .loop .q) (c .before .before .before .before .before .before .before .before .before .before .before .before .loop .to) _ (record { to-is = c .before .before .before .before .before .before .before .before .before .before .before .before .loop .inv .1; table-is = c .before .before .before .before .before .before .before .before .before .before .before .before .loop .inv .2 }) (c .before .before .before .before .before .before .write-stmt .result) _ (before-so (a .h) (a .work .now) (c .before .before .before .before .before .before .before .before .before .before .before .before .loop .work) (c .before .before .before .before .before .before .before .before .before .before .before .before .loop .inv .6) (c .before .before .before .before .before .before .before .before .before .before .before .before .loop .inv .3) (λ hs left. (c .before .before .before .before .before .before .write-stmt .result ≡ c .before .before .before .before .before .before .before .before .before .before .before .before .loop .to + length (stmt-run (a .tokens .now) (a .results) (a .first) (a .places .now) (a .numbers .now) (scope-arms (rows-in (a .rows .now)) (a .fuel) left (a .tokens .now) (a .results) (a .first) (a .places .now)) (getD (a .taken .now) (c .before .before .before .before .before .before .before .before .before .before .before .before .loop .q) 0))) × (c .before .before .before .before .before .before .write-stmt .last .1 .1 .1 .1 .1 .1 .1 .1 .1 .1 .1 .1 .1 .1 .1 .1 .1 .0 ≡ overlay (c .before .before .before .before .before .before .before .before .before .before .before .before .loop .to) (stmt-run (a .tokens .now) (a .results) (a .first) (a .places .now) (a .numbers .now) (scope-arms (rows-in (a .rows .now)) (a .fuel) left (a .tokens .now) (a .results) (a .first) (a .places .now)) (getD (a .taken .now) (c .before .before .before .before .before .before .before .before .before .before .before .before .loop .q) 0)) (c .before .before .before .before .before .before .before .before .before .before .before .before .loop .table))) (c .before .before .before .before .before .before .write-stmt .ensures .0)) in (omega (arith, c .before .before .before .before .before .before .before .before .before .before .before .loop-test .taken), z .to-is, z .table-is, c .before .before .before .before .before .before .write-stmt .kept .1 .0 ∙ c .before .before .before .before .before .before .before .before .before .before .before .before .loop .inv .3, c .before .before .before .before .before .before .write-stmt .kept .1 .1 .1 .1 .1 .1 .1 .1 .1 .1 .1 .1 .1 .1 .1 .0 ∙ c .before .before .before .before .before .before .before .before .before .before .before .before .loop .inv .4, c .before .before .before .before .before .before .write-stmt .kept .1 .1 .1 .1 .1 .1 .1 .1 .1 .1 .1 .1 .1 .1 .1 .1 .1 .0 ∙ c .before .before .before .before .before .before .before .before .before .before .before .before .loop .inv .5, c .before .before .before .before .before .before .write-stmt .ensures .1 ∙ c .before .before .before .before .before .before .before .before .before .before .before .before .loop .inv .6)
+write-stmts-loop-again t c = let s = c .before .before .before .before .before .before .before .before .before .before .before .before .before .before .before .before .before .before .before .before .before .before .before .before .before .before in let a = s .args in let z = stmts-on (rows-in (a .rows .now)) (a .fuel) (length (a .work .now) - a .h) (a .tokens .now) (a .results) (a .first) (a .places .now) (take (a .h) (a .work .now)) (a .starts .now) (a .members .now) (a .ends .now) (a .numbers .now) (a .stops .now) (a .kept .now) (s .pre .1 .0 .1) (s .pre .1 .1 .0 .0) (s .pre .1 .1 .0 .1) (a .taken .now) (a .at) (a .table .now) (s .pre .1 .1 .1 .1) (c .before .before .before .before .before .before .before .before .before .before .before .before .loop .q) (c .before .before .before .before .before .before .before .before .before .before .before .before .loop .to) _ (record { to-is = c .before .before .before .before .before .before .before .before .before .before .before .before .loop .inv .1; table-is = c .before .before .before .before .before .before .before .before .before .before .before .before .loop .inv .2 }) (c .before .before .before .before .before .before .write-stmt .result) _ (before-so (a .h) (a .work .now) (c .before .before .before .before .before .before .before .before .before .before .before .before .loop .work) (c .before .before .before .before .before .before .before .before .before .before .before .before .loop .inv .6) (c .before .before .before .before .before .before .before .before .before .before .before .before .loop .inv .3) (λ hs left. (c .before .before .before .before .before .before .write-stmt .result ≡ c .before .before .before .before .before .before .before .before .before .before .before .before .loop .to + length (stmt-run (a .tokens .now) (a .results) (a .first) (a .places .now) (a .numbers .now) (scope-arms (rows-in (a .rows .now)) (a .fuel) left (a .tokens .now) (a .results) (a .first) (a .places .now)) (getD (a .taken .now) (c .before .before .before .before .before .before .before .before .before .before .before .before .loop .q) 0))) × Laid (c .before .before .before .before .before .before .before .before .before .before .before .before .loop .to) (stmt-run (a .tokens .now) (a .results) (a .first) (a .places .now) (a .numbers .now) (scope-arms (rows-in (a .rows .now)) (a .fuel) left (a .tokens .now) (a .results) (a .first) (a .places .now)) (getD (a .taken .now) (c .before .before .before .before .before .before .before .before .before .before .before .before .loop .q) 0)) (c .before .before .before .before .before .before .before .before .before .before .before .before .loop .table) (c .before .before .before .before .before .before .write-stmt .last .1 .1 .1 .1 .1 .1 .1 .1 .1 .1 .1 .1 .1 .1 .1 .1 .1 .0)) (c .before .before .before .before .before .before .write-stmt .ensures .0)) in (omega (arith, c .before .before .before .before .before .before .before .before .before .before .before .loop-test .taken), z .to-is, z .table-is, c .before .before .before .before .before .before .write-stmt .kept .1 .0 ∙ c .before .before .before .before .before .before .before .before .before .before .before .before .loop .inv .3, c .before .before .before .before .before .before .write-stmt .kept .1 .1 .1 .1 .1 .1 .1 .1 .1 .1 .1 .1 .1 .1 .1 .0 ∙ c .before .before .before .before .before .before .before .before .before .before .before .before .loop .inv .4, c .before .before .before .before .before .before .write-stmt .kept .1 .1 .1 .1 .1 .1 .1 .1 .1 .1 .1 .1 .1 .1 .1 .1 .1 .0 ∙ c .before .before .before .before .before .before .before .before .before .before .before .before .loop .inv .5, c .before .before .before .before .before .before .write-stmt .ensures .1 ∙ c .before .before .before .before .before .before .before .before .before .before .before .before .loop .inv .6)
 
 write-stmts-same-length : (t : ℕ) → write-stmts-lts.Need-same-length (write-stmt-below t, write-stmt.Post) (write-stmts-at t) write-stmts.Post write-stmts-Inv-loop write-stmts-μ-loop
 write-stmts-same-length t c = search needs
@@ -1592,6 +1595,7 @@ pub +arm+arms+measure+scope+scope-grouped+scope-held+scope-listed+walk+write-mat
     (write-match-slice-reshare-prefix-write-match-head t)
     (write-match-slice-aggregate-write-match-head t)
     (write-match-write-match-head-requires t)
+    (write-match-add-if1 t)
     (write-match-add-result t)
     (write-match-same-length t)
     (write-match-same-length-2 t)
