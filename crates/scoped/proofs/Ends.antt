@@ -6,7 +6,7 @@ use mathlib.Core.Path.{_≡_, refl, sym, _∙_, ap, ap₂, subst}
 use mathlib.Core.Bool.{Bool, true, false, _||_, cond}
 use mathlib.Core.List.{List, _++_}
 use lib.ListN.{length, take, drop}
-use lib.Seq.{length-sets, take-append-seam}
+use lib.Seq.{take-append-seam}
 use lib.Dec.{T, ltb}
 use Rattle.tree.specs.Outcome.{Outcome, ok, refused, by, _>>=_}
 use Rattle.tree.specs.Layout.{table-of, laid-out}
@@ -18,14 +18,15 @@ use Rattle.checked.specs.Check.{rows-in}
 use Rattle.renaming.proofs.RowNames.{tree-words}
 use Rattle.scopeplaces.specs.Overlay.{overlay}
 use Rattle.scopeplaces.specs.Whole.{Told, scope-told}
-use Rattle.tables.proofs.Laws.{overlay-none, overlay-sets}
+use Rattle.tables.proofs.Laws.{overlay-none}
+use Rattle.scope.proofs.Laying.{laid-exact}
 use Rattle.extractlaws.specs.Parts.{extract-from}
 use Rattle.extractlaws.proofs.Ending.{call-short, call-enough}
 use Rattle.extract.specs.Answers.{extraction-answer}
 use Rattle.extract.specs.declared.Extraction.{Extraction}
 use Rattle.extract.specs.declared.Extraction.the-variants as extraction
 use Rattle.extract.proofs.Ends.{Answers-by, refuses}
-use Rattle.scope.specs.Answers.{scope-answer, scope-table, told-rows}
+use Rattle.scope.specs.Answers.{scope-answer, Scope-laid, told-rows}
 use Rattle.scope.specs.declared.Scoped.{Scoped}
 use Rattle.scope.specs.declared.Scoped.the-variants as scoped
 use Rattle.scopedlaws.specs.Roots.{scopes, roots-told, told-or-12, roots-rows}
@@ -34,7 +35,11 @@ use Rattle.scoped.specs.Kept.{Keeps}
 
 -- what the scope of the roots answers and leaves in a table
 abbrev pub Scopes-by : Outcome Told → List ℕ → Scoped → List ℕ → Type 0
-Scopes-by o old r new = (r ≡ scope-answer o 0) × (new ≡ scope-table o 0 old)
+Scopes-by o old r new = (r ≡ scope-answer o 0) × Scope-laid o 0 old new
+
+-- the same table by another name
+pub laid-by : (o : Outcome Told) (old kept new : List ℕ) → new ≡ kept → Scope-laid o 0 old kept → Scope-laid o 0 old new
+laid-by o old kept new e l = subst (λ (z : List ℕ). Scope-laid o 0 old z) (sym e) l
 
 -- ---- the scope of the roots
 
@@ -47,7 +52,7 @@ module _ (rows roots : List ℕ) where
   roots-are = refl
 
   pub scope-nine : laid-out rows roots ≡ false → (table : List ℕ) → Scopes-by (roots-told rows roots) table (scoped.Refused 9) table
-  unfolding scope-answer scope-table
+  unfolding scope-answer
   scope-nine e table = subst (λ (o : Outcome Told). Scopes-by o table (scoped.Refused 9) table) (sym (roots-are ∙ ap by-layout e)) (refl, refl)
 
   -- with the whole area left
@@ -83,27 +88,28 @@ module _ (o : Outcome Told) (r : Scoped) (is : r ≡ scope-answer o 0) where
 
 -- rows laid over words that they fit stand in front of them, and can be laid over any table from there
 module _ (o : Outcome Told) (r : Scoped) (is : r ≡ scope-answer o 0) where
-  pub keeps : (n s m x : ℕ) → r ≡ scoped.Told n s m x → (base kept : List ℕ) → kept ≡ scope-table o 0 base → Keeps o n kept
-  unfolding told-rows scope-table
+  pub keeps : (n s m x : ℕ) → r ≡ scoped.Told n s m x → (base kept : List ℕ) → Scope-laid o 0 base kept → Keeps o n kept
+  unfolding told-rows
   keeps n s m x e base kept k h old = go o (counts-rows o r is n s m x e) k
     where
-      go : (p : Outcome Told) → n ≡ told-rows p → kept ≡ scope-table p 0 base → overlay 0 (take n kept) old ≡ scope-table p 0 old
+      go : (p : Outcome Told) → n ≡ told-rows p → Scope-laid p 0 base kept → Scope-laid p 0 old (overlay 0 (take n kept) old)
       go (ok a) q f =
-          let long : length kept ≡ length base = ap length (f ∙ overlay-sets 0 (a .words) base) ∙ length-sets base 0 (a .words) in
-          let there : kept ≡ a .words ++ drop (length (a .words)) base = f ∙ laid-in-front (a .words) base (omega (arith, q, h, long)) in
-          ap (λ (l : List ℕ). overlay 0 l old) (ap (λ (k : ℕ). take k kept) q ∙ ap (λ (l : List ℕ). take (length (a .words)) l) there ∙ take-append-seam (a .words) (drop (length (a .words)) base))
+          let fits : 0 + length (a .words) ≤ length base = omega (arith, q, h, f .long) in
+          let there : kept ≡ a .words ++ drop (length (a .words)) base = f .all fits ∙ laid-in-front (a .words) base (omega (arith, fits)) in
+          laid-exact 0 (a .words) old (overlay 0 (take n kept) old)
+          (ap (λ (l : List ℕ). overlay 0 l old) (ap (λ (k : ℕ). take k kept) q ∙ ap (λ (l : List ℕ). take (length (a .words)) l) there ∙ take-append-seam (a .words) (drop (length (a .words)) base)))
       go (refused i) q f = ap (λ (k : ℕ). overlay 0 (take k kept) old) q ∙ overlay-none 0 old
 
   -- and a scope that is refused leaves any table as it was
-  pub leaves : (q : ℕ) → r ≡ scoped.Refused q → (old : List ℕ) → old ≡ scope-table o 0 old
-  unfolding scope-answer scope-table
+  pub leaves : (q : ℕ) → r ≡ scoped.Refused q → (old : List ℕ) → Scope-laid o 0 old old
+  unfolding scope-answer
   leaves q e old = go o (sym e ∙ is)
     where
       told : Scoped → ℕ
       told (scoped.Told n s m x) = 1
       told (scoped.Refused q) = 0
 
-      go : (p : Outcome Told) → scoped.Refused q ≡ scope-answer p 0 → old ≡ scope-table p 0 old
+      go : (p : Outcome Told) → scoped.Refused q ≡ scope-answer p 0 → Scope-laid p 0 old old
       go (ok a) c = (let z : _≡_ {A = ℕ} 0 1 = ap told c in absurd (omega arith))
       go (refused i) c = refl
 
@@ -137,12 +143,12 @@ module _ (rows roots table : List ℕ) where
       By (scoped.Told n s m x) = Answers-by call table (extraction.Rows n x) new
       By (scoped.Refused q) = Answers-by call table (extraction.Refused q) new
 
-      by-outcome : (p : Outcome Told) → o ≡ p → new ≡ scope-table p 0 table → told-rows p ≤ length table → By (scope-answer p 0)
-      unfolding scope-answer scope-table told-rows extraction-answer table-after
+      by-outcome : (p : Outcome Told) → o ≡ p → Scope-laid p 0 table new → told-rows p ≤ length table → By (scope-answer p 0)
+      unfolding scope-answer told-rows extraction-answer table-after
       by-outcome (ok a) e t l =
           subst (λ (x : Outcome Extracted). Answers-by x table (extraction.Rows (0 + length (a .words)) (a .extracted)) new)
           (sym (call-is ∙ ap rest e ∙ enough (length table) a l))
-          (ap (λ (n : ℕ). extraction.Rows n (a .extracted)) (zero-add (length (a .words))), t ∙ table-told a table l ∙ ap (λ (x : Outcome Extracted). table-after x table) (enough (length table) a l))
+          (ap (λ (n : ℕ). extraction.Rows n (a .extracted)) (zero-add (length (a .words))), t .all (omega (arith, l)) ∙ table-told a table l ∙ ap (λ (x : Outcome Extracted). table-after x table) (enough (length table) a l))
       by-outcome (refused i) e t l =
           subst (λ (x : Outcome Extracted). Answers-by x table (extraction.Refused (i .number)) new) (sym (call-is ∙ ap rest e)) (refl, t)
 

@@ -1,13 +1,12 @@
 -- Rows of a scope that are kept for a table. Assumes nothing.
 use Prim.Native.Nat.{ℕ, _≤_}
-use mathlib.Core.Path.{_≡_}
 use mathlib.Core.List.{List}
 use lib.ListN.{length, take}
 use Rattle.tree.specs.Outcome.{Outcome}
 use Rattle.scopeplaces.specs.Overlay.{overlay}
 use Rattle.scopeplaces.specs.Whole.{Told}
-use Rattle.scope.specs.Answers.{scope-table}
+use Rattle.scope.specs.Answers.{Scope-laid}
 
--- the first n words are the scope's rows, whatever table they are laid over, if there are so many
+-- the first n words are the scope's rows, if there are so many: laid over any table they are those that the scope would lay
 abbrev pub Keeps : Outcome Told → ℕ → List ℕ → Type 0
-Keeps o n kept = n ≤ length kept → (old : List ℕ) → overlay 0 (take n kept) old ≡ scope-table o 0 old
+Keeps o n kept = n ≤ length kept → (old : List ℕ) → Scope-laid o 0 old (overlay 0 (take n kept) old)

@@ -6,7 +6,7 @@ ghost use Prim.Native.Nat.{_≤_};
 ghost use lib.ListN.{length};
 ghost use Rattle.cse.specs.Call.{extract-call, table-after};
 ghost use Rattle.extract.specs.Answers.{extraction-answer};
-ghost use Rattle.scope.specs.Answers.{scope-answer, scope-table, told-rows};
+ghost use Rattle.scope.specs.Answers.{scope-answer, Scope-laid, told-rows};
 ghost use Rattle.scope.specs.Frame.{most-rows};
 ghost use Rattle.scopedlaws.specs.Roots.{roots-told, roots-rows};
 ghost use Rattle.scoped.specs.Kept.{Keeps};
@@ -47,7 +47,7 @@ fn scope_roots(
     requires { ⌜ (length (now work) ≡ 65536) × (131072 ≤ length (now text)) ⌝ }
     requires { ⌜ told-rows (roots-told (now rows) (now roots)) ≤ most-rows ⌝ }
     ensures { λ r. ⌜ (r ≡ scope-answer (roots-told (now (rows .entry)) (now (roots .entry))) 0)
-        × (now (table .exit) ≡ scope-table (roots-told (now (rows .entry)) (now (roots .entry))) 0 (now (table .entry))) ⌝ }
+        × Scope-laid (roots-told (now (rows .entry)) (now (roots .entry))) 0 (now (table .entry)) (now (table .exit)) ⌝ }
 {
     let unfolded = unfold(rows, roots, work);
     let Unfolded::Tokens(len) = unfolded else {
@@ -69,7 +69,7 @@ fn lay_rows(
     requires { ⌜ (length (now work) ≡ 65536) × (131072 ≤ length (now text)) ⌝ }
     requires { ⌜ told-rows (roots-told (now rows) (now roots)) ≤ most-rows ⌝ }
     requires { ⌜ Keeps (roots-told (now rows) (now roots)) end (now kept) ⌝ }
-    ensures { λ _. ⌜ now (table .exit) ≡ scope-table (roots-told (now (rows .entry)) (now (roots .entry))) 0 (now (table .entry)) ⌝ }
+    ensures { λ _. ⌜ Scope-laid (roots-told (now (rows .entry)) (now (roots .entry))) 0 (now (table .entry)) (now (table .exit)) ⌝ }
 {
     if end <= kept.len() {
         put(&kept[..end], 0, table);
