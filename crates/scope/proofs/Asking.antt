@@ -1,11 +1,11 @@
 -- What an arm asks of its scope and what the arms of a group ask of each arm is given, and their sums are words (01, "Scoped fusion"). Assumes nothing.
 use Prim.Native.Nat.{ℕ, zero, suc, _+_, _-_, _*_, _≤_, _<_}
 use native.Mathlib.Omega.{arith}
-use mathlib.Core.Path.{_≡_, refl, sym, _∙_, ap, subst}
-use mathlib.Core.List.{List, [], _∷_, _++_}
+use mathlib.Core.Path.{_≡_, refl, sym, _∙_, subst}
+use mathlib.Core.List.{List}
 use lib.ListN.{length, getD, take, length-append}
 use lib.Dec.{T}
-use Rattle.tree.specs.Outcome.{Refusal, Outcome, ok, refused, by}
+use Rattle.tree.specs.Outcome.{Outcome, ok, refused, by}
 use Rattle.tree.specs.Rows.{Row}
 use Rattle.renaming.specs.Names.{is-number, symbols-pass}
 use Rattle.kept.specs.Sound.{extractable}
@@ -18,8 +18,8 @@ use Rattle.scope.specs.declared.Scoped.{Scoped}
 use Rattle.scope.specs.declared.Scoped.the-variants as scoped
 use Rattle.scope.specs.declared.Armed.{Armed}
 use Rattle.scope.specs.declared.Armed.the-variants as armed
-use Rattle.scope.proofs.ArmLaws.{Arm-done, done-refused, arm-refused, arm-of, arm-ok, Arms-so, got, Arms-back, arms-back}
-use Rattle.scope.proofs.Sound.{Small, told-small, column-good, column-passes, arms-few, group-few, holds-later}
+use Rattle.scope.proofs.ArmLaws.{Arm-done, done-refused, arm-refused, arm-of, Arms-so, got, arms-back}
+use Rattle.scope.proofs.Sound.{told-small, column-good, column-passes, arms-few, holds-later}
 
 pub lent-on : (used : ℕ) (work text work' text' : List ℕ) → Lent used work text → length work' ≡ length work → length text' ≡ length text → Lent used work' text'
 lent-on used work text work' text' l e f = record { words = omega (arith, l .words, e); inside = omega (arith, l .inside, e); bytes = omega (arith, l .bytes, f) }

@@ -1,18 +1,18 @@
 -- The beginning of a scope: what its rounds leave, what it holds, its groups, and its members numbered (01, "Scoped fusion"). Assumes nothing.
-use Prim.Native.Nat.{ℕ, zero, suc, _+_, _-_, _*_, _≤_, _<_}
+use Prim.Native.Nat.{ℕ, zero, suc, _+_, _-_, _≤_, _<_}
 use native.Mathlib.Omega.{arith}
 use mathlib.Core.Path.{_≡_, refl, sym, _∙_, ap, ap₂, subst}
-use mathlib.Core.Bool.{Bool, true, false, cond, _&&_}
+use mathlib.Core.Bool.{Bool, true, false, _&&_}
 use mathlib.Core.Option.{Option, some}
 use mathlib.Core.List.{List, [], _∷_, _++_, map}
-use lib.ListN.{length, getD, take, drop, length-append, length-drop, length-take, length-map}
-use lib.Seq.{take-at, length-take-le, take-all}
+use lib.ListN.{length, getD, take, drop, length-append, length-drop, length-map}
+use lib.Seq.{take-at, length-take-le}
 use lib.Dec.{T, leb}
 use borrow.Author.Tests.{le-leb, lt-leb}
 use Rattle.tree.specs.Outcome.{Refusal, Outcome, ok, refused, by, _>>=_}
 use Rattle.tree.specs.Rows.{Row}
 use Rattle.tree.specs.Tokens.{read, numbered, trees-in, name-in}
-use Rattle.tree.proofs.TokenLaws.{complete-length, complete-within}
+use Rattle.tree.proofs.TokenLaws.{complete-length}
 use Rattle.words.specs.Words.{some-trees}
 use Rattle.renaming.specs.Names.{is-number, symbols-pass}
 use Rattle.renaming.specs.Rounds.{next-number}
@@ -20,22 +20,21 @@ use Rattle.kept.specs.Sound.{extractable}
 use Rattle.kept.proofs.Steps.{ready-of}
 use Rattle.reciprocal.specs.Bindings.{all-there}
 use Rattle.reciprocal.proofs.There.{there-tested}
-use Rattle.treelist.specs.Starts.{starts-of, tree-listing, listing-by, listing-room, TreeListing}
+use Rattle.treelist.specs.Starts.{starts-of, tree-listing, listing-by, listing-room}
 use Rattle.treelist.proofs.Begins.{as-many}
 use Rattle.switchplaces.specs.Switches.{switch-places}
 use Rattle.switchplaces.proofs.GroupColumns.{every-at}
 use Rattle.scopeplaces.specs.Overlay.{overlay}
-use Rattle.scopeplaces.specs.Parts.{place-groups, joined-groups, ends-from, reciprocals-first, lets-count, trees-held, words-held, held-words}
-use Rattle.cse.specs.Scope.{most-number}
-use Rattle.scopeplaces.specs.Whole.{Told, Walk, walked, stmts-count, ordered-scope, room-for, fused-scope}
+use Rattle.scopeplaces.specs.Parts.{place-groups, ends-from, reciprocals-first, lets-count, trees-held, words-held, held-words}
+use Rattle.scopeplaces.specs.Whole.{Told, Walk, stmts-count, ordered-scope, room-for, fused-scope}
 use Rattle.tables.proofs.Laws.{overlay-front}
 use Rattle.scopesound.proofs.Bounds.{Walk-bound, walk-bound, numbers-small, numbers-all}
 use Rattle.scopesound.proofs.Columns.{members-count, groups-count}
-use Rattle.scopesound.proofs.Counting.{places-there, first-is, held-extractable, held-passes, held-trees, first-lets, trees-few, lets-few, last-most, held-trees-few}
+use Rattle.scopesound.proofs.Counting.{places-there, held-extractable, held-passes, held-trees, first-lets, trees-few, lets-few, held-trees-few}
 use Rattle.scopeparts.specs.Prepared.{Prepared}
 use Rattle.scopeparts.proofs.Groups.{ends-count}
-use Rattle.scope.specs.Answers.{inner, scope-answer, told-rows, walk-answer, Kept-so, Walk-wrote, walk-refusal, Holding-so}
-use Rattle.scope.specs.Frame.{most-rows, Lent, Holds, Members, Ready, groups-told, grouped-scope, Sized, Numbered, Left, left-scope, Grouping-so}
+use Rattle.scope.specs.Answers.{walk-answer, Kept-so, Walk-wrote, walk-refusal, Holding-so}
+use Rattle.scope.specs.Frame.{Holds, Ready, groups-told, grouped-scope, Numbered, Left, left-scope, Grouping-so}
 use Rattle.scope.specs.declared.Scoped.{Scoped}
 use Rattle.scope.specs.declared.Scoped.the-variants as scoped
 use Rattle.scope.specs.declared.Holding.{Holding}
@@ -46,12 +45,8 @@ use Rattle.scope.proofs.Sound.{words-ok}
 use Rattle.reciprocals.proofs.Parts.{All-there, settle-tree, settled-reciprocals}
 use Rattle.renaming.specs.Places.{divisors-to-bind, numbered-at}
 use Rattle.fusion.specs.Switchless.{with-switches}
-use Rattle.scope.proofs.Statements.{by-test, by-no-test}
+use Rattle.scope.proofs.Statements.{by-test, by-no-test, and-false}
 use Rattle.scope.proofs.Ending.{Scope-done, scope-refused}
-
-and-false : (b : Bool) → (b && false) ≡ false
-and-false true = refl
-and-false false = refl
 
 -- ---- from the groups on
 

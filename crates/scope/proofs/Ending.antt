@@ -1,17 +1,16 @@
 -- The end of a scope: its statements in order and its values, or refusal 11 (01, "Scoped fusion", "Order"). Assumes nothing.
 use Prim.Native.Nat.{ℕ, zero, suc, _+_, _-_, _*_, _≤_, _<_}
 use native.Mathlib.Omega.{arith}
-use mathlib.Core.Path.{_≡_, refl, sym, _∙_, ap, ap₂, subst}
-use mathlib.Core.Bool.{Bool, true, false, cond}
-use mathlib.Core.Option.{some}
-use mathlib.Core.List.{List, [], _∷_, _++_, map, reverse, reverseAux}
+use mathlib.Core.Path.{_≡_, refl, sym, _∙_, ap, subst}
+use mathlib.Core.Bool.{Bool, true, false}
+use mathlib.Core.List.{List, [], _∷_, _++_, reverse, reverseAux}
 use lib.ListN.{length, getD, take, drop, replicate, length-append}
 use lib.Seq.{take-at}
-use lib.Dec.{T, eqb}
-use borrow.Author.Tests.{eqb-true, eqb-false}
+use lib.Dec.{eqb}
+use borrow.Author.Tests.{eqb-true}
 use Rattle.tree.specs.Outcome.{Refusal, Outcome, ok, refused, by, _>>=_}
 use Rattle.tree.specs.Rows.{Row}
-use Rattle.tree.specs.Tokens.{read, numbered, trees-in}
+use Rattle.tree.specs.Tokens.{read, numbered}
 use Rattle.tree.proofs.TokenLaws.{complete-length}
 use Rattle.cse.specs.Order.{positions-taken}
 use Rattle.cselaws.proofs.OrderLaws.{All, taken-ok}
@@ -19,8 +18,8 @@ use Rattle.order.specs.Needs.{table-of, rows-from, all-or-ring}
 use Rattle.order.specs.declared.Ordered.{Ordered}
 use Rattle.order.specs.declared.Ordered.the-variants as ordered
 use Rattle.scopeplaces.specs.Overlay.{overlay}
-use Rattle.scopeplaces.specs.Parts.{place-groups, reciprocals-first, lets-count, held-words}
-use Rattle.scopeplaces.specs.Whole.{Told, Walk, walked, stmts-count, stmts-order, needs-table, stmts-runs, values-runs, ordered-scope}
+use Rattle.scopeplaces.specs.Parts.{place-groups, reciprocals-first}
+use Rattle.scopeplaces.specs.Whole.{Told, Walk, stmts-count, stmts-order, needs-table, stmts-runs, values-runs, ordered-scope}
 use Rattle.scope.proofs.Laying.{laid-exact, laid-append, laid-as}
 use Rattle.renaming.specs.Names.{is-number}
 use Rattle.scopesound.proofs.Bounds.{walk-bound}
@@ -29,7 +28,7 @@ use Rattle.scopeparts.specs.Prepared.{Prepared, order-told}
 use Rattle.scopeparts.proofs.Groups.{ends-count}
 use Rattle.scopeparts.proofs.Held.{first-number, lets-are, count-is}
 use Rattle.scope.specs.Answers.{scope-answer, Laid, Scope-laid, told-rows}
-use Rattle.scope.specs.Frame.{most-rows, Holds, Positions, groups-told, grouped-scope, Sized, Numbered, scope-arms}
+use Rattle.scope.specs.Frame.{most-rows, Holds, Positions, groups-told, grouped-scope, Numbered, scope-arms}
 use Rattle.scope.specs.declared.Scoped.{Scoped}
 use Rattle.scope.specs.declared.Scoped.the-variants as scoped
 use Rattle.scope.proofs.Statements.{arms-are, by-test, by-no-test}

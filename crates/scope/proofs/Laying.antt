@@ -3,7 +3,7 @@ use Prim.Native.Nat.{ℕ, zero, suc, _+_, _-_, _≤_}
 use native.Mathlib.Omega.{arith}
 use mathlib.Core.Path.{_≡_, refl, sym, _∙_, ap, ap₂, subst}
 use mathlib.Core.List.{List, [], _∷_, _++_}
-use lib.ListN.{length, take, drop, length-append}
+use lib.ListN.{length, take, length-append}
 use Rattle.scopeplaces.specs.Overlay.{overlay}
 use Rattle.tables.proofs.Laws.{overlay-none, overlay-length, overlay-append, overlay-row-last, overlay-next}
 use Rattle.scope.specs.Answers.{Laid}

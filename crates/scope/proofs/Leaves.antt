@@ -48,7 +48,6 @@ use Rattle.scopesound.proofs.Columns.{Fused, group-fused, members-count}
 use Rattle.scope.specs.Answers.{Holding-so, Copied-so, Switches-so}
 use Rattle.scope.specs.Frame.{Is-group, Grouping-so}
 use Rattle.scope.specs.declared.Copied.the-variants as copied-enum
-use Rattle.scope.specs.declared.Holding.{Holding}
 use Rattle.scope.specs.declared.Holding.the-variants as holding-enum
 use Rattle.scope.specs.declared.Switches.{Switches}
 use Rattle.scope.specs.declared.Switches.the-variants as switches-enum

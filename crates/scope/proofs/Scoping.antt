@@ -1,15 +1,14 @@
 -- A whole scope, from its tests and its rounds on (01, "Scoped fusion", refusals 10 and 23). Assumes nothing.
-use Prim.Native.Nat.{ℕ, zero, suc, _+_, _-_, _*_, _≤_, _<_}
+use Prim.Native.Nat.{ℕ, suc, _-_, _≤_, _<_}
 use native.Mathlib.Omega.{arith}
 use mathlib.Core.Path.{_≡_, refl, sym, _∙_, ap, ap₂, subst}
-use mathlib.Core.Bool.{Bool, true, false, cond, _&&_}
-use mathlib.Core.Option.{Option, some}
-use mathlib.Core.List.{List, [], _∷_, _++_}
-use lib.ListN.{length, take, drop}
-use lib.Seq.{length-take-le}
+use mathlib.Core.Bool.{Bool, true, false, _&&_}
+use mathlib.Core.Option.{some}
+use mathlib.Core.List.{List, []}
+use lib.ListN.{length, take}
 use lib.Dec.{T, leb}
 use borrow.Author.Tests.{le-leb, lt-leb, leb-true}
-use Rattle.tree.specs.Outcome.{Refusal, Outcome, ok, refused, by, _>>=_}
+use Rattle.tree.specs.Outcome.{Outcome, refused, by, _>>=_}
 use Rattle.tree.specs.Rows.{Row}
 use Rattle.tree.specs.Tokens.{read, numbered, trees-in, name-in}
 use Rattle.tree.proofs.TokenLaws.{complete-length}
@@ -18,11 +17,11 @@ use Rattle.renaming.specs.Places.{divisors-to-bind}
 use Rattle.kept.specs.Sound.{extractable}
 use Rattle.rounds.specs.Rounds.{all-rounds}
 use Rattle.cse.specs.Scope.{most-number}
-use Rattle.scopeplaces.specs.Whole.{Told, scope-told}
+use Rattle.scopeplaces.specs.Whole.{scope-told}
 use Rattle.scopesound.proofs.Rounds.{rounds-sound, rounds-short, rounds-pass, rounds-results, rounds-ten}
 use Rattle.switchplaces.specs.Columns.{column-words}
-use Rattle.scope.specs.Answers.{inner, arm-told, scope-answer, told-rows, Lists, Copied-so}
-use Rattle.scope.specs.Frame.{most-rows, Lent, Left, left-scope}
+use Rattle.scope.specs.Answers.{inner, arm-told, Lists, Copied-so}
+use Rattle.scope.specs.Frame.{Left, left-scope}
 use Rattle.scope.specs.declared.Scoped.{Scoped}
 use Rattle.scope.specs.declared.Scoped.the-variants as scoped
 use Rattle.scope.specs.declared.Armed.the-variants as armed
@@ -32,12 +31,8 @@ use Rattle.scope.specs.declared.Listed.{Listed}
 use Rattle.scope.specs.declared.Listed.the-variants as listed
 use Rattle.scope.proofs.Areas.{copied-none}
 use Rattle.scope.proofs.ArmLaws.{Arm-done, done-refused, arm-refused}
-use Rattle.scope.proofs.Statements.{by-test, by-no-test}
+use Rattle.scope.proofs.Statements.{by-test, by-no-test, and-false}
 use Rattle.scope.proofs.Ending.{Scope-done, scope-refused}
-
-and-false : (b : Bool) → (b && false) ≡ false
-and-false true = refl
-and-false false = refl
 
 module _ (rows : List Row) (left row next : ℕ) (ws : List ℕ) (at : ℕ) (old : List ℕ) where
   pub too-deep : (fuel : ℕ) → fuel ≡ 0 → Scope-done (scope-told rows fuel left row next ws) at old (scoped.Refused 23) old

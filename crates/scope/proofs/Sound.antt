@@ -1,32 +1,31 @@
 -- What the columns of a group may be given to and how large a scope's answer is, in the words of this crate (01, "Scoped fusion"). Assumes nothing.
-use Prim.Native.Nat.{ℕ, zero, suc, _+_, _-_, _*_, _≤_, _<_, _/_, _%_}
+use Prim.Native.Nat.{ℕ, _-_, _≤_, _<_, _/_, _%_}
 use native.Mathlib.Omega.{arith}
-use mathlib.Core.Path.{_≡_, refl, sym, _∙_, ap, subst}
+use mathlib.Core.Path.{_≡_, sym, ap, subst}
 use mathlib.Core.Bool.{Bool, true, false, _&&_, cond}
-use mathlib.Core.List.{List, [], _∷_, _++_}
-use lib.ListN.{length, getD, take}
+use mathlib.Core.List.{List, [], _∷_}
+use lib.ListN.{length, getD}
 use lib.Dec.{T, ltb, eqb, lt→ltb, ltb→lt}
 use Rattle.tree.specs.Bytes.{every}
-use Rattle.tree.specs.Outcome.{Outcome, ok, refused}
+use Rattle.tree.specs.Outcome.{ok}
 use Rattle.tree.specs.Rows.{Row}
 use Rattle.tree.specs.Tokens.{kind-of, below-of, trees-in}
 use Rattle.tree.proofs.Logic.{and-left, and-right, and-both}
 use Rattle.words.specs.Words.{some-trees}
 use Rattle.checked.specs.Check.{word-ok}
 use Rattle.renaming.specs.Names.{is-number, symbols-pass}
-use Rattle.renaming.proofs.Extraction.{Every}
 use Rattle.kept.specs.Sound.{extractable, numbered-below}
 use Rattle.kept.proofs.Steps.{ready-of}
 use Rattle.switchplaces.specs.Switches.{arm-count}
 use Rattle.switchplaces.specs.Columns.{column-words}
 use Rattle.switchplaces.proofs.Turned.{Armed}
 use Rattle.switchplaces.proofs.GroupColumns.{every-at}
-use Rattle.scopeplaces.specs.Parts.{place-groups, group-at, joined-groups}
+use Rattle.scopeplaces.specs.Parts.{place-groups, joined-groups}
 use Rattle.scopeplaces.specs.Whole.{Told, scope-told}
 use Rattle.scopesound.proofs.Columns.{Fused, group-fused, armed-past, column-sound, column-pass, members-count}
 use Rattle.scopesound.proofs.Counting.{arms-some}
-use Rattle.scopesound.proofs.Bounds.{Scope-bound, scope-bound, rows-most, group-within}
-use Rattle.scope.specs.Frame.{Lent, Holds, Is-group}
+use Rattle.scopesound.proofs.Bounds.{scope-bound, rows-most, group-within}
+use Rattle.scope.specs.Frame.{Holds, Is-group}
 
 -- how large a scope's answer is
 pub record Small (next : ℕ) (t : Told) : Type 0 where

@@ -1,14 +1,14 @@
 -- The rows of a scope's statements, each a let or a match (01, "Scoped fusion"). Assumes nothing.
-use Prim.Native.Nat.{ℕ, zero, suc, _+_, _-_, _*_, _≤_, _<_}
+use Prim.Native.Nat.{ℕ, zero, suc, _+_, _-_, _≤_, _<_}
 use native.Mathlib.Omega.{arith}
 use mathlib.Core.Path.{_≡_, refl, sym, _∙_, ap, ap₂, subst}
-use mathlib.Core.Bool.{Bool, true, false, cond}
+use mathlib.Core.Bool.{Bool, true, false, cond, _&&_}
 use mathlib.Core.List.{List, [], _∷_, _++_}
 use lib.ListN.{length, getD, take, drop, length-append}
 use lib.Seq.{take-at}
-use lib.Dec.{T, ltb, lt→ltb}
+use lib.Dec.{ltb}
 use borrow.Author.Tests.{lt-ltb, le-ltb}
-use Rattle.tree.specs.Outcome.{Refusal, Outcome, ok, refused}
+use Rattle.tree.specs.Outcome.{ok}
 use Rattle.tree.specs.Rows.{Row}
 use Rattle.renaming.specs.Names.{is-number}
 use Rattle.finishlaws.specs.Entries.{runs}
@@ -16,16 +16,16 @@ use Rattle.switchplaces.proofs.GroupColumns.{every-at}
 use Rattle.kept.proofs.Steps.{ready-of}
 use Rattle.scopeplaces.specs.Overlay.{overlay}
 use Rattle.scopeplaces.specs.Parts.{place-groups, joined-groups, group-at, group-start, group-end, match-run, let-run, reciprocals-first, lets-count, held-words}
-use Rattle.scopeplaces.specs.Whole.{Told, Arms-told, Walk, walked, tree-run, stmts-count, stmt-run, stmts-runs}
+use Rattle.scopeplaces.specs.Whole.{Walk, walked, tree-run, stmts-count, stmt-run, stmts-runs}
 use Rattle.scopesound.proofs.Columns.{group-fused}
 use Rattle.scopesound.proofs.Sums.{runs-within}
-use Rattle.scopesound.proofs.Bounds.{per-match, per-number, Walk-bound, walk-bound}
+use Rattle.scopesound.proofs.Bounds.{Walk-bound, walk-bound}
 use Rattle.scopeparts.specs.Prepared.{Prepared, Readied, Grouped, begin-of}
 use Rattle.scopeparts.proofs.Groups.{ends-count, end-is, begin-is, group-long, group-inside, group-part}
-use Rattle.scopeparts.proofs.Held.{lets-are, count-is, trees-few, places-few, first-number}
+use Rattle.scopeparts.proofs.Held.{lets-are, count-is, first-number}
 use Rattle.scopeparts.proofs.Keys.{grouped as all-grouped}
 use Rattle.scope.specs.Answers.{inner, Laid, arms-of, words-of}
-use Rattle.scope.specs.Frame.{most-rows, Lent, Holds, groups-told, Sized, group-again, Group-sized, scope-arms}
+use Rattle.scope.specs.Frame.{most-rows, Holds, groups-told, Sized, group-again, Group-sized, scope-arms}
 use Rattle.scope.proofs.Sound.{words-ok, holds-later}
 use Rattle.scope.proofs.Walking.{joined-low}
 use Rattle.scope.proofs.WalkLaws.{joined-first, Walked-at, walked-at, starts-grow}
@@ -38,6 +38,10 @@ by-test false x y e = absurd (let z : _≡_ {A = ℕ} 0 1 = cc in omega arith)
 pub by-no-test : {A : Type 0} (b : Bool) (x y : A) → b ≡ false → cond b x y ≡ y
 by-no-test true x y e = absurd (let z : _≡_ {A = ℕ} 0 1 = cc in omega arith)
 by-no-test false x y e = refl
+
+pub and-false : (b : Bool) → (b && false) ≡ false
+and-false true = refl
+and-false false = refl
 
 -- what begins alike has the same part there
 part-same : (f n : ℕ) (x y : List ℕ) → take (f + n) x ≡ take (f + n) y → take n (drop f x) ≡ take n (drop f y)

@@ -1,25 +1,23 @@
 -- The groups of a scope one after another (01, "Scoped fusion"): their members take numbers, their arms are done, and the first that is refused ends them; and what
 -- was found of one group afterwards. Assumes nothing.
 use Prim.Native.Nat.{ℕ, zero, suc, _+_, _-_, _≤_, _<_}
-use native.Mathlib.Nat.{add-zero, add-assoc}
 use native.Mathlib.Omega.{arith}
 use mathlib.Core.Path.{_≡_, refl, sym, _∙_, ap, ap₂, subst}
 use mathlib.Core.List.{List, [], _∷_, _++_, append-assoc}
 use lib.ListN.{length, getD, take, drop, set, length-append, List·getD-append}
 use mathlib.Core.Bool.{Bool, true, false, not}
 use lib.Dec.{T, ltb, ltb→lt, nltb→le}
-use lib.Seq.{take-at, length-take-le, getD-append-add}
+use lib.Seq.{take-at, getD-append-add}
 use Rattle.tree.specs.Outcome.{Refusal, Outcome, ok, refused, _>>=_}
 use Rattle.fusion.specs.Words.{numbers-from}
 use Rattle.fusion.proofs.Members.{numbers-count}
 use Rattle.scopeplaces.specs.Overlay.{overlay}
 use Rattle.scopeplaces.specs.Parts.{joined-groups, ends-from, group-at, group-start}
-use Rattle.scopeplaces.specs.Whole.{Told, Arms-told, Walk, arms-told, group-told, walked}
+use Rattle.scopeplaces.specs.Whole.{Told, Arms-told, Walk, group-told, walked}
 use Rattle.tables.proofs.Laws.{overlay-fits, overlay-word}
 use Rattle.scope.specs.Answers.{Laid, arms-answer, Arms-wrote, walk-answer, Kept-so, Walk-wrote, refusal-number}
 use Rattle.scope.specs.declared.Armed.{Armed}
 use Rattle.scope.specs.declared.Armed.the-variants as armed
-use Rattle.scope.specs.declared.Walked.{Walked}
 use Rattle.scope.specs.declared.Walked.the-variants as walked-enum
 use Rattle.scope.proofs.Laying.{front-less}
 use Rattle.scope.proofs.ArmLaws.{got, never-ok, Or, first, second, lt-or-eq}

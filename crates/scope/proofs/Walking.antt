@@ -1,24 +1,22 @@
 -- What the walk over the groups of a scope asks of each is given, and its sums are words (01, "Scoped fusion"). Assumes nothing.
-use Prim.Native.Nat.{ℕ, zero, suc, _+_, _-_, _*_, _≤_, _<_}
+use Prim.Native.Nat.{ℕ, _+_, _-_, _≤_, _<_}
 use native.Mathlib.Omega.{arith}
-use mathlib.Core.Path.{_≡_, refl, sym, _∙_, ap, subst}
+use mathlib.Core.Path.{_≡_, _∙_, ap, subst}
 use mathlib.Core.List.{List, [], _∷_}
 use lib.ListN.{length, getD, take, drop, length-append}
-use lib.Dec.{T}
-use Rattle.tree.specs.Outcome.{Outcome, ok, refused}
 use Rattle.tree.specs.Rows.{Row}
 use Rattle.renaming.specs.Names.{is-number}
-use Rattle.scopeplaces.specs.Parts.{place-groups, joined-groups, ends-from, group-at, group-start, group-end}
-use Rattle.scopeplaces.specs.Whole.{Told, Arms-told, Walk, walked, group-told}
+use Rattle.scopeplaces.specs.Parts.{place-groups, joined-groups, group-at, group-start, group-end}
+use Rattle.scopeplaces.specs.Whole.{group-told}
 use Rattle.kept.proofs.Steps.{ready-of}
 use Rattle.scopesound.proofs.Columns.{groups-count}
 use Rattle.scopesound.proofs.Sums.{sum-each}
-use Rattle.scopesound.proofs.Bounds.{per-match, per-number, Walk-bound, walk-bound}
+use Rattle.scopesound.proofs.Bounds.{per-match, Walk-bound, walk-bound}
 use Rattle.scope.specs.Answers.{inner, arms-answer, Arms-wrote}
-use Rattle.scope.specs.Frame.{Lent, Holds, Is-group, Members}
+use Rattle.scope.specs.Frame.{Holds, Is-group, Members}
 use Rattle.scope.specs.declared.Armed.{Armed}
 use Rattle.scopeparts.proofs.Groups.{ends-count, end-is, group-long, group-inside, group-part}
-use Rattle.scope.proofs.Sound.{words-ok, all-few, holds-later}
+use Rattle.scope.proofs.Sound.{words-ok, holds-later}
 use Rattle.scope.proofs.WalkLaws.{Walk-so}
 
 -- all rows of arms are paid for

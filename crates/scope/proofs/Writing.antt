@@ -1,23 +1,22 @@
 -- The rows of a match and of a statement, given what their parts write (01, "Scoped fusion"). Assumes nothing.
-use Prim.Native.Nat.{ℕ, zero, suc, _+_, _-_, _*_, _≤_, _<_}
+use Prim.Native.Nat.{ℕ, _+_, _-_, _≤_, _<_}
 use native.Mathlib.Omega.{arith}
 use mathlib.Core.Path.{_≡_, refl, sym, _∙_, ap, ap₂, subst}
-use mathlib.Core.List.{List, [], _∷_, _++_, map, append-assoc}
+use mathlib.Core.List.{List, _∷_, _++_, append-assoc}
 use lib.ListN.{length, getD, take, drop, length-append}
-use lib.Dec.{T}
-use Rattle.tree.specs.Outcome.{Refusal, Outcome, ok, refused}
+use Rattle.tree.specs.Outcome.{Outcome, ok}
 use Rattle.tree.specs.Rows.{Row}
 use Rattle.switchplaces.specs.Switches.{arm-count}
 use Rattle.scopeplaces.specs.Overlay.{overlay}
-use Rattle.scopeplaces.specs.Parts.{place-groups, joined-groups, ends-from, group-at, group-start, group-end, match-run, match-head, key-run, names-run}
-use Rattle.scopeplaces.specs.Whole.{Told, Arms-told, Walk, arms-told, group-told}
+use Rattle.scopeplaces.specs.Parts.{place-groups, group-at, group-start, group-end, match-run, match-head, key-run, names-run}
+use Rattle.scopeplaces.specs.Whole.{Arms-told, arms-told, group-told}
 use Rattle.scope.specs.Answers.{inner, Laid, arms-answer, Arms-wrote, words-of}
-use Rattle.scope.specs.Frame.{most-rows, Lent, Holds, Is-group, Arms-fit, group-again, Group-sized}
+use Rattle.scope.specs.Frame.{most-rows, Holds, Is-group, Arms-fit, group-again, Group-sized}
 use Rattle.scopeparts.specs.Prepared.{Grouped, begin-of, head-run}
 use Rattle.scope.specs.declared.Armed.{Armed}
 use Rattle.scope.specs.declared.Armed.the-variants as armed
 use Rattle.scope.proofs.Laying.{laid-exact, laid-append, laid-past, laid-as}
-use Rattle.scope.proofs.ArmLaws.{arms-within, never-ok}
+use Rattle.scope.proofs.ArmLaws.{arms-within}
 use Rattle.scopeparts.proofs.Groups.{ends-count, end-is, begin-is, group-long, group-inside, group-part}
 use Rattle.scope.proofs.Sound.{fused, all-few, holds-later}
 

@@ -1,5 +1,5 @@
 -- What a scope, an arm, the arms of a match and the groups of a scope answer, and what they leave in the table, by cases (01, "Scoped fusion"). Assumes nothing.
-use Prim.Native.Nat.{ℕ, suc, _+_, _≤_, _<_}
+use Prim.Native.Nat.{ℕ, _+_, _≤_, _<_}
 use mathlib.Core.Path.{_≡_}
 use mathlib.Core.Bool.{true}
 use mathlib.Core.List.{List, [], _∷_}

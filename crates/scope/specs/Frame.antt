@@ -1,6 +1,6 @@
 -- What the parts of a scope are given (01, "Scoped fusion"): the room lent, words whose columns may be scopes, a scope's words with its groups, and its members
 -- numbered. Assumes nothing.
-use Prim.Native.Nat.{ℕ, suc, _+_, _-_, _*_, _≤_, _<_}
+use Prim.Native.Nat.{ℕ, suc, _+_, _-_, _≤_, _<_}
 use mathlib.Core.Path.{_≡_}
 use mathlib.Core.List.{List}
 use mathlib.Core.Bool.{true}
@@ -18,7 +18,7 @@ use Rattle.treelist.specs.Starts.{starts-of}
 use Rattle.reciprocal.specs.Bindings.{all-there}
 use Rattle.switchplaces.specs.Switches.{arm-count, switch-places}
 use Rattle.switchplaces.specs.Columns.{column-words}
-use Rattle.scopeplaces.specs.Parts.{place-groups, joined-groups, ends-from, group-at, group-start, reciprocals-first, lets-count, held-words}
+use Rattle.scopeplaces.specs.Parts.{place-groups, joined-groups, ends-from, group-at, group-start, reciprocals-first, held-words}
 use Rattle.cse.specs.Scope.{most-number}
 use Rattle.scopeplaces.specs.Whole.{Told, Arms-told, Walk, arms-told, group-told, walked, ordered-scope, fused-scope, stmts-count}
 use Rattle.scope.specs.Answers.{told-rows, inner, arms-of, Kept-so}

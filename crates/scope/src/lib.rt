@@ -1,6 +1,6 @@
 // One scope of the scoped form on words, `cse_scope` of the source (01, "Scoped fusion"): rounds, reciprocals, switches outside arms fused by group into matches, each
 // arm a scope of its own, and the statements in the order of their needs. An arm's scope works in the part of the work area after its caller's words. Arms are
-// done first, which finds every refusal before anything is written, and their rows are kept; those that don't fit are made again where they are written.
+// done first, which finds every refusal before anything is written, and their rows are kept; those for which there is no room are made again where they are written.
 ghost use mathlib.Core.Path.{_≡_};
 ghost use mathlib.Core.Option.{some};
 ghost use mathlib.Core.List.{[], _∷_, _++_};
@@ -373,7 +373,7 @@ fn arms(
     Armed::Rows(end, number, extracted)
 }
 
-// The arms of a group, their rows laid over what is kept from a place on, those past its end dropped.
+// The arms of a group, their rows laid over what is kept from a place on.
 fn measure(
     rows: &[u64],
     work: &mut [u64],
@@ -892,7 +892,7 @@ fn scope_listed(
 }
 
 // The scope of the first `len` words of the work area, with numbers from `next` on and values in rows of the kind `row`: its rows are laid over the table from `at`
-// on, those past its end dropped. A refusal writes nothing. `fuel` is how many scopes may be open at once from here on, and the work area is what is left for them.
+// on; where they have no room, what is left there is free. A refusal writes nothing. `fuel` is how many scopes may be open at once from here on, and the work area is what is left for them.
 pub fn scope(
     rows: &[u64],
     work: &mut [u64],

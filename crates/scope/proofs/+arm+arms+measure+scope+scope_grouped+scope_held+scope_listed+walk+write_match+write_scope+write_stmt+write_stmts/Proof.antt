@@ -3,16 +3,15 @@ use native.Mathlib.Omega.{arith}
 use native.Mathlib.Nat.{le-refl}
 use mathlib.Core.Path.{_≡_, refl, sym, _∙_, ap, subst}
 use mathlib.Core.List.{List}
-use lib.ListN.{length, take, drop, getD, length-set, length-replicate}
+use lib.ListN.{length, take, drop, getD, length-set}
 use lib.Seq.{length-take-le}
 use Rattle.checked.specs.Check.{rows-in}
 use Rattle.switchplaces.specs.Switches.{arm-count}
 use Rattle.switchplaces.specs.Columns.{column-words}
-use Rattle.scopeplaces.specs.Overlay.{overlay}
 use Rattle.scopeplaces.specs.Parts.{place-groups, reciprocals-first}
 use Rattle.scopeplaces.specs.Whole.{group-told, stmt-run, stmts-runs}
 use Rattle.scope.specs.Answers.{inner, Laid, arm-told, told-rows}
-use Rattle.scope.specs.Frame.{most-rows, Arm-fits, Arms-fit, Sized, Numbered, scope-arms, groups-told, grouped-scope}
+use Rattle.scope.specs.Frame.{most-rows, Arm-fits, Arms-fit, Sized, scope-arms, groups-told, grouped-scope}
 use Rattle.scope.proofs.Areas.{rest-long, rest-length, rest-front, front-kept, lent-rest, copied-words, holds-now, group-now, arm-now, readied-now, prepared-now, numbered-now, now-so, before-so, grouped-before, found-groups, found-none}
 use Rattle.scope.proofs.ArmLaws.{Arm-done, Arms-so, arm-ends, arm-stops, arms-begin, arms-go-on, arms-end-refused, arms-all}
 use Rattle.scope.proofs.Asking.{lent-on, column-scoped, column-fits, column-answers, steps-few, arm-too-deep, so-holds, so-fits, so-made, measure-fits, group-is}
@@ -21,7 +20,7 @@ use Rattle.scope.proofs.WalkLaws.{Walk-so, walk-begin, walk-goes-on, wa
 use Rattle.scope.proofs.Walking.{ends-many, ends-few, number-low, to-low, number-holds, made-low, end-long, end-within, group-here, answer-here, count-here}
 use Rattle.scope.proofs.Writing.{head-fits, all-fits, ends-within, members-few, start-under, start-within, number-small, part-group, part-holds, part-fits, match-done, match-never, match-past, kept-low, match-kept}
 use Rattle.scope.proofs.Statements.{rows-as, rows-exact, readied, grouped, lets-few, let-is, let-there, group-there, stop-in, stop-over, group-sized, number-holds as member-holds, match-is as stmt-match-is, stmts-begin, entry-fits, stmts-on, stmts-end}
-use Rattle.scope.proofs.Ending.{Scope-done, done-as, extracted-low, count-here as statements-here, ring-done, never-broken, positions, stmts-fit, values-fit, all-done}
+use Rattle.scope.proofs.Ending.{done-as, extracted-low, count-here as statements-here, ring-done, never-broken, positions, stmts-fit, values-fit, all-done}
 use Rattle.scope.proofs.Beginning.{lets-small, from-low, holds-from, ends-short, walk-refused, numbered-so, prepared-so, left-there, left-holds, held-whole as held-complete, trees-short, switches-here, groups-short, members-short, ready-so, too-many-switches, too-many-stmts, outcome-is, whole-so, trees-enough, trees-few-here, places-short, words-whole, too-many, held-in, held-are, used-few, tokens-left, tokens-whole, tokens-inside, same-outcome}
 use Rattle.scope.proofs.Scoping.{too-deep, too-long, too-large, ten, words-in, places-in, left-so, scope-is, arm-too-many, left-now}
 use borrow.Author.Needs.{needs}

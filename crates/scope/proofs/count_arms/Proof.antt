@@ -1,6 +1,5 @@
 -- `scope::count_arms` meets its contract. Assumes nothing.
 use native.Mathlib.Omega.{arith}
-use mathlib.Core.Path.{_≡_, sym, _∙_, ap}
 use Rattle.scope.proofs.Leaves.{opener-there, group-some, takes-some, arms-counted}
 use borrow.Author.Needs.{needs}
 use Rattle.scope.proofs.count_arms.Statement.{statement}

@@ -1,6 +1,6 @@
 -- `scope::number_members` meets its contract. Assumes nothing.
 use native.Mathlib.Omega.{arith}
-use mathlib.Core.Path.{_≡_, refl, sym, _∙_, subst}
+use mathlib.Core.Path.{_≡_, refl, _∙_, subst}
 use lib.ListN.{length, length-set}
 use Prim.Native.Nat.{_≤_, _-_, _+_}
 use Rattle.fusion.specs.Words.{numbers-from}

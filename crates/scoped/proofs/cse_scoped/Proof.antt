@@ -9,10 +9,6 @@ use Rattle.scopedcall.proofs.Scoped.{scoped-call}
 use borrow.Author.Needs.{needs}
 use Rattle.scoped.proofs.cse_scoped.Statement.{statement}
 use Rattle.scoped.proofs.cse_scoped.Tie as tie
-use Rattle.scoped.proofs.cse_scoped.Reads as reads
-use Rattle.scoped.proofs.cse_scoped.Lts as lts
-use Rattle.scoped.proofs.write_rows.Reads as write-rows-reads
-use Rattle.workarea.proofs.is_short.Reads as is-short-reads
 
 pub cse-scoped-spec : {M : Type 1} → statement M
 cse-scoped-spec =
