@@ -6,7 +6,7 @@
  * Each function returns 0, or the number of a refusal (README.md has them all). Refused, a call leaves every output as it was, but for what its
  * own comment says; accepted, it leaves output past its answer as it was.
  *
- * Stack, which no proof covers: 1 MB is ample for all but cse_extract_scoped, which needs 224 KB more for each level that arms nest, 2.3 MB at the limit of
+ * Stack, which no proof covers: 1 MB is ample for all but cse_extract_scoped, which needs some 210 KB more for each level that arms nest, 2.8 MB at the limit of
  * 8; give it 4 MB. Most systems give a main thread 8 MB, and many give other threads less. README.md has what was measured.
  *
  * Link with libpaddlecrook.a, which bindings/build makes.

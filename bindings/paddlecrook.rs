@@ -144,7 +144,7 @@ impl Refusal {
             FewRows => "the answer has more rows than are lent",
             BadAnswer => "the rows are not those of an answer",
             LongText => "the text is longer than the buffer",
-            LargeScope => "a scope would hold more than the work area has rows for",
+            LargeScope => "the open scopes would need more rows than the work area has, or one has more occurrences, switches, statements or numbers than it may",
         }
     }
 }

@@ -233,7 +233,7 @@ unfoldable pub statements : State → ℕ
 unfolding groups-from collect-switches roots
 statements s = length (s .lets) + length (groups-from [] (collect-switches (roots s)))
 
--- whether a scope has room for fusion in the rows that are left, and for the order of its statements
+-- whether a scope has room for what it holds in the rows that are left, for its switches, and for the order of its statements
 unfoldable pub has-room : ℕ → ℕ → State → Bool
 unfolding held occurrences collect-switches roots most-switches statements most-stmts
 has-room left x s =

@@ -70,8 +70,8 @@ plain-none-bound es h p = plain.plain-none-bound es (passes-formed es h) (passes
 pub plain-refused-by-10-or-11 : (es : List Tree) → T (passes es) → Plain-divisors es → (i : Refusal) → answer true es ≡ refused i → (i ≡ by 10) ⊎ (i ≡ by 11)
 plain-refused-by-10-or-11 es h p = scoped-refused-by-10-or-11 es h (plain-none-bound es h p)
 
--- For a list that passes 9 more than nine open scopes would change nothing: 23 arises only where a scope's input, its first number, what it holds for fusion, its
--- switches or its statements are more than there is room for in the rows that are left.
+-- For a list that passes 9 more than nine open scopes would change nothing: 23 arises only where a scope's input or what it holds for fusion is more than the
+-- rows that are left, or its input, its first number, its switches or its statements are more than they may be.
 pub nine-scopes : (fuel : ℕ) → scopes-open ≤ fuel → (scoped : Bool) (es : List Tree) → T (passes es) → answer scoped es ≡ (cse-scope fuel area-rows scoped 0 es >>= λ a. ok (as-answer a))
 nine-scopes fuel m scoped es h = scopes.answer-by-more fuel m scoped es (passes-limits es h)
 

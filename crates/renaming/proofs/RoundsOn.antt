@@ -331,7 +331,7 @@ module _ (shown : Tree → List ℕ) where
       (λ us. finish (unfused (length (drop k us)) (state-of k next (reciprocals-on shown false k next us)))) (rounds-on-length (all-operations es) false k next es (omega arith))
       (λ us l. ap finish (ap₂ unfused (lets-length k next us) (reciprocals-on-state false k next us l)))
 
-  -- the scoped form, where the input has no more occurrences than rows are left and than the scope has rows, and its numbers are within 2^31
+  -- the scoped form, where the input has no more occurrences than rows are left and than a scope may be given, and its numbers are within 2^31
   pub scoped-on :
       (fuel left next : ℕ) (es : List Tree) → opens left next es ≡ true → let k = length es in
       cse-scope-by shown (suc fuel) left true next es

@@ -1,6 +1,7 @@
 // One scope of the scoped form on words, `cse_scope` of the source (01, "Scoped fusion"): rounds, reciprocals, switches outside arms fused by group into matches, each
 // arm a scope of its own, and the statements in the order of their needs. An arm's scope works in the part of the work area after its caller's words. Arms are
-// done first, which finds every refusal before anything is written, and their rows are kept; those for which there is no room are made again where they are written.
+// done first, which finds every refusal before anything is written, and their rows are kept; those that there is no room to keep are made again where they
+// are written, if the table has room for them.
 ghost use mathlib.Core.Path.{_≡_};
 ghost use mathlib.Core.Option.{some};
 ghost use mathlib.Core.List.{[], _∷_, _++_};
@@ -75,7 +76,7 @@ const BAD_COEFFICIENT: u64 = 10;
 
 const RING: u64 = 11;
 
-// More scopes, words or numbers than can be worked on.
+// More scopes, words, switches, statements or numbers than there is room for.
 const TOO_MUCH: u64 = 23;
 
 // No refusal has this number. It stands where an answer of a step never comes up, which the proofs show.

@@ -1,5 +1,5 @@
 // The public operation Extract in the scoped form, `cse_scoped` of the source (01, "Turned down": Extract): node rows and roots in, rows of the answer out. The
-// scope of the roots is done first over rows of this crate's own, which finds every refusal before anything is written; an answer that has more is done once more.
+// scope of the roots is done first over rows of this crate's own, which finds every refusal before anything is written; an answer that has more, and that the table has room for, is done once more.
 ghost use mathlib.Core.Path.{_≡_};
 ghost use mathlib.Core.Bool.{true};
 ghost use Prim.Native.Nat.{_≤_};
@@ -36,7 +36,8 @@ const BAD_ROWS: u64 = 9;
 
 const FEW_ROWS: u64 = 12;
 
-// The scope of the roots' trees, whose words are written into the work area anew, or 9. Its rows are laid over the front of the table.
+// The scope of the roots' trees, whose words are written into the work area anew, or 9. Its rows are laid over the front of the table; where
+// they have no room, what is left there is free.
 fn scope_roots(
     rows: &[u64],
     roots: &[u64],

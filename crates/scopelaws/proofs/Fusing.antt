@@ -83,7 +83,7 @@ module _ (scope : ℕ → List Tree → Outcome Scoped) (proper : (n : ℕ) (es 
   groups-are : scope-groups ds n ts ≡ map (group-of hs) (numbers-of hs)
   groups-are = scope-groups-are vs n places fit ∙ ap (λ (l : List ℕ). map (group-of l) (numbers-of l)) (sym hs-are)
 
-  -- as many words as a scope may hold occurrences
+  -- as many words as the scope holds occurrences
   pub held-many :
       length (held-words vs k first places)
       ≡ occurrences

@@ -148,7 +148,7 @@ fused-scope scope left row ws k first places =
     cond (room-for left ws k first places) (walked scope hs gs (reciprocals-first ws k first places + length places) (length gs) >>= λ l. ordered-scope row ws k first places l) (refused (by 23))
 
 -- A scope on the words of its input, with values in rows of a kind, in the rows of the work area that are left: its arms' scopes have those after what it holds. 23
--- for more scopes than can be open, more words than are left or can be worked on, and numbers too large.
+-- for more scopes than can be open, more words than are left or can be worked on, and numbers too large; and as `room-for` says, after the rounds.
 unfoldable pub scope-told : List Row → ℕ → ℕ → ℕ → ℕ → List ℕ → Outcome Told
 unfolding all-rounds divisors-to-bind name-in held-words fused-scope read
 scope-told rows zero left row next ws = refused (by 23)
