@@ -4,23 +4,14 @@ use native.Mathlib.Omega.{arith}
 use mathlib.Core.Path.{_≡_, refl, sym, _∙_, ap, ap₂, subst}
 use mathlib.Core.List.{List, [], _∷_, _++_}
 use lib.ListN.{length, take, length-append}
+use lib.Seq.{take-take}
 use Rattle.scopeplaces.specs.Overlay.{overlay}
 use Rattle.tables.proofs.Laws.{overlay-none, overlay-length, overlay-append, overlay-row-last, overlay-next}
 use Rattle.scope.specs.Answers.{Laid}
 
-take-none : (m : ℕ) → _≡_ {A = List ℕ} (take m []) []
-take-none zero = refl
-take-none (suc m) = refl
-
-take-less : (m n : ℕ) → m ≤ n → (x : List ℕ) → take m (take n x) ≡ take m x
-take-less zero n h x = refl
-take-less (suc m) zero h x = absurd (omega arith)
-take-less (suc m) (suc n) h [] = refl
-take-less (suc m) (suc n) h (w ∷ x) = ap (λ (l : List ℕ). w ∷ l) (take-less m n (omega arith) x)
-
 -- what begins alike up to a place does so up to an earlier one
 pub front-less : (m n : ℕ) → m ≤ n → (x y : List ℕ) → take n x ≡ take n y → take m x ≡ take m y
-front-less m n h x y e = sym (take-less m n h x) ∙ (ap (take m) e ∙ take-less m n h y)
+front-less m n h x y e = sym (take-take m n x h) ∙ (ap (take m) e ∙ take-take m n y h)
 
 set-front : (at w : ℕ) (old : List ℕ) → take at (lib.ListN.set old at w) ≡ take at old
 set-front zero w old = refl

@@ -3,11 +3,11 @@
 use Prim.Native.Nat.{ℕ, zero, suc, _+_, _-_, _≤_, _<_}
 use native.Mathlib.Omega.{arith}
 use mathlib.Core.Path.{_≡_, refl, sym, _∙_, ap, ap₂, subst}
-use mathlib.Core.List.{List, [], _∷_, _++_, append-assoc}
+use mathlib.Core.List.{List, [], _∷_, _++_, append-assoc, append-nil}
 use lib.ListN.{length, getD, take, drop, set, length-append, List·getD-append}
 use mathlib.Core.Bool.{Bool, true, false, not}
 use lib.Dec.{T, ltb, ltb→lt, nltb→le}
-use lib.Seq.{take-at, getD-append-add}
+use lib.Seq.{take-all, take-at, getD-append-add}
 use Rattle.tree.specs.Outcome.{Refusal, Outcome, ok, refused, _>>=_}
 use Rattle.fusion.specs.Words.{numbers-from}
 use Rattle.fusion.proofs.Members.{numbers-count}
@@ -33,14 +33,10 @@ front-grows xs new old at e f fits =
     ∙ (ap (λ (l : List ℕ). l ++ (new ++ drop (at + length new) old)) (ap (λ (k : ℕ). take k old) e ∙ f) ∙ sym (append-assoc xs new (drop (at + length new) old))) in
     ap (take (length (xs ++ new))) s ∙ take-at (xs ++ new) (drop (at + length new) old) (length (xs ++ new)) refl
 
-append-none : (x : List ℕ) → x ++ [] ≡ x
-append-none [] = refl
-append-none (w ∷ x) = ap (λ (k : List ℕ). w ∷ k) (append-none x)
-
 -- the rows of some groups' arms, and those of one more
 pub joined-more : (l : List (List ℕ)) (x : List ℕ) → joined-groups (l ++ (x ∷ [])) ≡ joined-groups l ++ x
 unfolding joined-groups
-joined-more [] x = append-none x
+joined-more [] x = append-nil x
 joined-more (y ∷ l) x = ap (λ (k : List ℕ). y ++ k) (joined-more l x) ∙ sym (append-assoc y (joined-groups l) x)
 
 ends-more : (n : ℕ) (l : List (List ℕ)) (x : List ℕ) → ends-from n (l ++ (x ∷ [])) ≡ ends-from n l ++ ((n + (length (joined-groups l) + length x)) ∷ [])
@@ -52,24 +48,15 @@ ends-more n (y ∷ l) x =
 
 -- ---- rows that are kept
 
-none-taken : (i : ℕ) → _≡_ {A = List (List ℕ)} (take i []) []
-none-taken zero = refl
-none-taken (suc i) = refl
-
 none-kept : (kept : List ℕ) → Kept-so [] kept
 unfolding joined-groups
-none-kept kept i h = subst (λ (z : List (List ℕ)). take (length (joined-groups z)) kept ≡ joined-groups z) (sym (none-taken i)) refl
+none-kept kept i h = subst (λ (z : List (List ℕ)). take (length (joined-groups z)) kept ≡ joined-groups z) (sym (take-all i [] (omega arith))) refl
 
 -- the first of some groups, and of those with one more
 taken-before : (i : ℕ) (l : List (List ℕ)) (x : List ℕ) → i ≤ length l → take i (l ++ (x ∷ [])) ≡ take i l
 taken-before zero l x h = refl
 taken-before (suc i) [] x h = absurd (omega arith)
 taken-before (suc i) (y ∷ l) x h = ap (λ (k : List (List ℕ)). y ∷ k) (taken-before i l x (omega arith))
-
-taken-all : (i : ℕ) (l : List (List ℕ)) → length l ≤ i → take i l ≡ l
-taken-all i [] h = none-taken i
-taken-all zero (y ∷ l) h = absurd (omega arith)
-taken-all (suc i) (y ∷ l) h = ap (λ (k : List (List ℕ)). y ∷ k) (taken-all i l (omega arith))
 
 pub joined-first : (i : ℕ) (l : List (List ℕ)) → joined-groups l ≡ joined-groups (take i l) ++ joined-groups (drop i l)
 unfolding joined-groups
@@ -98,11 +85,11 @@ more-kept arms x kept kept' k to e l i h = go (lt-or-eq' i (length arms))
         let fits : m ≤ length kept = omega (arith, h, l .long, ap (λ (z : List (List ℕ)). length (joined-groups z)) s) in
         subst Stands (sym s) (front-less m to low kept' kept (l .front) ∙ k i fits)
     go (second q) =
-        let s : take i (arms ++ (x ∷ [])) ≡ arms ++ (x ∷ []) = taken-all i (arms ++ (x ∷ [])) (omega (arith, q, length-append arms (x ∷ []))) in
+        let s : take i (arms ++ (x ∷ [])) ≡ arms ++ (x ∷ []) = take-all i (arms ++ (x ∷ [])) (omega (arith, q, length-append arms (x ∷ []))) in
         let j = joined-groups arms in
         let more = joined-more arms x in
         let fits : to + length x ≤ length kept = omega (arith, h, e, l .long, ap (λ (z : List (List ℕ)). length (joined-groups z)) s, ap length more, length-append j x) in
-        let all : take (length arms) arms ≡ arms = taken-all (length arms) arms (omega arith) in
+        let all : take (length arms) arms ≡ arms = take-all (length arms) arms (omega arith) in
         let before : take (length j) kept ≡ j =
         subst (λ (z : List (List ℕ)). take (length (joined-groups z)) kept ≡ joined-groups z) all
         (k (length arms) (omega (arith, fits, e, ap (λ (z : List (List ℕ)). length (joined-groups z)) all))) in
