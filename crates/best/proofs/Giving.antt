@@ -1,5 +1,5 @@
 -- What `best_place` answers in each case. Assumes nothing.
-use Prim.Native.Nat.{ℕ, _+_, _*_, _≤_, _<_}
+use Prim.Native.Nat.{ℕ, _+_, _*_, _≤_, _<_, min}
 use native.Mathlib.Omega.{arith}
 use mathlib.Core.Path.{_≡_, refl, sym, _∙_, ap, ap₂, subst}
 use mathlib.Core.Bool.{Bool, true, false, _&&_}
@@ -14,7 +14,6 @@ use Rattle.tree.specs.Tokens.{trees-in, trees-at, numbered, facts, all-facts, f
 use Rattle.tree.proofs.Logic.{and-left, and-right}
 use Rattle.tree.proofs.TokenLaws.{trees-length}
 use Rattle.checked.specs.Check.{rows-in, word-ok}
-use Rattle.measure.specs.Measurement.{measured-by, measure-answer}
 use Rattle.measure.proofs.Places.{fact-is}
 use Rattle.measure.proofs.Filling.{all-facts-length}
 use Rattle.uses.specs.Marks.{Complete, is-marked, marks-of, Marking}
@@ -24,7 +23,14 @@ use Rattle.uses.proofs.Marking.{marks-length, mark-at}
 use Rattle.tokens.specs.Answers.{count-answer}
 use Rattle.tokens.specs.declared.Trees.the-variants as trees
 use Rattle.renaming.specs.Places.{numbered-at, outside-at, best-place}
-use Rattle.best.specs.Leading.{HasFacts, HasMarks, Writable, leader-of, Leads}
+use Rattle.renaming.proofs.UsesAt.{uses-counted}
+use Rattle.classes.specs.Answers.{class-answer, Tables}
+use Rattle.classes.specs.declared.Classed.{Classed}
+use Rattle.classes.specs.declared.Classed.the-variants as classed
+use Rattle.classes.proofs.Laws.{class-high}
+use Rattle.classes.proofs.Answering as classing
+use Rattle.best.proofs.Leaders.{same-places}
+use Rattle.best.specs.Leading.{HasFacts, HasMarks, HasUses, Writable, leader-of, Leads}
 use Rattle.best.specs.Answers.{has-room, best-of, best-answer}
 use Rattle.best.specs.declared.Best.{Best}
 use Rattle.best.specs.declared.Best.the-variants as best
@@ -59,6 +65,16 @@ module _ (w f m t : ℕ) where
       let y = and-right a (b && (c && d)) x in
       let z = and-right b (c && d) y in
       (leb→le w 1000000 (and-left a (b && (c && d)) x), leb→le (5 * w) f (and-left b (c && d) y), leb→le w m (and-left c d z), leb→le (68 * w) t (and-right c d z))
+
+-- the room of the least of six
+pub all-room :
+    (w f m n p q u o t : ℕ) {v x y z s : ℕ} {b : Bool} → v ≡ min u o → x ≡ min q v → y ≡ min p x → z ≡ min n y → s ≡ min m z → b ≡ has-room w f s t
+    → b ≡ has-room w f (min m (min n (min p (min q (min u o))))) t
+all-room w f m n p q u o t {v} {x} {y} {z} {s} {b} ev ex ey ez es e =
+    e ∙ ap (λ (k : ℕ). has-room w f k t) (es ∙ ap (min m) (ez ∙ ap (min n) (ey ∙ ap (min p) (ex ∙ ap (min q) ev))))
+
+pub both-room : (w m n : ℕ) → w ≤ min m n → (w ≤ m) × (w ≤ n)
+both-room w m n h = (omega arith, omega arith)
 
 -- ---- the answers
 
@@ -119,15 +135,7 @@ none-counted (some n) e = absurd (let z : _≡_ {A = ℕ} 0 1 = cc in omega arit
 pub no-trees : (ws : List ℕ) → trees.Broken ≡ count-answer (trees-in ws) → trees-in ws ≡ none
 no-trees ws e = none-counted (trees-in ws) e
 
-facts-some : (ws : List ℕ) (n : ℕ) → trees-in ws ≡ some n → facts-of-words ws ≡ some (all-facts (trees-at numbered ws))
-unfolding facts-of-words
-facts-some ws n e = rw (e, facts-of-words)
-
-module _ (ws old new : List ℕ) (h : 5 * length ws ≤ length old) (c : Complete ws) (e : new ≡ measure-answer ws old .facts) where
-  facts-are : new ≡ all-facts (trees-at numbered ws) ++ drop (5 * length ws) old
-  unfolding measure-answer
-  facts-are = let m = how-many (trees-in ws) c in e ∙ rw (le-ltb (length old) (5 * length ws) h, facts-some ws (m .0) (m .1))
-
+module _ (ws old new : List ℕ) (h : 5 * length ws ≤ length old) (facts-are : new ≡ all-facts (trees-at numbered ws) ++ drop (5 * length ws) old) where
   fact-at : (i k : ℕ) → i < length ws → k < 5 → getD new (5 * i + k) 0 ≡ getD (facts (numbered-at ws i)) k 0
   unfolding numbered-at
   fact-at i k g l = ap (λ (x : List ℕ). getD x (5 * i + k) 0) facts-are ∙ fact-is ws (drop (5 * length ws) old) i k g l
@@ -164,4 +172,23 @@ module _ (ws : List ℕ) (scoped : Bool) (old new : List ℕ) (h : length ws ≤
             let z : 0 + j ≡ j = omega arith in
             ap (leb 1) (ap (λ (x : List ℕ). getD x j 0) marks-are ∙ (List·getD-append l (drop (length ws) old) 0 j (omega (arith, n)) ∙ (mark-at test 0 (length ws) j g ∙ ap (λ (k : ℕ). flag (test k)) z)))
             ∙ flag-back (test j);
+      }
+
+-- the tables that `class_tables` leaves
+module _ (ws : List ℕ) (scoped : Bool) (old marks : List ℕ) (c : Complete ws) (k : HasMarks ws scoped marks) where
+  pub tables-left :
+      (n : ℕ) (r : Classed) (new cl us ou : List ℕ) → 5 * length ws ≤ length old → length ws ≤ n → r ≡ class-answer ws (length old) (length marks) n
+      → ((j : ℕ) → r ≡ classed.Done j → Tables ws marks old j new cl us ou) → Tables ws marks old (length ws) new cl us ou
+  tables-left n r new cl us ou ho hn e told =
+      told (length ws) (e ∙ sym (classing.gives-done ws (length old) (length marks) n (omega arith) (k .long) hn (length ws) c refl))
+
+  pub uses-left : (new cl us ou : List ℕ) → Tables ws marks old (length ws) new cl us ou → HasUses ws scoped cl us ou
+  uses-left new cl us ou a =
+      record {
+        long-classes = a .classes-are .long;
+        within = λ i h. omega (arith, a .classes-are .each i (omega arith) h, class-high ws i h);
+        long = a .uses-are .long;
+        long-outside = a .outside-are .long;
+        uses-are = λ i h. a .uses-are .each i h ∙ sym (uses-counted ws i);
+        outside-are = λ i h. a .outside-are .each i h ∙ same-places ws (is-marked marks) (outside-at ws scoped) i (length ws) (k .marked);
       }

@@ -13,7 +13,7 @@ use Rattle.tree.specs.Tokens.{flag, name-in}
 use Rattle.text.specs.Text.{before}
 use Rattle.checked.specs.Check.{rows-in, word-ok}
 use Rattle.uses.specs.Marks.{is-marked}
-use Rattle.renaming.specs.Places.{numbered-at, savings-at, candidate-at, outside-at, text-at, beats-at, best-place}
+use Rattle.renaming.specs.Places.{numbered-at, uses-at, savings-at, candidate-at, equal-places, outside-at, text-at, beats-at, best-place}
 
 -- five words of facts a place, of which these are looked up
 pub record HasFacts (ws fs : List ℕ) : Type 0 where
@@ -26,6 +26,15 @@ pub record HasFacts (ws fs : List ℕ) : Type 0 where
 pub record HasMarks (ws : List ℕ) (scoped : Bool) (marks : List ℕ) : Type 0 where
   pub long : length ws ≤ length marks
   pub marked : (j : ℕ) → j < length ws → is-marked marks j ≡ outside-at ws scoped j
+
+-- by its class, how many places have the tree at each, and how many of them are outside arms
+pub record HasUses (ws : List ℕ) (scoped : Bool) (cl us ou : List ℕ) : Type 0 where
+  pub long-classes : length ws ≤ length cl
+  pub within : (i : ℕ) → i < length ws → getD cl i 0 < length ws
+  pub long : length ws ≤ length us
+  pub long-outside : length ws ≤ length ou
+  pub uses-are : (i : ℕ) → i < length ws → getD us (getD cl i 0) 0 ≡ uses-at ws i
+  pub outside-are : (i : ℕ) → i < length ws → getD ou (getD cl i 0) 0 ≡ equal-places ws (outside-at ws scoped) i (length ws)
 
 -- every tree can be written, and two texts fit
 pub record Writable (rows ws : List ℕ) (room : ℕ) : Type 0 where

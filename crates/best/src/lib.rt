@@ -2,25 +2,21 @@
 // text, and of equals the one met first.
 ghost use mathlib.Core.Path.{_≡_};
 ghost use mathlib.Core.Bool.{cond};
-ghost use Prim.Native.Nat.{_*_, _≤_, _<_};
+ghost use Prim.Native.Nat.{_*_, _≤_, _<_, min};
 ghost use lib.ListN.{length};
-ghost use lib.Dec.{leb};
 ghost use Rattle.tree.specs.Bytes.{every};
 ghost use Rattle.checked.specs.Check.{rows-in, word-ok};
-ghost use Rattle.renaming.specs.Places.{equal-places, outside-at, savings-at, candidate-at};
+ghost use Rattle.renaming.specs.Places.{savings-at, candidate-at};
 ghost use Rattle.uses.specs.Marks.{Complete};
-ghost use Rattle.best.specs.Leading.{HasFacts, HasMarks, Writable, Lead, leader-of, later-at, best-step, Leads};
+ghost use Rattle.best.specs.Leading.{HasFacts, HasUses, Writable, Lead, leader-of, later-at, best-step, Leads};
 ghost use Rattle.best.specs.Answers.{has-room, best-answer};
 use checked::Checked;
 use checked::tree_ok;
-use measure::measure;
+use classes::class_tables;
 use textorder::TextOrder;
 use textorder::before_at;
 use tokens::Trees;
 use tokens::count_trees;
-use uses::Uses;
-use uses::count_marked;
-use uses::count_uses;
 use uses::mark_outside;
 
 // Each place has PER_PLACE words of facts: size, cost, depth, operations, and whether it has a symbol.
@@ -67,28 +63,20 @@ fn words_pass(rows: &[u64], tokens: &[u64]) -> bool
     true
 }
 
-// Whether the tree at i is used outside arms. In the flat form it is, where it stands.
-fn used_outside(tokens: &[u64], scoped: bool, marks: &[u64], i: usize) -> bool
-    requires { ⌜ Complete (now tokens) ⌝ }
-    requires { ⌜ i < length (now tokens) ⌝ }
-    requires { ⌜ HasMarks (now tokens) scoped (now marks) ⌝ }
-    ensures { λ r. ⌜ r ≡ leb 1 (equal-places (now (tokens .entry)) (outside-at (now (tokens .entry)) scoped) i (length (now (tokens .entry)))) ⌝ }
-{
-    if !scoped {
-        return true;
-    }
-    let Uses::Count(outside) = count_marked(tokens, marks, i) else {
-        return false;
-    };
-    outside >= 1
-}
-
 // What binding the tree at i saves where it is a candidate, and else 0.
-fn savings_of(tokens: &[u64], scoped: bool, facts: &[u64], marks: &[u64], i: usize) -> u64
+fn savings_of(
+    tokens: &[u64],
+    scoped: bool,
+    facts: &[u64],
+    classes: &[u64],
+    uses: &[u64],
+    outside: &[u64],
+    i: usize,
+) -> u64
     requires { ⌜ Complete (now tokens) ⌝ }
     requires { ⌜ (i < length (now tokens)) × (length (now tokens) ≤ 1000000) ⌝ }
     requires { ⌜ HasFacts (now tokens) (now facts) ⌝ }
-    requires { ⌜ HasMarks (now tokens) scoped (now marks) ⌝ }
+    requires { ⌜ HasUses (now tokens) scoped (now classes) (now uses) (now outside) ⌝ }
     ensures { λ r. ⌜ r ≡ cond (candidate-at (now (tokens .entry)) scoped i) (savings-at (now (tokens .entry)) i) 0 ⌝ }
 {
     let row = PER_PLACE * i;
@@ -99,16 +87,15 @@ fn savings_of(tokens: &[u64], scoped: bool, facts: &[u64], marks: &[u64], i: usi
     if facts[row + SYMBOL] < 1 {
         return 0;
     }
-    let Uses::Count(uses) = count_uses(tokens, i) else {
-        return 0;
-    };
-    if uses < 2 {
-        return 0;
-    }
-    if !used_outside(tokens, scoped, marks, i) {
+    let class = classes[i] as usize;
+    let count = uses[class];
+    if count < 2 {
         return 0;
     }
-    (uses - 1) as u64 * cost
+    if outside[class] < 1 {
+        return 0;
+    }
+    (count - 1) * cost
 }
 
 // Of two places that save as much: whether the second is deeper, or as deep with a later text.
@@ -148,7 +135,9 @@ fn met(
     tokens: &[u64],
     scoped: bool,
     facts: &[u64],
-    marks: &[u64],
+    classes: &[u64],
+    uses: &[u64],
+    outside: &[u64],
     text: &mut [u8],
     leader: Leader,
     i: usize,
@@ -156,12 +145,12 @@ fn met(
     requires { ⌜ Complete (now tokens) ⌝ }
     requires { ⌜ (i < length (now tokens)) × (length (now tokens) ≤ 1000000) ⌝ }
     requires { ⌜ HasFacts (now tokens) (now facts) ⌝ }
-    requires { ⌜ HasMarks (now tokens) scoped (now marks) ⌝ }
+    requires { ⌜ HasUses (now tokens) scoped (now classes) (now uses) (now outside) ⌝ }
     requires { ⌜ Writable (now rows) (now tokens) (length (now text)) ⌝ }
     requires { ⌜ Lead (now tokens) (leader .place) (leader .savings) ⌝ }
     ensures { λ r. ⌜ Lead (now (tokens .entry)) (r .place) (r .savings) × (leader-of (r .place) (r .savings) ≡ best-step (now (rows .entry)) (now (tokens .entry)) scoped (leader-of (leader .place) (leader .savings)) i) ⌝ }
 {
-    let savings = savings_of(tokens, scoped, facts, marks, i);
+    let savings = savings_of(tokens, scoped, facts, classes, uses, outside, i);
     if savings < leader.savings {
         return leader;
     }
@@ -183,13 +172,15 @@ fn search(
     tokens: &[u64],
     scoped: bool,
     facts: &[u64],
-    marks: &[u64],
+    classes: &[u64],
+    uses: &[u64],
+    outside: &[u64],
     text: &mut [u8],
 ) -> Leader
     requires { ⌜ Complete (now tokens) ⌝ }
     requires { ⌜ length (now tokens) ≤ 1000000 ⌝ }
     requires { ⌜ HasFacts (now tokens) (now facts) ⌝ }
-    requires { ⌜ HasMarks (now tokens) scoped (now marks) ⌝ }
+    requires { ⌜ HasUses (now tokens) scoped (now classes) (now uses) (now outside) ⌝ }
     requires { ⌜ Writable (now rows) (now tokens) (length (now text)) ⌝ }
     ensures { λ r. ⌜ Leads (now (rows .entry)) (now (tokens .entry)) scoped (r .place) (r .savings) ⌝ }
 {
@@ -199,7 +190,18 @@ fn search(
     };
     let mut i = 0;
     while i < tokens.len() {
-        leader = met(rows, tokens, scoped, facts, marks, text, leader, i);
+        leader = met(
+            rows,
+            tokens,
+            scoped,
+            facts,
+            classes,
+            uses,
+            outside,
+            text,
+            leader,
+            i,
+        );
         i += 1;
     }
     leader
@@ -221,29 +223,45 @@ fn has_room(words: usize, facts: usize, marks: usize, text: usize) -> bool
     text >= TEXT_BYTES * words
 }
 
-// The place of the best candidate among the trees that the words are. The facts, the marks and the text are worked in; what is left there is free.
+// The smaller of two numbers.
+fn smaller(a: usize, b: usize) -> usize
+    ensures { λ r. ⌜ r ≡ min a b ⌝ }
+{
+    if a < b { a } else { b }
+}
+
+// The place of the best candidate among the trees that the words are. The facts, the marks, the tables and the text are worked in; what is
+// left there is free.
 pub fn best_place(
     rows: &[u64],
     tokens: &[u64],
     scoped: bool,
     facts: &mut [u64],
     marks: &mut [u64],
+    classes: &mut [u64],
+    next: &mut [u64],
+    heads: &mut [u64],
+    uses: &mut [u64],
+    outside: &mut [u64],
     text: &mut [u8],
 ) -> Best
-    ensures { λ r. ⌜ r ≡ best-answer (now (rows .entry)) (now (tokens .entry)) scoped (length (now (facts .entry))) (length (now (marks .entry))) (length (now (text .entry))) ⌝ }
+    ensures { λ r. ⌜ r ≡ best-answer (now (rows .entry)) (now (tokens .entry)) scoped (length (now (facts .entry))) (min (length (now (marks .entry))) (min (length (now (classes .entry))) (min (length (now (next .entry))) (min (length (now (heads .entry))) (min (length (now (uses .entry))) (length (now (outside .entry)))))))) (length (now (text .entry))) ⌝ }
 {
-    if !has_room(tokens.len(), facts.len(), marks.len(), text.len()) {
+    let counts = smaller(uses.len(), outside.len());
+    let chains = smaller(next.len(), smaller(heads.len(), counts));
+    let tables = smaller(marks.len(), smaller(classes.len(), chains));
+    if !has_room(tokens.len(), facts.len(), tables, text.len()) {
         return Best::NoRoom;
     }
     let Trees::Count(_) = count_trees(tokens) else {
         return Best::Broken;
     };
-    measure(tokens, facts);
     mark_outside(tokens, scoped, marks);
+    class_tables(tokens, marks, facts, classes, next, heads, uses, outside);
     if !words_pass(rows, tokens) {
         return Best::Broken;
     }
-    let leader = search(rows, tokens, scoped, facts, marks, text);
+    let leader = search(rows, tokens, scoped, facts, classes, uses, outside, text);
     let place = leader.place;
     if leader.savings == 0 {
         Best::Nothing

@@ -99,7 +99,7 @@ module _ (ws old : List ℕ) (long : 5 * length ws ≤ length old) where
 -- ---- the operands of a word
 
 -- what is known of the facts from a place on
-abbrev Known : List ℕ → List ℕ → ℕ → Type 0
+abbrev pub Known : List ℕ → List ℕ → ℕ → Type 0
 Known ws fs i = (q c : ℕ) → i ≤ q → q < length ws → c < 5 → getD fs (5 * q + c) 0 ≡ fact c (getD (read numbered (drop q ws)) 0 (Op 0 nil))
 
 module _ (ws fs : List ℕ) (i : ℕ) (known : Known ws fs i) (room : 5 * length ws ≤ length fs) where
@@ -207,7 +207,7 @@ pub filling-ends : {ws old fs : List ℕ} {i : ℕ} → Filling ws old fs i → 
 unfolding filled
 filling-ends {ws} {old} {fs} {i} f h = let z : i ≡ 0 = omega arith in rw z at (f .is)
 
-filling-known : {ws old fs : List ℕ} {i : ℕ} → Filling ws old fs i → Known ws fs i
+pub filling-known : {ws old fs : List ℕ} {i : ℕ} → Filling ws old fs i → Known ws fs i
 filling-known {ws} {old} {fs} {i} f = λ q c h l b. rw (f .is) (filled-at ws old (f .long) i q c h l b)
 
 -- the words that `facts_at` reads before place i are there

@@ -41,12 +41,12 @@ pub enum Measured {
 }
 
 // The facts of one tree; `symbol` is 1 where it has a symbol, and else 0.
-struct Facts {
-    size: u64,
-    cost: u64,
-    depth: u64,
-    operations: u64,
-    symbol: u64,
+pub struct Facts {
+    pub size: u64,
+    pub cost: u64,
+    pub depth: u64,
+    pub operations: u64,
+    pub symbol: u64,
 }
 
 // The sum of one fact, by its place among the five, over the `count` trees from `place` on. The size of each says where the next one starts.
@@ -125,7 +125,7 @@ fn symbol_of(w: u64) -> u64
 }
 
 // The facts of the tree at a place, from those of its operands, which come after it.
-fn facts_at(tokens: &[u64], facts: &[u64], at: usize) -> Facts
+pub fn facts_at(tokens: &[u64], facts: &[u64], at: usize) -> Facts
     requires { ⌜ at < length (now tokens) ⌝ }
     requires { ⌜ Ready (length (now tokens)) (now facts) (at + 1) (takes (getD (now tokens) at 0)) ⌝ }
     ensures { λ r. ⌜ WordFacts (getD (now (tokens .entry)) at 0) (now (facts .entry)) (at + 1) (r .size) (r .cost) (r .depth) (r .operations) (r .symbol) ⌝ }

@@ -114,7 +114,24 @@ fn find_in_few(rows: &[u64], tokens: &[u64], scoped: bool, text: &mut [u8]) -> B
 {
     let mut facts = [0u64; FEW_FACTS];
     let mut marks = [0u64; FEW_WORDS];
-    best_place(rows, tokens, scoped, &mut facts, &mut marks, text)
+    let mut classes = [0u64; FEW_WORDS];
+    let mut next = [0u64; FEW_WORDS];
+    let mut heads = [0u64; FEW_WORDS];
+    let mut uses = [0u64; FEW_WORDS];
+    let mut outside = [0u64; FEW_WORDS];
+    best_place(
+        rows,
+        tokens,
+        scoped,
+        &mut facts,
+        &mut marks,
+        &mut classes,
+        &mut next,
+        &mut heads,
+        &mut uses,
+        &mut outside,
+        text,
+    )
 }
 
 // The same among any number of words, with large ones.
@@ -124,7 +141,24 @@ fn find_in_many(rows: &[u64], tokens: &[u64], scoped: bool, text: &mut [u8]) -> 
 {
     let mut facts = [0u64; FACTS];
     let mut marks = [0u64; MOST_WORDS];
-    best_place(rows, tokens, scoped, &mut facts, &mut marks, text)
+    let mut classes = [0u64; MOST_WORDS];
+    let mut next = [0u64; MOST_WORDS];
+    let mut heads = [0u64; MOST_WORDS];
+    let mut uses = [0u64; MOST_WORDS];
+    let mut outside = [0u64; MOST_WORDS];
+    best_place(
+        rows,
+        tokens,
+        scoped,
+        &mut facts,
+        &mut marks,
+        &mut classes,
+        &mut next,
+        &mut heads,
+        &mut uses,
+        &mut outside,
+        text,
+    )
 }
 
 // The best place among words that the arrays hold.
