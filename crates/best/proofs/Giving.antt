@@ -1,23 +1,22 @@
 -- What `best_place` answers in each case. Assumes nothing.
 use Prim.Native.Nat.{ℕ, _+_, _*_, _≤_, _<_, min}
 use native.Mathlib.Omega.{arith}
-use mathlib.Core.Path.{_≡_, refl, sym, _∙_, ap, ap₂, subst}
+use mathlib.Core.Path.{_≡_, refl, sym, _∙_, ap, subst}
 use mathlib.Core.Bool.{Bool, true, false, _&&_}
 use mathlib.Core.Option.{Option, none, some}
 use mathlib.Core.List.{List, _++_}
-use borrow.Author.Tests.{lt-ltb, le-ltb, le-leb, lt-leb, eq-eqb, ne-eqb}
+use borrow.Author.Tests.{le-ltb, le-leb, lt-leb, eq-eqb, ne-eqb}
 use lib.ListN.{length, getD, drop, length-append, length-drop, List·getD-append}
-use lib.Dec.{T, leb, ltb, leb→le}
+use lib.Dec.{T, leb, leb→le}
 use Rattle.tree.specs.Bytes.{every}
-use Rattle.tree.specs.Facts.{cost, depth, has-symbol}
-use Rattle.tree.specs.Tokens.{trees-in, trees-at, numbered, facts, all-facts, facts-of-words, flag, name-in}
+use Rattle.tree.specs.Tokens.{trees-in, trees-at, numbered, facts, all-facts, flag, name-in}
 use Rattle.tree.proofs.Logic.{and-left, and-right}
 use Rattle.tree.proofs.TokenLaws.{trees-length}
 use Rattle.checked.specs.Check.{rows-in, word-ok}
 use Rattle.measure.proofs.Places.{fact-is}
 use Rattle.measure.proofs.Filling.{all-facts-length}
-use Rattle.uses.specs.Marks.{Complete, is-marked, marks-of, Marking}
-use Rattle.uses.specs.Answers.{marked-by, mark-answer}
+use Rattle.uses.specs.Marks.{Complete, is-marked, marks-of}
+use Rattle.uses.specs.Answers.{mark-answer}
 use Rattle.uses.proofs.Runs.{how-many}
 use Rattle.uses.proofs.Marking.{marks-length, mark-at}
 use Rattle.tokens.specs.Answers.{count-answer}
@@ -30,9 +29,8 @@ use Rattle.classes.specs.declared.Classed.the-variants as classed
 use Rattle.classes.proofs.Laws.{class-high}
 use Rattle.classes.proofs.Answering as classing
 use Rattle.best.proofs.Leaders.{same-places}
-use Rattle.best.specs.Leading.{HasFacts, HasMarks, HasUses, Writable, leader-of, Leads}
+use Rattle.best.specs.Leading.{HasFacts, HasMarks, HasUses, leader-of, Leads}
 use Rattle.best.specs.Answers.{has-room, best-of, best-answer}
-use Rattle.best.specs.declared.Best.{Best}
 use Rattle.best.specs.declared.Best.the-variants as best
 
 -- ---- room

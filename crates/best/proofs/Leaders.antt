@@ -5,29 +5,24 @@ use native.Mathlib.Omega.{arith}
 use mathlib.Core.Path.{_≡_, refl, sym, _∙_, ap, ap₂, subst}
 use mathlib.Core.Bool.{Bool, true, false, _&&_, _||_, cond}
 use mathlib.Core.Option.{Option, none, some}
-use mathlib.Core.List.{List, [], _∷_, _++_}
-use borrow.Author.Tests.{lt-ltb, le-ltb, le-leb, lt-leb, eq-eqb, ne-eqb, leb-true, eqb-true, eqb-false}
+use mathlib.Core.List.{List}
+use borrow.Author.Tests.{lt-ltb, le-ltb, le-leb, lt-leb, eq-eqb, ne-eqb, eqb-true, eqb-false}
 use lib.ListN.{length, getD}
 use lib.Dec.{T, eqb, leb, ltb, leb→le}
 use Rattle.tree.specs.Tree.{eq-tree}
-use Rattle.tree.specs.Facts.{cost, depth, has-symbol, size}
-use Rattle.tree.specs.Tokens.{trees-in, flag, name-in}
+use Rattle.tree.specs.Facts.{cost, depth, has-symbol}
+use Rattle.tree.specs.Tokens.{flag, name-in}
 use Rattle.tree.proofs.Logic.{and-left, and-right}
-use Rattle.tree.proofs.Tests.{is-true}
-use Rattle.tree.proofs.TreeLaws.{eq-tree-refl}
 use Rattle.tree.proofs.FactLaws.{cost-size}
 use Rattle.text.specs.Text.{before}
 use Rattle.checked.specs.Check.{rows-in}
 use Rattle.renaming.specs.Places.{numbered-at, uses-at, savings-at, candidate-at, equal-places, outside-at, text-at, beats-at, best-place-from, best-place}
 use Rattle.renaming.proofs.UsesAt.{uses-counted, candidate-counted}
-use Rattle.uses.specs.Marks.{Complete, is-marked}
-use Rattle.uses.specs.Answers.{counted-by, uses-answer, marked-answer}
-use Rattle.uses.specs.declared.Uses.the-variants as uses
-use Rattle.uses.proofs.Runs.{how-many, ends-within}
+use Rattle.uses.specs.Marks.{Complete}
+use Rattle.uses.proofs.Runs.{ends-within}
 use Rattle.textorder.specs.Order.{ordered-by, order-answer}
-use Rattle.textorder.specs.declared.TextOrder.{TextOrder}
 use Rattle.textorder.specs.declared.TextOrder.the-variants as order
-use Rattle.best.specs.Leading.{HasFacts, HasMarks, Writable, leader-of, Leading, Lead, later-at, best-step, Leads}
+use Rattle.best.specs.Leading.{Writable, leader-of, Lead, later-at, best-step, Leads}
 use Rattle.best.proofs.Passing.{order-is}
 
 -- ---- counts of equal places

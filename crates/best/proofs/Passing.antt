@@ -1,23 +1,22 @@
 -- Words that pass, tree by tree, and what of it a place knows. Assumes nothing.
-use Prim.Native.Nat.{ℕ, zero, suc, _+_, _-_, _*_, _≤_, _<_}
+use Prim.Native.Nat.{ℕ, _+_, _-_, _*_, _≤_, _<_}
 use native.Mathlib.Omega.{arith}
-use mathlib.Core.Path.{_≡_, refl, sym, _∙_, ap, ap₂, subst}
-use mathlib.Core.Bool.{Bool, true, false, _&&_}
+use mathlib.Core.Path.{_≡_, refl, sym, subst}
+use mathlib.Core.Bool.{Bool, true, false}
 use mathlib.Core.Option.{Option, none, some}
 use mathlib.Core.List.{List, [], _∷_, _++_}
 use borrow.Author.Tests.{le-leb}
 use lib.ListN.{length, getD, take, drop, length-drop, take-append-drop}
 use lib.Seq.{take-add, take-all}
-use lib.Dec.{T, leb}
+use lib.Dec.{T}
 use Rattle.tree.specs.Bytes.{every}
 use Rattle.tree.specs.Facts.{size}
 use Rattle.tree.specs.Passes.{tree-ok}
-use Rattle.tree.specs.Tokens.{trees-in, run-at, trees-at, name-in}
-use Rattle.tree.specs.Tree.{Op, nil}
+use Rattle.tree.specs.Tokens.{trees-in, run-at, name-in}
 use Rattle.tree.proofs.Tests.{is-true, every-more}
 use Rattle.tree.proofs.Logic.{and-left, and-right, and-both}
 use Rattle.tree.proofs.TokenLaws.{run-size, words-complete}
-use Rattle.text.specs.Text.{display, before}
+use Rattle.text.specs.Text.{before}
 use Rattle.checked.specs.Check.{rows-in, tree-in, word-ok, checked-answer}
 use Rattle.checked.specs.declared.Checked.the-variants as checked
 use Rattle.checked.proofs.RunLaws.{run-tested, ends-inside}
@@ -26,7 +25,6 @@ use Rattle.uses.specs.Marks.{Complete}
 use Rattle.uses.proofs.Runs.{how-many}
 use Rattle.renaming.specs.Places.{text-at}
 use Rattle.textorder.specs.Order.{is-there, writable, ordered-by, text-here, order-answer}
-use Rattle.textorder.specs.declared.TextOrder.the-variants as order
 use Rattle.textorder.proofs.Lengths.{text-short}
 use Rattle.best.specs.Leading.{Writable}
 

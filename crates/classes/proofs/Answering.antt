@@ -1,23 +1,21 @@
 -- What `class_tables` answers in each case, and what it leaves. Assumes nothing.
-use Prim.Native.Nat.{ℕ, suc, _+_, _*_, _/_, _≤_, _<_, min}
+use Prim.Native.Nat.{ℕ, suc, _*_, _/_, _≤_, _<_, min}
 use native.Mathlib.Omega.{arith}
-use mathlib.Core.Path.{_≡_, refl, sym, _∙_, ap, subst}
+use mathlib.Core.Path.{_≡_, refl, _∙_, ap}
 use mathlib.Core.Bool.{Bool, true, false, _&&_}
 use mathlib.Core.Option.{Option, none, some}
-use mathlib.Core.List.{List, [], _∷_, _++_}
-use borrow.Author.Tests.{le-leb, lt-leb, ltb-true, ltb-false}
-use lib.ListN.{length, getD, drop, length-append, length-drop}
-use lib.Dec.{leb, ltb}
+use mathlib.Core.List.{List, [], _∷_}
+use borrow.Author.Tests.{le-leb, lt-leb}
+use lib.ListN.{length}
+use lib.Dec.{leb}
 use Rattle.tree.specs.Tree.{Tree}
-use Rattle.tree.specs.Facts.{size, all-nodes}
-use Rattle.tree.specs.Tokens.{trees-in, trees-at, read, numbered, facts, all-facts, facts-of-words}
+use Rattle.tree.specs.Facts.{all-nodes}
+use Rattle.tree.specs.Tokens.{trees-in, read, numbered}
 use Rattle.tree.proofs.TokenLaws.{trees-length, places-are-nodes}
-use Rattle.uses.specs.Marks.{Complete, is-marked}
-use Rattle.renaming.specs.Places.{numbered-at}
+use Rattle.uses.specs.Marks.{Complete}
 use Rattle.tokens.specs.Answers.{count-answer}
 use Rattle.tokens.specs.declared.Trees.the-variants as trees
 use Rattle.classes.specs.Answers.{has-room, classed-by, class-answer, is-among, distinct, Passed, Tables}
-use Rattle.classes.specs.declared.Classed.{Classed}
 use Rattle.classes.specs.declared.Classed.the-variants as classed
 
 -- ---- room

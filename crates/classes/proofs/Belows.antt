@@ -2,7 +2,7 @@
 use Prim.Native.Nat.{ℕ, zero, suc, _+_, _*_, _%_, _≤_, _<_}
 use native.Mathlib.Omega.{arith}
 use native.Mathlib.Nat.{add-zero}
-use mathlib.Core.Path.{_≡_, refl, sym, _∙_, ap, ap₂, subst}
+use mathlib.Core.Path.{_≡_, refl, sym, _∙_, ap, subst}
 use mathlib.Core.Bool.{Bool, true, false}
 use mathlib.Core.List.{List, [], _∷_, map}
 use borrow.Author.Tests.{eq-eqb, ne-eqb}
@@ -18,10 +18,10 @@ use Rattle.tree.proofs.TreeLaws.{eq-bytes-sound, eq-bytes-refl}
 use Rattle.tree.proofs.TokenLaws.{sizes, read-past, read-size, tree-at}
 use Rattle.renaming.specs.Places.{numbered-at}
 use Rattle.uses.specs.Marks.{Complete}
-use Rattle.classes.specs.Classes.{mixed-all, last-place, class-of, class-at, bucket-at, operands-at}
+use Rattle.classes.specs.Classes.{mixed-all, class-of, class-at, bucket-at, operands-at}
 use Rattle.classes.specs.Walks.{below, Walk, Sized}
 use Rattle.classes.specs.Tables.{Known}
-use Rattle.classes.proofs.Laws.{class-low, class-high, class-tree, class-same, tree-same}
+use Rattle.classes.proofs.Laws.{class-tree, class-same, tree-same}
 use Rattle.classes.proofs.Nodes.{node-word, node-operands, enough, same-node-tree}
 
 module _ (ws : List ℕ) where

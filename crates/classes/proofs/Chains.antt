@@ -8,11 +8,10 @@ use borrow.Author.Tests.{eqb-true, eqb-false}
 use lib.ListN.{length, getD, set, length-set}
 use lib.Seq.{getD-set-same, getD-set-other}
 use lib.Dec.{eqb}
-use Rattle.renaming.specs.Places.{numbered-at}
 use Rattle.uses.specs.Marks.{Complete}
 use Rattle.classes.specs.Classes.{class-at, bucket-at}
 use Rattle.classes.specs.Tables.{Known, Link, Links, Heads, Passing, Chase}
-use Rattle.classes.proofs.Laws.{class-low, class-high, class-tree, class-same, class-stands}
+use Rattle.classes.proofs.Laws.{class-low, class-high, class-tree, class-stands}
 use Rattle.classes.proofs.Nodes.{bucket-same}
 
 -- what holds of each entry holds after one is set

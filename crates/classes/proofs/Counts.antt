@@ -1,14 +1,13 @@
 -- Setting, counting by class, and giving every place what its class has. Assumes nothing.
 use Prim.Native.Nat.{ℕ, zero, suc, _+_, _≤_, _<_}
 use native.Mathlib.Omega.{arith}
-use mathlib.Core.Path.{_≡_, refl, sym, _∙_, ap, subst}
+use mathlib.Core.Path.{_≡_, refl, sym, _∙_, ap}
 use mathlib.Core.Bool.{Bool, true, false, _&&_}
 use mathlib.Core.List.{List}
 use borrow.Author.Tests.{eq-eqb, ne-eqb, le-leb, lt-leb}
 use lib.ListN.{length, getD, set, length-set}
 use lib.Dec.{eqb}
 use Rattle.tree.specs.Tokens.{flag}
-use Rattle.renaming.specs.Places.{equal-places}
 use Rattle.uses.specs.Marks.{is-marked}
 use Rattle.classes.specs.Classes.{class-at, class-places}
 use Rattle.classes.specs.Tables.{Known, Reset, Counted, Uses}

@@ -6,7 +6,6 @@ use mathlib.Core.Bool.{Bool, true, false}
 use mathlib.Core.List.{List, [], _∷_}
 use borrow.Author.Tests.{eq-eqb, ne-eqb}
 use lib.ListN.{length, getD}
-use lib.Dec.{eqb}
 use Rattle.tree.specs.Bytes.{eq-bytes}
 use Rattle.classes.specs.Classes.{mixed, mixed-all}
 use Rattle.classes.specs.Walks.{below, Walk}

@@ -1,16 +1,16 @@
 -- Equal trees have equal words and equal operands, and so are in one chain. Assumes nothing.
-use Prim.Native.Nat.{ℕ, zero, suc, _+_, _%_, _≤_, _<_}
+use Prim.Native.Nat.{ℕ, suc, _+_, _%_, _≤_, _<_}
 use native.Mathlib.Omega.{arith}
 use native.Mathlib.Nat.{mod-lt}
 use mathlib.Core.Path.{_≡_, refl, sym, _∙_, ap, subst}
 use mathlib.Core.Bool.{Bool, true, false}
 use mathlib.Core.Option.{Option, none, some}
-use mathlib.Core.List.{List, [], _∷_, map}
+use mathlib.Core.List.{List, map}
 use borrow.Author.Tests.{eqb-true, eqb-false}
 use lib.ListN.{length, getD, take, drop}
 use lib.Seq.{drop-cons}
 use lib.Dec.{T, eqb}
-use Rattle.tree.specs.Tree.{Tree, Forest, Op, nil, eq-tree, forest, operands}
+use Rattle.tree.specs.Tree.{Tree, Op, nil, eq-tree, forest, operands}
 use Rattle.tree.specs.Tokens.{read, numbered, takes, tree-of-word, trees-in, kind-of}
 use Rattle.tree.specs.Facts.{size}
 use Rattle.tree.proofs.FactLaws.{size-one}
@@ -19,7 +19,7 @@ use Rattle.tree.proofs.TokenLaws.{tree-at, read-cons, made, Word, a-symbol, a-c
 use Rattle.renaming.specs.Places.{numbered-at}
 use Rattle.uses.specs.Marks.{Complete}
 use Rattle.uses.proofs.Runs.{word-differs}
-use Rattle.classes.specs.Classes.{mixed-all, last-place, class-of, bucket-at, operands-at}
+use Rattle.classes.specs.Classes.{mixed-all, class-of, bucket-at, operands-at}
 
 -- the operands of a word are told by its tree
 below-same : (w : ℕ) (l r : List Tree) → tree-of-word numbered w (take (takes w) l) ≡ tree-of-word numbered w (take (takes w) r) → take (takes w) l ≡ take (takes w) r

@@ -1,19 +1,18 @@
 -- What the pass keeps: the facts from a place on, the classes and chains, and the counts. Assumes nothing.
-use Prim.Native.Nat.{ℕ, suc, _+_, _-_, _*_, _≤_, _<_}
+use Prim.Native.Nat.{ℕ, _+_, _-_, _*_, _≤_, _<_}
 use native.Mathlib.Omega.{arith}
-use mathlib.Core.Path.{_≡_, refl, sym, _∙_, ap, subst}
+use mathlib.Core.Path.{_≡_, sym, _∙_, ap, subst}
 use mathlib.Core.Bool.{true}
-use mathlib.Core.List.{List, _++_}
-use lib.ListN.{length, getD, drop}
-use Rattle.tree.specs.Tree.{Tree, Op, nil}
+use mathlib.Core.List.{List}
+use lib.ListN.{length, getD}
 use Rattle.tree.specs.Facts.{size}
-use Rattle.tree.specs.Tokens.{trees-at, numbered, facts, all-facts}
+use Rattle.tree.specs.Tokens.{numbered, facts}
 use Rattle.tree.proofs.TokenLaws.{tree-at}
 use Rattle.measure.proofs.Filling.{Filling, filling-known, filling-turns, filling-ends}
 use Rattle.uses.specs.Marks.{Complete, is-marked}
 use Rattle.renaming.specs.Places.{numbered-at}
 use Rattle.classes.specs.Walks.{Sized, Put}
-use Rattle.classes.specs.Tables.{Known, Passing, Counted, Uses}
+use Rattle.classes.specs.Tables.{Passing, Counted}
 use Rattle.classes.specs.Answers.{Passed}
 use Rattle.classes.proofs.Chains.{passing-ends}
 use Rattle.classes.proofs.Counts.{counted-ends}

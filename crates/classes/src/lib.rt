@@ -2,15 +2,12 @@
 // looks for its tree among those that stand for their class, in a chain found by its word and the classes of its operands.
 ghost use mathlib.Core.Path.{_≡_};
 ghost use mathlib.Core.Bool.{true, cond};
-ghost use mathlib.Core.List.{_++_};
 ghost use Prim.Native.Nat.{ℕ, _+_, _*_, _≤_, _<_, min};
-ghost use lib.ListN.{length, getD, drop};
+ghost use lib.ListN.{length, getD};
 ghost use lib.Dec.{eqb};
 ghost use Rattle.tree.specs.Bytes.{eq-bytes};
-ghost use Rattle.tree.specs.Tree.{eq-tree};
-ghost use Rattle.tree.specs.Tokens.{flag, takes, all-facts, trees-at, numbered};
+ghost use Rattle.tree.specs.Tokens.{flag, takes};
 ghost use Rattle.measure.specs.Columns.{Ready};
-ghost use Rattle.renaming.specs.Places.{numbered-at};
 ghost use Rattle.uses.specs.Marks.{Complete, is-marked};
 ghost use Rattle.classes.specs.Classes.{mixed, mixed-all, class-at, bucket-at};
 ghost use Rattle.classes.specs.Walks.{below, Walk, Sized, Put};

@@ -1,6 +1,4 @@
 pub mod WordFacts
 pub mod Walking
 pub mod Filling
-pub mod Measuring
 pub mod Places
-pub mod Examples

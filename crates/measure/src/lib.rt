@@ -1,14 +1,10 @@
-// The facts of the tree at every place of some words, in one pass from the right: size, cost, depth, operations, and whether it has a symbol.
+// The facts of a tree among words, from those of its operands: size, cost, depth, operations, and whether it has a symbol.
 ghost use mathlib.Core.Path.{_≡_};
-ghost use mathlib.Core.List.{_++_};
-ghost use Prim.Native.Nat.{_+_, _*_, _^_, _≤_, _<_, max};
-ghost use lib.ListN.{length, getD, drop};
+ghost use Prim.Native.Nat.{_+_, _*_, _^_, _<_, max};
+ghost use lib.ListN.{length, getD};
 ghost use Rattle.tree.specs.Facts.{total, greatest};
-ghost use Rattle.tree.specs.Tokens.{takes, numbered, trees-at, all-facts};
-ghost use Rattle.measure.specs.Measurement.{measure-answer};
-ghost use Rattle.measure.specs.Columns.{column, Inside, Ready, own-operation, own-symbol, operand-costs, WordFacts, Complete};
-use tokens::Trees;
-use tokens::count_trees;
+ghost use Rattle.tree.specs.Tokens.{takes};
+ghost use Rattle.measure.specs.Columns.{column, Inside, Ready, own-operation, own-symbol, operand-costs, WordFacts};
 use tokens::operand_count;
 
 // A word is kind + KINDS * below; the kinds are numbered as 01 lists them, with 28 for a Select with a default.
@@ -32,13 +28,6 @@ const DEPTH: usize = 2;
 const OPERATIONS: usize = 3;
 
 const SYMBOL: usize = 4;
-
-pub enum Measured {
-    Done,
-    Broken,
-    // Fewer than five words for each token.
-    NoRoom,
-}
 
 // The facts of one tree; `symbol` is 1 where it has a symbol, and else 0.
 pub struct Facts {
@@ -146,37 +135,4 @@ pub fn facts_at(tokens: &[u64], facts: &[u64], at: usize) -> Facts
         operations,
         symbol,
     }
-}
-
-// Writes the facts of every place, from the right, so that those of a word's operands are there before its own.
-fn fill(tokens: &[u64], facts: &mut [u64])
-    requires { ⌜ 5 * length (now tokens) ≤ length (now facts) ⌝ }
-    requires { ⌜ Complete (now tokens) ⌝ }
-    ensures { λ _. ⌜ now (facts .exit) ≡ all-facts (trees-at numbered (now (tokens .entry))) ++ drop (5 * length (now (tokens .entry))) (now (facts .entry)) ⌝ }
-{
-    let mut i = tokens.len();
-    while i > 0 {
-        i -= 1;
-        let f = facts_at(tokens, facts, i);
-        let row = PER_PLACE * i;
-        facts[row] = f.size;
-        facts[row + COST] = f.cost;
-        facts[row + DEPTH] = f.depth;
-        facts[row + OPERATIONS] = f.operations;
-        facts[row + SYMBOL] = f.symbol;
-    }
-}
-
-// The facts of the tree at every place, five words a place: size, cost, depth, operations, and 1 where it has a symbol.
-pub fn measure(tokens: &[u64], facts: &mut [u64]) -> Measured
-    ensures { λ r. ⌜ (r ≡ measure-answer (now (tokens .entry)) (now (facts .entry)) .answer) × (now (facts .exit) ≡ measure-answer (now (tokens .entry)) (now (facts .entry)) .facts) ⌝ }
-{
-    if facts.len() / PER_PLACE < tokens.len() {
-        return Measured::NoRoom;
-    }
-    let Trees::Count(_) = count_trees(tokens) else {
-        return Measured::Broken;
-    };
-    fill(tokens, facts);
-    Measured::Done
 }

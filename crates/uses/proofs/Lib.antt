@@ -1,4 +1,3 @@
 pub mod Runs
-pub mod Tallies
 pub mod Marking
 pub mod Giving

@@ -4,7 +4,7 @@ use native.Mathlib.Omega.{arith}
 use mathlib.Core.Path.{_≡_, refl, sym, _∙_, ap, ap₂}
 use mathlib.Core.Bool.{Bool, true, false, not, _&&_, _||_, cond}
 use mathlib.Core.Option.{Option, none, some}
-use mathlib.Core.List.{List, [], _∷_, _++_}
+use mathlib.Core.List.{List, _++_}
 use borrow.Author.Tests.{lt-ltb, le-ltb, le-leb, lt-leb, ltb-true, ltb-false, leb-true, leb-false, eqb-true, eqb-false}
 use lib.ListN.{length, getD, set, drop, length-set, length-drop, length-append, List·getD-append}
 use lib.Seq.{ext-getD, getD-set-same, getD-set-other, getD-append-add, getD-drop}
@@ -16,7 +16,7 @@ use Rattle.tree.proofs.TokenLaws.{words-short}
 use Rattle.tokens.specs.Answers.{end-answer}
 use Rattle.tokens.specs.declared.Run.the-variants as run
 use Rattle.tokens.proofs.Comparing.{run-ends, run-after}
-use Rattle.renaming.specs.Places.{numbered-at, in-arm-of, in-arm, outside-at}
+use Rattle.renaming.specs.Places.{numbered-at, in-arm-of, in-arm}
 use Rattle.uses.specs.Marks.{Complete, marks-of, Cleared, Ones, Arms, Marking, not-in-arms}
 use Rattle.uses.proofs.Runs.{run-there, ends-within}
 

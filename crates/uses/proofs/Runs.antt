@@ -5,15 +5,13 @@ use mathlib.Core.Path.{_≡_, refl, sym, _∙_, ap, subst}
 use mathlib.Core.Bool.{Bool, true, false}
 use mathlib.Core.Option.{Option, none, some}
 use mathlib.Core.List.{List, [], _∷_, _++_}
-use lib.ListN.{length, getD, take, drop, length-take, length-drop, take-append-drop}
-use lib.Seq.{ext-getD, getD-take, getD-drop}
+use lib.ListN.{length, getD, take, drop, length-drop, take-append-drop}
+use lib.Seq.{getD-take, getD-drop}
 use lib.Dec.{T}
 use Rattle.tree.specs.Tree.{Tree, Op, nil, eq-tree}
 use Rattle.tree.specs.Facts.{size}
-use Rattle.tree.specs.Tokens.{trees-in, trees-at, read, numbered, all-tokens, words-of, run-at}
-use Rattle.tree.proofs.Tests.{is-true}
-use Rattle.tree.proofs.FactLaws.{size-one}
-use Rattle.tree.proofs.TreeLaws.{eq-tree-sound, eq-tree-refl}
+use Rattle.tree.specs.Tokens.{trees-in, read, numbered, all-tokens, run-at}
+use Rattle.tree.proofs.TreeLaws.{eq-tree-sound}
 use Rattle.tree.proofs.TokenLaws.{tree-at, words-complete, complete-read, complete-length, run-size}
 use Rattle.tree.proofs.TokenCode.{unnumbered, writes-back}
 use Rattle.renaming.specs.Places.{numbered-at}
@@ -68,7 +66,7 @@ module _ (ws : List ℕ) (c : Complete ws) where
   ends-within j h = omega (arith, run-whole j h .0, length-drop j ws)
 
   module _ (at n i : ℕ) (place : at < length ws) (other : i < length ws) (long : n ≡ size (numbered-at ws at)) where
-    pub at-within : at + n ≤ length ws
+    at-within : at + n ≤ length ws
     at-within = omega (arith, ends-within at place)
 
     whole-at : trees-in (take n (drop at ws)) ≡ some 1
@@ -84,11 +82,6 @@ module _ (ws : List ℕ) (c : Complete ws) where
         sym (run-words ws i n whole-i)
         ∙ (ap (λ (u : Tree). all-tokens unnumbered (u ∷ [])) (eq-tree-sound (numbered-at ws i) (numbered-at ws at) t) ∙ run-words ws at n whole-at)
 
-    -- too few words are left
-    pub too-short : length ws - i < n → false ≡ eq-tree (numbered-at ws i) (numbered-at ws at)
-    too-short h =
-        refuted (eq-tree (numbered-at ws i) (numbered-at ws at)) (λ t. omega (arith, equal-size t, ends-within i other))
-
     word-at : (j k : ℕ) → k < n → getD (take n (drop j ws)) k 0 ≡ getD ws (j + k) 0
     word-at j k h = rw (getD-take, getD-drop)
 
@@ -96,18 +89,3 @@ module _ (ws : List ℕ) (c : Complete ws) where
     word-differs k h ne =
         refuted (eq-tree (numbered-at ws i) (numbered-at ws at))
         (λ t. ne (sym (word-at i k h) ∙ (ap (λ (l : List ℕ). getD l k 0) (equal-words t) ∙ word-at at k h)))
-
-    -- equal runs are equal trees
-    pub words-agree : i + n ≤ length ws → ((k : ℕ) → k < n → getD ws (i + k) 0 ≡ getD ws (at + k) 0) → true ≡ eq-tree (numbered-at ws i) (numbered-at ws at)
-    words-agree hi all =
-        let a = take n (drop i ws) in
-        let b = take n (drop at ws) in
-        let hat = at-within in
-        let la : length a ≡ n = simp (length-take, length-drop) (omega arith) in
-        let lb : length b ≡ n = simp (length-take, length-drop) (omega (arith, hat)) in
-        let e : a ≡ b =
-        ext-getD 0 a b (la ∙ sym lb) (λ k h. let l : k < n = omega arith in word-at i k l ∙ (all k l ∙ sym (word-at at k l))) in
-        let whole-i : trees-in a ≡ some 1 = subst (λ (l : List ℕ). trees-in l ≡ some 1) (sym e) whole-at in
-        let t : numbered-at ws i ≡ numbered-at ws at =
-        run-is ws i n whole-i ∙ (ap (λ (l : List ℕ). getD (read numbered l) 0 (Op 0 nil)) e ∙ sym (run-is ws at n whole-at)) in
-        sym (is-true (eq-tree (numbered-at ws i) (numbered-at ws at)) (subst (λ (u : Tree). T (eq-tree (numbered-at ws i) u)) t (eq-tree-refl (numbered-at ws i))))

@@ -1,32 +1,15 @@
 -- The answers of this crate by cases (01, "Uses"), for words none of which lacks an operand. Assumes nothing.
 use Prim.Native.Nat.{ℕ}
-use mathlib.Core.Bool.{Bool, true, false, _&&_, _||_, not}
+use mathlib.Core.Bool.{Bool, true, false}
 use mathlib.Core.Option.{Option, none, some}
 use mathlib.Core.List.{List, _++_}
 use lib.ListN.{length, drop}
-use lib.Dec.{leb, ltb}
+use lib.Dec.{ltb}
 use Rattle.tree.specs.Tokens.{trees-in}
-use Rattle.renaming.specs.Places.{uses-at, equal-places, outside-at}
-use Rattle.uses.specs.Marks.{is-marked, marks-of}
-use Rattle.uses.specs.declared.Uses.{Uses}
-use Rattle.uses.specs.declared.Uses.the-variants as uses
+use Rattle.renaming.specs.Places.{outside-at}
+use Rattle.uses.specs.Marks.{marks-of}
 use Rattle.uses.specs.declared.Marked.{Marked}
 use Rattle.uses.specs.declared.Marked.the-variants as marked
-
--- a count, where the words are complete and a place passes
-unfoldable pub counted-by : Option ℕ → Bool → ℕ → Uses
-counted-by none ok n = uses.Broken
-counted-by (some k) false n = uses.Broken
-counted-by (some k) true n = uses.Count n
-
-unfoldable pub uses-answer : List ℕ → ℕ → Uses
-unfolding counted-by trees-in uses-at
-uses-answer ws at = counted-by (trees-in ws) (ltb at (length ws)) (uses-at ws at)
-
-unfoldable pub marked-answer : List ℕ → List ℕ → ℕ → Uses
-unfolding counted-by trees-in equal-places is-marked
-marked-answer ws marks at =
-    counted-by (trees-in ws) (ltb at (length ws) && leb (length ws) (length marks)) (equal-places ws (is-marked marks) at (length ws))
 
 pub record Marks : Type 0 where
   pub answer : Marked

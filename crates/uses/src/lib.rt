@@ -1,15 +1,9 @@
-// How often a tree stands among words of trees, and which places are outside arms (01, "Uses"). Equal trees are equal runs of words, and a run that begins with
-// the words of a whole tree begins with that tree: so uses are counted by comparing words.
+// Which places of words of trees are outside arms (01, "Uses").
 ghost use mathlib.Core.Path.{_≡_};
-ghost use mathlib.Core.Bool.{true, _&&_};
 ghost use Prim.Native.Nat.{_≤_, _<_};
 ghost use lib.ListN.{length};
-ghost use Rattle.tree.specs.Tree.{eq-tree};
-ghost use Rattle.tree.specs.Facts.{size};
-ghost use Rattle.tree.specs.Tokens.{flag};
-ghost use Rattle.renaming.specs.Places.{numbered-at, equal-places};
-ghost use Rattle.uses.specs.Marks.{Complete, is-marked, Cleared, Ones, Arms, Marking, not-in-arms};
-ghost use Rattle.uses.specs.Answers.{uses-answer, marked-answer, mark-answer};
+ghost use Rattle.uses.specs.Marks.{Complete, Cleared, Ones, Arms, Marking, not-in-arms};
+ghost use Rattle.uses.specs.Answers.{mark-answer};
 use tokens::Run;
 use tokens::Trees;
 use tokens::count_trees;
@@ -20,124 +14,11 @@ const KINDS: u64 = 64;
 
 const BRANCH: u64 = 26;
 
-pub enum Uses {
-    Count(usize),
-    Broken,
-}
-
 pub enum Marked {
     Done,
     Broken,
     // Fewer marks than words.
     NoRoom,
-}
-
-// Whether the tree at i is the one at `at`, whose words are n.
-fn equal_at(tokens: &[u64], at: usize, n: usize, i: usize) -> bool
-    requires { ⌜ Complete (now tokens) ⌝ }
-    requires { ⌜ (at < length (now tokens)) × (i < length (now tokens)) ⌝ }
-    requires { ⌜ n ≡ size (numbered-at (now tokens) at) ⌝ }
-    ensures { λ r. ⌜ r ≡ eq-tree (numbered-at (now (tokens .entry)) i) (numbered-at (now (tokens .entry)) at) ⌝ }
-{
-    if tokens.len() - i < n {
-        return false;
-    }
-    let mut k = 0;
-    while k < n {
-        if tokens[i + k] != tokens[at + k] {
-            return false;
-        }
-        k += 1;
-    }
-    true
-}
-
-fn one_if(b: bool) -> usize
-    ensures { λ r. ⌜ r ≡ flag b ⌝ }
-{
-    if b { 1 } else { 0 }
-}
-
-// How many places have the tree at `at`.
-fn count_equal(tokens: &[u64], at: usize, n: usize) -> usize
-    requires { ⌜ Complete (now tokens) ⌝ }
-    requires { ⌜ at < length (now tokens) ⌝ }
-    requires { ⌜ n ≡ size (numbered-at (now tokens) at) ⌝ }
-    ensures { λ r. ⌜ r ≡ equal-places (now (tokens .entry)) (λ j. true) at (length (now (tokens .entry))) ⌝ }
-{
-    let mut count: usize = 0;
-    let mut i = 0;
-    while i < tokens.len() {
-        count += one_if(equal_at(tokens, at, n, i));
-        i += 1;
-    }
-    count
-}
-
-// Whether the tree at i is the one at `at` and i is marked.
-fn marked_equal_at(tokens: &[u64], marks: &[u64], at: usize, n: usize, i: usize) -> bool
-    requires { ⌜ Complete (now tokens) ⌝ }
-    requires { ⌜ (at < length (now tokens)) × (i < length (now tokens)) × (i < length (now marks)) ⌝ }
-    requires { ⌜ n ≡ size (numbered-at (now tokens) at) ⌝ }
-    ensures { λ r. ⌜ r ≡ (is-marked (now (marks .entry)) i && eq-tree (numbered-at (now (tokens .entry)) i) (numbered-at (now (tokens .entry)) at)) ⌝ }
-{
-    if marks[i] == 0 {
-        return false;
-    }
-    equal_at(tokens, at, n, i)
-}
-
-// How many marked places have it.
-fn count_equal_marked(tokens: &[u64], marks: &[u64], at: usize, n: usize) -> usize
-    requires { ⌜ Complete (now tokens) ⌝ }
-    requires { ⌜ (at < length (now tokens)) × (length (now tokens) ≤ length (now marks)) ⌝ }
-    requires { ⌜ n ≡ size (numbered-at (now tokens) at) ⌝ }
-    ensures { λ r. ⌜ r ≡ equal-places (now (tokens .entry)) (is-marked (now (marks .entry))) at (length (now (tokens .entry))) ⌝ }
-{
-    let mut count: usize = 0;
-    let mut i = 0;
-    while i < tokens.len() {
-        count += one_if(marked_equal_at(tokens, marks, at, n, i));
-        i += 1;
-    }
-    count
-}
-
-// How often the tree at `at` is there.
-pub fn count_uses(tokens: &[u64], at: usize) -> Uses
-    ensures { λ r. ⌜ r ≡ uses-answer (now (tokens .entry)) at ⌝ }
-{
-    let Trees::Count(_) = count_trees(tokens) else {
-        return Uses::Broken;
-    };
-    if at >= tokens.len() {
-        return Uses::Broken;
-    }
-    let Run::Ends(end) = end_of(tokens, at) else {
-        return Uses::Broken;
-    };
-    let n = end - at;
-    Uses::Count(count_equal(tokens, at, n))
-}
-
-// How often it is at a marked place; Broken too where there are fewer marks than words.
-pub fn count_marked(tokens: &[u64], marks: &[u64], at: usize) -> Uses
-    ensures { λ r. ⌜ r ≡ marked-answer (now (tokens .entry)) (now (marks .entry)) at ⌝ }
-{
-    let Trees::Count(_) = count_trees(tokens) else {
-        return Uses::Broken;
-    };
-    if at >= tokens.len() {
-        return Uses::Broken;
-    }
-    if marks.len() < tokens.len() {
-        return Uses::Broken;
-    }
-    let Run::Ends(end) = end_of(tokens, at) else {
-        return Uses::Broken;
-    };
-    let n = end - at;
-    Uses::Count(count_equal_marked(tokens, marks, at, n))
 }
 
 // Marks the first n places.

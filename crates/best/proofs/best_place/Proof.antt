@@ -1,6 +1,5 @@
 -- `best::best_place` meets its contract. Assumes nothing.
 use Prim.Native.Nat.{min}
-use native.Mathlib.Omega.{arith}
 use mathlib.Core.Path.{sym, _∙_, subst}
 use borrow.Author.Tests.{not-true, not-false}
 use lib.ListN.{length}

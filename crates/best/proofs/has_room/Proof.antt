@@ -1,9 +1,6 @@
 -- `best::has_room` meets its contract. Assumes nothing.
 use native.Mathlib.Omega.{arith}
-use mathlib.Core.Path.{sym, _∙_}
-use borrow.Author.Tests.{not-true, not-false}
 use Rattle.best.proofs.Giving.{too-many, few-facts, few-marks, last-room}
-use borrow.Author.Needs.{needs}
 use Rattle.best.proofs.has_room.Statement.{statement}
 use Rattle.best.proofs.has_room.Tie as tie
 

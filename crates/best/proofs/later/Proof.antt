@@ -1,7 +1,6 @@
 -- `best::later` meets its contract. Assumes nothing.
 use native.Mathlib.Omega.{arith}
 use mathlib.Core.Path.{sym, _∙_}
-use borrow.Author.Tests.{not-true, not-false}
 use Rattle.best.proofs.Leaders.{depth-decides, is-later, not-later, no-broken, no-short}
 use borrow.Author.Needs.{needs}
 use Rattle.best.proofs.later.Statement.{statement}

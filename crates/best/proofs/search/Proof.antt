@@ -3,9 +3,7 @@ use Prim.Native.Nat.{_-_}
 use native.Mathlib.Omega.{arith}
 use mathlib.Core.Path.{_≡_, refl, _∙_}
 use lib.ListN.{length}
-use Rattle.best.specs.Leading.{Writable}
 use Rattle.best.proofs.Leaders.{Searching, searching-starts, searching-turns, searching-ends}
-use borrow.Author.Needs.{needs}
 use Rattle.best.proofs.search.Statement.{statement}
 use Rattle.best.proofs.search.Tie as tie
 

@@ -1,6 +1,5 @@
 -- `classes::chosen` meets its contract. Assumes nothing.
 use borrow.Author.Tests.{eq-eqb, ne-eqb}
-use borrow.Author.Needs.{needs}
 use Rattle.classes.proofs.chosen.Statement.{statement}
 use Rattle.classes.proofs.chosen.Tie as tie
 

@@ -5,7 +5,6 @@ use mathlib.Core.Path.{sym, _∙_}
 use lib.ListN.{length}
 use Rattle.classes.specs.Tables.{Chase}
 use Rattle.classes.proofs.Chains.{chase-turns, chase-finds, chase-ends, chase-past}
-use borrow.Author.Needs.{needs}
 use Rattle.classes.proofs.find.Statement.{statement}
 use Rattle.classes.proofs.find.Tie as tie
 

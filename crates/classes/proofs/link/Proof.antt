@@ -1,5 +1,4 @@
 -- `classes::link` meets its contract. Assumes nothing.
-use native.Mathlib.Omega.{arith}
 use Rattle.classes.proofs.Chains.{passing-turns, chase-starts}
 use borrow.Author.Needs.{needs}
 use Rattle.classes.proofs.link.Statement.{statement}

@@ -9,7 +9,6 @@ use Rattle.measure.proofs.Filling.{filling-starts, filling-ready}
 use Rattle.classes.proofs.Chains.{passing-next}
 use Rattle.classes.proofs.Counts.{counted-turns, counted-fits, one-passes}
 use Rattle.classes.proofs.Passes.{Pass, put-turns, filling-sized, counts-next, pass-ends}
-use borrow.Author.Needs.{needs}
 use Rattle.classes.proofs.pass.Statement.{statement}
 use Rattle.classes.proofs.pass.Tie as tie
 

@@ -1,9 +1,8 @@
 -- `classes::reset` meets its contract. Assumes nothing.
-use Prim.Native.Nat.{_-_, _≤_}
+use Prim.Native.Nat.{_-_}
 use native.Mathlib.Omega.{arith}
 use Rattle.classes.specs.Tables.{Reset}
 use Rattle.classes.proofs.Counts.{reset-starts, reset-turns, reset-ends}
-use borrow.Author.Needs.{needs}
 use Rattle.classes.proofs.reset.Statement.{statement}
 use Rattle.classes.proofs.reset.Tie as tie
 

@@ -1,7 +1,6 @@
 -- `classes::same_below` meets its contract. Assumes nothing.
 use native.Mathlib.Omega.{arith}
 use Rattle.classes.proofs.Loops.{Comparing, walk-first, comparing-starts, comparing-turns, comparing-stops, comparing-ends}
-use borrow.Author.Needs.{needs}
 use Rattle.classes.proofs.same_below.Statement.{statement}
 use Rattle.classes.proofs.same_below.Tie as tie
 

@@ -1,9 +1,7 @@
 -- `uses::clear` meets its contract. Assumes nothing.
-use Prim.Native.Nat.{_-_, _≤_}
+use Prim.Native.Nat.{_-_}
 use native.Mathlib.Omega.{arith}
-use lib.ListN.{length, length-set}
 use Rattle.uses.proofs.Marking.{Clearing, clearing-starts, clearing-turns, clearing-ends}
-use borrow.Author.Needs.{needs}
 use Rattle.uses.proofs.clear.Statement.{statement}
 use Rattle.uses.proofs.clear.Tie as tie
 

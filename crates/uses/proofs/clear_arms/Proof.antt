@@ -4,7 +4,6 @@ use native.Mathlib.Omega.{arith}
 use lib.ListN.{length}
 use Rattle.uses.specs.Marks.{Marking, not-in-arms}
 use Rattle.uses.proofs.Marking.{marking-starts, marking-turns, marking-ends}
-use borrow.Author.Needs.{needs}
 use Rattle.uses.proofs.clear_arms.Statement.{statement}
 use Rattle.uses.proofs.clear_arms.Tie as tie
 

@@ -1,10 +1,8 @@
 -- `uses::mark_all` meets its contract. Assumes nothing.
 use Prim.Native.Nat.{_-_, _≤_}
 use native.Mathlib.Omega.{arith}
-use lib.ListN.{length, length-set}
 use Rattle.uses.specs.Marks.{Ones}
 use Rattle.uses.proofs.Marking.{ones-start, ones-turn, ones-end}
-use borrow.Author.Needs.{needs}
 use Rattle.uses.proofs.mark_all.Statement.{statement}
 use Rattle.uses.proofs.mark_all.Tie as tie
 
