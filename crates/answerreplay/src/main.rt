@@ -3,13 +3,13 @@
 ghost use Prim.Native.Nat.{_≤_};
 ghost use lib.ListN.{length};
 ghost use Rattle.io.specs.Counts.{Counts};
-use flatsheet::Flat;
-use flatsheet::flat_sheet;
+use flat_sheet::Flat;
+use flat_sheet::flat_sheet;
 use libc::STDIN_FILENO;
 use libc::STDOUT_FILENO;
-use lines::Line;
-use lines::line_at;
-use lines::refusal_line;
+use print::lines::Line;
+use print::lines::line_at;
+use print::lines::refusal_line;
 
 const LF: u8 = 10;
 

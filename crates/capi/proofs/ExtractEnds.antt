@@ -3,8 +3,8 @@ use Prim.Native.Nat.{ℕ, _≤_}
 use mathlib.Core.Path.{_≡_, refl, sym, subst}
 use mathlib.Core.List.{List}
 use lib.ListN.{length, set}
-use Rattle.extract.specs.declared.Extraction.{Extraction}
-use Rattle.extract.specs.declared.Extraction.the-variants as extraction
+use Rattle.cse_flat.specs.declared.Extraction.{Extraction}
+use Rattle.cse_flat.specs.declared.Extraction.the-variants as extraction
 use Rattle.capi.specs.Extracts.{extracted-number, extracted-answer}
 use Rattle.capi.proofs.Ends.{two-set}
 

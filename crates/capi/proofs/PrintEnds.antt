@@ -3,8 +3,8 @@ use Prim.Native.Nat.{ℕ, _≤_}
 use mathlib.Core.Path.{_≡_, refl, sym, subst}
 use mathlib.Core.List.{List}
 use lib.ListN.{length, set}
-use Rattle.printer.specs.declared.Printed.{Printed}
-use Rattle.printer.specs.declared.Printed.the-variants as printed
+use Rattle.print.specs.declared.Printed.{Printed}
+use Rattle.print.specs.declared.Printed.the-variants as printed
 use Rattle.capi.specs.Prints.{printed-number, printed-answer}
 use Rattle.capi.proofs.Ends.{one-set}
 

@@ -3,8 +3,8 @@ use Prim.Native.Nat.{ℕ, _≤_}
 use mathlib.Core.Path.{_≡_, refl, sym, subst}
 use mathlib.Core.List.{List}
 use lib.ListN.{length, set}
-use Rattle.words.specs.declared.Rewritten.{Rewritten}
-use Rattle.words.specs.declared.Rewritten.the-variants as rewritten
+use Rattle.words.specs.declared.words.Rewritten.{Rewritten}
+use Rattle.words.specs.declared.words.Rewritten.the-variants as rewritten
 use Rattle.capi.specs.Rewrites.{rewritten-number, rewritten-answer}
 use Rattle.capi.proofs.Ends.{one-set}
 

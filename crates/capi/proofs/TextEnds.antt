@@ -3,8 +3,8 @@ use Prim.Native.Nat.{ℕ, _≤_}
 use mathlib.Core.Path.{_≡_, refl, sym, subst}
 use mathlib.Core.List.{List}
 use lib.ListN.{length, set}
-use Rattle.writer.specs.declared.Text.{Text}
-use Rattle.writer.specs.declared.Text.the-variants as text
+use Rattle.fmt.specs.declared.writer.Text.{Text}
+use Rattle.fmt.specs.declared.writer.Text.the-variants as text
 use Rattle.capi.specs.Texts.{text-number, text-answer}
 use Rattle.capi.proofs.Ends.{two-set}
 

@@ -2,8 +2,8 @@
 use Prim.Native.Nat.{ℕ}
 use mathlib.Core.List.{List, _∷_}
 use lib.ListN.{drop}
-use Rattle.extract.specs.declared.Extraction.{Extraction}
-use Rattle.extract.specs.declared.Extraction.the-variants as extraction
+use Rattle.cse_flat.specs.declared.Extraction.{Extraction}
+use Rattle.cse_flat.specs.declared.Extraction.the-variants as extraction
 use Rattle.capi.specs.Calls.{Calls}
 
 -- 0 for an answer, and 01's number for a list that is refused

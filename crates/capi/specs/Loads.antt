@@ -5,9 +5,9 @@ use mathlib.Core.Bool.{Bool, true, false}
 use mathlib.Core.List.{List, _∷_}
 use lib.ListN.{length, drop}
 use lib.Dec.{leb}
-use Rattle.tree.specs.Outcome.{Outcome, ok, refused}
-use Rattle.tree.specs.Rows.{Table}
-use Rattle.sheet.specs.Call.{rows-after, roots-after}
+use Rattle.spec_tree.specs.Outcome.{Outcome, ok, refused}
+use Rattle.spec_tree.specs.Rows.{Table}
+use Rattle.spec_sheet.specs.Call.{rows-after, roots-after}
 
 -- 0 for a sheet that is loaded, and 01's number for one that is refused
 unfoldable pub loaded-number : Outcome Table → ℕ

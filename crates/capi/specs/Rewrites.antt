@@ -3,9 +3,9 @@
 use Prim.Native.Nat.{ℕ}
 use mathlib.Core.List.{List, _∷_}
 use lib.ListN.{drop}
-use Rattle.words.specs.Answers.{Rewriting}
-use Rattle.words.specs.declared.Rewritten.{Rewritten}
-use Rattle.words.specs.declared.Rewritten.the-variants as rewritten
+use Rattle.words.specs.words.Answers.{Rewriting}
+use Rattle.words.specs.declared.words.Rewritten.{Rewritten}
+use Rattle.words.specs.declared.words.Rewritten.the-variants as rewritten
 use Rattle.capi.specs.Calls.{Calls}
 
 -- 0 where words were written, 253 for words that are no trees or a word that is no symbol's, 254 for too few places

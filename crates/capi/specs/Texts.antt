@@ -2,9 +2,9 @@
 use Prim.Native.Nat.{ℕ}
 use mathlib.Core.List.{List, _∷_}
 use lib.ListN.{drop}
-use Rattle.writer.specs.Answers.{Written}
-use Rattle.writer.specs.declared.Text.{Text}
-use Rattle.writer.specs.declared.Text.the-variants as text
+use Rattle.fmt.specs.writer.Answers.{Written}
+use Rattle.fmt.specs.declared.writer.Text.{Text}
+use Rattle.fmt.specs.declared.writer.Text.the-variants as text
 use Rattle.capi.specs.Calls.{Calls}
 
 -- 0 for a tree's text, 253 for words that are no tree of an answer

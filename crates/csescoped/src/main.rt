@@ -2,7 +2,7 @@
 // line for a refusal. It lends 131,072 rows and 524,288 bytes, and an answer that is longer is refused by 12 or 14: program/specs/Program `csescoped`.
 use libc::STDIN_FILENO;
 use libc::STDOUT_FILENO;
-use lines::refusal_line;
+use print::lines::refusal_line;
 use scopedsheet::Said;
 use scopedsheet::scoped_sheet;
 

@@ -2,13 +2,13 @@
 // enough for every sheet: the table for the rows of any flat answer, `out` for any line.
 ghost use Prim.Native.Nat.{_≤_};
 ghost use lib.ListN.{length};
-use flatsheet::Flat;
-use flatsheet::flat_sheet;
+use flat_sheet::Flat;
+use flat_sheet::flat_sheet;
 use libc::STDIN_FILENO;
 use libc::STDOUT_FILENO;
-use lines::Line;
-use lines::line_at;
-use lines::refusal_line;
+use print::lines::Line;
+use print::lines::line_at;
+use print::lines::refusal_line;
 
 fn say(out: &[u8], n: usize) {
     if n <= out.len() {

@@ -5,11 +5,11 @@ use native.Mathlib.Omega.{arith}
 use mathlib.Core.Path.{_≡_, refl, sym, _∙_, ap}
 use mathlib.Core.List.{List, [], _∷_, _++_, append-assoc, append-nil, map}
 use lib.ListN.{length}
-use Rattle.tree.specs.Outcome.{Outcome, ok, refused, _>>=_}
-use Rattle.tree.specs.Tree.{Tree}
-use Rattle.tree.proofs.TokenLaws.{map-append}
-use Rattle.cse.specs.Answer.{Intermediate, Match}
-use Rattle.cse.specs.Scope.{Group, members, member-names, columns, arms-of-members, Work, Scoped, Armed, scope-arms, fuse-group, fuse-groups}
+use Rattle.spec_tree.specs.Outcome.{Outcome, ok, refused, _>>=_}
+use Rattle.spec_tree.specs.Tree.{Tree}
+use Rattle.spec_tree.proofs.TokenLaws.{map-append}
+use Rattle.spec_cse.specs.Answer.{Intermediate, Match}
+use Rattle.spec_cse.specs.Scope.{Group, members, member-names, columns, arms-of-members, Work, Scoped, Armed, scope-arms, fuse-group, fuse-groups}
 use Rattle.fusion.specs.Settled.{Step, fused-tree, fused-stmt, Numbered, group-columns, Walked, numbered-groups, group-steps, all-steps, group-match, group-matches, settled-work, settled-groups}
 use Rattle.fusion.proofs.Naming.{map-twice, map-stays, fused-none, fused-more, stmt-none, stmt-more, same-work, named-work, named-are}
 

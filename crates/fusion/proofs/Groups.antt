@@ -4,11 +4,11 @@ use native.Mathlib.Omega.{arith}
 use mathlib.Core.Path.{_≡_, refl, _∙_, ap}
 use mathlib.Core.List.{List, [], _∷_, _++_, map}
 use lib.ListN.{length}
-use Rattle.tree.specs.Outcome.{Outcome, ok, refused, _>>=_}
-use Rattle.tree.specs.Tree.{Tree}
-use Rattle.cse.specs.Scope.{Group, members, Scoped, Armed, scope-arms}
-use Rattle.cselaws.proofs.OrderLaws.{All, all-map}
-use Rattle.cselaws.proofs.Outcomes.{Good, good-ok, then-good, any-good}
+use Rattle.spec_tree.specs.Outcome.{Outcome, ok, refused, _>>=_}
+use Rattle.spec_tree.specs.Tree.{Tree}
+use Rattle.spec_cse.specs.Scope.{Group, members, Scoped, Armed, scope-arms}
+use Rattle.laws.proofs.cse.OrderLaws.{All, all-map}
+use Rattle.laws.proofs.cse.Outcomes.{Good, good-ok, then-good, any-good}
 use Rattle.fusion.specs.Settled.{Numbered, group-columns, Walked, numbered-groups}
 use Rattle.fusion.specs.Words.{numbers-from, all-numbers}
 

@@ -7,13 +7,13 @@ use mathlib.Core.Bool.{Bool, true, false}
 use mathlib.Core.List.{List, [], _∷_, _++_, append-assoc, map}
 use lib.ListN.{length}
 use lib.Dec.{T}
-use Rattle.tree.specs.Tree.{Tree, Sym, Const, Op, nil, _◂_, eq-tree, operands}
-use Rattle.tree.specs.Kinds.{is-switch}
-use Rattle.tree.specs.Facts.{outer, all-outer}
-use Rattle.tree.proofs.TreeLaws.{eq-tree-sound}
-use Rattle.cse.specs.Extract.{among, distinct}
-use Rattle.cse.specs.Scope.{Switch, switches, collect-switches, groups-from}
-use Rattle.reciprocals.proofs.Parts.{settle-tree, settled-reciprocals}
+use Rattle.spec_tree.specs.Tree.{Tree, Sym, Const, Op, nil, _◂_, eq-tree, operands}
+use Rattle.spec_tree.specs.Kinds.{is-switch}
+use Rattle.spec_tree.specs.Facts.{outer, all-outer}
+use Rattle.spec_tree.proofs.TreeLaws.{eq-tree-sound}
+use Rattle.spec_cse.specs.Extract.{among, distinct}
+use Rattle.spec_cse.specs.Scope.{Switch, switches, collect-switches, groups-from}
+use Rattle.reciprocals.proofs.bindings.Parts.{settle-tree, settled-reciprocals}
 use Rattle.fusion.specs.Whole.{settled-roots, scope-groups}
 use Rattle.fusion.specs.Switchless.{switch-node, switchless, with-switches}
 use Rattle.fusion.proofs.Outer.{switchless-none}

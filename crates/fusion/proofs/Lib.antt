@@ -13,3 +13,4 @@ pub mod Members
 pub mod Walking
 pub mod Groups
 pub mod Totals
+pub mod place

@@ -4,9 +4,9 @@ use native.Mathlib.Omega.{arith}
 use mathlib.Core.Path.{_≡_, refl, sym, _∙_, ap, ap₂}
 use mathlib.Core.List.{List, [], _∷_, _++_, map}
 use lib.ListN.{length, drop, length-append, length-map}
-use Rattle.tree.specs.Tree.{Tree}
-use Rattle.cse.specs.Scope.{Switch, members}
-use Rattle.renaming.specs.Places.{numbered-at}
+use Rattle.spec_tree.specs.Tree.{Tree}
+use Rattle.spec_cse.specs.Scope.{Switch, members}
+use Rattle.laws.specs.positions.Places.{numbered-at}
 use Rattle.fusion.specs.Settled.{Step, member-steps, Numbered, group-steps, all-steps}
 use Rattle.fusion.specs.Words.{steps-at, numbers-from, all-numbers}
 

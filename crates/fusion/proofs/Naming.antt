@@ -4,10 +4,10 @@ use native.Mathlib.Omega.{arith}
 use mathlib.Core.Path.{_≡_, refl, sym, _∙_, ap, ap₂}
 use mathlib.Core.List.{List, [], _∷_, _++_, map}
 use lib.ListN.{length}
-use Rattle.tree.specs.Tree.{mname, Tree}
-use Rattle.rewrite.specs.Rewrite.{replace-outside-arms}
-use Rattle.cse.specs.Answer.{Intermediate, Let, Match}
-use Rattle.cse.specs.Scope.{Switch, replace-in-results, replace-in-stmts, Work, name-members}
+use Rattle.spec_tree.specs.Tree.{mname, Tree}
+use Rattle.spec_rewrite.specs.Rewrite.{replace-outside-arms}
+use Rattle.spec_cse.specs.Answer.{Intermediate, Let, Match}
+use Rattle.spec_cse.specs.Scope.{Switch, replace-in-results, replace-in-stmts, Work, name-members}
 use Rattle.fusion.specs.Settled.{Step, fused-tree, fused-stmt, member-steps}
 
 -- ---- lists

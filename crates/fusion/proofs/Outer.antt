@@ -8,14 +8,14 @@ use mathlib.Core.List.{List, [], _∷_, _++_}
 use lib.ListN.{length, take, drop, length-append, length-take}
 use lib.Seq.{length-take-le}
 use lib.Dec.{T, leb, leb→le, le→leb}
-use Rattle.tree.specs.Tree.{Tree, Forest, Sym, Const, Op, nil, _◂_, operands, forest}
-use Rattle.tree.specs.Kinds.{is-switch}
-use Rattle.tree.specs.Facts.{outer, outer-of, outer-first}
-use Rattle.tree.specs.Tokens.{kind-of, below-of, takes, tree-of-word, read, trees-in, numbered}
-use Rattle.tree.proofs.Logic.{and-left, and-right, and-both}
-use Rattle.tree.proofs.TokenLaws.{Word, a-symbol, a-constant, an-operation, word-is, leaf-takes, operation-takes, symbol-tree, constant-tree, operation-tree, complete-tail, complete-length}
-use Rattle.cse.specs.Scope.{Switch, switches}
-use Rattle.outside.specs.Part.{has-arms}
+use Rattle.spec_tree.specs.Tree.{Tree, Forest, Sym, Const, Op, nil, _◂_, operands, forest}
+use Rattle.spec_tree.specs.Kinds.{is-switch}
+use Rattle.spec_tree.specs.Facts.{outer, outer-of, outer-first}
+use Rattle.spec_tree.specs.Tokens.{kind-of, below-of, takes, tree-of-word, read, trees-in, numbered}
+use Rattle.spec_tree.proofs.Logic.{and-left, and-right, and-both}
+use Rattle.spec_tree.proofs.TokenLaws.{Word, a-symbol, a-constant, an-operation, word-is, leaf-takes, operation-takes, symbol-tree, constant-tree, operation-tree, complete-tail, complete-length}
+use Rattle.spec_cse.specs.Scope.{Switch, switches}
+use Rattle.replace.specs.outside.Part.{has-arms}
 use Rattle.fusion.specs.Switchless.{switch-node, switchless, switchless-each, all-switchless, no-switch-words}
 
 -- ---- by the switches outside arms

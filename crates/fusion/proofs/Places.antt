@@ -5,10 +5,10 @@ use mathlib.Core.Path.{_≡_, refl, sym, _∙_, ap, ap₂}
 use mathlib.Core.List.{List, [], _∷_, _++_, map}
 use lib.ListN.{length, getD, drop, length-append, length-map, List·getD-append, List·getD-map}
 use lib.Seq.{getD-append-add, getD-drop, drop-cons}
-use Rattle.tree.specs.Tree.{xname, Tree}
-use Rattle.cse.specs.Answer.{Intermediate, Let}
-use Rattle.renaming.specs.Rounds.{next-number}
-use Rattle.reciprocals.proofs.Parts.{settle-tree, reciprocal, settled-reciprocals, reciprocal-of}
+use Rattle.spec_tree.specs.Tree.{xname, Tree}
+use Rattle.spec_cse.specs.Answer.{Intermediate, Let}
+use Rattle.laws.specs.positions.Rounds.{next-number}
+use Rattle.reciprocals.proofs.bindings.Parts.{settle-tree, reciprocal, settled-reciprocals, reciprocal-of}
 use Rattle.fusion.specs.Settled.{Step, fused-tree, Numbered, all-steps, group-match, group-matches}
 use Rattle.fusion.specs.Whole.{settled-fused, lets-from, scope-stmts}
 use Rattle.fusion.proofs.Whole.{reciprocals-count}

@@ -4,15 +4,15 @@ use native.Mathlib.Omega.{arith}
 use mathlib.Core.Path.{_≡_, refl, _∙_, ap, subst}
 use mathlib.Core.List.{List, [], _∷_, _++_, map}
 use lib.ListN.{length, take, drop, length-map}
-use Rattle.tree.specs.Outcome.{Outcome, ok, refused, _>>=_}
-use Rattle.tree.specs.Tree.{Tree}
-use Rattle.tree.specs.Facts.{size}
-use Rattle.tree.specs.Rows.{occurrences}
-use Rattle.cse.specs.Answer.{Intermediate, Arms, arm, block, value-rows, stmt-rows, arms-rows, rows}
-use Rattle.cse.specs.Order.{topo-sort-intermediates}
-use Rattle.cse.specs.Scope.{Switch, members, member-names, Scoped, finish, as-answer}
-use Rattle.renaming.specs.Rounds.{next-number}
-use Rattle.reciprocals.proofs.Parts.{reciprocal, settled-reciprocals}
+use Rattle.spec_tree.specs.Outcome.{Outcome, ok, refused, _>>=_}
+use Rattle.spec_tree.specs.Tree.{Tree}
+use Rattle.spec_tree.specs.Facts.{size}
+use Rattle.spec_tree.specs.Rows.{occurrences}
+use Rattle.spec_cse.specs.Answer.{Intermediate, Arms, arm, block, value-rows, stmt-rows, arms-rows, rows}
+use Rattle.spec_cse.specs.Order.{topo-sort-intermediates}
+use Rattle.spec_cse.specs.Scope.{Switch, members, member-names, Scoped, finish, as-answer}
+use Rattle.laws.specs.positions.Rounds.{next-number}
+use Rattle.reciprocals.proofs.bindings.Parts.{reciprocal, settled-reciprocals}
 use Rattle.fusion.specs.Settled.{Step, fused-tree, Numbered, Walked, numbered-groups, all-steps, group-match, group-matches}
 use Rattle.fusion.specs.Whole.{settled-fused, lets-from, scope-groups, scope-stmts, scope-work, settled-scope}
 use Rattle.fusion.specs.Rows.{scoped-rows, match-rows, rows-of, settled-rows}

@@ -2,13 +2,13 @@
 use Prim.Native.Nat.{ℕ, suc, _≤_}
 use native.Mathlib.Omega.{arith}
 use mathlib.Core.List.{List, [], _∷_, map}
-use Rattle.tree.specs.Tree.{xname, mname, Tree}
-use Rattle.tree.specs.Facts.{size}
-use Rattle.tree.specs.Rows.{occurrences}
-use Rattle.rewrite.specs.Rewrite.{replace-divisor, replace-outside-arms}
-use Rattle.rewrite.proofs.DivisorCount.{divisor-size}
-use Rattle.outside.proofs.Replacing.{outside-size}
-use Rattle.reciprocals.proofs.Parts.{settle-tree}
+use Rattle.spec_tree.specs.Tree.{xname, mname, Tree}
+use Rattle.spec_tree.specs.Facts.{size}
+use Rattle.spec_tree.specs.Rows.{occurrences}
+use Rattle.spec_rewrite.specs.Rewrite.{replace-divisor, replace-outside-arms}
+use Rattle.spec_rewrite.proofs.DivisorCount.{divisor-size}
+use Rattle.replace.proofs.outside.Replacing.{outside-size}
+use Rattle.reciprocals.proofs.bindings.Parts.{settle-tree}
 use Rattle.fusion.specs.Settled.{Step, fused-tree}
 use Rattle.fusion.specs.Whole.{settled-fused}
 

@@ -8,10 +8,10 @@ use mathlib.Core.Logic.{inl, inr, _≢_}
 use lib.ListN.{length, getD, take, length-reverse}
 use lib.Seq.{take-suc, take-all}
 use lib.Dec.{T, eqb, eqb→eq, eqb-refl}
-use Rattle.tree.specs.Outcome.{Outcome, ok, refused, by}
-use Rattle.cse.specs.Answer.{Intermediate, block, stmt-rows, stmts-rows}
-use Rattle.cse.specs.Order.{needs, member, positions-taken, nothing, at-each, topo-sort-intermediates}
-use Rattle.cselaws.proofs.OrderLaws.{member-cases, member-later, member-here, All, Distinct, taken-ok, none-missing, remove}
+use Rattle.spec_tree.specs.Outcome.{Outcome, ok, refused, by}
+use Rattle.spec_cse.specs.Answer.{Intermediate, block, stmt-rows, stmts-rows}
+use Rattle.spec_cse.specs.Order.{needs, member, positions-taken, nothing, at-each, topo-sort-intermediates}
+use Rattle.laws.proofs.cse.OrderLaws.{member-cases, member-later, member-here, All, Distinct, taken-ok, none-missing, remove}
 
 -- ---- sums at positions
 

@@ -5,16 +5,16 @@ use mathlib.Core.Bool.{Bool, true, false, not}
 use mathlib.Core.List.{List, [], _∷_, _++_, map}
 use lib.ListN.{length}
 use lib.Dec.{T}
-use Rattle.tree.specs.Outcome.{Outcome, ok, _>>=_}
-use Rattle.tree.specs.Tree.{Name, mname, Tree, Forest, Sym, Const, Op, nil, _◂_, eq-tree}
-use Rattle.tree.specs.Kinds.{is-switch}
-use Rattle.tree.proofs.Logic.{and-left, and-right}
-use Rattle.tree.proofs.TreeLaws.{eq-tree-sound}
-use Rattle.rewrite.specs.Rewrite.{replace-outside-arms, replace-operands, replace-key}
-use Rattle.cse.specs.Scope.{Switch, Group, collect-switches, groups-from, members, Scoped, scope-arms}
-use Rattle.cselaws.proofs.Outcomes.{Good, good-ok, then-good, any-good}
-use Rattle.cselaws.proofs.Symbols.{holds-all-by}
-use Rattle.cselaws.proofs.SwitchLaws.{Fair, Fair-groups, All-like, members-like, groups-fair}
+use Rattle.spec_tree.specs.Outcome.{Outcome, ok, _>>=_}
+use Rattle.spec_tree.specs.Tree.{Name, mname, Tree, Forest, Sym, Const, Op, nil, _◂_, eq-tree}
+use Rattle.spec_tree.specs.Kinds.{is-switch}
+use Rattle.spec_tree.proofs.Logic.{and-left, and-right}
+use Rattle.spec_tree.proofs.TreeLaws.{eq-tree-sound}
+use Rattle.spec_rewrite.specs.Rewrite.{replace-outside-arms, replace-operands, replace-key}
+use Rattle.spec_cse.specs.Scope.{Switch, Group, collect-switches, groups-from, members, Scoped, scope-arms}
+use Rattle.laws.proofs.cse.Outcomes.{Good, good-ok, then-good, any-good}
+use Rattle.laws.proofs.cse.Symbols.{holds-all-by}
+use Rattle.laws.proofs.cse.SwitchLaws.{Fair, Fair-groups, All-like, members-like, groups-fair}
 use Rattle.fusion.specs.Settled.{Step, fused-tree, member-steps, group-columns, Walked, numbered-groups, group-steps, all-steps}
 use Rattle.fusion.specs.Whole.{settled-roots, scope-groups}
 use Rattle.fusion.specs.Switchless.{switch-node, switchless, switchless-each, all-switchless}

@@ -5,16 +5,16 @@ use mathlib.Core.Path.{_≡_, refl, _∙_, ap}
 use mathlib.Core.Bool.{Bool, true, false}
 use mathlib.Core.List.{List, [], _∷_, _++_, map}
 use lib.ListN.{length, length-append}
-use Rattle.tree.specs.Outcome.{Outcome, ok, refused}
-use Rattle.tree.specs.Tree.{Tree, Forest, Sym, Const, Op, nil, _◂_, operands}
-use Rattle.tree.specs.Kinds.{is-switch}
-use Rattle.tree.specs.Facts.{size, outer, outer-of, outer-first, all-outer}
-use Rattle.tree.specs.Rows.{occurrences}
-use Rattle.tree.proofs.FactLaws.{size-one}
-use Rattle.rewrite.proofs.Measure.{sum-each, size-op}
-use Rattle.cse.specs.Extract.{among, distinct}
-use Rattle.cse.specs.Scope.{Switch, Group, switches, collect-switches, joins, place, groups-from, members, Scoped}
-use Rattle.cselaws.proofs.Outcomes.{Good}
+use Rattle.spec_tree.specs.Outcome.{Outcome, ok, refused}
+use Rattle.spec_tree.specs.Tree.{Tree, Forest, Sym, Const, Op, nil, _◂_, operands}
+use Rattle.spec_tree.specs.Kinds.{is-switch}
+use Rattle.spec_tree.specs.Facts.{size, outer, outer-of, outer-first, all-outer}
+use Rattle.spec_tree.specs.Rows.{occurrences}
+use Rattle.spec_tree.proofs.FactLaws.{size-one}
+use Rattle.spec_rewrite.proofs.Measure.{sum-each, size-op}
+use Rattle.spec_cse.specs.Extract.{among, distinct}
+use Rattle.spec_cse.specs.Scope.{Switch, Group, switches, collect-switches, joins, place, groups-from, members, Scoped}
+use Rattle.laws.proofs.cse.Outcomes.{Good}
 use Rattle.fusion.specs.Settled.{member-steps, Numbered, Walked, numbered-groups, group-steps, all-steps}
 use Rattle.fusion.specs.Whole.{settled-roots, scope-groups}
 use Rattle.fusion.proofs.Members.{steps-count}

@@ -3,10 +3,10 @@ use Prim.Native.Nat.{ℕ, _+_}
 use native.Mathlib.Omega.{arith}
 use mathlib.Core.Path.{_≡_, refl, _∙_, ap}
 use mathlib.Core.List.{List, [], _∷_, _++_}
-use Rattle.tree.specs.Outcome.{Outcome, ok, refused, _>>=_}
-use Rattle.tree.specs.Tree.{Tree}
-use Rattle.cse.specs.Answer.{Arms, no-arm, arm, block}
-use Rattle.cse.specs.Scope.{Scoped, Armed, scope-arms}
+use Rattle.spec_tree.specs.Outcome.{Outcome, ok, refused, _>>=_}
+use Rattle.spec_tree.specs.Tree.{Tree}
+use Rattle.spec_cse.specs.Answer.{Arms, no-arm, arm, block}
+use Rattle.spec_cse.specs.Scope.{Scoped, Armed, scope-arms}
 
 -- ---- arms
 

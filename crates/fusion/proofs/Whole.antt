@@ -5,19 +5,19 @@ use mathlib.Core.Path.{_≡_, refl, sym, _∙_, ap, ap₂}
 use mathlib.Core.Bool.{true}
 use mathlib.Core.List.{List, [], _∷_, _++_, append-assoc, map}
 use lib.ListN.{length, take, drop, length-append, length-map, length-drop}
-use Rattle.tree.specs.Outcome.{Outcome, ok, refused, _>>=_}
-use Rattle.tree.specs.Tree.{xname, Tree}
-use Rattle.tree.specs.Facts.{all-operations}
-use Rattle.tree.proofs.TokenLaws.{map-append}
-use Rattle.text.specs.Text.{display}
-use Rattle.cse.specs.Extract.{State, extract-all, reciprocals}
-use Rattle.cse.specs.Answer.{Intermediate, Let}
-use Rattle.cse.specs.Scope.{collect-switches, groups-from, Work, Scoped, binds, unfused, fuse-groups, fuse-all, finish, statements}
-use Rattle.renaming.specs.Shown.{extract-all-by, reciprocals-by}
-use Rattle.renaming.specs.Rounds.{by-number, next-number, state-of, bind-each-on, rounds-on, reciprocals-on}
-use Rattle.renaming.proofs.ByText.{extract-all-text, reciprocals-text}
-use Rattle.renaming.proofs.RoundsOn.{then-same, then-then, roots-of-state, extract-all-on, reciprocals-on-state, rounds-on-length}
-use Rattle.reciprocals.proofs.Parts.{settle-tree, settled-reciprocals, bound-are-settled}
+use Rattle.spec_tree.specs.Outcome.{Outcome, ok, refused, _>>=_}
+use Rattle.spec_tree.specs.Tree.{xname, Tree}
+use Rattle.spec_tree.specs.Facts.{all-operations}
+use Rattle.spec_tree.proofs.TokenLaws.{map-append}
+use Rattle.spec_tree.specs.text.Text.{display}
+use Rattle.spec_cse.specs.Extract.{State, extract-all, reciprocals}
+use Rattle.spec_cse.specs.Answer.{Intermediate, Let}
+use Rattle.spec_cse.specs.Scope.{collect-switches, groups-from, Work, Scoped, binds, unfused, fuse-groups, fuse-all, finish, statements}
+use Rattle.laws.specs.positions.Shown.{extract-all-by, reciprocals-by}
+use Rattle.laws.specs.positions.Rounds.{by-number, next-number, state-of, bind-each-on, rounds-on, reciprocals-on}
+use Rattle.laws.proofs.positions.ByText.{extract-all-text, reciprocals-text}
+use Rattle.laws.proofs.positions.RoundsOn.{then-same, then-then, roots-of-state, extract-all-on, reciprocals-on-state, rounds-on-length}
+use Rattle.reciprocals.proofs.bindings.Parts.{settle-tree, settled-reciprocals, bound-are-settled}
 use Rattle.fusion.specs.Settled.{Step, fused-tree, fused-stmt, Walked, numbered-groups, all-steps, group-matches, settled-work, settled-groups}
 use Rattle.fusion.specs.Whole.{divisors-of, settled-fused, lets-from, settled-roots, scope-groups, scope-stmts, scope-work, settled-scope}
 use Rattle.fusion.proofs.Naming.{same-work}

@@ -7,19 +7,19 @@ use mathlib.Core.List.{List, [], _∷_, map}
 use lib.ListN.{length, getD, drop}
 use lib.Seq.{drop-cons}
 use lib.Dec.{T}
-use Rattle.tree.specs.Tree.{Name, xname, mname, Tree, Sym}
-use Rattle.tree.specs.Tokens.{all-tokens, read, numbered, run-at, trees-in, kind-of, below-of, name-by}
-use Rattle.tree.proofs.TokenCode.{unnumbered, writes-back}
-use Rattle.rewrite.specs.Rewrite.{replace-divisor, replace-outside-arms}
-use Rattle.words.specs.Words.{number, rewritten-words, tree-of, name-of}
-use Rattle.words.proofs.Chains.{readable, name-readable, rewritten-trees, rewritten-complete, rewritten-twice}
-use Rattle.words.proofs.Rewriting.{rewritten-short}
-use Rattle.divisor.proofs.Chaining.{divisor-readable}
-use Rattle.outside.proofs.Chaining.{outside-readable}
-use Rattle.settle.proofs.Settling.{x-word, x-word-name}
-use Rattle.settle.specs.Steps.{settled-words}
-use Rattle.renaming.specs.Places.{numbered-at}
-use Rattle.reciprocals.proofs.Parts.{settle-tree, tree-there, All-there, settled-are}
+use Rattle.spec_tree.specs.Tree.{Name, xname, mname, Tree, Sym}
+use Rattle.spec_tree.specs.Tokens.{all-tokens, read, numbered, run-at, trees-in, kind-of, below-of, name-by}
+use Rattle.spec_tree.proofs.TokenCode.{unnumbered, writes-back}
+use Rattle.spec_rewrite.specs.Rewrite.{replace-divisor, replace-outside-arms}
+use Rattle.words.specs.words.Words.{number, rewritten-words, tree-of, name-of}
+use Rattle.words.proofs.words.Chains.{readable, name-readable, rewritten-trees, rewritten-complete, rewritten-twice}
+use Rattle.words.proofs.words.Rewriting.{rewritten-short}
+use Rattle.replace.proofs.divisor.Chaining.{divisor-readable}
+use Rattle.replace.proofs.outside.Chaining.{outside-readable}
+use Rattle.reciprocals.proofs.settle.Settling.{x-word, x-word-name}
+use Rattle.reciprocals.specs.settle.Steps.{settled-words}
+use Rattle.laws.specs.positions.Places.{numbered-at}
+use Rattle.reciprocals.proofs.bindings.Parts.{settle-tree, tree-there, All-there, settled-are}
 use Rattle.fusion.specs.Settled.{Step, fused-tree}
 use Rattle.fusion.specs.Whole.{settled-fused}
 use Rattle.fusion.specs.Switchless.{no-switch-words}

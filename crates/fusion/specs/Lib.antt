@@ -3,3 +3,10 @@ pub mod Whole
 pub mod Switchless
 pub mod Rows
 pub mod Words
+pub mod fuse
+pub mod switches
+pub mod place
+pub mod grouping
+pub mod tables
+pub mod columns
+pub mod scopeneeds

@@ -2,13 +2,13 @@
 use Prim.Native.Nat.{ℕ, suc, _+_}
 use mathlib.Core.List.{List, [], _∷_, map}
 use lib.ListN.{length, take, drop}
-use Rattle.tree.specs.Tree.{Tree}
-use Rattle.tree.specs.Facts.{size}
-use Rattle.tree.specs.Rows.{occurrences}
-use Rattle.cse.specs.Answer.{block, value-rows, stmts-rows, arms-rows}
-use Rattle.cse.specs.Scope.{members, Scoped}
-use Rattle.renaming.specs.Rounds.{next-number}
-use Rattle.reciprocals.proofs.Parts.{settled-reciprocals}
+use Rattle.spec_tree.specs.Tree.{Tree}
+use Rattle.spec_tree.specs.Facts.{size}
+use Rattle.spec_tree.specs.Rows.{occurrences}
+use Rattle.spec_cse.specs.Answer.{block, value-rows, stmts-rows, arms-rows}
+use Rattle.spec_cse.specs.Scope.{members, Scoped}
+use Rattle.laws.specs.positions.Rounds.{next-number}
+use Rattle.reciprocals.proofs.bindings.Parts.{settled-reciprocals}
 use Rattle.fusion.specs.Settled.{fused-tree, Numbered, all-steps}
 use Rattle.fusion.specs.Whole.{settled-fused}
 

@@ -3,11 +3,11 @@
 use Prim.Native.Nat.{ℕ, suc, _+_}
 use mathlib.Core.List.{List, [], _∷_, _++_, map}
 use lib.ListN.{length}
-use Rattle.tree.specs.Outcome.{Outcome, ok, _>>=_}
-use Rattle.tree.specs.Tree.{mname, Tree}
-use Rattle.rewrite.specs.Rewrite.{replace-outside-arms}
-use Rattle.cse.specs.Answer.{Intermediate, Let, Match}
-use Rattle.cse.specs.Scope.{Switch, Group, members, member-names, columns, arms-of-members, Work, Scoped, Armed, scope-arms}
+use Rattle.spec_tree.specs.Outcome.{Outcome, ok, _>>=_}
+use Rattle.spec_tree.specs.Tree.{mname, Tree}
+use Rattle.spec_rewrite.specs.Rewrite.{replace-outside-arms}
+use Rattle.spec_cse.specs.Answer.{Intermediate, Let, Match}
+use Rattle.spec_cse.specs.Scope.{Switch, Group, members, member-names, columns, arms-of-members, Work, Scoped, Armed, scope-arms}
 
 -- ---- one member after another replaced by its name
 

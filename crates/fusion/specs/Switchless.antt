@@ -2,9 +2,9 @@
 use Prim.Native.Nat.{ℕ}
 use mathlib.Core.Bool.{Bool, true, false, not, _&&_}
 use mathlib.Core.List.{List, [], _∷_}
-use Rattle.tree.specs.Tree.{Tree, Forest, Sym, Const, Op, nil, _◂_}
-use Rattle.tree.specs.Kinds.{is-switch}
-use Rattle.outside.specs.Part.{has-arms}
+use Rattle.spec_tree.specs.Tree.{Tree, Forest, Sym, Const, Op, nil, _◂_}
+use Rattle.spec_tree.specs.Kinds.{is-switch}
+use Rattle.replace.specs.outside.Part.{has-arms}
 
 -- a switch with a key, as switches are collected
 unfoldable pub switch-node : Tree → Bool

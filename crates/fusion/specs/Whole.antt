@@ -4,15 +4,15 @@ use Prim.Native.Nat.{ℕ, suc, _+_}
 use mathlib.Core.Bool.{true}
 use mathlib.Core.List.{List, [], _∷_, _++_, map}
 use lib.ListN.{length, take, drop}
-use Rattle.tree.specs.Outcome.{Outcome, _>>=_}
-use Rattle.tree.specs.Tree.{xname, Tree}
-use Rattle.tree.specs.Facts.{all-nodes}
-use Rattle.cse.specs.Extract.{divisors, distinct, shared-divisors}
-use Rattle.cse.specs.Answer.{Intermediate, Let}
-use Rattle.cse.specs.Scope.{Group, collect-switches, groups-from, Work, Scoped, finish}
-use Rattle.renaming.specs.Shown.{sort-by}
-use Rattle.renaming.specs.Rounds.{next-number}
-use Rattle.reciprocals.proofs.Parts.{settle-tree, settled-reciprocals}
+use Rattle.spec_tree.specs.Outcome.{Outcome, _>>=_}
+use Rattle.spec_tree.specs.Tree.{xname, Tree}
+use Rattle.spec_tree.specs.Facts.{all-nodes}
+use Rattle.spec_cse.specs.Extract.{divisors, distinct, shared-divisors}
+use Rattle.spec_cse.specs.Answer.{Intermediate, Let}
+use Rattle.spec_cse.specs.Scope.{Group, collect-switches, groups-from, Work, Scoped, finish}
+use Rattle.laws.specs.positions.Shown.{sort-by}
+use Rattle.laws.specs.positions.Rounds.{next-number}
+use Rattle.reciprocals.proofs.bindings.Parts.{settle-tree, settled-reciprocals}
 use Rattle.fusion.specs.Settled.{Step, fused-tree, Numbered, Walked, numbered-groups, all-steps, group-matches}
 
 -- the divisors that a scope binds, in text order

@@ -4,12 +4,12 @@ use Prim.Native.Nat.{ℕ, zero, suc}
 use mathlib.Core.Option.{Option, none, some}
 use mathlib.Core.List.{List, [], _∷_, _++_}
 use lib.ListN.{length, drop}
-use Rattle.tree.specs.Tree.{Name, mname}
-use Rattle.tree.specs.Tokens.{run-at}
-use Rattle.rewrite.specs.Rewrite.{replace-outside-arms}
-use Rattle.words.specs.Words.{rewritten-words, tree-of}
-use Rattle.renaming.specs.Places.{numbered-at}
-use Rattle.cse.specs.Scope.{members}
+use Rattle.spec_tree.specs.Tree.{Name, mname}
+use Rattle.spec_tree.specs.Tokens.{run-at}
+use Rattle.spec_rewrite.specs.Rewrite.{replace-outside-arms}
+use Rattle.words.specs.words.Words.{rewritten-words, tree-of}
+use Rattle.laws.specs.positions.Places.{numbered-at}
+use Rattle.spec_cse.specs.Scope.{members}
 use Rattle.fusion.specs.Settled.{Step, Numbered}
 
 module _ (base : List ℕ) where

@@ -1,1 +1,7 @@
-// No code: scoped fusion in settled form stands in specs/, and that it is fusion in proofs/.
+// fusion: fuse, switches, place, grouping, tables, columns, scopeneeds.
+pub mod columns;
+pub mod fuse;
+pub mod grouping;
+pub mod scopeneeds;
+pub mod switches;
+pub mod tables;

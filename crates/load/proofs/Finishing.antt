@@ -8,21 +8,21 @@ use native.Mathlib.Nat.{mul-div-cancel}
 use borrow.Author.Tests.{le-leb, lt-leb, le-ltb, lt-ltb, eq-eqb, ne-eqb}
 use lib.Dec.{T, eqb, leb, ltb}
 use lib.ListN.{length, take, drop}
-use Rattle.tree.specs.Outcome.{Outcome, ok, refused, by, _at-record_, _>>=_}
-use Rattle.tree.specs.Bytes.{eq-bytes, every}
-use Rattle.tree.specs.Rows.{Row, Table, trees, within-limits, occurrences}
-use Rattle.tree.specs.Layout.{row-width, table-words, rows-of, table-of, rows-ok, in-domain}
-use Rattle.tree.proofs.Tests.{is-true}
-use Rattle.tree.proofs.TreeLaws.{eq-bytes-refl}
-use Rattle.tree.proofs.LayoutLaws.{table-long, rows-back}
-use Rattle.sheet.specs.Sheet.{records-from, load-records, load}
-use Rattle.sheet.specs.Call.{load-call, rows-after, roots-after}
-use Rattle.sheet.proofs.Loaded.{Good, records-good}
-use Rattle.rows.specs.declared.Checked.the-variants as checks
-use Rattle.rows.specs.Check.{laid-in-domain, check-domain, checked}
-use Rattle.recordlist.specs.Steps.{Holds, empty, Outcomes, All-read}
-use Rattle.recordlist.specs.declared.Records.{Records}
-use Rattle.recordlist.specs.declared.Records.the-variants as records
+use Rattle.spec_tree.specs.Outcome.{Outcome, ok, refused, by, _at-record_, _>>=_}
+use Rattle.spec_tree.specs.Bytes.{eq-bytes, every}
+use Rattle.spec_tree.specs.Rows.{Row, Table, trees, within-limits, occurrences}
+use Rattle.spec_tree.specs.Layout.{row-width, table-words, rows-of, table-of, rows-ok, in-domain}
+use Rattle.spec_tree.proofs.Tests.{is-true}
+use Rattle.spec_tree.proofs.TreeLaws.{eq-bytes-refl}
+use Rattle.spec_tree.proofs.LayoutLaws.{table-long, rows-back}
+use Rattle.spec_sheet.specs.Sheet.{records-from, load-records, load}
+use Rattle.spec_sheet.specs.Call.{load-call, rows-after, roots-after}
+use Rattle.spec_sheet.proofs.Loaded.{Good, records-good}
+use Rattle.node_rows.specs.declared.rows.Checked.the-variants as checks
+use Rattle.node_rows.specs.rows.Check.{laid-in-domain, check-domain, checked}
+use Rattle.load.specs.recordlist.Steps.{Holds, empty, Outcomes, All-read}
+use Rattle.load.specs.declared.recordlist.Records.{Records}
+use Rattle.load.specs.declared.recordlist.Records.the-variants as records
 use Rattle.load.specs.declared.Loaded.{Loaded}
 use Rattle.load.specs.declared.Loaded.the-variants as loaded
 use Rattle.load.specs.Loads.{answered, Loads, Finished, Finished-by}

@@ -4,10 +4,10 @@ use mathlib.Core.Path.{_≡_}
 use mathlib.Core.Bool.{Bool, true, false}
 use mathlib.Core.List.{List, _++_}
 use lib.ListN.{length, drop}
-use Rattle.tree.specs.Outcome.{Outcome, ok, refused}
-use Rattle.tree.specs.Rows.{Table}
-use Rattle.rows.specs.Check.{laid-in-domain}
-use Rattle.sheet.specs.Call.{rows-after, roots-after}
+use Rattle.spec_tree.specs.Outcome.{Outcome, ok, refused}
+use Rattle.spec_tree.specs.Rows.{Table}
+use Rattle.node_rows.specs.rows.Check.{laid-in-domain}
+use Rattle.spec_sheet.specs.Call.{rows-after, roots-after}
 use Rattle.load.specs.declared.Loaded.{Loaded}
 use Rattle.load.specs.declared.Loaded.the-variants as loaded
 

@@ -1,14 +1,23 @@
 // Load: a sheet's bytes become node rows and roots, or a refusal by its number and record, for any bytes. A refusal changes nothing that is lent.
+mod commas;
+mod namebytes;
+mod numerals;
+mod one_record;
+mod plain;
+mod recordend;
+mod recordlist;
+mod recordwords;
+
 ghost use mathlib.Core.Path.{_≡_};
 ghost use mathlib.Core.List.{List, _++_};
 ghost use Prim.Native.Nat.{_+_, _*_, _/_, _≤_, _<_};
 ghost use lib.ListN.{length, drop};
-ghost use Rattle.sheet.specs.Call.{load-call};
+ghost use Rattle.spec_sheet.specs.Call.{load-call};
 ghost use Rattle.load.specs.Loads.{Loads, Finished};
-use recordlist::Records;
-use recordlist::read_records;
-use rows::Checked;
-use rows::check_domain;
+use crate::recordlist::Records;
+use crate::recordlist::read_records;
+use node_rows::rows::Checked;
+use node_rows::rows::check_domain;
 
 pub enum Loaded {
     // How many rows and roots.

@@ -1,1 +1,5 @@
-pub mod Print
+pub mod Printing
+pub mod answers
+pub mod told
+pub mod answerwriter
+pub mod lines

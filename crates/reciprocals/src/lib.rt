@@ -1,1 +1,5 @@
-// No code: that settled trees are the parts of what reciprocals make stands in proofs/.
+// reciprocals: divisors, tobind, settle, bindings, reciprocal, final.
+mod divisors;
+pub mod reciprocal;
+pub mod settle;
+pub mod tobind;

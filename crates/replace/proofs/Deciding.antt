@@ -11,34 +11,34 @@ use lib.Seq.{drop-cons, length-take-le}
 use lib.Dec.{T, eqb}
 use lib.Ieee as Ieee
 use lib.Ieee.{Float}
-use Rattle.tree.specs.Tree.{Tree, eq-tree}
-use Rattle.tree.specs.Facts.{size}
-use Rattle.tree.specs.Tokens.{kind-of, takes, numbered, read, trees-in, run-at, tree-of-word}
-use Rattle.tree.proofs.TokenLaws.{Word, a-symbol, a-constant, an-operation, word-is, symbol-tree, constant-tree, operation-tree, tree-at, complete-tail, complete-end, words-complete}
-use Rattle.tokens.specs.Answers.{end-answer}
-use Rattle.tokens.specs.declared.Run.the-variants as run
-use Rattle.rewrite.specs.Rewrite.{one, flatten-mul-factors, is-mul, constant-of}
-use Rattle.rewrite.proofs.Factors.{factors-of}
-use Rattle.rewrite.proofs.Measure.{size-up}
-use Rattle.words.specs.Words.{tree-of, name-of, begins-with}
-use Rattle.words.proofs.Rewriting.{first-tree, one-long, begins-tree}
-use Rattle.coefficient.specs.Answers.{constant-answer}
-use Rattle.coefficient.specs.declared.Constant.the-variants as constant
-use Rattle.factors.specs.Places.{tree, at-places}
-use Rattle.factors.proofs.PlaceLaws.{Each, Inside}
-use Rattle.factors.specs.Answers.{Flattening, flattened-by, flatten-answer}
-use Rattle.factors.specs.declared.Flattened.the-variants as flattened
-use Rattle.factors.specs.declared.Product.{Product}
-use Rattle.factors.proofs.Products.{Product-of, product-of, never-refused}
-use Rattle.closed.specs.Closed.{by-factors, lone}
-use Rattle.matching.specs.Matching.{names-after}
-use Rattle.matching.proofs.Removing.{after-most}
-use Rattle.matching.specs.Answers.{Takes}
-use Rattle.matching.specs.declared.Taken.{Taken}
-use Rattle.matching.specs.declared.Taken.the-variants as taken
-use Rattle.replacing.specs.Deciding.{Trees, Target, StaysAt, RefusedAt, Match, ProductFirst}
-use Rattle.replacing.proofs.Runs.{name-alone, name-tree}
-use Rattle.replacing.proofs.Deciding.{Product-at, product-at, none-taken, refused-there, match-there}
+use Rattle.spec_tree.specs.Tree.{Tree, eq-tree}
+use Rattle.spec_tree.specs.Facts.{size}
+use Rattle.spec_tree.specs.Tokens.{kind-of, takes, numbered, read, trees-in, run-at, tree-of-word}
+use Rattle.spec_tree.proofs.TokenLaws.{Word, a-symbol, a-constant, an-operation, word-is, symbol-tree, constant-tree, operation-tree, tree-at, complete-tail, complete-end, words-complete}
+use Rattle.words.specs.tokens.Answers.{end-answer}
+use Rattle.words.specs.declared.tokens.Run.the-variants as run
+use Rattle.spec_rewrite.specs.Rewrite.{one, flatten-mul-factors, is-mul, constant-of}
+use Rattle.spec_rewrite.proofs.Factors.{factors-of}
+use Rattle.spec_rewrite.proofs.Measure.{size-up}
+use Rattle.words.specs.words.Words.{tree-of, name-of, begins-with}
+use Rattle.words.proofs.words.Rewriting.{first-tree, one-long, begins-tree}
+use Rattle.replace.specs.coefficient.Answers.{constant-answer}
+use Rattle.replace.specs.declared.coefficient.Constant.the-variants as constant
+use Rattle.replace.specs.factors.Places.{tree, at-places}
+use Rattle.replace.proofs.factors.PlaceLaws.{Each, Inside}
+use Rattle.replace.specs.factors.Answers.{Flattening, flattened-by, flatten-answer}
+use Rattle.replace.specs.declared.factors.Flattened.the-variants as flattened
+use Rattle.replace.specs.declared.factors.Product.{Product}
+use Rattle.replace.proofs.factors.Products.{Product-of, product-of, never-refused}
+use Rattle.replace.specs.closed.Closed.{by-factors, lone}
+use Rattle.replace.specs.matching.Matching.{names-after}
+use Rattle.replace.proofs.matching.Removing.{after-most}
+use Rattle.replace.specs.matching.Answers.{Takes}
+use Rattle.replace.specs.declared.matching.Taken.{Taken}
+use Rattle.replace.specs.declared.matching.Taken.the-variants as taken
+use Rattle.replace.specs.replacing.Deciding.{Trees, Target, StaysAt, RefusedAt, Match, ProductFirst}
+use Rattle.replace.proofs.replacing.Runs.{name-alone, name-tree}
+use Rattle.replace.proofs.replacing.Deciding.{Product-at, product-at, none-taken, refused-there, match-there}
 use Rattle.replace.specs.Answers.{FlatFirst}
 
 -- ---- the target

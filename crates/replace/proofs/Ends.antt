@@ -9,18 +9,18 @@ use borrow.Author.Tests.{lt-ltb, le-ltb}
 use lib.ListN.{length, getD, take, drop, set, length-set}
 use lib.Seq.{take-suc, drop-cons, set-at, take-length, length-take-le}
 use lib.Dec.{T, ltb}
-use Rattle.tree.specs.Bytes.{every}
-use Rattle.tree.specs.Outcome.{Outcome, ok, refused}
-use Rattle.tree.specs.Tokens.{kind-of, trees-in}
-use Rattle.rewrite.specs.Rewrite.{flatten-mul-factors}
-use Rattle.words.specs.Words.{tree-of, name-of, sound}
-use Rattle.words.specs.Answers.{request-answer}
-use Rattle.words.specs.declared.Request.{Request}
-use Rattle.words.specs.declared.Request.the-variants as request
-use Rattle.words.proofs.Requests.{Sound, sound-has}
-use Rattle.closed.specs.Closed.{by-factors, lone, endless}
-use Rattle.replacing.specs.Replacing.{formed-word, replaceable}
-use Rattle.replacing.specs.Deciding.{Trees, Target, rewritten-words, Wrote}
+use Rattle.spec_tree.specs.Bytes.{every}
+use Rattle.spec_tree.specs.Outcome.{Outcome, ok, refused}
+use Rattle.spec_tree.specs.Tokens.{kind-of, trees-in}
+use Rattle.spec_rewrite.specs.Rewrite.{flatten-mul-factors}
+use Rattle.words.specs.words.Words.{tree-of, name-of, sound}
+use Rattle.words.specs.words.Answers.{request-answer}
+use Rattle.words.specs.declared.words.Request.{Request}
+use Rattle.words.specs.declared.words.Request.the-variants as request
+use Rattle.words.proofs.words.Requests.{Sound, sound-has}
+use Rattle.replace.specs.closed.Closed.{by-factors, lone, endless}
+use Rattle.replace.specs.replacing.Replacing.{formed-word, replaceable}
+use Rattle.replace.specs.replacing.Deciding.{Trees, Target, rewritten-words, Wrote}
 use Rattle.replace.specs.Answers.{sought-as, Replacement, replaced-by, replacement, scratch-short, short-of-room, Leaves, Writes}
 use Rattle.replace.specs.declared.Replaced.{Replaced}
 use Rattle.replace.specs.declared.Replaced.the-variants as replaced

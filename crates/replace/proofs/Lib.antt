@@ -2,3 +2,5 @@ pub mod Writing
 pub mod Deciding
 pub mod Rewriting
 pub mod Ends
+pub mod closed
+pub mod replacing

@@ -7,17 +7,17 @@ use mathlib.Core.List.{List, [], _∷_, _++_}
 use borrow.Rule.Slice.PartMut.{putMid}
 use lib.ListN.{length, getD, take, drop, set, length-drop, length-append}
 use lib.Seq.{drop-at, drop-drop}
-use Rattle.tree.specs.Outcome.{Outcome}
-use Rattle.tree.specs.Facts.{size}
-use Rattle.tree.specs.Tokens.{words-of, run-at}
-use Rattle.tokens.specs.Answers.{end-answer}
-use Rattle.tokens.specs.declared.Run.the-variants as run
-use Rattle.words.proofs.Rewriting.{whole-there, one-long}
-use Rattle.words.proofs.Scanning.{rest-is}
-use Rattle.factors.specs.Places.{tree}
-use Rattle.replacing.specs.Deciding.{Trees, Target, Within, rewritten-words, Match, product-out, Wrote, Left}
-use Rattle.replacing.proofs.Scanning.{Scanned, trees-after, target-within, turn-equal, turn-stays, long-within, turn-matched, matched-few, turn-refused, here-refused}
-use Rattle.replacing.proofs.Factoring.{Factored, here-within, here-smaller, here-scratch, here-room, here-inside, run-trees, run-long, factor-turns, factor-refused}
+use Rattle.spec_tree.specs.Outcome.{Outcome}
+use Rattle.spec_tree.specs.Facts.{size}
+use Rattle.spec_tree.specs.Tokens.{words-of, run-at}
+use Rattle.words.specs.tokens.Answers.{end-answer}
+use Rattle.words.specs.declared.tokens.Run.the-variants as run
+use Rattle.words.proofs.words.Rewriting.{whole-there, one-long}
+use Rattle.words.proofs.words.Scanning.{rest-is}
+use Rattle.replace.specs.factors.Places.{tree}
+use Rattle.replace.specs.replacing.Deciding.{Trees, Target, Within, rewritten-words, Match, product-out, Wrote, Left}
+use Rattle.replace.proofs.replacing.Scanning.{Scanned, trees-after, target-within, turn-equal, turn-stays, long-within, turn-matched, matched-few, turn-refused, here-refused}
+use Rattle.replace.proofs.replacing.Factoring.{Factored, here-within, here-smaller, here-scratch, here-room, here-inside, run-trees, run-long, factor-turns, factor-refused}
 use Rattle.replace.specs.Answers.{Decides, Writes}
 use Rattle.replace.specs.declared.Decision.{Decision}
 use Rattle.replace.specs.declared.Decision.the-variants as decision
@@ -150,12 +150,12 @@ module _
     unfolding run-at
     end-within =
         let z = end-is in
-        let b = Rattle.tree.proofs.TokenLaws.words-complete (drop at ws) 1 (size (tree ws at)) (within .run) .0 in
+        let b = Rattle.spec_tree.proofs.TokenLaws.words-complete (drop at ws) 1 (size (tree ws at)) (within .run) .0 in
         let y = some-place at b in
         (omega arith, omega arith)
       where
         some-place : (at : ℕ) → size (tree ws at) ≤ length (drop at ws) → at + size (tree ws at) ≤ length ws
-        some-place at b = (let d = length-drop at ws in let u = Rattle.tree.proofs.FactLaws.size-one (tree ws at) in omega arith)
+        some-place at b = (let d = length-drop at ws in let u = Rattle.spec_tree.proofs.FactLaws.size-one (tree ws at) in omega arith)
 
     abbrev slice : List ℕ
     slice = take (end - at) (drop at ws)

@@ -8,9 +8,9 @@ use borrow.Author.Tests.{eq-eqb, ne-eqb}
 use lib.ListN.{length, take, drop, set, length-set, length-append, take-append-drop}
 use lib.Seq.{drop-set-lt}
 use lib.Dec.{eqb}
-use Rattle.words.proofs.Scanning.{Put, put-one, put-more}
-use Rattle.replacing.specs.Replacing.{repeated, coefficient-words, head-words}
-use Rattle.replacing.proofs.Products.{repeated-long, repeated-more}
+use Rattle.words.proofs.words.Scanning.{Put, put-one, put-more}
+use Rattle.replace.specs.replacing.Replacing.{repeated, coefficient-words, head-words}
+use Rattle.replace.proofs.replacing.Products.{repeated-long, repeated-more}
 
 -- ---- a word again and again
 

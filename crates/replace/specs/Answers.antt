@@ -5,12 +5,12 @@ use mathlib.Core.Bool.{Bool, true, false, _||_}
 use mathlib.Core.List.{List, _++_}
 use lib.ListN.{length, drop}
 use lib.Dec.{ltb}
-use Rattle.tree.specs.Outcome.{Outcome, ok, refused}
+use Rattle.spec_tree.specs.Outcome.{Outcome, ok, refused}
 use lib.Ieee.{Float}
-use Rattle.words.specs.Words.{begins-with}
-use Rattle.factors.specs.Answers.{flatten-answer}
-use Rattle.factors.specs.declared.Flattened.the-variants as flattened
-use Rattle.replacing.specs.Deciding.{StaysAt, RefusedAt, Match, Wrote, Left}
+use Rattle.words.specs.words.Words.{begins-with}
+use Rattle.replace.specs.factors.Answers.{flatten-answer}
+use Rattle.replace.specs.declared.factors.Flattened.the-variants as flattened
+use Rattle.replace.specs.replacing.Deciding.{StaysAt, RefusedAt, Match, Wrote, Left}
 use Rattle.replace.specs.declared.Decision.{Decision}
 use Rattle.replace.specs.declared.Decision.the-variants as decision
 use Rattle.replace.specs.declared.Replaced.{Replaced}

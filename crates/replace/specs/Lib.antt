@@ -1,1 +1,9 @@
 pub mod Answers
+pub mod coefficient
+pub mod integers
+pub mod factors
+pub mod closed
+pub mod matching
+pub mod replacing
+pub mod divisor
+pub mod outside

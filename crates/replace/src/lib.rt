@@ -1,33 +1,43 @@
 // `replace` of the source (01, "Rewriting"), on words of trees, from one slice to another: an equal node becomes the new symbol, and in a Mul the target's
 // factors do, as often as they are all there. Such a product is written once: its coefficient, its signs, the factors that there are then, each rewritten by itself,
 // and the symbols at their end.
+mod coefficient;
+pub mod divisor;
+mod factors;
+mod floats;
+mod integers;
+mod matching;
+pub mod outside;
+mod replaceable;
+mod unit;
+
 ghost use mathlib.Core.Path.{_≡_};
 ghost use mathlib.Core.List.{_++_};
 ghost use Prim.Native.Nat.{_+_, _-_, _*_, _^_, _≤_, _<_};
 ghost use mathlib.Core.Bool.{true};
 ghost use mathlib.Core.Option.{some};
 ghost use lib.ListN.{length, take, drop};
-ghost use Rattle.tree.specs.Tokens.{kind-of, trees-in};
-ghost use Rattle.rewrite.specs.Rewrite.{flatten-mul-factors};
-ghost use Rattle.words.specs.Words.{tree-of, name-of};
-ghost use Rattle.closed.specs.Closed.{by-factors, lone, endless};
-ghost use Rattle.replacing.specs.Replacing.{replaceable, repeated, head-words};
-ghost use Rattle.replacing.specs.Deciding.{Trees, Target, Match, ProductFirst, rewritten-words, product-out};
+ghost use Rattle.spec_tree.specs.Tokens.{kind-of, trees-in};
+ghost use Rattle.spec_rewrite.specs.Rewrite.{flatten-mul-factors};
+ghost use Rattle.words.specs.words.Words.{tree-of, name-of};
+ghost use Rattle.replace.specs.closed.Closed.{by-factors, lone, endless};
+ghost use Rattle.replace.specs.replacing.Replacing.{replaceable, repeated, head-words};
+ghost use Rattle.replace.specs.replacing.Deciding.{Trees, Target, Match, ProductFirst, rewritten-words, product-out};
 ghost use Rattle.replace.specs.Answers.{FlatFirst, Decides, Writes, sought-as, replaced-by, replacement, Leaves, scratch-short, short-of-room};
-use coefficient::Constant;
-use factors::Flattened;
-use factors::flatten_mul_factors;
-use integers::constant_of;
-use matching::Taken;
-use matching::names_at_end;
-use matching::take_out;
-use replaceable::are_formed;
-use tokens::Run;
-use tokens::end_of;
-use unit::is_one;
-use words::Request;
-use words::check;
-use words::starts_with;
+use crate::coefficient::Constant;
+use crate::factors::Flattened;
+use crate::factors::flatten_mul_factors;
+use crate::integers::constant_of;
+use crate::matching::Taken;
+use crate::matching::names_at_end;
+use crate::matching::take_out;
+use crate::replaceable::are_formed;
+use crate::unit::is_one;
+use words::tokens::Run;
+use words::tokens::end_of;
+use words::words::Request;
+use words::words::check;
+use words::words::starts_with;
 
 // A word is kind + KINDS * below.
 const KINDS: u64 = 64;

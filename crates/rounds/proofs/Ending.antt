@@ -8,16 +8,16 @@ use mathlib.Core.List.{List, _++_}
 use lib.ListN.{length, take, drop, length-append, length-drop}
 use lib.Seq.{take-at, drop-at, drop-drop, length-take-le}
 use lib.Dec.{T, ltb, lt→ltb, ltb→lt, nltb→le}
-use Rattle.tree.specs.Outcome.{Refusal, Outcome, ok, refused}
-use Rattle.tree.specs.Facts.{all-operations}
-use Rattle.tree.specs.Rows.{Row}
-use Rattle.tree.specs.Tokens.{name-in, read, numbered}
-use Rattle.tree.proofs.Tests.{is-true}
-use Rattle.renaming.specs.Places.{numbered-at, best-place}
-use Rattle.renaming.specs.Rounds.{extract-words, rounds-words}
-use Rattle.kept.specs.Sound.{extractable}
-use Rattle.kept.proofs.Steps.{ready-of, ready-so}
-use Rattle.kept.proofs.Looping.{Going, going-first, going-done, going-refused, going-on, going-less, going-most}
+use Rattle.spec_tree.specs.Outcome.{Refusal, Outcome, ok, refused}
+use Rattle.spec_tree.specs.Facts.{all-operations}
+use Rattle.spec_tree.specs.Rows.{Row}
+use Rattle.spec_tree.specs.Tokens.{name-in, read, numbered}
+use Rattle.spec_tree.proofs.Tests.{is-true}
+use Rattle.laws.specs.positions.Places.{numbered-at, best-place}
+use Rattle.laws.specs.positions.Rounds.{extract-words, rounds-words}
+use Rattle.rounds.specs.kept.Sound.{extractable}
+use Rattle.rounds.proofs.kept.Steps.{ready-of, ready-so}
+use Rattle.rounds.proofs.kept.Looping.{Going, going-first, going-done, going-refused, going-on, going-less, going-most}
 use Rattle.rounds.specs.Answers.{round-short, round-by, round-answer}
 use Rattle.rounds.specs.Rounds.{rounds-short, all-rounds, rounds-by, rounds-answer, Leaves, Leaves-words}
 use Rattle.rounds.specs.declared.Round.{Round}

@@ -9,33 +9,33 @@ use mathlib.Core.List.{List, [], _∷_, _++_}
 use lib.ListN.{length, getD, take, drop, length-append, length-drop}
 use lib.Seq.{take-at, drop-at, length-take-le}
 use lib.Dec.{T, leb, ltb, le→leb, ltb→lt}
-use Rattle.tree.specs.Outcome.{Refusal, Outcome, ok, refused, _>>=_}
-use Rattle.tree.specs.Facts.{size}
-use Rattle.tree.specs.Rows.{Row}
-use Rattle.tree.specs.Tree.{Tree}
-use Rattle.tree.specs.Bytes.{every}
-use Rattle.tree.specs.Tokens.{read, numbered, name-in, run-at, trees-in}
-use Rattle.tree.proofs.Logic.{and-both}
-use Rattle.tree.proofs.Tests.{is-true}
-use Rattle.checked.specs.Check.{rows-in, word-ok}
-use Rattle.tree.proofs.TokenLaws.{complete-length, words-complete}
-use Rattle.tokens.specs.Answers.{end-answer}
-use Rattle.tokens.specs.declared.Run.the-variants as run
-use Rattle.words.specs.Words.{tree-of, name-of, some-trees}
-use Rattle.words.proofs.Scanning.{Put, put-more}
-use Rattle.closed.specs.Closed.{endless}
-use Rattle.replacing.specs.Replacing.{replaced-words, replaceable}
-use Rattle.replacing.specs.Deciding.{Wrote}
-use Rattle.renaming.specs.Places.{numbered-at, best-place}
-use Rattle.renaming.specs.Rounds.{next-number, extract-words}
-use Rattle.kept.specs.Sound.{name-word}
-use Rattle.kept.proofs.Steps.{Ready, ready-of, inside, part-run, may-replace, may-end, extracted-are, stepped}
-use Rattle.kept.proofs.Looping.{number-first}
+use Rattle.spec_tree.specs.Outcome.{Refusal, Outcome, ok, refused, _>>=_}
+use Rattle.spec_tree.specs.Facts.{size}
+use Rattle.spec_tree.specs.Rows.{Row}
+use Rattle.spec_tree.specs.Tree.{Tree}
+use Rattle.spec_tree.specs.Bytes.{every}
+use Rattle.spec_tree.specs.Tokens.{read, numbered, name-in, run-at, trees-in}
+use Rattle.spec_tree.proofs.Logic.{and-both}
+use Rattle.spec_tree.proofs.Tests.{is-true}
+use Rattle.fmt.specs.checked.Check.{rows-in, word-ok}
+use Rattle.spec_tree.proofs.TokenLaws.{complete-length, words-complete}
+use Rattle.words.specs.tokens.Answers.{end-answer}
+use Rattle.words.specs.declared.tokens.Run.the-variants as run
+use Rattle.words.specs.words.Words.{tree-of, name-of, some-trees}
+use Rattle.words.proofs.words.Scanning.{Put, put-more}
+use Rattle.replace.specs.closed.Closed.{endless}
+use Rattle.replace.specs.replacing.Replacing.{replaced-words, replaceable}
+use Rattle.replace.specs.replacing.Deciding.{Wrote}
+use Rattle.laws.specs.positions.Places.{numbered-at, best-place}
+use Rattle.laws.specs.positions.Rounds.{next-number, extract-words}
+use Rattle.rounds.specs.kept.Sound.{name-word}
+use Rattle.rounds.proofs.kept.Steps.{Ready, ready-of, inside, part-run, may-replace, may-end, extracted-are, stepped}
+use Rattle.rounds.proofs.kept.Looping.{number-first}
 use Rattle.replace.specs.Answers.{Replacement, replaced-by, replacement, scratch-short, short-of-room, Leaves}
-use Rattle.best.specs.Answers.{has-room, best-of, best-answer}
+use Rattle.rounds.specs.choice.Answers.{has-room, best-of, best-answer}
 use Rattle.rounds.specs.Answers.{Finds, Chosen, Extracts, Turns}
-use Rattle.best.specs.declared.Best.{Best}
-use Rattle.best.specs.declared.Best.the-variants as best
+use Rattle.rounds.specs.declared.choice.Best.{Best}
+use Rattle.rounds.specs.declared.choice.Best.the-variants as best
 use Rattle.replace.specs.declared.Replaced.{Replaced}
 use Rattle.replace.specs.declared.Replaced.the-variants as replaced
 use Rattle.rounds.specs.declared.Round.the-variants as round

@@ -3,3 +3,4 @@ pub mod Testing
 pub mod Extracting
 pub mod Rounding
 pub mod Ending
+pub mod kept

@@ -7,20 +7,20 @@ use mathlib.Core.Option.{Option, none, some}
 use mathlib.Core.List.{List, _++_}
 use lib.ListN.{length, take, drop}
 use lib.Dec.{T, ltb, lt→ltb}
-use Rattle.tree.specs.Bytes.{every}
-use Rattle.tree.specs.Outcome.{Refusal, Outcome, ok, refused}
-use Rattle.tree.specs.Rows.{Row}
-use Rattle.checked.specs.Check.{word-ok}
-use Rattle.tree.specs.Tokens.{name-in, trees-in}
-use Rattle.tree.proofs.Tests.{is-true}
-use Rattle.words.specs.Words.{some-trees}
-use Rattle.replacing.specs.Deciding.{Wrote}
-use Rattle.renaming.specs.Places.{numbered-at, best-place}
-use Rattle.renaming.specs.Rounds.{extract-words}
-use Rattle.kept.specs.Sound.{numbered-below, extractable}
+use Rattle.spec_tree.specs.Bytes.{every}
+use Rattle.spec_tree.specs.Outcome.{Refusal, Outcome, ok, refused}
+use Rattle.spec_tree.specs.Rows.{Row}
+use Rattle.fmt.specs.checked.Check.{word-ok}
+use Rattle.spec_tree.specs.Tokens.{name-in, trees-in}
+use Rattle.spec_tree.proofs.Tests.{is-true}
+use Rattle.words.specs.words.Words.{some-trees}
+use Rattle.replace.specs.replacing.Deciding.{Wrote}
+use Rattle.laws.specs.positions.Places.{numbered-at, best-place}
+use Rattle.laws.specs.positions.Rounds.{extract-words}
+use Rattle.rounds.specs.kept.Sound.{numbered-below, extractable}
 use Rattle.rounds.specs.Answers.{trees-good, Finds, Chosen, Turns, Turned, round-short, round-outcome, round-by, round-answer}
-use Rattle.best.specs.declared.Best.{Best}
-use Rattle.best.specs.declared.Best.the-variants as best
+use Rattle.rounds.specs.declared.choice.Best.{Best}
+use Rattle.rounds.specs.declared.choice.Best.the-variants as best
 use Rattle.rounds.specs.declared.Round.{Round}
 use Rattle.rounds.specs.declared.Round.the-variants as round
 use Rattle.rounds.proofs.Extracting.{not-less, or-false}

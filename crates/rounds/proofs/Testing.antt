@@ -4,7 +4,7 @@ use mathlib.Core.Path.{_≡_, refl, sym, _∙_, ap}
 use mathlib.Core.Bool.{Bool, true, false, cond}
 use borrow.Author.Tests.{eq-eqb, ne-eqb}
 use lib.Dec.{eqb, ltb}
-use Rattle.kept.specs.Sound.{numbered-below}
+use Rattle.rounds.specs.kept.Sound.{numbered-below}
 
 module _ (name w : ℕ) where
   pub other-kind : (w % 64 ≡ 0 → ⊥) → true ≡ numbered-below name w

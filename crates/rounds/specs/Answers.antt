@@ -6,20 +6,20 @@ use mathlib.Core.Option.{Option, none, some}
 use mathlib.Core.List.{List, _++_}
 use lib.ListN.{length, take, drop}
 use lib.Dec.{T, ltb}
-use Rattle.tree.specs.Outcome.{Refusal, Outcome, ok, refused}
-use Rattle.tree.specs.Rows.{Row}
-use Rattle.tree.specs.Bytes.{every}
-use Rattle.checked.specs.Check.{word-ok}
-use Rattle.tree.specs.Tokens.{name-in, trees-in}
-use Rattle.words.specs.Words.{some-trees}
-use Rattle.renaming.specs.Places.{numbered-at, best-place}
-use Rattle.renaming.specs.Rounds.{extract-words}
-use Rattle.kept.specs.Sound.{extractable}
-use Rattle.best.specs.declared.Best.{Best}
-use Rattle.best.specs.declared.Best.the-variants as best
+use Rattle.spec_tree.specs.Outcome.{Refusal, Outcome, ok, refused}
+use Rattle.spec_tree.specs.Rows.{Row}
+use Rattle.spec_tree.specs.Bytes.{every}
+use Rattle.fmt.specs.checked.Check.{word-ok}
+use Rattle.spec_tree.specs.Tokens.{name-in, trees-in}
+use Rattle.words.specs.words.Words.{some-trees}
+use Rattle.laws.specs.positions.Places.{numbered-at, best-place}
+use Rattle.laws.specs.positions.Rounds.{extract-words}
+use Rattle.rounds.specs.kept.Sound.{extractable}
+use Rattle.rounds.specs.declared.choice.Best.{Best}
+use Rattle.rounds.specs.declared.choice.Best.the-variants as best
 use Rattle.replace.specs.declared.Replaced.{Replaced}
 use Rattle.replace.specs.declared.Replaced.the-variants as replaced
-use Rattle.replacing.specs.Deciding.{Wrote}
+use Rattle.replace.specs.replacing.Deciding.{Wrote}
 use Rattle.rounds.specs.declared.Round.{Round}
 use Rattle.rounds.specs.declared.Round.the-variants as round
 

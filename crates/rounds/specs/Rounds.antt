@@ -5,12 +5,12 @@ use mathlib.Core.Bool.{Bool, true, false, _||_}
 use mathlib.Core.List.{List}
 use lib.ListN.{length, take, drop}
 use lib.Dec.{ltb}
-use Rattle.tree.specs.Outcome.{Outcome, ok, refused}
-use Rattle.tree.specs.Rows.{Row}
-use Rattle.tree.specs.Facts.{all-operations}
-use Rattle.tree.specs.Tokens.{name-in, read, numbered}
-use Rattle.renaming.specs.Rounds.{rounds-words}
-use Rattle.kept.specs.Sound.{extractable}
+use Rattle.spec_tree.specs.Outcome.{Outcome, ok, refused}
+use Rattle.spec_tree.specs.Rows.{Row}
+use Rattle.spec_tree.specs.Facts.{all-operations}
+use Rattle.spec_tree.specs.Tokens.{name-in, read, numbered}
+use Rattle.laws.specs.positions.Rounds.{rounds-words}
+use Rattle.rounds.specs.kept.Sound.{extractable}
 use Rattle.rounds.specs.declared.Rounds.{Rounds}
 use Rattle.rounds.specs.declared.Rounds.the-variants as rounds
 

@@ -1,23 +1,28 @@
 // The rounds of extraction on words of trees (01, "Extraction"). In a round the tree at the best place gets the next name, which stands for it in all the trees,
 // and is the last of them itself; rounds go on until no candidate is left. Local arrays hold what is worked out beside the words: the facts and marks of the places, the places of factors, and the words written.
+pub mod choice;
+mod measure;
+pub mod uses;
+mod value_numbers;
+
 ghost use mathlib.Core.Path.{_≡_};
 ghost use mathlib.Core.Bool.{Bool};
 ghost use mathlib.Core.List.{_++_};
 ghost use mathlib.Core.Option.{some};
 ghost use Prim.Native.Nat.{_+_, _≤_};
 ghost use lib.ListN.{length, take, drop};
-ghost use Rattle.tree.specs.Bytes.{every};
-ghost use Rattle.tree.specs.Tokens.{name-in};
-ghost use Rattle.checked.specs.Check.{rows-in};
-ghost use Rattle.kept.specs.Sound.{numbered-below};
+ghost use Rattle.spec_tree.specs.Bytes.{every};
+ghost use Rattle.spec_tree.specs.Tokens.{name-in};
+ghost use Rattle.fmt.specs.checked.Check.{rows-in};
+ghost use Rattle.rounds.specs.kept.Sound.{numbered-below};
 ghost use Rattle.rounds.specs.Answers.{Finds, Chosen, Extracts, Turns, round-answer};
 ghost use Rattle.rounds.specs.Rounds.{rounds-answer, Leaves-words};
-use best::Best;
-use best::best_place;
+use crate::choice::Best;
+use crate::choice::best_place;
 use replace::Replaced;
 use replace::replace;
-use tokens::Run;
-use tokens::end_of;
+use words::tokens::Run;
+use words::tokens::end_of;
 
 // A word is kind + KINDS * below; a symbol's below is class + CLASSES * number, and the class of `__xN` is MADE.
 const KINDS: u64 = 64;

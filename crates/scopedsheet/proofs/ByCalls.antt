@@ -6,10 +6,10 @@ use mathlib.Core.Bool.{true}
 use mathlib.Core.List.{List}
 use lib.ListN.{length, drop}
 use lib.Seq.{take-append-seam}
-use Rattle.tree.specs.Outcome.{Outcome, ok, refused}
-use Rattle.print.specs.Print.{buffer-after}
-use Rattle.program.specs.Calls.{by-calls}
-use Rattle.program.specs.Program.{reply, csescoped}
+use Rattle.spec_tree.specs.Outcome.{Outcome, ok, refused}
+use Rattle.spec_program.specs.Print.{buffer-after}
+use Rattle.guarantee.specs.program.Calls.{by-calls}
+use Rattle.guarantee.specs.program.Program.{reply, csescoped}
 use Rattle.scopedsheet.specs.ScopedSheet.{rows-text, sheet-text, said-of, Says}
 use Rattle.scopedsheet.specs.Prints.{prints}
 use Rattle.scopedsheet.specs.declared.Said.{Said}

@@ -8,29 +8,29 @@ use mathlib.Core.Logic.{_⊎_, inl, inr}
 use lib.ListN.{length, take, drop, length-append}
 use lib.Dec.{ltb}
 use lib.Seq.{take-append-seam}
-use Rattle.tree.specs.Outcome.{Refusal, Outcome, ok, refused, by, _>>=_}
-use Rattle.tree.specs.Rows.{Table, trees}
-use Rattle.tree.specs.Layout.{row-width, table-words, rows-of, table-of, in-domain, sheet-fits, loadable, laid-out, table-or-9}
-use Rattle.tree.specs.Tokens.{name-in, number-in}
-use Rattle.tree.specs.Tree.{Tree}
-use Rattle.tree.proofs.Logic.{and-left}
-use Rattle.tree.proofs.LayoutLaws.{table-long}
-use Rattle.tree.proofs.DomainPasses.{Domain, domain}
-use Rattle.sheet.specs.Call.{load-call, rows-after, roots-after}
-use Rattle.sheet.proofs.Loaded.{loaded-loadable}
-use Rattle.cse.specs.Answer.{Answer, rows, answer-text}
-use Rattle.cse.specs.AnswerRows.{answer-words, answer-of, answer-laid-out}
-use Rattle.cse.specs.Scope.{answer}
-use Rattle.cse.specs.Call.{Extracted, work-words, work-bytes, extract-call, table-after}
-use Rattle.cselaws.proofs.Refusals.{refused-by-10-11-or-23}
-use Rattle.print.specs.Print.{print-call, buffer-after}
-use Rattle.extract.specs.Answers.{extraction-answer}
-use Rattle.extract.specs.declared.Extraction.the-variants as extraction
+use Rattle.spec_tree.specs.Outcome.{Refusal, Outcome, ok, refused, by, _>>=_}
+use Rattle.spec_tree.specs.Rows.{Table, trees}
+use Rattle.spec_tree.specs.Layout.{row-width, table-words, rows-of, table-of, in-domain, sheet-fits, loadable, laid-out, table-or-9}
+use Rattle.spec_tree.specs.Tokens.{name-in, number-in}
+use Rattle.spec_tree.specs.Tree.{Tree}
+use Rattle.spec_tree.proofs.Logic.{and-left}
+use Rattle.spec_tree.proofs.LayoutLaws.{table-long}
+use Rattle.spec_tree.proofs.DomainPasses.{Domain, domain}
+use Rattle.spec_sheet.specs.Call.{load-call, rows-after, roots-after}
+use Rattle.spec_sheet.proofs.Loaded.{loaded-loadable}
+use Rattle.spec_cse.specs.Answer.{Answer, rows, answer-text}
+use Rattle.spec_cse.specs.AnswerRows.{answer-words, answer-of, answer-laid-out}
+use Rattle.spec_cse.specs.Scope.{answer}
+use Rattle.spec_cse.specs.Call.{Extracted, work-words, work-bytes, extract-call, table-after}
+use Rattle.laws.proofs.cse.Refusals.{refused-by-10-11-or-23}
+use Rattle.spec_program.specs.Print.{print-call, buffer-after}
+use Rattle.cse_flat.specs.Answers.{extraction-answer}
+use Rattle.cse_flat.specs.declared.Extraction.the-variants as extraction
 use Rattle.load.specs.declared.Loaded.{Loaded}
 use Rattle.load.specs.declared.Loaded.the-variants as loaded
 use Rattle.load.specs.Loads.{answered, Loads}
-use Rattle.printer.specs.Printing.{printed}
-use Rattle.printer.specs.declared.Printed.the-variants as printer
+use Rattle.print.specs.Printing.{printed}
+use Rattle.print.specs.declared.Printed.the-variants as printer
 use Rattle.scopedsheet.specs.ScopedSheet.{rows-text, sheet-text, said-of, Says}
 use Rattle.scopedsheet.specs.declared.Said.{Said}
 use Rattle.scopedsheet.specs.declared.Said.the-variants as said

@@ -2,8 +2,8 @@
 use Prim.Native.Nat.{ℕ}
 use mathlib.Core.List.{List}
 use lib.ListN.{take}
-use Rattle.tree.specs.Outcome.{refused}
-use Rattle.program.specs.Program.{reply}
+use Rattle.spec_tree.specs.Outcome.{refused}
+use Rattle.guarantee.specs.program.Program.{reply}
 use Rattle.scopedsheet.specs.declared.Said.{Said}
 use Rattle.scopedsheet.specs.declared.Said.the-variants as said
 

@@ -5,11 +5,11 @@ use mathlib.Core.Path.{_≡_}
 use mathlib.Core.Bool.{true}
 use mathlib.Core.List.{List}
 use lib.ListN.{length}
-use Rattle.tree.specs.Outcome.{Outcome, ok, refused, _>>=_}
-use Rattle.tree.specs.Layout.{table-words}
-use Rattle.sheet.specs.Call.{load-call}
-use Rattle.cse.specs.Call.{extract-call}
-use Rattle.print.specs.Print.{print-call, buffer-after}
+use Rattle.spec_tree.specs.Outcome.{Outcome, ok, refused, _>>=_}
+use Rattle.spec_tree.specs.Layout.{table-words}
+use Rattle.spec_sheet.specs.Call.{load-call}
+use Rattle.spec_cse.specs.Call.{extract-call}
+use Rattle.spec_program.specs.Print.{print-call, buffer-after}
 use Rattle.scopedsheet.specs.declared.Said.{Said}
 use Rattle.scopedsheet.specs.declared.Said.the-variants as said
 

@@ -2,14 +2,14 @@
 ghost use mathlib.Core.Path.{_≡_};
 ghost use Prim.Native.Nat.{_≤_};
 ghost use lib.ListN.{length, take};
-ghost use Rattle.print.specs.Print.{print-call};
+ghost use Rattle.spec_program.specs.Print.{print-call};
 ghost use Rattle.scopedsheet.specs.ScopedSheet.{rows-text, sheet-text, Says};
-use extract::Extraction;
+use cse_flat::Extraction;
+use cse_scoped::cse_scoped;
 use load::Loaded;
 use load::load;
-use printer::Printed;
-use printer::print;
-use scoped::cse_scoped;
+use print::Printed;
+use print::print;
 
 // Words of a node row.
 const WIDTH: usize = 35;

@@ -2,12 +2,12 @@
 // and written, each answer printed, and what is answered and all bytes lent are written out. The file `stdout` has what the source's own `Display` gives for these.
 ghost use Prim.Native.Nat.{_≤_};
 ghost use lib.ListN.{length};
+use fmt::writer::Text;
+use fmt::writer::write_tree;
 use libc::STDIN_FILENO;
 use libc::STDOUT_FILENO;
-use printer::Printed;
-use printer::print;
-use writer::Text;
-use writer::write_tree;
+use print::Printed;
+use print::print;
 
 // Bytes that mean something in the list.
 const LF: u8 = 10;

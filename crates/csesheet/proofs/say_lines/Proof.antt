@@ -3,7 +3,7 @@ use Prim.Native.Nat.{_-_}
 use native.Mathlib.Omega.{arith}
 use mathlib.Core.Path.{_≡_, sym, _∙_}
 use lib.ListN.{length}
-use Rattle.lines.proofs.Progress.{goes-on}
+use Rattle.print.proofs.lines.Progress.{goes-on}
 use borrow.Author.Needs.{needs}
 use Rattle.csesheet.proofs.say_lines.Statement.{statement}
 use Rattle.csesheet.proofs.say_lines.Tie as tie

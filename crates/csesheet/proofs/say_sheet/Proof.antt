@@ -1,5 +1,5 @@
 -- `csesheet::say_sheet` is safe. Assumes nothing.
-use Rattle.flatsheet.proofs.Steps.{parts-inside}
+use Rattle.flat_sheet.proofs.Steps.{parts-inside}
 use borrow.Author.Needs.{needs}
 use Rattle.csesheet.proofs.say_sheet.Statement.{statement}
 use Rattle.csesheet.proofs.say_sheet.Tie as tie

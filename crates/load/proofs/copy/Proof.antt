@@ -4,7 +4,7 @@ use mathlib.Core.Path.{_≡_, _∙_, refl}
 use native.Mathlib.Omega.{arith}
 use lib.ListN.{length, length-set, getD}
 use lib.Seq.{paste, paste-zero}
-use Rattle.namebytes.proofs.Copies.{copied-next}
+use Rattle.load.proofs.namebytes.Copies.{copied-next}
 use Rattle.load.proofs.Ends.{pasted}
 use borrow.Author.Needs.{needs}
 use Rattle.load.proofs.copy.Statement.{statement}

@@ -1,7 +1,7 @@
 -- `load::finish` meets its contract. Assumes nothing.
 use mathlib.Core.Path.{_≡_, sym, ap, _∙_}
 use native.Mathlib.Omega.{arith}
-use Rattle.rows.specs.Check.{checked}
+use Rattle.node_rows.specs.rows.Check.{checked}
 use Rattle.load.proofs.Finishing.{laid-true, laid-false, finish-six, finish-copied}
 use borrow.Author.Needs.{needs}
 use Rattle.load.proofs.finish.Statement.{statement}

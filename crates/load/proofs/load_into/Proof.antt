@@ -4,7 +4,7 @@ use Prim.Native.Nat.{ℕ, _*_, _/_, _≤_}
 use native.Mathlib.Omega.{arith}
 use lib.ListN.{length, length-take}
 use lib.Seq.{length-take-le}
-use Rattle.recordlist.proofs.Rooms.{all-told}
+use Rattle.load.proofs.recordlist.Rooms.{all-told}
 use Rattle.load.proofs.Finishing.{read-bounds, record-refused, all-read, never-full}
 use borrow.Author.Needs.{needs}
 use Rattle.load.proofs.load_into.Statement.{statement}

@@ -2,11 +2,11 @@
 use native.Mathlib.Omega.{arith}
 use mathlib.Core.Path.{_≡_, refl, sym, _∙_}
 use lib.ListN.{length}
-use Rattle.words.proofs.Rewriting.{one-long}
-use Rattle.replacing.specs.Replacing.{head-words}
-use Rattle.replacing.specs.Deciding.{Trees, Target, Match}
-use Rattle.replacing.proofs.Scanning.{Scanned, scan-starts, scan-ends}
-use Rattle.replacing.proofs.Factoring.{Factored, factor-starts, names-room, factor-ends}
+use Rattle.words.proofs.words.Rewriting.{one-long}
+use Rattle.replace.specs.replacing.Replacing.{head-words}
+use Rattle.replace.specs.replacing.Deciding.{Trees, Target, Match}
+use Rattle.replace.proofs.replacing.Scanning.{Scanned, scan-starts, scan-ends}
+use Rattle.replace.proofs.replacing.Factoring.{Factored, factor-starts, names-room, factor-ends}
 use Rattle.replace.proofs.Rewriting.{from-long, head-self, wrote-from, left-from, asked-trees, asked-some, equal-within, by-equal, by-stays, by-refused, match-asked, long-fits, some-long, lent-fits, by-product, product-few, by-product-refused, never-broken, end-within, slice-trees, slice-falls, scratch-fits, room-fits, o-inside, few, by-factor, by-factor-refused}
 use borrow.Author.Needs.{needs}
 use Prim.Native.Nat.{ℕ, _<_, _+_, _*_, _-_}
@@ -21,7 +21,7 @@ use Rattle.replace.proofs.+rewrite+rewrite_product.Lts-rewrite_product 
 use Rattle.replace.proofs.decide.Reads as decide-reads
 use Rattle.replace.proofs.put_repeated.Reads as put-repeated-reads
 use Rattle.replace.proofs.write_head.Reads as write-head-reads
-use Rattle.tokens.proofs.end_of.Reads as end-of-reads
+use Rattle.words.proofs.tokens.end_of.Reads as end-of-reads
 use Rattle.replace.proofs.+rewrite+rewrite_product.{statement}
 use Rattle.replace.proofs.+rewrite+rewrite_product.Tie.{close}
 

@@ -1,6 +1,6 @@
 -- `replace::decide` meets its contract. Assumes nothing.
 use mathlib.Core.Path.{sym}
-use Rattle.replacing.proofs.Deciding.{plain-turn}
+use Rattle.replace.proofs.replacing.Deciding.{plain-turn}
 use Rattle.replace.proofs.Deciding.{first-product}
 use borrow.Author.Needs.{needs}
 use Rattle.replace.proofs.decide.Statement.{statement}

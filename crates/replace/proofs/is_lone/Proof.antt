@@ -2,9 +2,9 @@
 use native.Mathlib.Omega.{arith}
 use mathlib.Core.Path.{_∙_, ap}
 use mathlib.Core.List.{[], _∷_}
-use Rattle.words.specs.Words.{begins-with}
-use Rattle.words.proofs.Scanning.{rest-is}
-use Rattle.words.proofs.Rewriting.{one-long}
+use Rattle.words.specs.words.Words.{begins-with}
+use Rattle.words.proofs.words.Scanning.{rest-is}
+use Rattle.words.proofs.words.Rewriting.{one-long}
 use lib.ListN.{getD}
 use Rattle.replace.proofs.Deciding.{lone-none, lone-many, lone-one, at-within}
 use borrow.Author.Needs.{needs}

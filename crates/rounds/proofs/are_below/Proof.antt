@@ -4,9 +4,9 @@ use native.Mathlib.Omega.{arith}
 use mathlib.Core.Path.{_≡_, refl, sym, _∙_}
 use lib.ListN.{length, drop}
 use borrow.Author.Tests.{not-true, not-false}
-use Rattle.tree.specs.Bytes.{every}
-use Rattle.names.proofs.Leaves.{every-next, every-stop, every-end}
-use Rattle.kept.specs.Sound.{numbered-below}
+use Rattle.spec_tree.specs.Bytes.{every}
+use Rattle.node_rows.proofs.names.Leaves.{every-next, every-stop, every-end}
+use Rattle.rounds.specs.kept.Sound.{numbered-below}
 use borrow.Author.Needs.{needs}
 use Rattle.rounds.proofs.are_below.Statement.{statement}
 use Rattle.rounds.proofs.are_below.Tie as tie

@@ -3,7 +3,7 @@ use native.Mathlib.Omega.{arith}
 use mathlib.Core.Path.{refl, sym, _∙_}
 use lib.ListN.{length}
 use borrow.Author.Needs.{needs}
-use Rattle.checked.specs.Check.{rows-in}
+use Rattle.fmt.specs.checked.Check.{rows-in}
 use Rattle.rounds.proofs.Extracting.{not-broken, within, put-room, room, done, refuses, no-broken, no-room}
 use Rattle.rounds.proofs.extract.Statement.{statement}
 use Rattle.rounds.proofs.extract.Tie as tie

@@ -2,10 +2,10 @@
 use native.Mathlib.Omega.{arith}
 use mathlib.Core.Path.{_≡_, refl, _∙_}
 use lib.ListN.{length, take}
-use Rattle.tree.specs.Facts.{all-operations}
-use Rattle.tree.specs.Tokens.{read, numbered}
+use Rattle.spec_tree.specs.Facts.{all-operations}
+use Rattle.spec_tree.specs.Tokens.{read, numbered}
 use borrow.Author.Needs.{needs}
-use Rattle.checked.specs.Check.{rows-in}
+use Rattle.fmt.specs.checked.Check.{rows-in}
 use Rattle.rounds.proofs.Ending.{Loop, first-large, loop-starts, turn-next, turn-last, turn-refused, turn-broken, turn-room}
 use Rattle.rounds.proofs.extract_all.Statement.{statement}
 use Rattle.rounds.proofs.extract_all.Tie as tie

@@ -4,7 +4,7 @@ use mathlib.Core.Path.{refl, sym, _∙_}
 use lib.ListN.{length}
 use lib.Seq.{length-take-le}
 use borrow.Author.Needs.{needs}
-use Rattle.checked.specs.Check.{rows-in}
+use Rattle.fmt.specs.checked.Check.{rows-in}
 use Rattle.rounds.proofs.Rounding.{too-many, too-few, too-large, too-short, fits, found-broken, found-room, found-last, last-above, place-above, chosen, place-done}
 use Rattle.rounds.proofs.one_round.Statement.{statement}
 use Rattle.rounds.proofs.one_round.Tie as tie

@@ -1,1 +1,0 @@
-// Laws alone: answers written as rows and read back.

@@ -1,0 +1,73 @@
+-- What unfolding gives to a caller who lends 1,024 words (01, "Turned down": Extract, 9): the words of the roots' trees in front, or 9. Assumes nothing.
+use Prim.Native.Nat.{ℕ, suc, _≤_}
+use native.Mathlib.Omega.{arith}
+use mathlib.Core.Path.{_≡_, refl, sym, _∙_, ap, subst}
+use mathlib.Core.Bool.{Bool, true, false, cond}
+use mathlib.Core.List.{List, [], _∷_}
+use lib.ListN.{length, take, drop}
+use lib.Seq.{take-at}
+use lib.Dec.{T, ltb, ltb→lt}
+use Rattle.spec_tree.specs.Outcome.{Outcome, ok, refused, by, _>>=_}
+use Rattle.spec_tree.specs.Tree.{Tree}
+use Rattle.spec_tree.specs.Rows.{at, trees, trees-from}
+use Rattle.spec_tree.specs.Layout.{table-of, laid-out, table-or-9}
+use Rattle.spec_tree.specs.Tokens.{number-in, all-tokens}
+use Rattle.laws.proofs.positions.RowNames.{tree-words}
+use Rattle.node_rows.specs.unfolded.Unfold.{unfolded, Answers}
+use Rattle.node_rows.specs.declared.unfolded.Unfolded.{Unfolded}
+use Rattle.node_rows.specs.declared.unfolded.Unfolded.the-variants as unfolding-answer
+
+-- a tree for each root
+at-length : (ts : List Tree) (ns : List ℕ) → length (at ts ns) ≡ length ns
+unfolding at
+at-length ts [] = refl
+at-length ts (n ∷ ns) = ap suc (at-length ts ns)
+
+pub roots-are : (rows roots : List ℕ) → length (trees (table-of rows roots)) ≡ length roots
+unfolding trees table-of
+roots-are rows roots = at-length (trees-from [] (table-of rows roots .rows)) roots
+
+pub not-less : (m n : ℕ) → n ≤ m → ltb m n ≡ false
+not-less m n h = go (ltb m n) (λ t. ltb→lt m n t)
+  where
+    go : (b : Bool) → (T b → suc m ≤ n) → b ≡ false
+    go true f = absurd (let l = f tt in omega arith)
+    go false f = refl
+
+module _ (room : ℕ) (rows roots : List ℕ) (enough : 1024 ≤ room) where
+  abbrev start : List ℕ
+  start = tree-words (table-of rows roots)
+
+  abbrev nine : Bool → Outcome (List ℕ)
+  nine b = cond b (ok start) (refused (by 9))
+
+  after-nine : (b : Bool) → ((cond b (ok (table-of rows roots)) (refused (by 9))) >>= λ t. ok (all-tokens (number-in (t .rows)) (trees t))) ≡ nine b
+  after-nine true = refl
+  after-nine false = refl
+
+  unfolded-is : unfolded room rows roots ≡ nine (laid-out rows roots)
+  unfolding unfolded table-or-9
+  unfolded-is =
+      ap (λ (b : Bool). cond b (refused (by 8)) ((cond (laid-out rows roots) (ok (table-of rows roots)) (refused (by 9))) >>= λ t. ok (all-tokens (number-in (t .rows)) (trees t)))) (not-less room 1024 enough)
+      ∙ after-nine (laid-out rows roots)
+
+  module _ (old : List ℕ) (a : Unfolded) (new : List ℕ) (given : Answers (unfolded room rows roots) old a new) where
+    here : (b : Bool) → laid-out rows roots ≡ b → Answers (nine b) old a new
+    here b e = subst (λ (o : Outcome (List ℕ)). Answers o old a new) (unfolded-is ∙ ap nine e) given
+
+    pub unfold-tokens : (n : ℕ) → a ≡ unfolding-answer.Tokens n → T (laid-out rows roots) × (n ≡ length start) × (take n new ≡ start)
+    unfold-tokens n e = go (laid-out rows roots) refl
+      where
+        go : (b : Bool) → laid-out rows roots ≡ b → T (laid-out rows roots) × (n ≡ length start) × (take n new ≡ start)
+        go true f =
+            let g = here true f in
+            let m : n ≡ length start = let z = sym e ∙ g .0 in cc in
+            (subst T (sym f) tt, m, ap (take n) (g .1) ∙ take-at start (drop (length start) old) n (sym m))
+        go false f = let g = here false f in absurd (let z = sym e ∙ g .0 in let y : _≡_ {A = ℕ} 0 1 = cc in omega arith)
+
+    pub unfold-refused : (q : ℕ) → a ≡ unfolding-answer.Refused q → laid-out rows roots ≡ false
+    unfold-refused q e = go (laid-out rows roots) refl
+      where
+        go : (b : Bool) → laid-out rows roots ≡ b → laid-out rows roots ≡ false
+        go true f = let g = here true f in absurd (let z = sym e ∙ g .0 in let y : _≡_ {A = ℕ} 0 1 = cc in omega arith)
+        go false f = f

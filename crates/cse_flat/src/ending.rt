@@ -1,0 +1,553 @@
+// The end of flat extraction on words (01, "Reciprocals", "Order", "Turned down", refusal 12): the divisors at the places to bind are bound, the bindings are put in
+// the order of their needs, and the answer's rows are counted and written. The trees from before are settled once; a reciprocal is made when it is needed.
+ghost use mathlib.Core.Path.{_≡_};
+ghost use mathlib.Core.List.{_++_};
+ghost use Prim.Native.Nat.{_+_, _-_, _*_, _≤_, _<_};
+ghost use lib.ListN.{length, take, drop, replicate};
+ghost use Rattle.topo_sort.specs.reads.Marks.{with-needs};
+ghost use Rattle.reciprocals.specs.final.Entries.{final-run, entry-row, entry-tree, entry, entries};
+ghost use Rattle.reciprocals.specs.final.Final.{final-rows};
+ghost use Rattle.reciprocals.specs.final.Ready.{There, Settled-front, Ready, Stands, marks, binding-run, final-order, In-order, Positions, lent-rows};
+ghost use Rattle.cse_flat.specs.ending.Answers.{finish-outcome, finishing};
+use reciprocals::reciprocal::Bound;
+use reciprocals::reciprocal::all_there;
+use reciprocals::reciprocal::reciprocal;
+use reciprocals::settle::Settled;
+use reciprocals::settle::settle;
+use topo_sort::Ordered;
+use topo_sort::order;
+use topo_sort::reads::mark_needs;
+use topo_sort::treelist::list_trees;
+use words::tokens::Run;
+use words::tokens::Trees;
+use words::tokens::count_trees;
+use words::tokens::end_of;
+
+// The most words, and the most bindings.
+const MOST: usize = 1024;
+
+// The words of a row of a table of bits, and of a table with a row for each of the most bindings.
+const ROW: usize = 32;
+
+const BITS: usize = 32768;
+
+// The same for few bindings, so that most lists needn't clear the large table.
+const FEW: usize = 64;
+
+const FEW_BITS: usize = 2048;
+
+// The most words of a tree: a reciprocal has two besides its divisor's.
+const TREE: usize = 1026;
+
+// The row of a let of `__xN` is FIRST_LET + NEXT_NAME * N.
+const FIRST_LET: u64 = 93;
+
+const NEXT_NAME: u64 = 192;
+
+const RESULT: u64 = 36;
+
+// Bindings that need each other, and an answer of more rows than lent.
+const RING: u64 = 11;
+
+const TOO_MANY: u64 = 12;
+
+pub enum Finished {
+    // How many rows were written.
+    Rows(usize),
+    // The number of the refusal: 11 or 12.
+    Refused(u64),
+    // A word lacks operands, there are fewer trees than results, or no tree stands at one of the places.
+    Broken,
+    // More than 1,024 words, or bindings with the reciprocals.
+    NoRoom,
+}
+
+// Writes words from a place on.
+fn put(words: &[u64], at: usize, out: &mut [u64])
+    requires { ⌜ at + length (now words) ≤ length (now out) ⌝ }
+    ensures { λ _. ⌜ now (out .exit) ≡ take at (now (out .entry)) ++ (now (words .entry) ++ drop (at + length (now (words .entry))) (now (out .entry))) ⌝ }
+{
+    let mut k = 0;
+    while k < words.len() {
+        out[at + k] = words[k];
+        k += 1;
+    }
+}
+
+// A tree from before, settled. That it lacks words never comes up.
+fn take_settled(
+    tokens: &[u64],
+    settled: &[u64],
+    starts: &[u64],
+    places: &[u64],
+    results: usize,
+    i: usize,
+    tree: &mut [u64],
+) -> usize
+    requires { ⌜ Ready (now tokens) (now settled) (now starts) (now places) results ⌝ }
+    requires { ⌜ (i < length (now starts)) × (1026 ≤ length (now tree)) ⌝ }
+    ensures { λ r. ⌜ Stands (final-run results (now (places .entry)) (now (tokens .entry)) i) (now (tree .exit)) r ⌝ }
+{
+    let at = starts[i] as usize;
+    let Run::Ends(end) = end_of(settled, at) else {
+        return 0;
+    };
+    put(&settled[at..end], 0, tree);
+    end - at
+}
+
+// The reciprocal of number j. That it can't be made never comes up.
+fn take_reciprocal(
+    tokens: &[u64],
+    settled: &[u64],
+    starts: &[u64],
+    places: &[u64],
+    results: usize,
+    j: usize,
+    tree: &mut [u64],
+) -> usize
+    requires { ⌜ Ready (now tokens) (now settled) (now starts) (now places) results ⌝ }
+    requires { ⌜ (j < length (now places)) × (1026 ≤ length (now tree)) ⌝ }
+    ensures { λ r. ⌜ Stands (final-run results (now (places .entry)) (now (tokens .entry)) (length (now (starts .entry)) + j)) (now (tree .exit)) r ⌝ }
+{
+    let first = (starts.len() - results) as u64;
+    let bound = reciprocal(tokens, places, first, j, tree);
+    match bound {
+        Bound::Words(n) => n,
+        Bound::Broken => 0,
+        Bound::NoRoom => 0,
+    }
+}
+
+// The words of the final tree of number i, at the front of `tree`.
+fn take_tree(
+    tokens: &[u64],
+    settled: &[u64],
+    starts: &[u64],
+    places: &[u64],
+    results: usize,
+    i: usize,
+    tree: &mut [u64],
+) -> usize
+    requires { ⌜ Ready (now tokens) (now settled) (now starts) (now places) results ⌝ }
+    requires { ⌜ (i < length (now starts) + length (now places)) × (1026 ≤ length (now tree)) ⌝ }
+    ensures { λ r. ⌜ Stands (final-run results (now (places .entry)) (now (tokens .entry)) i) (now (tree .exit)) r ⌝ }
+{
+    if i < starts.len() {
+        return take_settled(tokens, settled, starts, places, results, i, tree);
+    }
+    take_reciprocal(
+        tokens,
+        settled,
+        starts,
+        places,
+        results,
+        i - starts.len(),
+        tree,
+    )
+}
+
+// What binding j needs.
+fn mark_one(
+    tokens: &[u64],
+    settled: &[u64],
+    starts: &[u64],
+    places: &[u64],
+    results: usize,
+    j: usize,
+    bits: &mut [u64],
+)
+    requires { ⌜ Ready (now tokens) (now settled) (now starts) (now places) results ⌝ }
+    requires { ⌜ j < (length (now starts) - results) + length (now places) ⌝ }
+    ensures { λ _. ⌜ now (bits .exit) ≡ with-needs (binding-run results (now (places .entry)) (now (tokens .entry)) j) j (now (bits .entry)) ⌝ }
+{
+    let mut tree = [0u64; TREE];
+    let n = take_tree(
+        tokens,
+        settled,
+        starts,
+        places,
+        results,
+        results + j,
+        &mut tree,
+    );
+    mark_needs(&tree[..n], j, bits);
+}
+
+// What each binding needs.
+fn mark_all(
+    tokens: &[u64],
+    settled: &[u64],
+    starts: &[u64],
+    places: &[u64],
+    results: usize,
+    count: usize,
+    bits: &mut [u64],
+)
+    requires { ⌜ Ready (now tokens) (now settled) (now starts) (now places) results ⌝ }
+    requires { ⌜ count ≤ (length (now starts) - results) + length (now places) ⌝ }
+    ensures { λ _. ⌜ now (bits .exit) ≡ marks (binding-run results (now (places .entry)) (now (tokens .entry))) count (now (bits .entry)) ⌝ }
+{
+    let mut j = 0;
+    while j < count {
+        mark_one(tokens, settled, starts, places, results, j, bits);
+        j += 1;
+    }
+}
+
+// The positions of the bindings in the order in which they are taken, by a table of bits that has a row for each and is all no.
+fn order_in(
+    tokens: &[u64],
+    settled: &[u64],
+    starts: &[u64],
+    places: &[u64],
+    results: usize,
+    count: usize,
+    bits: &mut [u64],
+    taken: &mut [u64],
+) -> Ordered
+    requires { ⌜ Ready (now tokens) (now settled) (now starts) (now places) results ⌝ }
+    requires { ⌜ (count ≡ (length (now starts) - results) + length (now places)) × (count ≤ length (now taken)) ⌝ }
+    requires { ⌜ now bits ≡ replicate (32 * count) 0 ⌝ }
+    ensures { λ r. ⌜ In-order (final-order results (now (places .entry)) (now (tokens .entry)) count) count (now (taken .entry)) (now (taken .exit)) r ⌝ }
+{
+    let mut waiting = [0u64; MOST];
+    let mut stack = [0u64; MOST];
+    mark_all(tokens, settled, starts, places, results, count, bits);
+    order(bits, count, &mut waiting, &mut stack, taken)
+}
+
+// The same for few bindings, in a small table.
+fn order_few(
+    tokens: &[u64],
+    settled: &[u64],
+    starts: &[u64],
+    places: &[u64],
+    results: usize,
+    count: usize,
+    taken: &mut [u64],
+) -> Ordered
+    requires { ⌜ Ready (now tokens) (now settled) (now starts) (now places) results ⌝ }
+    requires { ⌜ (count ≡ (length (now starts) - results) + length (now places)) × (count ≤ length (now taken)) ⌝ }
+    requires { ⌜ count ≤ 64 ⌝ }
+    ensures { λ r. ⌜ In-order (final-order results (now (places .entry)) (now (tokens .entry)) count) count (now (taken .entry)) (now (taken .exit)) r ⌝ }
+{
+    let mut bits = [0u64; FEW_BITS];
+    let end = ROW * count;
+    order_in(
+        tokens,
+        settled,
+        starts,
+        places,
+        results,
+        count,
+        &mut bits[..end],
+        taken,
+    )
+}
+
+// The same for any number of bindings, in a large table.
+fn order_many(
+    tokens: &[u64],
+    settled: &[u64],
+    starts: &[u64],
+    places: &[u64],
+    results: usize,
+    count: usize,
+    taken: &mut [u64],
+) -> Ordered
+    requires { ⌜ Ready (now tokens) (now settled) (now starts) (now places) results ⌝ }
+    requires { ⌜ (count ≡ (length (now starts) - results) + length (now places)) × (count ≤ length (now taken)) ⌝ }
+    ensures { λ r. ⌜ In-order (final-order results (now (places .entry)) (now (tokens .entry)) count) count (now (taken .entry)) (now (taken .exit)) r ⌝ }
+{
+    let mut bits = [0u64; BITS];
+    let end = ROW * count;
+    order_in(
+        tokens,
+        settled,
+        starts,
+        places,
+        results,
+        count,
+        &mut bits[..end],
+        taken,
+    )
+}
+
+// The positions of the bindings in the order in which they are taken.
+fn take_in_order(
+    tokens: &[u64],
+    settled: &[u64],
+    starts: &[u64],
+    places: &[u64],
+    results: usize,
+    count: usize,
+    taken: &mut [u64],
+) -> Ordered
+    requires { ⌜ Ready (now tokens) (now settled) (now starts) (now places) results ⌝ }
+    requires { ⌜ (count ≡ (length (now starts) - results) + length (now places)) × (count ≤ length (now taken)) ⌝ }
+    ensures { λ r. ⌜ In-order (final-order results (now (places .entry)) (now (tokens .entry)) count) count (now (taken .entry)) (now (taken .exit)) r ⌝ }
+{
+    if count <= FEW {
+        return order_few(tokens, settled, starts, places, results, count, taken);
+    }
+    order_many(tokens, settled, starts, places, results, count, taken)
+}
+
+// The row that entry q of the answer begins with: the bindings in order, and then the results.
+fn row_of(taken: &[u64], count: usize, q: usize) -> u64
+    requires { ⌜ Positions (now taken) count ⌝ }
+    requires { ⌜ count ≤ 1024 ⌝ }
+    ensures { λ r. ⌜ r ≡ entry-row (now (taken .entry)) q ⌝ }
+{
+    if q < taken.len() {
+        return FIRST_LET + NEXT_NAME * taken[q];
+    }
+    RESULT
+}
+
+// The number of the tree of entry q.
+fn tree_of(taken: &[u64], count: usize, results: usize, q: usize) -> usize
+    requires { ⌜ Positions (now taken) count ⌝ }
+    requires { ⌜ (count ≤ 1024) × (results ≤ 1024) ⌝ }
+    ensures { λ r. ⌜ r ≡ entry-tree (now (taken .entry)) results q ⌝ }
+{
+    if q < taken.len() {
+        return results + taken[q] as usize;
+    }
+    q - taken.len()
+}
+
+// How many rows entry q is.
+fn entry_rows(
+    tokens: &[u64],
+    settled: &[u64],
+    starts: &[u64],
+    places: &[u64],
+    results: usize,
+    taken: &[u64],
+    q: usize,
+) -> usize
+    requires { ⌜ Ready (now tokens) (now settled) (now starts) (now places) results ⌝ }
+    requires { ⌜ Positions (now taken) ((length (now starts) - results) + length (now places)) ⌝ }
+    requires { ⌜ q < length (now taken) + results ⌝ }
+    ensures { λ r. ⌜ (r ≡ length (entry results (now (places .entry)) (now (tokens .entry)) (now (taken .entry)) q)) × (r ≤ 1027) ⌝ }
+{
+    let mut tree = [0u64; TREE];
+    let count = starts.len() - results + places.len();
+    let i = tree_of(taken, count, results, q);
+    let n = take_tree(tokens, settled, starts, places, results, i, &mut tree);
+    n + 1
+}
+
+// How many rows the answer has.
+fn count_rows(
+    tokens: &[u64],
+    settled: &[u64],
+    starts: &[u64],
+    places: &[u64],
+    results: usize,
+    taken: &[u64],
+) -> usize
+    requires { ⌜ Ready (now tokens) (now settled) (now starts) (now places) results ⌝ }
+    requires { ⌜ Positions (now taken) ((length (now starts) - results) + length (now places)) ⌝ }
+    ensures { λ r. ⌜ r ≡ length (entries results (now (places .entry)) (now (tokens .entry)) (now (taken .entry)) (length (now (taken .entry)) + results)) ⌝ }
+{
+    let mut rows = 0;
+    let mut q = 0;
+    while q < taken.len() + results {
+        rows += entry_rows(tokens, settled, starts, places, results, taken, q);
+        q += 1;
+    }
+    rows
+}
+
+// Writes the rows of entry q from a place on.
+fn write_entry(
+    tokens: &[u64],
+    settled: &[u64],
+    starts: &[u64],
+    places: &[u64],
+    results: usize,
+    taken: &[u64],
+    q: usize,
+    at: usize,
+    table: &mut [u64],
+) -> usize
+    requires { ⌜ Ready (now tokens) (now settled) (now starts) (now places) results ⌝ }
+    requires { ⌜ Positions (now taken) ((length (now starts) - results) + length (now places)) ⌝ }
+    requires { ⌜ (q < length (now taken) + results) × (at + length (entry results (now places) (now tokens) (now taken) q) ≤ length (now table)) ⌝ }
+    ensures { λ r. ⌜ (r ≡ at + length (entry results (now (places .entry)) (now (tokens .entry)) (now (taken .entry)) q))
+        × (now (table .exit) ≡ take at (now (table .entry)) ++ (entry results (now (places .entry)) (now (tokens .entry)) (now (taken .entry)) q
+        ++ drop (at + length (entry results (now (places .entry)) (now (tokens .entry)) (now (taken .entry)) q)) (now (table .entry)))) ⌝ }
+{
+    let mut tree = [0u64; TREE];
+    let count = starts.len() - results + places.len();
+    let i = tree_of(taken, count, results, q);
+    let n = take_tree(tokens, settled, starts, places, results, i, &mut tree);
+    table[at] = row_of(taken, count, q);
+    put(&tree[..n], at + 1, table);
+    at + 1 + n
+}
+
+// Writes the answer's rows to the front of the table.
+fn write_rows(
+    tokens: &[u64],
+    settled: &[u64],
+    starts: &[u64],
+    places: &[u64],
+    results: usize,
+    taken: &[u64],
+    table: &mut [u64],
+)
+    requires { ⌜ Ready (now tokens) (now settled) (now starts) (now places) results ⌝ }
+    requires { ⌜ Positions (now taken) ((length (now starts) - results) + length (now places)) ⌝ }
+    requires { ⌜ length (entries results (now places) (now tokens) (now taken) (length (now taken) + results)) ≤ length (now table) ⌝ }
+    ensures { λ _. ⌜ now (table .exit) ≡ entries results (now (places .entry)) (now (tokens .entry)) (now (taken .entry)) (length (now (taken .entry)) + results)
+        ++ drop (length (entries results (now (places .entry)) (now (tokens .entry)) (now (taken .entry)) (length (now (taken .entry)) + results))) (now (table .entry)) ⌝ }
+{
+    let mut at = 0;
+    let mut q = 0;
+    while q < taken.len() + results {
+        at = write_entry(
+            tokens,
+            settled,
+            starts,
+            places,
+            results,
+            taken,
+            q,
+            at,
+            table,
+        );
+        q += 1;
+    }
+}
+
+// The answer's rows, where as many are lent.
+fn write_answer(
+    tokens: &[u64],
+    settled: &[u64],
+    starts: &[u64],
+    places: &[u64],
+    results: usize,
+    taken: &[u64],
+    table: &mut [u64],
+) -> Finished
+    requires { ⌜ Ready (now tokens) (now settled) (now starts) (now places) results ⌝ }
+    requires { ⌜ Positions (now taken) ((length (now starts) - results) + length (now places)) ⌝ }
+    ensures { λ r. ⌜ (r ≡ finish-outcome (lent-rows (length (now (table .entry))) (entries results (now (places .entry)) (now (tokens .entry)) (now (taken .entry)) (length (now (taken .entry)) + results)) (length (now (starts .entry)) - results)) (now (table .entry)) .answer)
+        × (now (table .exit) ≡ finish-outcome (lent-rows (length (now (table .entry))) (entries results (now (places .entry)) (now (tokens .entry)) (now (taken .entry)) (length (now (taken .entry)) + results)) (length (now (starts .entry)) - results)) (now (table .entry)) .table) ⌝ }
+{
+    let rows = count_rows(tokens, settled, starts, places, results, taken);
+    if rows > table.len() {
+        return Finished::Refused(TOO_MANY);
+    }
+    write_rows(tokens, settled, starts, places, results, taken, table);
+    Finished::Rows(rows)
+}
+
+// The bindings in the order of their needs, and the answer's rows. That the order is broken never comes up: there is room for it.
+fn finish_settled(
+    tokens: &[u64],
+    settled: &[u64],
+    starts: &[u64],
+    places: &[u64],
+    results: usize,
+    table: &mut [u64],
+) -> Finished
+    requires { ⌜ Ready (now tokens) (now settled) (now starts) (now places) results ⌝ }
+    ensures { λ r. ⌜ (r ≡ finish-outcome (final-rows (length (now (table .entry))) results (now (places .entry)) (now (tokens .entry))) (now (table .entry)) .answer)
+        × (now (table .exit) ≡ finish-outcome (final-rows (length (now (table .entry))) results (now (places .entry)) (now (tokens .entry))) (now (table .entry)) .table) ⌝ }
+{
+    let mut taken = [0u64; MOST];
+    let count = starts.len() - results + places.len();
+    let ordered = take_in_order(tokens, settled, starts, places, results, count, &mut taken);
+    match ordered {
+        Ordered::All => {
+            write_answer(
+                tokens,
+                settled,
+                starts,
+                places,
+                results,
+                &taken[..count],
+                table,
+            )
+        }
+        Ordered::Ring(_) => Finished::Refused(RING),
+        Ordered::Broken => Finished::Broken,
+    }
+}
+
+// Settles the trees from before, in a copy of their words. That they can't be settled never comes up.
+fn settle_all(
+    tokens: &[u64],
+    results: usize,
+    trees: usize,
+    places: &[u64],
+    settled: &mut [u64],
+) -> usize
+    requires { ⌜ There (now tokens) results trees (now places) ⌝ }
+    requires { ⌜ length (now settled) ≡ 1024 ⌝ }
+    ensures { λ r. ⌜ Settled-front (now (tokens .entry)) results trees (now (places .entry)) (now (settled .exit)) r ⌝ }
+{
+    put(tokens, 0, settled);
+    let first = (trees - results) as u64;
+    let done = settle(tokens, places, 0, first, settled, tokens.len());
+    match done {
+        Settled::Words(n) => n,
+        Settled::Broken => 0,
+        Settled::NoRoom => 0,
+    }
+}
+
+// Settles the trees from before, and lists where each begins.
+fn finish_there(
+    tokens: &[u64],
+    results: usize,
+    trees: usize,
+    places: &[u64],
+    table: &mut [u64],
+) -> Finished
+    requires { ⌜ There (now tokens) results trees (now places) ⌝ }
+    ensures { λ r. ⌜ (r ≡ finish-outcome (final-rows (length (now (table .entry))) results (now (places .entry)) (now (tokens .entry))) (now (table .entry)) .answer)
+        × (now (table .exit) ≡ finish-outcome (final-rows (length (now (table .entry))) results (now (places .entry)) (now (tokens .entry))) (now (table .entry)) .table) ⌝ }
+{
+    let mut settled = [0u64; MOST];
+    let mut starts = [0u64; MOST];
+    let n = settle_all(tokens, results, trees, places, &mut settled);
+    list_trees(&settled[..n], &mut starts);
+    finish_settled(
+        tokens,
+        &settled[..n],
+        &starts[..trees],
+        places,
+        results,
+        table,
+    )
+}
+
+// The words of all trees are `results` results, then the bindings by number from 0 on; the divisors to bind stand at the places, in order. The answer's rows stand
+// in front of what was in the table; unless the answer is Rows, nothing is written.
+pub fn finish(tokens: &[u64], results: usize, places: &[u64], table: &mut [u64]) -> Finished
+    ensures { λ r. ⌜ (r ≡ finishing (now (tokens .entry)) results (now (places .entry)) (now (table .entry)) .answer)
+        × (now (table .exit) ≡ finishing (now (tokens .entry)) results (now (places .entry)) (now (table .entry)) .table) ⌝ }
+{
+    let Trees::Count(trees) = count_trees(tokens) else {
+        return Finished::Broken;
+    };
+    if results > trees {
+        return Finished::Broken;
+    }
+    if !all_there(tokens, places) {
+        return Finished::Broken;
+    }
+    if tokens.len() > MOST {
+        return Finished::NoRoom;
+    }
+    if places.len() > MOST - (trees - results) {
+        return Finished::NoRoom;
+    }
+    finish_there(tokens, results, trees, places, table)
+}

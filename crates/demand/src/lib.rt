@@ -1,1 +1,0 @@
-// No code: what demand 3 says of the public operations stands in proofs/.

@@ -1,0 +1,2 @@
+pub mod FlatSheet
+pub mod sheetlines

@@ -1,0 +1,3 @@
+pub mod program
+pub mod passing
+pub mod demand

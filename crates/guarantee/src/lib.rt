@@ -1,0 +1,1 @@
+// guarantee: program, passing, demand.

@@ -1,0 +1,1 @@
+// laws: cse, answer, positions, switches, outernames.

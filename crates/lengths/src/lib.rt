@@ -1,1 +1,0 @@
-// No code: how long the text of an expression can be.

@@ -1,0 +1,19 @@
+-- `node_rows::unfolded::unfold_roots` meets its contract. Assumes nothing.
+use native.Mathlib.Omega.{arith}
+use Rattle.node_rows.proofs.unfolded.RunLaws.{laid, roots-below, runs-are, runs-few}
+use borrow.Author.Needs.{needs}
+use Rattle.node_rows.proofs.unfolded.unfold_roots.Statement.{statement}
+use Rattle.node_rows.proofs.unfolded.unfold_roots.Tie as tie
+
+pub unfold-roots-spec : {M : Type 1} → statement M
+unfold-roots-spec =
+    tie.close
+    (tie.spec
+    (λ c κs. let s = c .before .before .before .before in
+    let ws = s .args .rows .now in
+    let roots = s .args .roots .now in
+    let t = s .pre .0 in
+    let f = runs-few ws roots t in
+    (laid ws roots t, (roots-below ws roots t, omega arith)))
+    (λ c. search needs)
+    (λ c. let s = c .before .before .before .before .before .before .before in rw (← runs-are (s .args .rows .now) (s .args .roots .now) (s .pre .0)) (c .before .before .unfold-each .ensures)))

@@ -1,0 +1,113 @@
+// An answer's text line by line: the line of a let or of a result from its rows, and where the next begins. A flat answer can have more text than any array holds, and
+// each of its lines is short, so a program prints them one after another. And the line that a program prints for a refusal.
+ghost use mathlib.Core.Path.{_≡_};
+ghost use mathlib.Core.Bool.{false};
+ghost use Prim.Native.Nat.{_+_, _<_};
+ghost use lib.ListN.{length, getD};
+ghost use Rattle.fmt.specs.emit.Writing.{Writes};
+ghost use Rattle.print.specs.lines.Refusal.{refusal-text};
+ghost use Rattle.print.specs.lines.Line.{starts-line, line-of, line-answer, bytes-left, opening, closing, Wrote};
+use fmt::writer::Text;
+
+// A word is kind + KINDS * below.
+const KINDS: u64 = 64;
+
+const LET: u64 = 29;
+
+// A result's row, whole: nothing is said in it but its kind.
+const RESULT: u64 = 36;
+
+// A name's code is 3 * number + 1 for `__xN`.
+const CLASSES: u64 = 3;
+
+const MADE: u64 = 1;
+
+pub enum Line {
+    // How many bytes the line has, and the place of the row after it.
+    Text(usize, usize),
+    // No let or result stands there, or no tree after it that can be written.
+    Broken,
+    NoRoom,
+}
+
+fn begins(answer: &[u64], at: usize) -> bool
+    ensures { λ r. ⌜ r ≡ starts-line (getD (now (answer .entry)) at 0) ⌝ }
+{
+    if at >= answer.len() {
+        return false;
+    }
+    let w = answer[at];
+    if w == RESULT {
+        return true;
+    }
+    if w % KINDS != LET {
+        return false;
+    }
+    w / KINDS % CLASSES == MADE
+}
+
+fn put_opening(out: &mut [u8], dry: bool, w: u64) -> usize
+    ensures { λ r. ⌜ Writes dry (now (out .entry)) 0 (opening w) (now (out .exit)) r ⌝ }
+{
+    if w == RESULT {
+        return fmt::emit::place(out, 0);
+    }
+    let a = fmt::emit::put_bytes(out, dry, 0, b"let __x");
+    let b = fmt::emit::put_decimal(out, dry, a, w / KINDS / CLASSES);
+    fmt::emit::put_bytes(out, dry, b, b" = ")
+}
+
+fn put_closing(out: &mut [u8], dry: bool, to: usize, w: u64) -> usize
+    ensures { λ r. ⌜ Writes dry (now (out .entry)) to (closing w) (now (out .exit)) r ⌝ }
+{
+    if w == RESULT {
+        return fmt::emit::put_bytes(out, dry, to, b"\n");
+    }
+    fmt::emit::put_bytes(out, dry, to, b";\n")
+}
+
+// The line of the row at `at`, from the start of `out`; where `dry` it is only measured.
+fn write_line(rows: &[u64], answer: &[u64], at: usize, out: &mut [u8], dry: bool) -> Text
+    requires { ⌜ at < length (now answer) ⌝ }
+    ensures { λ r. ⌜ Wrote (now (rows .entry)) (now (answer .entry)) at dry (now (out .entry)) (now (out .exit)) r ⌝ }
+{
+    let w = answer[at];
+    let start = put_opening(out, dry, w);
+    let Text::Ends(next, to) = fmt::writer::write_tree(rows, answer, at + 1, out, dry, start) else {
+        return Text::Broken;
+    };
+    let end = put_closing(out, dry, to, w);
+    Text::Ends(next, end)
+}
+
+// The line of the let or the result whose row stands at `at`. Where there is none, or `out` is too short for it, nothing is written.
+pub fn line_at(rows: &[u64], answer: &[u64], at: usize, out: &mut [u8]) -> Line
+    ensures { λ r. ⌜ (r ≡ line-answer (line-of (now (rows .entry)) (now (answer .entry)) at) (length (now (out .entry))))
+        × (now (out .exit) ≡ bytes-left (line-of (now (rows .entry)) (now (answer .entry)) at) (now (out .entry))) ⌝ }
+{
+    if !begins(answer, at) {
+        return Line::Broken;
+    }
+    let Text::Ends(next, size) = write_line(rows, answer, at, out, true) else {
+        return Line::Broken;
+    };
+    if size > out.len() {
+        return Line::NoRoom;
+    }
+    let Text::Ends(_, _) = write_line(rows, answer, at, out, false) else {
+        // Not met: the line was measured.
+        return Line::Broken;
+    };
+    Line::Text(size, next)
+}
+
+// The line for a refusal, by 01's number and the record: as much of it as there is room for, and the place after it.
+pub fn refusal_line(number: u64, record: u64, out: &mut [u8]) -> usize
+    ensures { λ r. ⌜ Writes false (now (out .entry)) 0 (refusal-text number «record») (now (out .exit)) r ⌝ }
+{
+    let a = fmt::emit::put_bytes(out, false, 0, b"refused ");
+    let b = fmt::emit::put_decimal(out, false, a, number);
+    let c = fmt::emit::put_bytes(out, false, b, b" ");
+    let d = fmt::emit::put_decimal(out, false, c, record);
+    fmt::emit::put_bytes(out, false, d, b"\n")
+}

@@ -1,1 +1,0 @@
-// Laws of the text of statements as it is written from answer rows: definitions in specs, laws in proofs, no code.

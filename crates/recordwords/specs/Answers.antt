@@ -1,9 +1,0 @@
--- The answer of `record_word` by cases. Assumes nothing.
-use Prim.Native.Nat.{ℕ}
-use mathlib.Core.Option.{Option, none, some}
-use Rattle.recordwords.specs.declared.Word.{Word}
-use Rattle.recordwords.specs.declared.Word.the-variants as word
-
-abbrev pub word-answer : Option ℕ → Word
-word-answer none = word.Unknown
-word-answer (some k) = word.Kind k

@@ -1,1 +1,0 @@
-// No code: the laws of renaming stand in proofs/, the definitions over places in specs/.

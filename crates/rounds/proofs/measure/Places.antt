@@ -1,0 +1,18 @@
+-- Where each fact stands after `measure`: for those who look it up. Assumes nothing.
+use Prim.Native.Nat.{ℕ, _+_, _*_, _<_}
+use native.Mathlib.Omega.{arith}
+use mathlib.Core.Path.{_≡_, _∙_}
+use mathlib.Core.List.{List, _++_}
+use lib.ListN.{length, getD, List·getD-append}
+use Rattle.spec_tree.specs.Tokens.{trees-at, numbered, facts, all-facts}
+use Rattle.spec_tree.proofs.TokenLaws.{trees-length}
+use Rattle.words.proofs.tokens.Comparing.{tree}
+use Rattle.rounds.proofs.measure.Filling.{all-facts-length, all-facts-at}
+
+-- each fact stands where it is looked for, whatever follows
+pub fact-is :
+    (ws rest : List ℕ) (i c : ℕ) → i < length ws → c < 5 → getD (all-facts (trees-at numbered ws) ++ rest) (5 * i + c) 0 ≡ getD (facts (tree ws i)) c 0
+fact-is ws rest i c h b =
+    let l = trees-length numbered ws in
+    let ts = trees-at numbered ws in
+    List·getD-append (all-facts ts) rest 0 (5 * i + c) (omega (arith, all-facts-length ts, l)) ∙ all-facts-at ts i c (omega (arith, l)) b

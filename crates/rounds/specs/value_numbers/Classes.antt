@@ -1,0 +1,48 @@
+-- Classes of equal trees (01, "Uses"): a place's class is the last place with a tree equal to its own, so that two places have one class where their trees
+-- are equal; and how many places have a class. Assumes nothing.
+use Prim.Native.Nat.{ℕ, zero, suc, _+_, _*_, _%_}
+use mathlib.Core.Bool.{Bool, true, false, _&&_}
+use mathlib.Core.List.{List, [], _∷_, map}
+use lib.ListN.{length, getD, take, drop}
+use lib.Dec.{eqb}
+use Rattle.spec_tree.specs.Tree.{Tree, eq-tree}
+use Rattle.spec_tree.specs.Tokens.{read, numbered, takes}
+use Rattle.laws.specs.positions.Places.{numbered-at}
+
+-- one more number in a key: the numbers stay below 2^31, so that no product wraps
+unfoldable pub mixed : ℕ → ℕ → ℕ
+mixed h x = (h % 2147483647 * 1540483477 + x % 2147483647) % 2147483647
+
+unfoldable pub mixed-all : ℕ → List ℕ → ℕ
+unfolding mixed
+mixed-all h [] = h
+mixed-all h (x ∷ l) = mixed-all (mixed h x) l
+
+module _ (ws : List ℕ) where
+  -- the last of the first n places whose tree is t
+  unfoldable pub last-place : Tree → ℕ → ℕ
+  unfolding eq-tree numbered-at
+  last-place t zero = 0
+  last-place t (suc n) = elim (eq-tree (numbered-at ws n) t) [ true ↦ n | false ↦ last-place t n ]
+
+  abbrev pub class-of : Tree → ℕ
+  class-of t = last-place t (length ws)
+
+  unfoldable pub class-at : ℕ → ℕ
+  unfolding last-place numbered-at
+  class-at i = class-of (numbered-at ws i)
+
+  -- the operands of the node at a place
+  abbrev pub operands-at : ℕ → List Tree
+  operands-at i = take (takes (getD ws i 0)) (read numbered (drop (i + 1) ws))
+
+  -- the chain that a place is in: from its word and the classes of its operands
+  unfoldable pub bucket-at : ℕ → ℕ
+  unfolding mixed-all last-place takes read
+  bucket-at i = mixed-all (getD ws i 0) (map class-of (operands-at i)) % length ws
+
+  -- how many of the first n places that pass have a class
+  unfoldable pub class-places : (ℕ → Bool) → ℕ → ℕ → ℕ
+  unfolding class-at
+  class-places test c zero = 0
+  class-places test c (suc n) = elim (test n && eqb (class-at n) c) [ true ↦ suc (class-places test c n) | false ↦ class-places test c n ]

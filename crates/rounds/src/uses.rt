@@ -1,0 +1,97 @@
+// Which places of words of trees are outside arms (01, "Uses").
+ghost use mathlib.Core.Path.{_≡_};
+ghost use Prim.Native.Nat.{_≤_, _<_};
+ghost use lib.ListN.{length};
+ghost use Rattle.rounds.specs.uses.Marks.{Complete, Cleared, Ones, Arms, Marking, not-in-arms};
+ghost use Rattle.rounds.specs.uses.Answers.{mark-answer};
+use words::tokens::Run;
+use words::tokens::Trees;
+use words::tokens::count_trees;
+use words::tokens::end_of;
+
+// A word is kind + KINDS * below; from BRANCH on the kinds have arms.
+const KINDS: u64 = 64;
+
+const BRANCH: u64 = 26;
+
+pub enum Marked {
+    Done,
+    Broken,
+    // Fewer marks than words.
+    NoRoom,
+}
+
+// Marks the first n places.
+fn mark_all(marks: &mut [u64], n: usize)
+    requires { ⌜ n ≤ length (now marks) ⌝ }
+    ensures { λ _. ⌜ Ones (now (marks .entry)) n (now (marks .exit)) ⌝ }
+{
+    let mut i = 0;
+    while i < n {
+        marks[i] = 1;
+        i += 1;
+    }
+}
+
+// Clears the marks from one place to another.
+fn clear(marks: &mut [u64], from: usize, to: usize)
+    requires { ⌜ to ≤ length (now marks) ⌝ }
+    ensures { λ _. ⌜ Cleared (now (marks .entry)) from to (now (marks .exit)) ⌝ }
+{
+    let mut i = from;
+    while i < to {
+        marks[i] = 0;
+        i += 1;
+    }
+}
+
+// Clears the arms of the switch at p, if there is one: past its first operand and up to its end.
+fn clear_arms_of(tokens: &[u64], p: usize, marks: &mut [u64])
+    requires { ⌜ Complete (now tokens) ⌝ }
+    requires { ⌜ (p < length (now tokens)) × (length (now tokens) ≤ length (now marks)) ⌝ }
+    ensures { λ _. ⌜ Arms (now (tokens .entry)) p (now (marks .entry)) (now (marks .exit)) ⌝ }
+{
+    if tokens[p] % KINDS < BRANCH {
+        return;
+    }
+    let Run::Ends(arms) = end_of(tokens, p + 1) else {
+        return;
+    };
+    let Run::Ends(end) = end_of(tokens, p) else {
+        return;
+    };
+    clear(marks, arms, end);
+}
+
+// Clears every place that is in an arm.
+fn clear_arms(tokens: &[u64], marks: &mut [u64])
+    requires { ⌜ Complete (now tokens) ⌝ }
+    requires { ⌜ Ones (now marks) (length (now tokens)) (now marks) ⌝ }
+    requires { ⌜ length (now tokens) ≤ length (now marks) ⌝ }
+    ensures { λ _. ⌜ Marking (now (tokens .entry)) (not-in-arms (now (tokens .entry)) (length (now (tokens .entry)))) (now (marks .entry)) (now (marks .exit)) ⌝ }
+{
+    let mut p = 0;
+    while p < tokens.len() {
+        clear_arms_of(tokens, p, marks);
+        p += 1;
+    }
+}
+
+// Marks the places outside arms with 1 and the others with 0. In the flat form all are outside.
+pub fn mark_outside(tokens: &[u64], scoped: bool, marks: &mut [u64]) -> Marked
+    ensures { λ r. ⌜ (r ≡ mark-answer (now (tokens .entry)) scoped (now (marks .entry)) .answer)
+        × (now (marks .exit) ≡ mark-answer (now (tokens .entry)) scoped (now (marks .entry)) .marks) ⌝ }
+{
+    if marks.len() < tokens.len() {
+        return Marked::NoRoom;
+    }
+    let Trees::Count(_) = count_trees(tokens) else {
+        return Marked::Broken;
+    };
+    mark_all(marks, tokens.len());
+    if scoped {
+        clear_arms(tokens, marks);
+        return Marked::Done;
+    }
+    Marked::Done
+}

@@ -1,0 +1,1 @@
+// scope_laws: sound, needs, told, agree, measured, call.

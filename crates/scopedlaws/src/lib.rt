@@ -1,1 +1,0 @@
-// No code: what the scoped call of extract comes to on words stands in specs/, and that it is the call in proofs/.

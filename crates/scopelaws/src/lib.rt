@@ -1,1 +1,0 @@
-// No code: the laws stand in proofs/.

@@ -1,0 +1,14 @@
+pub mod Readings
+pub mod TreeLaws
+pub mod Logic
+pub mod Tests
+pub mod RecordLaws
+pub mod Formed
+pub mod KindLaws
+pub mod Examples
+pub mod DomainPasses
+pub mod TokenLaws
+pub mod FactLaws
+pub mod TokenCode
+pub mod LayoutLaws
+pub mod text

@@ -1,0 +1,13 @@
+pub mod Outcome
+pub mod Bytes
+pub mod Kinds
+pub mod Tree
+pub mod Facts
+pub mod Value
+pub mod Symbol
+pub mod Rows
+pub mod Passes
+pub mod Records
+pub mod Layout
+pub mod Tokens
+pub mod text

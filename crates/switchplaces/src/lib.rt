@@ -1,1 +1,0 @@
-// No code: switches by places among words, definitions and laws alone.

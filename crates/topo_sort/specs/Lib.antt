@@ -1,0 +1,4 @@
+pub mod Needs
+pub mod Turns
+pub mod reads
+pub mod treelist
