@@ -1,5 +1,5 @@
-//! Makes what the program `answerreplay` is run on and what it has to write (stdin and stdout in
-//! crates/answerreplay): sheets, and the flat answers that the source gives, or the refusals. The argument
+//! Makes what the program `replay_cse` is run on and what it has to write (stdin and stdout in
+//! crates/replay_cse): sheets, and the flat answers that the source gives, or the refusals. The argument
 //! names the folder that the two files are written to.
 //!
 //! A line of stdin is a sheet, with a slash for each CRLF. In stdout a line `# N` stands before what

@@ -1,5 +1,5 @@
-//! What the program `loadreplay` is run on and what it has to print (stdin and stdout in
-//! crates/loadreplay): sheets, and the answers that the reading gives.
+//! What the program `replay_load` is run on and what it has to print (stdin and stdout in
+//! crates/replay_load): sheets, and the answers that the reading gives.
 //!
 //! A line of stdin has five digits for the words lent, three for the places lent, and the sheet, a
 //! space between them. In the sheet `/` is a CRLF and `\HH` the byte of that number; `|` parts it, and

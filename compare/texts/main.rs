@@ -2,7 +2,7 @@
 //! `Display`, on random trees and on the source's answers to random lists.
 //!
 //! Arguments: the number of trees and of answers; or `--self-test`, to see that wrong expectations are noticed; or
-//! `--stored FOLDER`, which writes what the program `textreplay` is run on to FOLDER/stdin, and what it has to print to
+//! `--stored FOLDER`, which writes what the program `replay_text` is run on to FOLDER/stdin, and what it has to print to
 //! FOLDER/stdout.
 #![allow(dead_code)]
 

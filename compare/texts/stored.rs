@@ -1,5 +1,5 @@
-//! What the program `textreplay` is run on and what it has to print (stdin and stdout in
-//! crates/textreplay): words of trees and rows of answers, and the texts that the source gives.
+//! What the program `replay_text` is run on and what it has to print (stdin and stdout in
+//! crates/replay_text): words of trees and rows of answers, and the texts that the source gives.
 //!
 //! The first line of stdin has the node rows that name the symbols. Each other line has the words of a
 //! tree, or an exclamation mark and an answer's rows, and then how many bytes are lent, one more than the

@@ -1,10 +1,12 @@
 // The program `csescoped`, the twin of `csesheet` for the scoped answer (01, "Sheet and printing"): a sheet on standard input, its answer on standard output, or one
-// line for a refusal. It lends 131,072 rows and 524,288 bytes, and an answer that is longer is refused by 12 or 14: program/specs/Program `csescoped`.
+// line for a refusal. It lends 131,072 rows and 524,288 bytes, and an answer that is longer is refused by 12 or 14: spec_program/specs/Program `csescoped`.
+mod sheet;
+
+use crate::sheet::Said;
+use crate::sheet::scoped_sheet;
 use libc::STDIN_FILENO;
 use libc::STDOUT_FILENO;
 use print::lines::refusal_line;
-use scopedsheet::Said;
-use scopedsheet::scoped_sheet;
 
 fn say(out: &[u8], n: usize) {
     if n <= out.len() {

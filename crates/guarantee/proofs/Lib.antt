@@ -1,3 +1,9 @@
-pub mod program
 pub mod passing
-pub mod demand
+pub mod Marked
+pub mod Misreadings
+pub mod MostSwitches
+pub mod Examples
+pub mod Whole
+pub mod Operation
+pub mod TurnedDown
+pub mod Returned

@@ -1,1 +1,3 @@
 pub mod Print
+pub mod Calls
+pub mod Program

@@ -25,9 +25,9 @@ use Rattle.spec_cse.specs.Answer.{Intermediates, Answer, Let, Match, end, step,
 use Rattle.spec_cse.specs.AnswerRows.{answer-words, intermediates-ok, references-ok}
 use Rattle.spec_cse.specs.Scope.{answer}
 use Rattle.spec_cse.specs.Call.{Extracted, table-after}
-use Rattle.guarantee.proofs.program.Whole.{flat-refused-by-10}
+use Rattle.guarantee.proofs.Whole.{flat-refused-by-10}
 use Rattle.fmt.specs.checked.Check.{rows-in}
-use Rattle.guarantee.specs.program.Program.{reply, written, csesheet}
+use Rattle.spec_program.specs.Program.{reply, written, csesheet}
 use Rattle.guarantee.proofs.passing.Passed.{table-answer-passes}
 use Rattle.guarantee.proofs.passing.Enough.{flat-call, flat-call-rows}
 use Rattle.guarantee.proofs.passing.FlatTrees.{Small, Small-lets, flat-trees-small}

@@ -5,7 +5,7 @@ use mathlib.Core.Path.{_≡_}
 use mathlib.Core.Option.{some}
 use mathlib.Core.List.{List}
 use lib.ListN.{take}
-use Rattle.guarantee.specs.program.Program.{csesheet}
+use Rattle.spec_program.specs.Program.{csesheet}
 use Rattle.print.specs.lines.Line.{lines-from}
 use Rattle.print.specs.lines.Refusal.{refusal-text}
 use Rattle.flat_sheet.specs.declared.Flat.{Flat}

@@ -20,7 +20,7 @@ use Rattle.spec_cse.specs.AnswerRows.{answer-words}
 use Rattle.spec_cse.specs.Scope.{answer}
 use Rattle.spec_cse.specs.Call.{Extracted, extract-call}
 use Rattle.spec_program.specs.Print.{print-call}
-use Rattle.guarantee.specs.program.Calls.{by-calls}
+use Rattle.spec_program.specs.Calls.{by-calls}
 use Rattle.guarantee.proofs.passing.Printed.{or-14, table-printed}
 
 -- rows where as many are lent

@@ -19,9 +19,9 @@ use Rattle.spec_cse.specs.Answer.{Answer, rows, answer-text}
 use Rattle.spec_cse.specs.AnswerRows.{answer-words}
 use Rattle.spec_cse.specs.Scope.{answer}
 use Rattle.spec_cse.specs.Call.{Extracted, work-words, work-bytes, extract-call}
-use Rattle.guarantee.proofs.program.Whole.{flat-refused-by-10}
-use Rattle.guarantee.specs.program.Calls.{by-calls}
-use Rattle.guarantee.specs.program.Program.{reply, written, csesheet, csescoped}
+use Rattle.guarantee.proofs.Whole.{flat-refused-by-10}
+use Rattle.spec_program.specs.Calls.{by-calls}
+use Rattle.spec_program.specs.Program.{reply, written, csesheet, csescoped}
 use Rattle.guarantee.proofs.passing.FlatRows.{flat-rows-most}
 use Rattle.guarantee.proofs.passing.FlatText.{flat-text-most}
 use Rattle.guarantee.proofs.passing.Printed.{or-14}

@@ -6,7 +6,7 @@ use mathlib.Core.Bool.{false}
 use mathlib.Core.List.{List, _++_, append-assoc}
 use lib.ListN.{length, length-append}
 use Rattle.spec_tree.specs.Bytes.{bytes, decimal}
-use Rattle.guarantee.specs.program.Program.{reply}
+use Rattle.spec_program.specs.Program.{reply}
 use Rattle.fmt.specs.emit.Writing.{Writes}
 use Rattle.fmt.proofs.emit.WriteLaws.{writes-then, writes-as}
 use Rattle.print.specs.lines.Refusal.{refusal-text}

@@ -2,7 +2,7 @@
 use Prim.Native.Nat.{ℕ}
 use mathlib.Core.List.{List}
 use Rattle.spec_tree.specs.Outcome.{refused}
-use Rattle.guarantee.specs.program.Program.{reply}
+use Rattle.spec_program.specs.Program.{reply}
 
 -- by 01's number and the record
 unfoldable pub refusal-text : ℕ → ℕ → List ℕ

@@ -1,0 +1,197 @@
+-- What a sheet's scoped text is from what load, extract and print told. Assumes nothing.
+use Prim.Native.Nat.{ℕ, _*_, _/_, _≤_}
+use native.Mathlib.Omega.{arith}
+use mathlib.Core.Path.{_≡_, refl, sym, ap, ap₂, _∙_, subst}
+use mathlib.Core.Bool.{Bool, true, false, _||_, cond}
+use mathlib.Core.List.{List, _++_}
+use mathlib.Core.Logic.{_⊎_, inl, inr}
+use lib.ListN.{length, take, drop, length-append}
+use lib.Dec.{ltb}
+use lib.Seq.{take-append-seam}
+use Rattle.spec_tree.specs.Outcome.{Refusal, Outcome, ok, refused, by, _>>=_}
+use Rattle.spec_tree.specs.Rows.{Table, trees}
+use Rattle.spec_tree.specs.Layout.{row-width, table-words, rows-of, table-of, in-domain, sheet-fits, loadable, laid-out, table-or-9}
+use Rattle.spec_tree.specs.Tokens.{name-in, number-in}
+use Rattle.spec_tree.specs.Tree.{Tree}
+use Rattle.spec_tree.proofs.Logic.{and-left}
+use Rattle.spec_tree.proofs.LayoutLaws.{table-long}
+use Rattle.spec_tree.proofs.DomainPasses.{Domain, domain}
+use Rattle.spec_sheet.specs.Call.{load-call, rows-after, roots-after}
+use Rattle.spec_sheet.proofs.Loaded.{loaded-loadable}
+use Rattle.spec_cse.specs.Answer.{Answer, rows, answer-text}
+use Rattle.spec_cse.specs.AnswerRows.{answer-words, answer-of, answer-laid-out}
+use Rattle.spec_cse.specs.Scope.{answer}
+use Rattle.spec_cse.specs.Call.{Extracted, work-words, work-bytes, extract-call, table-after}
+use Rattle.laws.proofs.cse.Refusals.{refused-by-10-11-or-23}
+use Rattle.spec_program.specs.Print.{print-call, buffer-after}
+use Rattle.cse_flat.specs.Answers.{extraction-answer}
+use Rattle.cse_flat.specs.declared.Extraction.the-variants as extraction
+use Rattle.load.specs.declared.Loaded.{Loaded}
+use Rattle.load.specs.declared.Loaded.the-variants as loaded
+use Rattle.load.specs.Loads.{answered, Loads}
+use Rattle.print.specs.Printing.{printed}
+use Rattle.print.specs.declared.Printed.the-variants as printer
+use Rattle.csescoped.specs.sheet.ScopedSheet.{rows-text, sheet-text, said-of, Says}
+use Rattle.csescoped.specs.declared.sheet.Said.{Said}
+use Rattle.csescoped.specs.declared.sheet.Said.the-variants as said
+
+-- ---- extract and print have no records: the record of each of their refusals is 0
+
+abbrev No-record : {A : Type 0} → Outcome A → Type 0
+No-record (ok a) = Unit {0}
+No-record (refused r) = r .place ≡ 0
+
+then-none : {A B : Type 0} (o : Outcome A) (f : A → Outcome B) → No-record o → ((a : A) → No-record (f a)) → No-record (o >>= f)
+then-none (ok a) f h g = g a
+then-none (refused r) f h g = h
+
+either-none : {A : Type 0} (b : Bool) (x y : Outcome A) → No-record x → No-record y → No-record (cond b x y)
+either-none true x y h g = h
+either-none false x y h g = g
+
+answer-none : (es : List Tree) (o : Outcome Answer) → answer true es ≡ o → No-record o
+answer-none es (ok a) e = tt
+answer-none es (refused i) e = go (refused-by-10-11-or-23 true es i e)
+  where
+    go : (i ≡ by 10) ⊎ ((i ≡ by 11) ⊎ (i ≡ by 23)) → i .place ≡ 0
+    go (inl z) = ap (λ (r : Refusal). r .place) z
+    go (inr (inl z)) = ap (λ (r : Refusal). r .place) z
+    go (inr (inr z)) = ap (λ (r : Refusal). r .place) z
+
+extract-none : (work text : ℕ) (node-rows roots : List ℕ) (lent : ℕ) → No-record (extract-call true work text node-rows roots lent)
+unfolding extract-call table-or-9
+extract-none work text node-rows roots lent =
+    either-none (ltb work work-words || ltb text work-bytes) _ _ refl
+    (then-none (cond (laid-out node-rows roots) (ok (table-of node-rows roots)) (refused (by 9))) _ (either-none (laid-out node-rows roots) _ _ tt refl)
+    (λ t. then-none (answer true (trees t)) _ (answer-none (trees t) (answer true (trees t)) refl) (λ a. either-none (ltb lent (rows a)) _ _ refl tt)))
+
+print-none : (node-rows words : List ℕ) (lent : ℕ) → No-record (print-call node-rows words lent)
+unfolding print-call
+print-none node-rows words lent =
+    let l = rows-of (length node-rows / row-width) node-rows in
+    let text = answer-text (answer-of (name-in l) 0 words) in
+    either-none (answer-laid-out l words) _ _ (either-none (ltb lent (length text)) _ _ refl tt) refl
+
+-- ---- print's answer
+
+module _ (node-rows words old new : List ℕ) (g : new ≡ buffer-after (print-call node-rows words (length old)) old) where
+  pub text-printed : (n : ℕ) → printer.Bytes n ≡ printed (print-call node-rows words (length old)) → Says (print-call node-rows words (length old)) old (said.Bytes n) new
+  unfolding printed
+  text-printed n e = (go (print-call node-rows words (length old)) e, g)
+    where
+      go : (o : Outcome (List ℕ)) → printer.Bytes n ≡ printed o → said.Bytes n ≡ said-of o
+      go (ok text) f = cc
+      go (refused r) f = absurd (let z : _≡_ {A = ℕ} 0 1 = cc in omega arith)
+
+  pub print-refused : (q : ℕ) → printer.Refused q ≡ printed (print-call node-rows words (length old)) → Says (print-call node-rows words (length old)) old (said.Refused q 0) new
+  unfolding printed
+  print-refused q e = (go (print-call node-rows words (length old)) e (print-none node-rows words (length old)), g)
+    where
+      go : (o : Outcome (List ℕ)) → printer.Refused q ≡ printed o → No-record o → said.Refused q 0 ≡ said-of o
+      go (ok text) f h = absurd (let z : _≡_ {A = ℕ} 0 1 = cc in omega arith)
+      go (refused r) f h = cc
+
+-- ---- extract's
+
+front : (l old : List ℕ) → take (length l) (l ++ drop (length l) old) ≡ l
+front l old = take-append-seam l (drop (length l) old)
+
+module _ (work text : ℕ) (node-rows roots old-table : List ℕ) where
+  abbrev call : Outcome Extracted
+  call = extract-call true work text node-rows roots (length old-table)
+
+  pub extract-refused : (q : ℕ) (old : List ℕ) → extraction.Refused q ≡ extraction-answer call → Says (rows-text work text (length old-table) (length old) node-rows roots) old (said.Refused q 0) old
+  unfolding rows-text extraction-answer buffer-after
+  extract-refused q old e = go call e (extract-none work text node-rows roots (length old-table))
+    where
+      go : (o : Outcome Extracted) → extraction.Refused q ≡ extraction-answer o → No-record o → Says (o >>= λ x. print-call node-rows (x .words) (length old)) old (said.Refused q 0) old
+      go (ok x) f h = absurd (let z : _≡_ {A = ℕ} 0 1 = cc in omega arith)
+      go (refused r) f h = (cc, refl)
+
+  module _ (new-table : List ℕ) (g : new-table ≡ table-after call old-table) (n m : ℕ) (e : extraction.Rows n m ≡ extraction-answer call) where
+    pub rows-inside : n ≤ length new-table
+    unfolding extraction-answer table-after
+    rows-inside = go call g e
+      where
+        go : (o : Outcome Extracted) → new-table ≡ table-after o old-table → extraction.Rows n m ≡ extraction-answer o → n ≤ length new-table
+        go (refused r) h f = absurd (let z : _≡_ {A = ℕ} 0 1 = cc in omega arith)
+        go (ok x) h f = let a : n ≡ length (x .words) = cc in omega (arith, a, ap length h, length-append (x .words) (drop (length (x .words)) old-table))
+
+    pub rows-printed :
+        (old new : List ℕ) (r : Said) → Says (print-call node-rows (take n new-table) (length old)) old r new
+        → Says (rows-text work text (length old-table) (length old) node-rows roots) old r new
+    unfolding rows-text extraction-answer table-after
+    rows-printed old new r s = go call g e
+      where
+        go : (o : Outcome Extracted) → new-table ≡ table-after o old-table → extraction.Rows n m ≡ extraction-answer o → Says (o >>= λ x. print-call node-rows (x .words) (length old)) old r new
+        go (refused i) h f = absurd (let z : _≡_ {A = ℕ} 0 1 = cc in omega arith)
+        go (ok x) h f =
+            let a : n ≡ length (x .words) = cc in
+            let b : take n new-table ≡ x .words = ap₂ take a h ∙ front (x .words) old-table in
+            subst (λ (l : List ℕ). Says (print-call node-rows l (length old)) old r new) b s
+
+-- ---- load's
+
+loaded-domain : (words places : ℕ) (sheet : List ℕ) (t : Table) → load-call words places sheet ≡ ok t → Domain t
+unfolding load-call loadable
+loaded-domain words places sheet t e = domain t (and-left (in-domain t) (sheet-fits t) (loaded-loadable (words / row-width) places sheet t e))
+
+module _ (words places : ℕ) (sheet old-rows old-roots new-rows new-roots : List ℕ) (got : Loaded) (L : Loads (load-call words places sheet) old-rows old-roots got new-rows new-roots) where
+  -- the table that was loaded, in front of what was lent
+  record Read (n m : ℕ) : Type 0 where
+    table : Table
+    loads : load-call words places sheet ≡ ok table
+    words-are : take (35 * n) new-rows ≡ table-words (table .rows)
+    roots-are : take m new-roots ≡ table .roots
+    few : n ≤ 1024
+    rows-fit : 35 * n ≤ length new-rows
+    roots-fit : m ≤ length new-roots
+
+  read : (n m : ℕ) → got ≡ loaded.Table n m → Read n m
+  unfolding rows-after roots-after
+  read n m e = go (load-call words places sheet) refl (sym e ∙ L .answer-is) (L .rows-are) (L .roots-are)
+    where
+      go : (o : Outcome Table) → load-call words places sheet ≡ o → loaded.Table n m ≡ answered o → new-rows ≡ rows-after o old-rows → new-roots ≡ roots-after o old-roots → Read n m
+      go (refused r) f g h k = absurd (let z : _≡_ {A = ℕ} 0 1 = cc in omega arith)
+      go (ok t) f g h k =
+          let D = loaded-domain words places sheet t f in
+          let a : n ≡ length (t .rows) = cc in
+          let b : m ≡ length (t .roots) = cc in
+          let c : 35 * n ≡ length (table-words (t .rows)) = omega (arith, table-long 0 (t .rows) (D .good-rows), a) in
+          record {
+            table = t;
+            loads = f;
+            words-are = ap₂ take c h ∙ front (table-words (t .rows)) old-rows;
+            roots-are = ap₂ take b k ∙ front (t .roots) old-roots;
+            few = omega (arith, a, D .few-rows);
+            rows-fit = omega (arith, c, ap length h, length-append (table-words (t .rows)) (drop (length (table-words (t .rows))) old-rows));
+            roots-fit = omega (arith, b, ap length k, length-append (t .roots) (drop (length (t .roots)) old-roots));
+          }
+
+  pub read-fits : (n m : ℕ) → got ≡ loaded.Table n m → (35 * n ≤ length new-rows) × (m ≤ length new-roots)
+  read-fits n m e = let R = read n m e in (R .rows-fit, R .roots-fit)
+
+  pub read-few : (n m : ℕ) → got ≡ loaded.Table n m → n ≤ 1024
+  read-few n m e = read n m e .few
+
+  module _ (work text rows-lent : ℕ) where
+    pub load-refused : (q i : ℕ) (old : List ℕ) → got ≡ loaded.Refused q i → Says (sheet-text words places work text rows-lent (length old) sheet) old (said.Refused q i) old
+    unfolding sheet-text buffer-after
+    load-refused q i old e = go (load-call words places sheet) (sym e ∙ L .answer-is)
+      where
+        go : (o : Outcome Table) → loaded.Refused q i ≡ answered o
+            → Says (o >>= λ t. rows-text work text rows-lent (length old) (table-words (t .rows)) (t .roots)) old (said.Refused q i) old
+        go (ok t) g = absurd (let z : _≡_ {A = ℕ} 0 1 = cc in omega arith)
+        go (refused r) g = (cc, refl)
+
+    pub loaded-says :
+        (n m : ℕ) (old new : List ℕ) (r : Said) → got ≡ loaded.Table n m → Says (rows-text work text rows-lent (length old) (take (35 * n) new-rows) (take m new-roots)) old r new
+        → Says (sheet-text words places work text rows-lent (length old) sheet) old r new
+    unfolding sheet-text
+    loaded-says n m old new r e s =
+        let R = read n m e in
+        let f = rows-text work text rows-lent (length old) in
+        let a : f (take (35 * n) new-rows) (take m new-roots) ≡ f (table-words (R .table .rows)) (R .table .roots) = ap₂ f (R .words-are) (R .roots-are) in
+        let b : (load-call words places sheet >>= λ t. f (table-words (t .rows)) (t .roots)) ≡ f (table-words (R .table .rows)) (R .table .roots) =
+        ap (λ (o : Outcome Table). o >>= λ t. f (table-words (t .rows)) (t .roots)) (R .loads) in
+        subst (λ (o : Outcome (List ℕ)). Says o old r new) (a ∙ sym b) s

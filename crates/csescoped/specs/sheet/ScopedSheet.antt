@@ -1,0 +1,34 @@
+-- What a sheet's scoped answer is as text, by the lengths of all that is lent: load, extract and print, and the first refusal reached (01, "Turned down, by
+-- operation"). Assumes nothing.
+use Prim.Native.Nat.{ℕ}
+use mathlib.Core.Path.{_≡_}
+use mathlib.Core.Bool.{true}
+use mathlib.Core.List.{List}
+use lib.ListN.{length}
+use Rattle.spec_tree.specs.Outcome.{Outcome, ok, refused, _>>=_}
+use Rattle.spec_tree.specs.Layout.{table-words}
+use Rattle.spec_sheet.specs.Call.{load-call}
+use Rattle.spec_cse.specs.Call.{extract-call}
+use Rattle.spec_program.specs.Print.{print-call, buffer-after}
+use Rattle.csescoped.specs.declared.sheet.Said.{Said}
+use Rattle.csescoped.specs.declared.sheet.Said.the-variants as said
+
+-- extract on node rows and roots, and print: by the lengths of the work area, how many answer rows and how many bytes are lent
+unfoldable pub rows-text : ℕ → ℕ → ℕ → ℕ → List ℕ → List ℕ → Outcome (List ℕ)
+unfolding extract-call print-call
+rows-text work text rows-lent bytes-lent node-rows roots = extract-call true work text node-rows roots rows-lent >>= λ x. print-call node-rows (x .words) bytes-lent
+
+-- by the lengths of the row table and the root list too
+unfoldable pub sheet-text : ℕ → ℕ → ℕ → ℕ → ℕ → ℕ → List ℕ → Outcome (List ℕ)
+unfolding load-call table-words rows-text
+sheet-text words places work text rows-lent bytes-lent sheet =
+    load-call words places sheet >>= λ t. rows-text work text rows-lent bytes-lent (table-words (t .rows)) (t .roots)
+
+-- how many bytes the text is, or the number and the record
+abbrev pub said-of : Outcome (List ℕ) → Said
+said-of (ok text) = said.Bytes (length text)
+said-of (refused r) = said.Refused (r .number) (r .place)
+
+-- the answer, and each byte of what was lent for the text
+abbrev pub Says : Outcome (List ℕ) → List ℕ → Said → List ℕ → Type 0
+Says o old answer new = (answer ≡ said-of o) × (new ≡ buffer-after o old)

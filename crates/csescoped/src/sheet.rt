@@ -1,0 +1,77 @@
+// A sheet's scoped answer as text: load, extract and print, one after another. What is lent may be too short for any of them, and is then refused by its number.
+ghost use mathlib.Core.Path.{_≡_};
+ghost use Prim.Native.Nat.{_≤_};
+ghost use lib.ListN.{length, take};
+ghost use Rattle.spec_program.specs.Print.{print-call};
+ghost use Rattle.csescoped.specs.sheet.ScopedSheet.{rows-text, sheet-text, Says};
+use cse_flat::Extraction;
+use cse_scoped::cse_scoped;
+use load::Loaded;
+use load::load;
+use print::Printed;
+use print::print;
+
+// Words of a node row.
+const WIDTH: usize = 35;
+
+pub enum Said {
+    // How many bytes the text is.
+    Bytes(usize),
+    // 01's number, and the record.
+    Refused(u64, u64),
+}
+
+// Print on the first words of the node rows and of the table.
+fn printed(rows: &[u64], end: usize, table: &[u64], count: usize, out: &mut [u8]) -> Said
+    requires { ⌜ (end ≤ length (now rows)) × (count ≤ length (now table)) ⌝ }
+    ensures { λ r. ⌜ Says (print-call (take end (now (rows .entry))) (take count (now (table .entry))) (length (now (out .entry)))) (now (out .entry)) r (now (out .exit)) ⌝ }
+{
+    let printing = print(&rows[..end], &table[..count], out);
+    match printing {
+        Printed::Bytes(n) => Said::Bytes(n),
+        Printed::Refused(number) => Said::Refused(number, 0),
+    }
+}
+
+// Extract on the first words of the node rows and the first roots, and print.
+fn extracted(
+    rows: &[u64],
+    end: usize,
+    roots: &[u64],
+    count: usize,
+    work: &mut [u64],
+    text: &mut [u8],
+    table: &mut [u64],
+    out: &mut [u8],
+) -> Said
+    requires { ⌜ (end ≤ length (now rows)) × (count ≤ length (now roots)) ⌝ }
+    ensures { λ r. ⌜ Says (rows-text (length (now (work .entry))) (length (now (text .entry))) (length (now (table .entry))) (length (now (out .entry))) (take end (now (rows .entry))) (take count (now (roots .entry))))
+        (now (out .entry)) r (now (out .exit)) ⌝ }
+{
+    let extraction = cse_scoped(&rows[..end], &roots[..count], work, text, table);
+    match extraction {
+        Extraction::Refused(number) => Said::Refused(number, 0),
+        Extraction::Rows(n, _) => printed(rows, end, table, n, out),
+    }
+}
+
+// The text of the sheet's scoped answer stands in front of `out` then; refused, `out` is as it was. All else that is lent is scratch here, and what is left in it is
+// free.
+pub fn scoped_sheet(
+    sheet: &[u8],
+    rows: &mut [u64],
+    roots: &mut [u64],
+    work: &mut [u64],
+    text: &mut [u8],
+    table: &mut [u64],
+    out: &mut [u8],
+) -> Said
+    ensures { λ r. ⌜ Says (sheet-text (length (now (rows .entry))) (length (now (roots .entry))) (length (now (work .entry))) (length (now (text .entry))) (length (now (table .entry))) (length (now (out .entry))) (now (sheet .entry)))
+        (now (out .entry)) r (now (out .exit)) ⌝ }
+{
+    let loaded = load(sheet, rows, roots);
+    match loaded {
+        Loaded::Refused(number, record) => Said::Refused(number, record),
+        Loaded::Table(n, m) => extracted(rows, WIDTH * n, roots, m, work, text, table, out),
+    }
+}

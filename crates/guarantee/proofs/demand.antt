@@ -1,2 +1,0 @@
-pub mod Operation
-pub mod Both
