@@ -1,8 +1,7 @@
 -- The table of kinds has 29 entries, and past it no count of operands is right. Assumes nothing.
-use Prim.Native.Nat.{ℕ, _≤_, _<_}
+use Prim.Native.Nat.{ℕ, _≤_, _<_, _-_}
 use mathlib.Core.Path.{_≡_, refl, ap}
 use mathlib.Core.Bool.{Bool, true, false, _&&_}
-use mathlib.Core.List.{List}
 use native.Mathlib.Omega.{arith}
 use borrow.Author.Tests.{ltb-true, ltb-false}
 use lib.Dec.{T, leb, ltb, leb→le}
@@ -34,3 +33,7 @@ arity-kind k n h = go (ltb k 29) refl
     go : (b : Bool) → ltb k 29 ≡ b → k < 29
     go true e = ltb-true k 29 e
     go false e = absurd (unfit h (ltb-false k 29 e))
+
+pub arity-by : (k n : ℕ) → arity-ok k n ≡ (leb (kind-at k .fewest) n && leb n (kind-at k .most))
+unfolding arity-ok
+arity-by k n = refl

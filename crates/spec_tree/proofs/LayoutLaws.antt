@@ -1,6 +1,6 @@
 -- The layout of rows as words. Words pass 9 exactly where they are a loadable table's, which is read back from them; and the trees of a loadable table are
 -- what demand 3 asks of a list. Assumes nothing.
-use Prim.Native.Nat.{ℕ, zero, suc, _+_, _-_, _*_, _/_, _≤_}
+use Prim.Native.Nat.{ℕ, zero, suc, _+_, _-_, _*_, _/_, _≤_, min}
 use mathlib.Core.Path.{_≡_, refl, sym, _∙_, ap, ap₂, subst}
 use mathlib.Core.Bool.{Bool, true, false, not, _&&_, _||_, cond}
 use mathlib.Core.List.{List, [], _∷_}
@@ -8,8 +8,8 @@ use native.Mathlib.Nat.{add-zero, mul-div-cancel}
 use native.Mathlib.Omega.{arith}
 use lib.IntN.{pos, negsuc}
 use lib.Dec.{T, eqb, leb, ltb, eqb→eq, leb→le}
-use lib.ListN.{length, getD, replicate, length-append, length-replicate}
-use lib.Seq.{take-append-seam, take-at, drop-at}
+use lib.ListN.{length, getD, replicate, length-append, length-replicate, take, drop, length-take}
+use lib.Seq.{take-append-seam, take-at, drop-at, take-take, take-all}
 use Rattle.spec_tree.specs.Bytes.{eq-bytes, every}
 use Rattle.spec_tree.specs.Kinds.{Kind, kinds, kind-at, arity-ok, Neg, Select, SelectOr}
 use Rattle.spec_tree.specs.Symbol.{is-letter, is-digit, is-made, is-name}
@@ -19,6 +19,7 @@ use Rattle.spec_tree.specs.Layout.{row-kind, row-default, row-fields, ro
 use Rattle.spec_tree.proofs.DomainPasses.{domain, loadable-passes}
 use Rattle.spec_tree.proofs.Logic.{and-left, and-right, and-both}
 use Rattle.spec_tree.proofs.TreeLaws.{eq-bytes-sound, eq-bytes-refl}
+use borrow.Author.Tests.{leb-true, leb-false}
 
 -- ---- a row that load lays out has at most 32 fields
 
@@ -155,3 +156,32 @@ laid-out-complete ws ns L =
 pub laid-out-passes : (ws ns : List ℕ) → T (laid-out ws ns) → T (passes (trees (table-of ws ns)))
 unfolding laid-out
 laid-out-passes ws ns t = loadable-passes (table-of ws ns) (and-right (eq-bytes (table-words (table-of ws ns .rows)) ws) (loadable (table-of ws ns)) t)
+
+-- ---- rows among words
+
+pub rows-long : (n : ℕ) (ws : List ℕ) → length (rows-of n ws) ≡ n
+unfolding rows-of
+rows-long zero ws = refl
+rows-long (suc n) ws = ap suc (rows-long n (drop 35 ws))
+
+pub row-room : (ws : List ℕ) → drop 3 (take 35 ws) ≡ take 32 (drop 3 ws)
+row-room [] = refl
+row-room (a ∷ []) = refl
+row-room (a ∷ (b ∷ [])) = refl
+row-room (a ∷ (b ∷ (c ∷ l))) = refl
+
+pub row-held : (n : ℕ) (l : List ℕ) → take n (take 32 l) ≡ take (min n 32) l
+row-held n l = go (leb n 32) refl
+  where
+    go : (b : Bool) → leb n 32 ≡ b → take n (take 32 l) ≡ take (min n 32) l
+    go true e =
+        let h = leb-true n 32 e in
+        let m : n ≡ min n 32 = omega arith in
+        take-take n 32 l h ∙ ap (λ (k : ℕ). take k l) m
+    go false e =
+        let h = leb-false n 32 e in
+        let m : 32 ≡ min n 32 = omega arith in
+        take-all n (take 32 l) (let q = length-take 32 l in omega arith) ∙ ap (λ (k : ℕ). take k l) m
+
+pub row-part : (n : ℕ) (ws : List ℕ) → take n (drop 3 (take 35 ws)) ≡ take (min n 32) (drop 3 ws)
+row-part n ws = ap (take n) (row-room ws) ∙ row-held n (drop 3 ws)

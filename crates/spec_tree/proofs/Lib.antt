@@ -12,3 +12,5 @@ pub mod FactLaws
 pub mod TokenCode
 pub mod LayoutLaws
 pub mod text
+pub mod Lists
+pub mod Outcomes

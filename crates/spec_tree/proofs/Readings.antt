@@ -1,5 +1,4 @@
 -- "Residues modulo m, m ≥ 2" (01, "Value, for demand 3"): 2 is a modulus, and every modulus tells 0 and 1 apart. Assumes nothing.
-use Prim.Native.Nat.{ℕ}
 use mathlib.Core.Path.{_≡_, refl}
 use mathlib.Core.Bool.{true}
 use native.Mathlib.Omega.{arith}

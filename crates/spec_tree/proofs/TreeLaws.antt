@@ -1,12 +1,14 @@
 -- The tests of equality say equality. Assumes nothing.
-use Prim.Native.Nat.{ℕ, suc}
-use mathlib.Core.Path.{_≡_, refl, sym, _∙_, ap, ap₂, subst}
+use Prim.Native.Nat.{ℕ}
+use mathlib.Core.Path.{_≡_, refl, ap, ap₂}
 use mathlib.Core.Bool.{Bool, true, false}
 use mathlib.Core.List.{List, [], _∷_}
 use lib.IntN.{ℤ, pos, negsuc}
 use lib.Dec.{T, eqb, eqb→eq, eqb-refl}
 use Rattle.spec_tree.specs.Tree.{Name, input, xname, mname, Tree, Forest, Sym, Const, Op, nil, _◂_, eq-name, eq-int, eq-tree, eq-forest}
 use Rattle.spec_tree.specs.Bytes.{eq-bytes}
+use borrow.Author.Tests.{eq-eqb, ne-eqb}
+use lib.ListN.{length}
 
 -- a test that goes on only where the first passes
 pub both : (b c : Bool) → T (elim b [ true ↦ c | false ↦ false ]) → T b × T c
@@ -96,3 +98,20 @@ mutual
   pub eq-forest-refl : (f : Forest) → T (eq-forest f f)
   eq-forest-refl nil = tt
   eq-forest-refl (a ◂ f) = then-test (eq-tree a a) (eq-forest f f) (eq-tree-refl a) (eq-forest-refl f)
+
+-- ---- bytes that differ
+
+pub other-lengths : (a b : List ℕ) → (length a ≡ length b → ⊥) → false ≡ eq-bytes a b
+other-lengths a b n = go (eq-bytes a b) (λ t. n (ap length (eq-bytes-sound a b t)))
+  where
+    go : (t : Bool) → (T t → ⊥) → false ≡ t
+    go true f = absurd (f tt)
+    go false f = refl
+
+pub alike : (x y : ℕ) (a b : List ℕ) → x ≡ y → eq-bytes (x ∷ a) (y ∷ b) ≡ eq-bytes a b
+unfolding eq-bytes
+alike x y a b e = rw (eq-eqb x y e, eq-bytes)
+
+pub unlike : (x y : ℕ) (a b : List ℕ) → (x ≡ y → ⊥) → eq-bytes (x ∷ a) (y ∷ b) ≡ false
+unfolding eq-bytes
+unlike x y a b n = rw (ne-eqb x y n, eq-bytes)

@@ -1,10 +1,10 @@
 -- The order of statements: each position comes after those that it needs, no position comes twice, where none is missing all are there, and the fuel is enough.
 -- Assumes nothing.
-use Prim.Native.Nat.{ℕ, zero, suc, _+_, _≤_, _<_}
+use Prim.Native.Nat.{ℕ, zero, suc, _+_, _≤_, _<_, _-_}
 use mathlib.Core.Path.{_≡_, refl, sym, _∙_, ap, subst}
 use mathlib.Core.Logic.{_⊎_, inl, inr, _≢_}
 use mathlib.Core.Bool.{Bool, true, false, _&&_}
-use mathlib.Core.List.{List, [], _∷_}
+use mathlib.Core.List.{List, [], _∷_, reverseAux}
 use native.Mathlib.Omega.{arith}
 use native.Mathlib.Nat.{zero-add, add-zero, suc-add}
 use lib.ListN.{length, getD}
@@ -318,3 +318,14 @@ module _ (table : List (List ℕ)) where
   taken-enough zero = rw (zero-add (length table)) refl
   taken-enough (suc more) =
       rw (suc-add more (length table)) (one-more (more + length table) (push (free-from 0 table) []) [] (started table) (omega arith) ∙ taken-enough more)
+
+-- ---- every entry of a list
+
+pub all-getD : (P : ℕ → Type 0) (l : List ℕ) → All P l → (q : ℕ) → q < length l → P (getD l q 0)
+all-getD P [] h q i = absurd (omega arith)
+all-getD P (j ∷ l) h zero i = h .0
+all-getD P (j ∷ l) h (suc q) i = all-getD P l (h .1) q (omega arith)
+
+pub all-turned : (P : ℕ → Type 0) (a b : List ℕ) → All P a → All P b → All P (reverseAux a b)
+all-turned P [] b g h = h
+all-turned P (j ∷ a) b g h = all-turned P a (j ∷ b) (g .1) (g .0, h)
