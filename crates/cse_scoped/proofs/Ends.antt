@@ -18,7 +18,7 @@ use Rattle.fmt.specs.checked.Check.{rows-in}
 use Rattle.laws.proofs.positions.RowNames.{tree-words}
 use Rattle.fusion.specs.place.Overlay.{overlay}
 use Rattle.fusion.specs.place.Whole.{Told, scope-told}
-use Rattle.fusion.proofs.tables.Laws.{overlay-none}
+use Rattle.fusion.proofs.tables.Laws.{overlay-none, overlay-front}
 use Rattle.cse_scoped.proofs.one_scope.Laying.{laid-exact}
 use Rattle.cse_flat.specs.refined.Parts.{extract-from}
 use Rattle.cse_flat.proofs.refined.Ending.{call-short, call-enough}
@@ -30,7 +30,7 @@ use Rattle.cse_scoped.specs.one_scope.Answers.{scope-answer, Scope-laid,
 use Rattle.cse_scoped.specs.declared.one_scope.Scoped.{Scoped}
 use Rattle.cse_scoped.specs.declared.one_scope.Scoped.the-variants as scoped
 use Rattle.scope_laws.specs.measured.Roots.{scopes, roots-told, told-or-12, roots-rows}
-use Rattle.scope_laws.proofs.measured.Measuring.{too-few, enough, laid-in-front, table-told}
+use Rattle.scope_laws.proofs.measured.Measuring.{too-few, enough, table-told}
 use Rattle.cse_scoped.specs.Kept.{Keeps}
 
 -- what the scope of the roots answers and leaves in a table
@@ -95,7 +95,7 @@ module _ (o : Outcome Told) (r : Scoped) (is : r ≡ scope-answer o 0) where
       go : (p : Outcome Told) → n ≡ told-rows p → Scope-laid p 0 base kept → Scope-laid p 0 old (overlay 0 (take n kept) old)
       go (ok a) q f =
           let fits : 0 + length (a .words) ≤ length base = omega (arith, q, h, f .long) in
-          let there : kept ≡ a .words ++ drop (length (a .words)) base = f .all fits ∙ laid-in-front (a .words) base (omega (arith, fits)) in
+          let there : kept ≡ a .words ++ drop (length (a .words)) base = f .all fits ∙ overlay-front (a .words) base (omega (arith, fits)) in
           laid-exact 0 (a .words) old (overlay 0 (take n kept) old)
           (ap (λ (l : List ℕ). overlay 0 l old) (ap (λ (k : ℕ). take k kept) q ∙ ap (λ (l : List ℕ). take (length (a .words)) l) there ∙ take-append-seam (a .words) (drop (length (a .words)) base)))
       go (refused i) q f = ap (λ (k : ℕ). overlay 0 (take k kept) old) q ∙ overlay-none 0 old

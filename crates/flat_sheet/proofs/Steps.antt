@@ -1,19 +1,15 @@
 -- What a sheet's flat answer is from what load and extract told. Assumes nothing.
-use Prim.Native.Nat.{ℕ, _*_, _/_, _≤_}
+use Prim.Native.Nat.{ℕ, _*_, _≤_}
 use native.Mathlib.Omega.{arith}
 use mathlib.Core.Path.{_≡_, refl, sym, ap, ap₂, _∙_, subst}
 use mathlib.Core.Bool.{false}
-use mathlib.Core.List.{List, _++_}
+use mathlib.Core.List.{List}
 use lib.ListN.{length, take, drop, length-append}
-use lib.Seq.{take-append-seam}
 use Rattle.spec_tree.specs.Outcome.{Outcome, ok, refused}
 use Rattle.spec_tree.specs.Rows.{Table}
-use Rattle.spec_tree.specs.Layout.{row-width, table-words, in-domain, sheet-fits, loadable}
-use Rattle.spec_tree.proofs.Logic.{and-left}
+use Rattle.spec_tree.specs.Layout.{table-words}
 use Rattle.spec_tree.proofs.LayoutLaws.{table-long}
-use Rattle.spec_tree.proofs.DomainPasses.{Domain, domain}
 use Rattle.spec_sheet.specs.Call.{load-call, rows-after, roots-after}
-use Rattle.spec_sheet.proofs.Loaded.{loaded-loadable}
 use Rattle.spec_cse.specs.Call.{Extracted, extract-call, table-after}
 use Rattle.cse_flat.specs.Answers.{extraction-answer}
 use Rattle.cse_flat.specs.declared.Extraction.the-variants as extraction
@@ -23,6 +19,8 @@ use Rattle.load.specs.Loads.{answered, Loads}
 use Rattle.flat_sheet.specs.FlatSheet.{extracted-from, from-extract, flat-answer, flat-table, Flattened}
 use Rattle.flat_sheet.specs.declared.Flat.{Flat}
 use Rattle.flat_sheet.specs.declared.Flat.the-variants as flat
+use Rattle.spec_tree.proofs.Lists.{front}
+use Rattle.spec_sheet.proofs.Loadable.{loaded-domain}
 
 -- ---- extract's answer
 
@@ -38,15 +36,8 @@ took-rows node (refused r) n m e = absurd (let z : _≡_ {A = ℕ} 0 1 = cc in o
 
 -- ---- load's
 
-loaded-domain : (words places : ℕ) (sheet : List ℕ) (t : Table) → load-call words places sheet ≡ ok t → Domain t
-unfolding load-call loadable
-loaded-domain words places sheet t e = domain t (and-left (in-domain t) (sheet-fits t) (loaded-loadable (words / row-width) places sheet t e))
-
 loaded-long : (words places : ℕ) (sheet : List ℕ) (t : Table) → load-call words places sheet ≡ ok t → length (table-words (t .rows)) ≡ length (t .rows) * 35
 loaded-long words places sheet t e = table-long 0 (t .rows) (loaded-domain words places sheet t e .good-rows)
-
-front : (l old : List ℕ) → take (length l) (l ++ drop (length l) old) ≡ l
-front l old = take-append-seam l (drop (length l) old)
 
 module _ (words places : ℕ) (sheet old-rows old-roots new-rows new-roots : List ℕ) (got : Loaded) (L : Loads (load-call words places sheet) old-rows old-roots got new-rows new-roots) where
   -- the table that was loaded, in front of what was lent

@@ -8,7 +8,6 @@ use mathlib.Core.List.{List, [], _∷_, _++_, append-assoc, map}
 use lib.ListN.{length}
 use lib.Dec.{T}
 use Rattle.spec_tree.specs.Tree.{Tree, Sym, Const, Op, nil, _◂_, eq-tree, operands}
-use Rattle.spec_tree.specs.Kinds.{is-switch}
 use Rattle.spec_tree.specs.Facts.{outer, all-outer}
 use Rattle.spec_tree.proofs.TreeLaws.{eq-tree-sound}
 use Rattle.spec_cse.specs.Extract.{among, distinct}
@@ -17,6 +16,7 @@ use Rattle.reciprocals.proofs.bindings.Parts.{settle-tree, settled-reciprocals}
 use Rattle.fusion.specs.Whole.{settled-roots, scope-groups}
 use Rattle.fusion.specs.Switchless.{switch-node, switchless, with-switches}
 use Rattle.fusion.proofs.Outer.{switchless-none}
+use Rattle.laws.proofs.switches.Collected.{in-front}
 
 -- ---- switches among nodes
 
@@ -33,14 +33,6 @@ passed (Const c) l e = refl
 passed (Op k nil) l e = refl
 passed (Op k (q ◂ f)) l e =
     ap (λ (b : Bool). elim b as (λ _. List Switch) [ true ↦ record { tree = Op k (q ◂ f); kind = k; key = q; arms = operands f } ∷ switches l | false ↦ switches l ]) e
-
-before-same : (t : Tree) (l m : List Tree) → switches l ≡ switches m → switches (t ∷ l) ≡ switches (t ∷ m)
-unfolding switches
-before-same (Sym n) l m e = e
-before-same (Const c) l m e = e
-before-same (Op k nil) l m e = e
-before-same (Op k (q ◂ f)) l m e =
-    ap (λ (r : List Switch). elim (is-switch k) as (λ _. List Switch) [ true ↦ record { tree = Op k (q ◂ f); kind = k; key = q; arms = operands f } ∷ r | false ↦ r ]) e
 
 keep-it : (t : Tree) (l : List Tree) (b : Bool) → switch-node t ≡ b → kept (t ∷ l) ≡ elim b as (λ _. List Tree) [ true ↦ t ∷ kept l | false ↦ kept l ]
 unfolding kept
@@ -90,7 +82,7 @@ distinct-kept seen (t ∷ l) = go (switch-node t) refl (distinct-kept seen l) (d
     switch true e a p q = ap switches (first-met t seen l true a) ∙ (p ∙ ap switches (sym (first-met t (kept seen) (kept l) true (among-kept t seen e ∙ a))))
     switch false e a p q =
         ap switches (first-met t seen l false a)
-        ∙ (before-same t (distinct (t ∷ seen) l) (distinct (t ∷ kept seen) (kept l)) (q ∙ ap (λ (s : List Tree). switches (distinct s (kept l))) (keep-it t seen true e))
+        ∙ (in-front t (distinct (t ∷ seen) l) (distinct (t ∷ kept seen) (kept l)) (q ∙ ap (λ (s : List Tree). switches (distinct s (kept l))) (keep-it t seen true e))
         ∙ ap switches (sym (first-met t (kept seen) (kept l) false (among-kept t seen e ∙ a))))
 
     other :

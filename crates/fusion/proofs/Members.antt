@@ -91,10 +91,6 @@ past [] b n m e = let z : n + m ≡ m = omega arith in ap (λ (i : ℕ). drop i 
 past (x ∷ a) b zero m e = absurd (omega arith)
 past (x ∷ a) b (suc n) m e = let z : suc n + m ≡ suc (n + m) = omega arith in ap (λ (i : ℕ). drop i (x ∷ (a ++ b))) z ∙ past a b n m (omega arith)
 
-none-left : {A : Type 0} (j : ℕ) → _≡_ {A = List A} (drop j []) []
-none-left zero = refl
-none-left (suc j) = refl
-
 pub steps-from : (j : ℕ) (gs : List Numbered) → all-steps (drop j gs) ≡ drop (members-before j gs) (all-steps gs)
 unfolding all-steps group-steps
 steps-from zero gs = refl

@@ -11,7 +11,7 @@ use Rattle.laws.specs.positions.Rounds.{next-number}
 use Rattle.reciprocals.proofs.bindings.Parts.{settle-tree, reciprocal, settled-reciprocals, reciprocal-of}
 use Rattle.fusion.specs.Settled.{Step, fused-tree, Numbered, all-steps, group-match, group-matches}
 use Rattle.fusion.specs.Whole.{settled-fused, lets-from, scope-stmts}
-use Rattle.fusion.proofs.Whole.{reciprocals-count}
+use Rattle.reciprocals.proofs.reciprocal.Made.{settled-long}
 
 -- ---- lets and matches by position
 
@@ -72,7 +72,7 @@ module _ (k first : ℕ) (ts ds : List Tree) (gs : List Numbered) where
 
   reciprocals-are-many : length bound-reciprocals ≡ length ds
   reciprocals-are-many =
-      lets-count n (map (fused-tree steps) (settled-reciprocals ds n)) ∙ (length-map (settled-reciprocals ds n) (fused-tree steps) ∙ reciprocals-count ds n)
+      lets-count n (map (fused-tree steps) (settled-reciprocals ds n)) ∙ (length-map (settled-reciprocals ds n) (fused-tree steps) ∙ settled-long ds n)
 
   -- how many there are
   pub stmts-count : length (scope-stmts k first ts ds gs) ≡ length (drop k ts) + (length ds + length gs)
@@ -114,7 +114,7 @@ module _ (k first : ℕ) (ts ds : List Tree) (gs : List Numbered) where
     reciprocal-stmt j h =
         let f : Tree → Tree = fused-tree steps in
         let rs = settled-reciprocals ds n in
-        let c = reciprocals-count ds n in
+        let c = settled-long ds n in
         let here = settle-tree (drop (suc j) ds) (suc (n + j)) (reciprocal (getD ds j e)) in
         after-lets j
         ∙ (List·getD-append bound-reciprocals (group-matches gs) d j (omega (arith, reciprocals-are-many))

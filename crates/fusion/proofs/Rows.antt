@@ -10,15 +10,17 @@ use Rattle.spec_tree.specs.Facts.{size}
 use Rattle.spec_tree.specs.Rows.{occurrences}
 use Rattle.spec_cse.specs.Answer.{Intermediate, Arms, arm, block, value-rows, stmt-rows, arms-rows, rows}
 use Rattle.spec_cse.specs.Order.{topo-sort-intermediates}
-use Rattle.spec_cse.specs.Scope.{Switch, members, member-names, Scoped, finish, as-answer}
+use Rattle.spec_cse.specs.Scope.{members, Scoped, finish, as-answer}
 use Rattle.laws.specs.positions.Rounds.{next-number}
 use Rattle.reciprocals.proofs.bindings.Parts.{reciprocal, settled-reciprocals}
 use Rattle.fusion.specs.Settled.{Step, fused-tree, Numbered, Walked, numbered-groups, all-steps, group-match, group-matches}
 use Rattle.fusion.specs.Whole.{settled-fused, lets-from, scope-groups, scope-stmts, scope-work, settled-scope}
 use Rattle.fusion.specs.Rows.{scoped-rows, match-rows, rows-of, settled-rows}
 use Rattle.fusion.proofs.Places.{stmts-count}
-use Rattle.fusion.proofs.Sizes.{fused-size, settled-size, fused-nodes, settled-fused-nodes}
+use Rattle.fusion.proofs.Sizes.{fused-size, fused-nodes, settled-fused-nodes}
 use Rattle.fusion.proofs.Sorting.{rows-each, block-rows, rows-append, sorted-same}
+use Rattle.laws.proofs.cse.Widths.{member-names-long}
+use Rattle.reciprocals.proofs.reciprocal.Reading.{settle-size}
 
 -- ---- before they are ordered
 
@@ -32,15 +34,10 @@ unfolding lets-from rows-of occurrences stmt-rows
 lets-rows i [] = refl
 lets-rows i (t ∷ l) = omega (arith, lets-rows (suc i) l)
 
-pub names-count : (i : ℕ) (l : List Switch) → length (member-names i l) ≡ length l
-unfolding member-names
-names-count i [] = refl
-names-count i (s ∷ l) = ap suc (names-count (suc i) l)
-
 pub matches-rows : (gs : List Numbered) → rows-each (group-matches gs) ≡ match-rows gs
 unfolding group-matches group-match match-rows stmt-rows
 matches-rows [] = refl
-matches-rows (g ∷ l) = omega (arith, names-count (g .start) (members (g .group)), matches-rows l)
+matches-rows (g ∷ l) = omega (arith, member-names-long (g .start) (members (g .group)), matches-rows l)
 
 module _ (k first : ℕ) (ts ds : List Tree) (gs : List Numbered) where
   abbrev n : ℕ
@@ -145,7 +142,7 @@ match-rows-bound (g ∷ l) = omega (arith, fused-size (all-steps l) (g .group .f
 reciprocal-nodes : (ds : List Tree) (n : ℕ) → occurrences (settled-reciprocals ds n) ≤ occurrences (map reciprocal ds)
 unfolding occurrences
 reciprocal-nodes [] n = omega arith
-reciprocal-nodes (d ∷ l) n = omega (arith, settled-size l (suc n) (reciprocal d), reciprocal-nodes l (suc n))
+reciprocal-nodes (d ∷ l) n = omega (arith, settle-size l (suc n) (reciprocal d), reciprocal-nodes l (suc n))
 
 reciprocals-many : (ds : List Tree) (n : ℕ) → length (settled-reciprocals ds n) ≡ length (map reciprocal ds)
 reciprocals-many [] n = refl

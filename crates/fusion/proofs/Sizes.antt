@@ -1,16 +1,16 @@
 -- No step of fusion or of settling makes a tree larger, so that fused words fit where the words before did (01, "Reciprocals", "Scoped fusion"). Assumes nothing.
-use Prim.Native.Nat.{ℕ, suc, _≤_}
+use Prim.Native.Nat.{ℕ, _≤_}
 use native.Mathlib.Omega.{arith}
 use mathlib.Core.List.{List, [], _∷_, map}
-use Rattle.spec_tree.specs.Tree.{xname, mname, Tree}
+use Rattle.spec_tree.specs.Tree.{mname, Tree}
 use Rattle.spec_tree.specs.Facts.{size}
 use Rattle.spec_tree.specs.Rows.{occurrences}
-use Rattle.spec_rewrite.specs.Rewrite.{replace-divisor, replace-outside-arms}
-use Rattle.spec_rewrite.proofs.DivisorCount.{divisor-size}
+use Rattle.spec_rewrite.specs.Rewrite.{replace-outside-arms}
 use Rattle.replace.proofs.outside.Replacing.{outside-size}
 use Rattle.reciprocals.proofs.bindings.Parts.{settle-tree}
 use Rattle.fusion.specs.Settled.{Step, fused-tree}
 use Rattle.fusion.specs.Whole.{settled-fused}
+use Rattle.reciprocals.proofs.reciprocal.Reading.{settle-size}
 
 pub fused-size : (steps : List Step) (t : Tree) → size (fused-tree steps t) ≤ size t
 unfolding fused-tree
@@ -19,13 +19,9 @@ fused-size (s ∷ l) t =
     let u = replace-outside-arms (s .member) (mname (s .number)) t in
     omega (arith, outside-size (s .member) (mname (s .number)) t, fused-size l u)
 
-pub settled-size : (ds : List Tree) (n : ℕ) (t : Tree) → size (settle-tree ds n t) ≤ size t
-settled-size [] n t = omega arith
-settled-size (d ∷ l) n t = omega (arith, divisor-size d (xname n) t, settled-size l (suc n) (replace-divisor d (xname n) t))
-
 pub settled-fused-size : (ds : List Tree) (n : ℕ) (steps : List Step) (t : Tree) → size (settled-fused ds n steps t) ≤ size t
 unfolding settled-fused
-settled-fused-size ds n steps t = omega (arith, fused-size steps (settle-tree ds n t), settled-size ds n t)
+settled-fused-size ds n steps t = omega (arith, fused-size steps (settle-tree ds n t), settle-size ds n t)
 
 -- ---- of several trees
 

@@ -8,7 +8,7 @@ use lib.Dec.{T}
 use Rattle.spec_tree.specs.Outcome.{Outcome, ok, _>>=_}
 use Rattle.spec_tree.specs.Tree.{Name, mname, Tree, Forest, Sym, Const, Op, nil, _◂_, eq-tree}
 use Rattle.spec_tree.specs.Kinds.{is-switch}
-use Rattle.spec_tree.proofs.Logic.{and-left, and-right}
+use Rattle.spec_tree.proofs.Logic.{and-left, and-right, not-so}
 use Rattle.spec_tree.proofs.TreeLaws.{eq-tree-sound}
 use Rattle.spec_rewrite.specs.Rewrite.{replace-outside-arms, replace-operands, replace-key}
 use Rattle.spec_cse.specs.Scope.{Switch, Group, collect-switches, groups-from, members, Scoped, scope-arms}
@@ -19,16 +19,12 @@ use Rattle.fusion.specs.Settled.{Step, fused-tree, member-steps, group-c
 use Rattle.fusion.specs.Whole.{settled-roots, scope-groups}
 use Rattle.fusion.specs.Switchless.{switch-node, switchless, switchless-each, all-switchless}
 
-off : (b : Bool) → T (not b) → T b → ⊥
-off true n t = n
-off false n t = t
-
 -- ---- one step
 
 module _ (m : Tree) (n : Name) (switch : T (switch-node m)) where
   -- no switch is not the member
   differs : (t : Tree) → T (not (switch-node t)) → T (eq-tree t m) → ⊥
-  differs t h e = off (switch-node t) h (subst (λ (u : Tree). T (switch-node u)) (sym (eq-tree-sound t m e)) switch)
+  differs t h e = not-so (switch-node t) h (subst (λ (u : Tree). T (switch-node u)) (sym (eq-tree-sound t m e)) switch)
 
   leaf-same : (t : Tree) (b : Bool) → (T b → ⊥) → _≡_ {A = Tree} (elim b [ true ↦ Sym n | false ↦ t ]) t
   leaf-same t true h = absurd (h tt)

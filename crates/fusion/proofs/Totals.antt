@@ -3,7 +3,7 @@ use Prim.Native.Nat.{ℕ, suc, _+_, _≤_}
 use native.Mathlib.Omega.{arith}
 use mathlib.Core.Path.{_≡_, refl, _∙_, ap}
 use mathlib.Core.Bool.{Bool, true, false}
-use mathlib.Core.List.{List, [], _∷_, _++_, map}
+use mathlib.Core.List.{List, [], _∷_, map}
 use lib.ListN.{length, length-append}
 use Rattle.spec_tree.specs.Outcome.{Outcome, ok, refused}
 use Rattle.spec_tree.specs.Tree.{Tree, Forest, Sym, Const, Op, nil, _◂_, operands}
@@ -13,39 +13,19 @@ use Rattle.spec_tree.specs.Rows.{occurrences}
 use Rattle.spec_tree.proofs.FactLaws.{size-one}
 use Rattle.spec_rewrite.proofs.Measure.{sum-each, size-op}
 use Rattle.spec_cse.specs.Extract.{among, distinct}
-use Rattle.spec_cse.specs.Scope.{Switch, Group, switches, collect-switches, joins, place, groups-from, members, Scoped}
+use Rattle.spec_cse.specs.Scope.{Switch, Group, switches, collect-switches, members, Scoped}
 use Rattle.laws.proofs.cse.Outcomes.{Good}
 use Rattle.fusion.specs.Settled.{member-steps, Numbered, Walked, numbered-groups, group-steps, all-steps}
 use Rattle.fusion.specs.Whole.{settled-roots, scope-groups}
 use Rattle.fusion.proofs.Members.{steps-count}
 use Rattle.fusion.proofs.Groups.{group-of, groups-kept}
+use Rattle.laws.proofs.cse.NumbersMost.{from-members}
 
 -- ---- members of groups
 
 abbrev pub members-total : List Group → ℕ
 members-total [] = 0
 members-total (g ∷ l) = length (members g) + members-total l
-
-pub groups-few : (gs : List Group) → length gs ≤ members-total gs
-unfolding members
-groups-few [] = omega arith
-groups-few (g ∷ l) = omega (arith, groups-few l)
-
-placed-total : (s : Switch) (gs : List Group) → members-total (place s gs) ≡ suc (members-total gs)
-unfolding place members
-placed-total s [] = refl
-placed-total s (g ∷ l) = go (joins (g .first) s) (placed-total s l)
-  where
-    go : (b : Bool) → members-total (place s l) ≡ suc (members-total l)
-        → members-total (elim b as (λ _. List Group) [ true ↦ record { first = g .first; others = g .others ++ (s ∷ []) } ∷ l | false ↦ g ∷ place s l ])
-        ≡ suc (members-total (g ∷ l))
-    go true h = omega (arith, length-append (g .others) (s ∷ []))
-    go false h = omega (arith, h)
-
-grouped-total : (gs : List Group) (l : List Switch) → members-total (groups-from gs l) ≡ members-total gs + length l
-unfolding groups-from
-grouped-total gs [] = omega arith
-grouped-total gs (s ∷ l) = omega (arith, grouped-total (place s gs) l, placed-total s gs)
 
 -- ---- their steps
 
@@ -67,7 +47,7 @@ scope-steps scope next ds n ts =
     (λ l e. steps-total (l .groups) ∙ (ap members-total e ∙ whole))
   where
     whole : members-total (scope-groups ds n ts) ≡ length (collect-switches (settled-roots ds n ts))
-    whole = (unfold scope-groups in omega (arith, grouped-total [] (collect-switches (settled-roots ds n ts))))
+    whole = (unfold scope-groups in omega (arith, from-members [] (collect-switches (settled-roots ds n ts))))
 
     weaker : {A : Type 0} (P Q : A → Type 0) (o : Outcome A) → Good P o → ((a : A) → P a → Q a) → Good Q o
     weaker P Q (ok a) h f = (unfold Good in f a (unfold Good in h))

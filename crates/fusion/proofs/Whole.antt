@@ -1,5 +1,5 @@
 -- A scope is its settled form (specs, Whole), whatever the scopes of arms do (01, "Scoped fusion"). Assumes nothing.
-use Prim.Native.Nat.{ℕ, zero, suc, _+_, _≤_}
+use Prim.Native.Nat.{ℕ, suc, _+_, _≤_}
 use native.Mathlib.Omega.{arith}
 use mathlib.Core.Path.{_≡_, refl, sym, _∙_, ap, ap₂}
 use mathlib.Core.Bool.{true}
@@ -16,28 +16,17 @@ use Rattle.spec_cse.specs.Scope.{collect-switches, groups-from, Work, Scoped, b
 use Rattle.laws.specs.positions.Shown.{extract-all-by, reciprocals-by}
 use Rattle.laws.specs.positions.Rounds.{by-number, next-number, state-of, bind-each-on, rounds-on, reciprocals-on}
 use Rattle.laws.proofs.positions.ByText.{extract-all-text, reciprocals-text}
-use Rattle.laws.proofs.positions.RoundsOn.{then-same, then-then, roots-of-state, extract-all-on, reciprocals-on-state, rounds-on-length}
+use Rattle.laws.proofs.positions.RoundsOn.{then-same, roots-of-state, extract-all-on, reciprocals-on-state, rounds-on-length}
 use Rattle.reciprocals.proofs.bindings.Parts.{settle-tree, settled-reciprocals, bound-are-settled}
 use Rattle.fusion.specs.Settled.{Step, fused-tree, fused-stmt, Walked, numbered-groups, all-steps, group-matches, settled-work, settled-groups}
 use Rattle.fusion.specs.Whole.{divisors-of, settled-fused, lets-from, settled-roots, scope-groups, scope-stmts, scope-work, settled-scope}
 use Rattle.fusion.proofs.Naming.{same-work}
 use Rattle.fusion.proofs.Fusing.{fused-are}
+use Rattle.spec_tree.proofs.Lists.{map-through, take-front, drop-front}
+use Rattle.reciprocals.proofs.reciprocal.Made.{settled-long}
+use Rattle.spec_tree.proofs.Outcomes.{then-then}
 
 -- ---- lists
-
-map-through : (f g h : Tree → Tree) → ((t : Tree) → g (f t) ≡ h t) → (l : List Tree) → map g (map f l) ≡ map h l
-map-through f g h e [] = refl
-map-through f g h e (t ∷ l) = ap₂ _∷_ (e t) (map-through f g h e l)
-
-take-front : (f : Tree → Tree) (k : ℕ) (l r : List Tree) → k ≤ length l → take k (map f l ++ r) ≡ map f (take k l)
-take-front f zero l r h = refl
-take-front f (suc k) [] r h = absurd (omega arith)
-take-front f (suc k) (t ∷ l) r h = ap (λ (x : List Tree). f t ∷ x) (take-front f k l r (omega arith))
-
-drop-front : (f : Tree → Tree) (k : ℕ) (l r : List Tree) → k ≤ length l → drop k (map f l ++ r) ≡ map f (drop k l) ++ r
-drop-front f zero l r h = refl
-drop-front f (suc k) [] r h = absurd (omega arith)
-drop-front f (suc k) (t ∷ l) r h = drop-front f k l r (omega arith)
 
 -- ---- lets
 
@@ -48,14 +37,10 @@ lets-append i (t ∷ a) b =
     let z : suc i + length a ≡ i + suc (length a) = omega arith in
     ap (λ (r : List Intermediate). Let (xname i) t ∷ r) (lets-append (suc i) a b ∙ ap (λ (n : ℕ). lets-from (suc i) a ++ lets-from n b) z)
 
-lets-fused : (steps : List Step) (i : ℕ) (l : List Tree) → map (fused-stmt steps) (binds (by-number i l)) ≡ lets-from i (map (fused-tree steps) l)
+pub lets-fused : (steps : List Step) (i : ℕ) (l : List Tree) → map (fused-stmt steps) (binds (by-number i l)) ≡ lets-from i (map (fused-tree steps) l)
 unfolding binds by-number lets-from fused-stmt
 lets-fused steps i [] = refl
 lets-fused steps i (t ∷ l) = ap (λ (r : List Intermediate). Let (xname i) (fused-tree steps t) ∷ r) (lets-fused steps (suc i) l)
-
-pub reciprocals-count : (ds : List Tree) (n : ℕ) → length (settled-reciprocals ds n) ≡ length ds
-reciprocals-count [] n = refl
-reciprocals-count (d ∷ l) n = ap suc (reciprocals-count l (suc n))
 
 -- ---- one scope
 
@@ -71,7 +56,7 @@ module _ (k first : ℕ) (ts ds : List Tree) (within : k ≤ length ts) where
   next-is =
       let m = next-number k first ts in
       let f : Tree → Tree = settle-tree ds m in
-      omega (arith, length-append (map f ts) (settled-reciprocals ds m), length-map ts f, reciprocals-count ds m, length-drop k (settled-roots ds m ts), length-drop k ts)
+      omega (arith, length-append (map f ts) (settled-reciprocals ds m), length-map ts f, settled-long ds m, length-drop k (settled-roots ds m ts), length-drop k ts)
 
   module _ (x : ℕ) (l : Walked) where
     abbrev steps : List Step
@@ -160,7 +145,7 @@ statements-are k first ts ds within =
         (unfold settled-roots in
         let m = next-number k first ts in
         let f : Tree → Tree = settle-tree ds m in
-        omega (arith, length-append (map f ts) (settled-reciprocals ds m), length-map ts f, reciprocals-count ds m, length-drop k (settled-roots ds m ts), length-drop k ts))
+        omega (arith, length-append (map f ts) (settled-reciprocals ds m), length-map ts f, settled-long ds m, length-drop k (settled-roots ds m ts), length-drop k ts))
 
 -- with the divisors of the trees
 divided : (shown : Tree → List ℕ) (k first : ℕ) (ts : List Tree) → reciprocals-on shown true k first ts ≡ bind-each-on (divisors-of shown ts) (next-number k first ts) ts

@@ -7,16 +7,14 @@ use mathlib.Core.List.{List, [], _∷_, map}
 use lib.ListN.{length, getD, drop}
 use lib.Seq.{drop-cons}
 use lib.Dec.{T}
-use Rattle.spec_tree.specs.Tree.{Name, xname, mname, Tree, Sym}
+use Rattle.spec_tree.specs.Tree.{Name, mname, Tree, Sym}
 use Rattle.spec_tree.specs.Tokens.{all-tokens, read, numbered, run-at, trees-in, kind-of, below-of, name-by}
 use Rattle.spec_tree.proofs.TokenCode.{unnumbered, writes-back}
-use Rattle.spec_rewrite.specs.Rewrite.{replace-divisor, replace-outside-arms}
+use Rattle.spec_rewrite.specs.Rewrite.{replace-outside-arms}
 use Rattle.words.specs.words.Words.{number, rewritten-words, tree-of, name-of}
 use Rattle.words.proofs.words.Chains.{readable, name-readable, rewritten-trees, rewritten-complete, rewritten-twice}
 use Rattle.words.proofs.words.Rewriting.{rewritten-short}
-use Rattle.replace.proofs.divisor.Chaining.{divisor-readable}
 use Rattle.replace.proofs.outside.Chaining.{outside-readable}
-use Rattle.reciprocals.proofs.settle.Settling.{x-word, x-word-name}
 use Rattle.reciprocals.specs.settle.Steps.{settled-words}
 use Rattle.laws.specs.positions.Places.{numbered-at}
 use Rattle.reciprocals.proofs.bindings.Parts.{settle-tree, tree-there, All-there, settled-are}
@@ -27,6 +25,7 @@ use Rattle.fusion.specs.Words.{fuse-step, fused-words, steps-at}
 use Rattle.fusion.proofs.Sizes.{fused-size}
 use Rattle.fusion.proofs.Switchless.{Of-switches, all-fused-same}
 use Rattle.fusion.proofs.Outer.{no-switch-read}
+use Rattle.reciprocals.proofs.reciprocal.Reading.{settle-readable}
 
 -- ---- names
 
@@ -48,9 +47,6 @@ m-word-name n =
 match-name-readable : (n : ℕ) → T (readable (Sym (mname n)))
 match-name-readable n = subst (λ (x : Name). T (readable (Sym x))) (m-word-name n) (name-readable (m-word n))
 
-let-name-readable : (n : ℕ) → T (readable (Sym (xname n)))
-let-name-readable n = subst (λ (x : Name). T (readable (Sym x))) (x-word-name n) (name-readable (x-word n))
-
 -- ---- words can be read as fused trees
 
 pub fused-readable : (steps : List Step) (t : Tree) → T (readable t) → T (readable (fused-tree steps t))
@@ -59,10 +55,6 @@ fused-readable [] t h = h
 fused-readable (s ∷ l) t h =
     let n = mname (s .number) in
     fused-readable l (replace-outside-arms (s .member) n t) (outside-readable (s .member) n (match-name-readable (s .number)) t h)
-
-pub settled-readable : (ds : List Tree) (n : ℕ) (t : Tree) → T (readable t) → T (readable (settle-tree ds n t))
-settled-readable [] n t h = h
-settled-readable (d ∷ l) n t h = settled-readable l (suc n) (replace-divisor d (xname n) t) (divisor-readable d (xname n) (let-name-readable n) t h)
 
 -- fused words: no more, as many trees, and read back they are the fused trees
 module _ (steps : List Step) (ws : List ℕ) where
@@ -136,7 +128,7 @@ pub settled-then-fused :
     ≡ some (rewritten-words (settled-fused (map (numbered-at before) ds) n (steps-at after ps ns)) ws)
 settled-then-fused before after ds ps ns ws n m c h g b =
     let f : Tree → Tree = settle-tree (map (numbered-at before) ds) n in
-    let keeps = settled-readable (map (numbered-at before) ds) n in
+    let keeps = settle-readable (map (numbered-at before) ds) n in
     let s : settled-words before ds n ws ≡ some (rewritten-words f ws) = settled-are before ds n ws m c h ∙ ap some written in
     ap (λ (o : Option (List ℕ)). elim o as (λ _. Option (List ℕ)) [ none ↦ none | some vs ↦ fused-words after ps ns vs ]) s
     ∙ (fused-words-are after ps ns (rewritten-words f ws) m (rewritten-complete f keeps ws m c) g b

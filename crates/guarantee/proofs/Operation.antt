@@ -19,7 +19,8 @@ use Rattle.spec_cse.specs.Scope.{answer}
 use Rattle.spec_cse.specs.Call.{Extracted, work-words, work-bytes, extract-call}
 use Rattle.spec_cse.specs.Demand.{Demand3}
 use Rattle.laws.proofs.cse.BoundSwitches.{no-switch-bound}
-use Rattle.guarantee.proofs.Whole.{demand3, flat-refused-by-10, refused-by-10-11-or-23, scoped-refused-by-10-or-11}
+use Rattle.guarantee.proofs.Whole.{demand3, flat-refused-by-10, scoped-refused-by-10-or-11}
+use Rattle.laws.proofs.cse.Refusals.{refused-by-10-11-or-23}
 
 -- ---- a call by its refusals, in order
 

@@ -9,7 +9,7 @@ use mathlib.Core.List.{List}
 use native.Mathlib.Omega.{arith}
 use lib.ListN.{length, take, drop}
 use lib.Seq.{take-at, drop-at}
-use lib.Dec.{T, ltb, ltb→lt}
+use lib.Dec.{T, ltb}
 use Rattle.spec_tree.specs.Outcome.{Refusal, Outcome, ok, refused, by}
 use Rattle.spec_tree.specs.Tree.{Tree}
 use Rattle.spec_tree.specs.Rows.{trees}
@@ -30,6 +30,7 @@ use Rattle.guarantee.proofs.Operation as operation
 use Rattle.cse_flat.specs.Answers.{extraction-answer}
 use Rattle.cse_flat.specs.declared.Extraction.{Extraction}
 use Rattle.cse_flat.specs.declared.Extraction.the-variants as extraction
+use borrow.Author.Tests.{le-ltb}
 
 -- ---- an outcome from what is handed back
 
@@ -55,15 +56,8 @@ unchanged : (i : Refusal) (old : List ℕ) → table-after (refused i) old ≡ o
 unfolding table-after
 unchanged i old = refl
 
-less-is-false : (m n : ℕ) → n ≤ m → ltb m n ≡ false
-less-is-false m n h = go (ltb m n) refl
-  where
-    go : (b : Bool) → ltb m n ≡ b → b ≡ false
-    go true e = absurd (let q = ltb→lt m n (subst T (sym e) tt) in omega arith)
-    go false e = refl
-
 not-short : (words bytes : ℕ) → work-words ≤ words → work-bytes ≤ bytes → (ltb words work-words || ltb bytes work-bytes) ≡ false
-not-short words bytes w t = ap₂ (λ (p q : Bool). p || q) (less-is-false words work-words w) (less-is-false bytes work-bytes t)
+not-short words bytes w t = ap₂ (λ (p q : Bool). p || q) (le-ltb words work-words w) (le-ltb bytes work-bytes t)
 
 -- ---- a call, by its contract
 

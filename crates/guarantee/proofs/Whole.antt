@@ -55,10 +55,6 @@ flat-refused-by-10 es h i e = refusals.flat-refused-by-10 es (passes-unmade es h
 pub flat-never-11 : (es : List Tree) → T (passes es) → answer false es ≡ refused (by 11) → ⊥
 flat-never-11 es h e = refusals.flat-never-11 es (passes-unmade es h) e
 
--- the scoped form refuses by 10, 11 or 23 alone
-pub refused-by-10-11-or-23 : (scoped : Bool) (es : List Tree) (i : Refusal) → answer scoped es ≡ refused i → (i ≡ by 10) ⊎ ((i ≡ by 11) ⊎ (i ≡ by 23))
-refused-by-10-11-or-23 = refusals.refused-by-10-11-or-23
-
 -- and by 10 or 11 alone, never by 23, where no scope that is reached binds a divisor with a switch outside arms
 pub scoped-refused-by-10-or-11 : (es : List Tree) → T (passes es) → T (no-switch-bound es) → (i : Refusal) → answer true es ≡ refused i → (i ≡ by 10) ⊎ (i ≡ by 11)
 scoped-refused-by-10-or-11 es h p = room.refused-by-10-or-11 es (passes-formed es h) (passes-unmade es h) (passes-limits es h) p

@@ -21,7 +21,7 @@ use Rattle.spec_rewrite.specs.Rewrite.{one, flatten-mul-factors, is-mul, consta
 use Rattle.spec_rewrite.proofs.Factors.{factors-of}
 use Rattle.spec_rewrite.proofs.Measure.{size-up}
 use Rattle.words.specs.words.Words.{tree-of, name-of, begins-with}
-use Rattle.words.proofs.words.Rewriting.{first-tree, one-long, begins-tree}
+use Rattle.words.proofs.words.Rewriting.{first-tree, one-long, begins-tree, one-long as some-words}
 use Rattle.replace.specs.coefficient.Answers.{constant-answer}
 use Rattle.replace.specs.declared.coefficient.Constant.the-variants as constant
 use Rattle.replace.specs.factors.Places.{tree, at-places}
@@ -55,9 +55,6 @@ mul-first w l b e = go (word-is w)
 first-mul : (part : List ℕ) → 0 < length part → (b : Bool) → eqb (kind-of (getD part 0 0)) 5 ≡ b → is-mul (tree-of part) ≡ b
 first-mul [] h b e = absurd (omega arith)
 first-mul (w ∷ ws) h b e = ap is-mul (first-tree w ws) ∙ mul-first w (take (takes w) (read numbered ws)) b e
-
-pub some-words : (part : List ℕ) → trees-in part ≡ some 1 → 0 < length part
-some-words part e = one-long part e
 
 pub not-sought : (part : List ℕ) → trees-in part ≡ some 1 → (kind-of (getD part 0 0) ≡ 5 → ⊥) → false ≡ by-factors (tree-of part)
 unfolding by-factors

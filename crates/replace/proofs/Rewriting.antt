@@ -13,7 +13,6 @@ use Rattle.spec_tree.specs.Tokens.{words-of, run-at}
 use Rattle.words.specs.tokens.Answers.{end-answer}
 use Rattle.words.specs.declared.tokens.Run.the-variants as run
 use Rattle.words.proofs.words.Rewriting.{whole-there, one-long}
-use Rattle.words.proofs.words.Scanning.{rest-is}
 use Rattle.replace.specs.factors.Places.{tree}
 use Rattle.replace.specs.replacing.Deciding.{Trees, Target, Within, rewritten-words, Match, product-out, Wrote, Left}
 use Rattle.replace.proofs.replacing.Scanning.{Scanned, trees-after, target-within, turn-equal, turn-stays, long-within, turn-matched, matched-few, turn-refused, here-refused}
@@ -23,6 +22,7 @@ use Rattle.replace.specs.declared.Decision.{Decision}
 use Rattle.replace.specs.declared.Decision.the-variants as decision
 use Rattle.replace.specs.declared.Step.{Step}
 use Rattle.replace.specs.declared.Step.the-variants as step
+use Rattle.spec_tree.proofs.Lists.{rest-is}
 
 -- what is lent of a slice from a place on
 abbrev pub from : List ℕ → ℕ → List ℕ

@@ -2,41 +2,31 @@
 use Prim.Native.Nat.{ℕ, suc, _+_, _-_, _≤_, _<_}
 use native.Mathlib.Omega.{arith}
 use mathlib.Core.Path.{_≡_, refl, sym, _∙_, ap, ap₂, subst}
-use mathlib.Core.Bool.{Bool, true, false, not, _||_}
+use mathlib.Core.Bool.{Bool, true, false, _||_}
 use mathlib.Core.Option.{Option, none, some}
 use mathlib.Core.List.{List, _++_}
 use lib.ListN.{length, take, drop, length-append, length-drop}
 use lib.Seq.{take-at, drop-at, drop-drop, length-take-le}
-use lib.Dec.{T, ltb, lt→ltb, ltb→lt, nltb→le}
+use lib.Dec.{T, ltb, lt→ltb, ltb→lt}
 use Rattle.spec_tree.specs.Outcome.{Refusal, Outcome, ok, refused}
 use Rattle.spec_tree.specs.Facts.{all-operations}
 use Rattle.spec_tree.specs.Rows.{Row}
 use Rattle.spec_tree.specs.Tokens.{name-in, read, numbered}
 use Rattle.spec_tree.proofs.Tests.{is-true}
 use Rattle.laws.specs.positions.Places.{numbered-at, best-place}
-use Rattle.laws.specs.positions.Rounds.{extract-words, rounds-words}
+use Rattle.laws.specs.positions.Rounds.{extract-words}
 use Rattle.rounds.specs.kept.Sound.{extractable}
 use Rattle.rounds.proofs.kept.Steps.{ready-of, ready-so}
 use Rattle.rounds.proofs.kept.Looping.{Going, going-first, going-done, going-refused, going-on, going-less, going-most}
-use Rattle.rounds.specs.Answers.{round-short, round-by, round-answer}
+use Rattle.rounds.specs.Answers.{round-short}
 use Rattle.rounds.specs.Rounds.{rounds-short, all-rounds, rounds-by, rounds-answer, Leaves, Leaves-words}
 use Rattle.rounds.specs.declared.Round.{Round}
 use Rattle.rounds.specs.declared.Round.the-variants as round
 use Rattle.rounds.specs.declared.Rounds.{Rounds}
 use Rattle.rounds.specs.declared.Rounds.the-variants as rounds
-use Rattle.rounds.proofs.Extracting.{not-less, or-false}
 use Rattle.rounds.proofs.Rounding.{Is, none-fits, fits, is-broken, is-last, is-next, is-refused}
-
-less-not : (m n : ℕ) → ltb m n ≡ false → n ≤ m
-less-not m n e = nltb→le m n (subst (λ (b : Bool). T (not b)) (sym e) tt)
-
-or-left-false : (a b : Bool) → (a || b) ≡ false → a ≡ false
-or-left-false true b e = e
-or-left-false false b e = refl
-
-or-right-false : (a b : Bool) → (a || b) ≡ false → b ≡ false
-or-right-false true b e = absurd (let z : _≡_ {A = ℕ} 0 1 = cc in omega arith)
-or-right-false false b e = e
+use borrow.Author.Tests.{ltb-false}
+use Rattle.spec_tree.proofs.Logic.{or-left-false, or-right-false}
 
 or-part : (a b c d d' : Bool) → (d ≡ true → ⊥) → (a || (b || (d || c))) ≡ true → (a || (b || (d' || c))) ≡ true
 or-part true b c d d' n e = refl
@@ -110,10 +100,10 @@ module _ (rows : List Row) (old : List ℕ) (len : ℕ) (scoped : Bool) (first t
       let b = or-right-false (ltb (length old) len) _ a in
       let c = or-right-false (ltb 549755813888 first) (ltb text 131072) b in
       record {
-        few-words = less-not 1927 len (or-left-false (ltb 1927 len) _ e);
-        there = less-not (length old) len (or-left-false (ltb (length old) len) _ a);
-        first-most = less-not 549755813888 first (or-left-false (ltb 549755813888 first) (ltb text 131072) b);
-        text-enough = less-not text 131072 c;
+        few-words = ltb-false 1927 len (or-left-false (ltb 1927 len) _ e);
+        there = ltb-false (length old) len (or-left-false (ltb (length old) len) _ a);
+        first-most = ltb-false 549755813888 first (or-left-false (ltb 549755813888 first) (ltb text 131072) b);
+        text-enough = ltb-false text 131072 c;
       }
 
   large-short : 549755813888 < first → short ≡ true

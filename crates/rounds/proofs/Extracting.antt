@@ -1,14 +1,14 @@
 -- One extraction from `best_place` and `replace` (01, "Extraction"). Assumes nothing.
-use Prim.Native.Nat.{ℕ, suc, _+_, _-_, _*_, _/_, _≤_, _<_}
+use Prim.Native.Nat.{ℕ, _+_, _-_, _*_, _/_, _≤_}
 use native.Mathlib.Omega.{arith}
 use native.Mathlib.Nat.{zero-add}
 use mathlib.Core.Path.{_≡_, refl, sym, _∙_, ap, ap₂, subst}
 use mathlib.Core.Bool.{Bool, true, false, _&&_, _||_}
 use mathlib.Core.Option.{Option, none, some}
-use mathlib.Core.List.{List, [], _∷_, _++_}
-use lib.ListN.{length, getD, take, drop, length-append, length-drop}
-use lib.Seq.{take-at, drop-at, length-take-le}
-use lib.Dec.{T, leb, ltb, le→leb, ltb→lt}
+use mathlib.Core.List.{List, _++_}
+use lib.ListN.{length, take, drop, length-append, length-drop}
+use lib.Seq.{take-at, length-take-le}
+use lib.Dec.{T, leb, ltb, le→leb}
 use Rattle.spec_tree.specs.Outcome.{Refusal, Outcome, ok, refused, _>>=_}
 use Rattle.spec_tree.specs.Facts.{size}
 use Rattle.spec_tree.specs.Rows.{Row}
@@ -39,13 +39,7 @@ use Rattle.rounds.specs.declared.choice.Best.the-variants as best
 use Rattle.replace.specs.declared.Replaced.{Replaced}
 use Rattle.replace.specs.declared.Replaced.the-variants as replaced
 use Rattle.rounds.specs.declared.Round.the-variants as round
-
-pub not-less : (m n : ℕ) → n ≤ m → ltb m n ≡ false
-not-less m n h = go (ltb m n) (λ t. ltb→lt m n t)
-  where
-    go : (b : Bool) → (T b → m < n) → b ≡ false
-    go true f = absurd (let l = f tt in omega arith)
-    go false f = refl
+use borrow.Author.Tests.{le-ltb}
 
 pub or-false : (a b : Bool) → a ≡ false → b ≡ false → (a || b) ≡ false
 or-false a b e f = rw (e, f)
@@ -149,8 +143,8 @@ module _ (rows : List Row) (ws : List ℕ) (scoped : Bool) (at name : ℕ) (h : 
       unfolding short-of-room scratch-short
       roomy =
           let half : lent / 2 ≡ 1927 = ap (λ (n : ℕ). n / 2) enough in
-          or-false (ltb (length old) (length ws)) _ (not-less (length old) (length ws) fits)
-          (or-false (ltb (lent / 2) (length ws)) (ltb lent (length part)) (not-less (lent / 2) (length ws) (omega (arith, half))) (not-less lent (length part) (omega (arith, enough, part-long, within))))
+          or-false (ltb (length old) (length ws)) _ (le-ltb (length old) (length ws) fits)
+          (or-false (ltb (lent / 2) (length ws)) (ltb lent (length part)) (le-ltb (lent / 2) (length ws) (omega (arith, half))) (le-ltb lent (length part) (omega (arith, enough, part-long, within))))
 
       so : Replaced-so outcome q
       unfolding replacement replaced-by

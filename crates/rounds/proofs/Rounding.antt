@@ -1,6 +1,5 @@
 -- The answers of a round, by cases (01, "Extraction"). Assumes nothing.
 use Prim.Native.Nat.{ℕ, _≤_, _<_}
-use native.Mathlib.Omega.{arith}
 use mathlib.Core.Path.{_≡_, refl, sym, _∙_, ap, ap₂, subst}
 use mathlib.Core.Bool.{Bool, true, false, _&&_, _||_}
 use mathlib.Core.Option.{Option, none, some}
@@ -14,7 +13,6 @@ use Rattle.fmt.specs.checked.Check.{word-ok}
 use Rattle.spec_tree.specs.Tokens.{name-in, trees-in}
 use Rattle.spec_tree.proofs.Tests.{is-true}
 use Rattle.words.specs.words.Words.{some-trees}
-use Rattle.replace.specs.replacing.Deciding.{Wrote}
 use Rattle.laws.specs.positions.Places.{numbered-at, best-place}
 use Rattle.laws.specs.positions.Rounds.{extract-words}
 use Rattle.rounds.specs.kept.Sound.{numbered-below, extractable}
@@ -23,7 +21,8 @@ use Rattle.rounds.specs.declared.choice.Best.{Best}
 use Rattle.rounds.specs.declared.choice.Best.the-variants as best
 use Rattle.rounds.specs.declared.Round.{Round}
 use Rattle.rounds.specs.declared.Round.the-variants as round
-use Rattle.rounds.proofs.Extracting.{not-less, or-false}
+use Rattle.rounds.proofs.Extracting.{or-false}
+use borrow.Author.Tests.{le-ltb}
 
 or-first : (a b : Bool) → T a → (a || b) ≡ true
 or-first true b h = refl
@@ -90,8 +89,8 @@ module _ (rows : List Row) (old : List ℕ) (len : ℕ) (scoped : Bool) (name te
   pub fits : len ≤ 1927 → len ≤ length old → name ≤ 1099511627776 → 131072 ≤ text → short ≡ false
   unfolding round-short
   fits a b c d =
-      or-false (ltb 1927 len) _ (not-less 1927 len a)
-      (or-false (ltb (length old) len) _ (not-less (length old) len b) (or-false (ltb 1099511627776 name) _ (not-less 1099511627776 name c) (not-less text 131072 d)))
+      or-false (ltb 1927 len) _ (le-ltb 1927 len a)
+      (or-false (ltb (length old) len) _ (le-ltb (length old) len b) (or-false (ltb 1099511627776 name) _ (le-ltb 1099511627776 name c) (le-ltb text 131072 d)))
 
   module _ (room : short ≡ false) where
     pub is-broken : extractable rows name ws ≡ false → Is round.Broken old

@@ -24,6 +24,7 @@ use Rattle.spec_tree.specs.Tree.{Tree, Forest, Sym, Const, Op, nil, _◂_}
 use Rattle.spec_tree.specs.Kinds.{Neg, Mul}
 use Rattle.spec_rewrite.specs.Rewrite.{Factors, one, flatten-mul-factors, flatten-operands, flatten-after, times, negated, constant-of, whole-number}
 use Rattle.spec_rewrite.proofs.ReplaceValue.{exact, exact-operands, Exact}
+use Rattle.spec_tree.proofs.Logic.{and-right, and-left}
 
 -- ---- integers by sign and magnitude
 
@@ -311,17 +312,13 @@ whole-is false n z e = cc
 whole-is true zero z e = cc
 whole-is true (suc n) z e = cc
 
-cut : (X D n : ℕ) → 0 < D → X * 1 ≡ n * D → (X / D ≡ n) × (X % D ≡ 0)
+pub cut : (X D n : ℕ) → 0 < D → X * 1 ≡ n * D → (X / D ≡ n) × (X % D ≡ 0)
 cut X D n h e =
     let q : X ≡ n * D = sym (mul-one X) ∙ e in
     (ap (λ (x : ℕ). x / D) q ∙ mul-div-cancel n h, ap (λ (x : ℕ). x % D) q ∙ mul-mod-left n D)
 
 never : (i : Refusal) (z : ℤ) → _≡_ {A = Outcome ℤ} (refused i) (ok z) → ⊥
 never i z e = let q : _≡_ {A = ℕ} 0 1 = cc in omega arith
-
-after : (b c : Bool) → T (b && c) → T c
-after true c t = t
-after false c t = absurd t
 
 accepted-step : (b : Bool) (s : Bool) (n : ℕ) (z : ℤ) → elim b [ true ↦ whole-number s n | false ↦ refused (by 10) ] ≡ ok z → T b × (z ≡ signed s n)
 accepted-step true s n z e = (tt, whole-is s n z e)
@@ -336,7 +333,7 @@ accepted-at (fin s m e) u z (inl (t, n, (p, q), r)) h =
     accepted-step (eqb (m * up e % down e) 0 && ltb (m * up e / down e) (10 ^ 15)) s (m * up e / down e) z h .1 ∙ ap₂ signed p (c .0) ∙ sym r
 accepted-at (fin s m e) u z (inr l) h =
     let t = accepted-step (eqb (m * up e % down e) 0 && ltb (m * up e / down e) (10 ^ 15)) s (m * up e / down e) z h .0 in
-    let a : m * up e / down e < 10 ^ 15 = ltb→lt (m * up e / down e) (10 ^ 15) (after (eqb (m * up e % down e) 0) _ t) in
+    let a : m * up e / down e < 10 ^ 15 = ltb→lt (m * up e / down e) (10 ^ 15) (and-right (eqb (m * up e % down e) 0) _ t) in
     let b : 2 ^ 53 ≤ m * up e / down e = le-div-iff-mul-le (down-pos e) .1 l in
     absurd (omega arith)
 
@@ -346,20 +343,16 @@ plus : (s : Bool) (X D : ℕ) → 0 < D → X ≡ 1 * D → T (Bool·beq s false
 plus false X D h e t = refl
 plus true X D h e t = let z : X ≡ 0 = eqb→eq X 0 t in absurd (omega arith)
 
-before : (b c : Bool) → T (b && c) → T b
-before true c t = tt
-before false c t = t
-
 unit-at : (x : Float) (u : ℤ) → Near x u → T (Ieee.eq x one) → u ≡ pos 1
 unfolding Ieee.eq one signed
 unit-at nan u g t = absurd t
 unit-at (inf s) u g t = absurd t
 unit-at (fin s m e) u (inl (a, n, (p, q), r)) t =
-    let same = eqb→eq (m * up e * 1) (1 * down e) (before (eqb (m * up e * 1) (1 * down e)) _ t) in
-    let sign = plus s (m * up e * 1) (down e) (down-pos e) same (after (eqb (m * up e * 1) (1 * down e)) _ t) in
+    let same = eqb→eq (m * up e * 1) (1 * down e) (and-left (eqb (m * up e * 1) (1 * down e)) _ t) in
+    let sign = plus s (m * up e * 1) (down e) (down-pos e) same (and-right (eqb (m * up e * 1) (1 * down e)) _ t) in
     r ∙ ap₂ signed (sym p ∙ sign) (eq-of-mul-eq-mul-right (down e) (down-pos e) n 1 (sym q ∙ same))
 unit-at (fin s m e) u (inr l) t =
-    let same = eqb→eq (m * up e * 1) (1 * down e) (before (eqb (m * up e * 1) (1 * down e)) _ t) in
+    let same = eqb→eq (m * up e * 1) (1 * down e) (and-left (eqb (m * up e * 1) (1 * down e)) _ t) in
     absurd (omega (arith, down-pos e))
 
 pub exactly : Exact

@@ -2,8 +2,7 @@
 -- and leaves no division by d: so an operation stands after it no more often than what it came from stood before. Assumes nothing.
 use Prim.Native.Nat.{ℕ, zero, suc, _≤_}
 use mathlib.Core.Path.{_≡_, refl, sym, _∙_, ap, ap₂, subst}
-use mathlib.Core.Logic.{_⊎_, inl, inr}
-use mathlib.Core.Bool.{Bool, true, false, _&&_, _||_, cond}
+use mathlib.Core.Bool.{Bool, true, false, _&&_, cond}
 use native.Mathlib.Omega.{arith}
 use lib.Dec.{T, eqb, eqb→eq}
 use Rattle.spec_tree.specs.Tree.{Name, Tree, Forest, Sym, Const, Op, nil, _◂_, eq-tree, eq-name}
@@ -12,30 +11,14 @@ use Rattle.spec_tree.proofs.Formed.{arity-div, operand-count, well-formed, well
 use Rattle.spec_tree.proofs.TreeLaws.{eq-tree-sound, eq-tree-refl, eq-name-sound, eq-name-refl}
 use Rattle.spec_tree.specs.Facts.{operations, size, nodes, nodes-of, count}
 use Rattle.spec_rewrite.specs.Rewrite.{divides-by, replace-divisor, replace-divisors, dividend}
-use Rattle.spec_tree.proofs.Logic.{and-left, and-right, and-both}
+use Rattle.spec_tree.proofs.Logic.{and-left, and-right, and-both, not-true}
 use Rattle.spec_rewrite.proofs.Measure.{sum-each, Measure, Least, by-operations, by-size, least-operations, least-size, one-of, one-self}
 use Rattle.spec_rewrite.proofs.Names.{holds, holds-each}
 use Rattle.spec_rewrite.proofs.Counts.{count-sym, count-const, count-op, count-none, count-operands, one-none, one-le, one-equal}
 
-off : (b : Bool) → (T b → ⊥) → b ≡ false
-off true f = absurd (f tt)
-off false f = refl
-
 on : (b : Bool) → T b → b ≡ true
 on true t = refl
 on false t = absurd t
-
-pub or-cases : (b c : Bool) → T (b || c) → T b ⊎ T c
-or-cases true c t = inl tt
-or-cases false c t = inr t
-
-pub or-left : (b c : Bool) → T b → T (b || c)
-or-left true c t = tt
-or-left false c t = absurd t
-
-pub or-right : (b c : Bool) → T c → T (b || c)
-or-right true c t = tt
-or-right false c t = t
 
 -- ---- any measure by which the name counts least, and operand counts
 
@@ -132,7 +115,7 @@ module _ (d : Tree) (n : Name) where
   module _ (p : Name → Bool) (new : T (p n) → ⊥) where
     -- a symbol made before n is not n
     older : (s : Name) → T (p s) → eq-name s n ≡ false
-    older s h = off (eq-name s n) (λ t. new (subst (λ (m : Name). T (p m)) (eq-name-sound s n t) h))
+    older s h = not-true (eq-name s n) (λ t. new (subst (λ (m : Name). T (p m)) (eq-name-sound s n t) h))
 
     restore-sym : (s : Name) → T (p s) → restore (Sym s) ≡ Sym s
     unfolding restore

@@ -58,7 +58,7 @@ abbrev pub All : (Tree → Type 0) → List Tree → Type 0
 All P [] = Unit {0}
 All P (t ∷ l) = P t × All P l
 
-append-all : (P : Tree → Type 0) (s t : List Tree) → All P s → All P t → All P (s ++ t)
+pub append-all : (P : Tree → Type 0) (s t : List Tree) → All P s → All P t → All P (s ++ t)
 append-all P [] t g h = h
 append-all P (x ∷ s) t g h = (g .0, append-all P s t (g .1) h)
 

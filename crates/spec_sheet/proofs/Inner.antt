@@ -1,6 +1,6 @@
 -- Bytes that neither a record nor a field ends at: those of names, of numbers and of constants. Assumes nothing.
 use Prim.Native.Nat.{ℕ, suc, _≤_}
-use mathlib.Core.Bool.{Bool, true, false, not, _&&_, _||_}
+use mathlib.Core.Bool.{Bool, not, _&&_, _||_}
 use mathlib.Core.List.{List, [], _∷_}
 use native.Mathlib.Omega.{arith}
 use borrow.Author.Tests.{ne-eqb}
@@ -9,7 +9,7 @@ use lib.ListN.{length}
 use lib.Dec.{T, eqb, leb, eqb→eq, leb→le, le→leb}
 use Rattle.spec_tree.specs.Bytes.{every, decimal, integer}
 use Rattle.spec_tree.specs.Symbol.{is-digit, is-letter, is-made, is-name}
-use Rattle.spec_tree.proofs.Logic.{and-left, and-right, and-both}
+use Rattle.spec_tree.proofs.Logic.{and-left, and-right, and-both, either}
 use Rattle.spec_sheet.specs.Sheet.{plain}
 use Rattle.spec_tree.proofs.Tests.{every-implies}
 use Rattle.spec_sheet.proofs.Numerals.{digit-range, decimal-digits}
@@ -39,10 +39,6 @@ inner-no-comma l h = every-implies inner no-comma (λ b t. and-right (plain b) (
 
 digit-high : (b : ℕ) → T (is-digit b) → T (high b)
 digit-high b h = let i = digit-range b h in le→leb 45 b (omega arith)
-
-either : (P : Type 0) (b c : Bool) → (T b → P) → (T c → P) → T (b || c) → P
-either P true c f g h = f tt
-either P false c f g h = g h
 
 letter-high : (b : ℕ) → T (is-letter b) → T (high b)
 letter-high b h =

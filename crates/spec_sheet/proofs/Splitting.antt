@@ -13,9 +13,7 @@ use Rattle.spec_tree.proofs.Logic.{and-left, and-right}
 use Rattle.spec_sheet.specs.Sheet.{records-from, fields-from, plain, number, numbers}
 use Rattle.spec_sheet.proofs.Numerals.{number-decimal, Reads, number-reads, written-decimal}
 use Rattle.spec_sheet.proofs.Inner.{no-comma, inner-no-comma, decimal-inner}
-
-shift : (got : List ℕ) (b : ℕ) (r : List ℕ) → reverse (b ∷ got) ++ r ≡ reverse got ++ (b ∷ r)
-shift got b r = ap (λ (l : List ℕ). l ++ r) (reverse-cons b got) ∙ append-assoc (reverse got) (b ∷ []) r
+use Rattle.spec_tree.proofs.Lists.{reverse-shift}
 
 -- ---- records: joined and split again
 
@@ -41,10 +39,10 @@ one-record : (got r s : List ℕ) → T (every plain r) → records-from got (r 
 unfolding every
 one-record got [] s h = unfold records-from in ap (λ (l : List ℕ). l ∷ records-from [] s) (sym (append-nil (reverse got)))
 one-record got (b ∷ []) s h =
-    step got b 13 (10 ∷ s) (and-left (plain b) true h) ∙ (one-record (b ∷ got) [] s tt ∙ ap (λ (l : List ℕ). l ∷ records-from [] s) (shift got b []))
+    step got b 13 (10 ∷ s) (and-left (plain b) true h) ∙ (one-record (b ∷ got) [] s tt ∙ ap (λ (l : List ℕ). l ∷ records-from [] s) (reverse-shift got b []))
 one-record got (b ∷ (c ∷ r)) s h =
     step got b c (r ++ (13 ∷ (10 ∷ s))) (and-left (plain b) (every plain (c ∷ r)) h)
-    ∙ (one-record (b ∷ got) (c ∷ r) s (and-right (plain b) (every plain (c ∷ r)) h) ∙ ap (λ (l : List ℕ). l ∷ records-from [] s) (shift got b (c ∷ r)))
+    ∙ (one-record (b ∷ got) (c ∷ r) s (and-right (plain b) (every plain (c ∷ r)) h) ∙ ap (λ (l : List ℕ). l ∷ records-from [] s) (reverse-shift got b (c ∷ r)))
 
 last-record : (got r : List ℕ) → T (every plain r) → 1 ≤ length r → records-from got r ≡ (reverse got ++ r) ∷ []
 unfolding every
@@ -52,7 +50,7 @@ last-record got [] h g = absurd (omega arith)
 last-record got (b ∷ []) h g = unfold records-from in ap (λ (l : List ℕ). l ∷ []) (reverse-cons b got)
 last-record got (b ∷ (c ∷ r)) h g =
     step got b c r (and-left (plain b) (every plain (c ∷ r)) h)
-    ∙ (last-record (b ∷ got) (c ∷ r) (and-right (plain b) (every plain (c ∷ r)) h) (omega arith) ∙ ap (λ (l : List ℕ). l ∷ []) (shift got b (c ∷ r)))
+    ∙ (last-record (b ∷ got) (c ∷ r) (and-right (plain b) (every plain (c ∷ r)) h) (omega arith) ∙ ap (λ (l : List ℕ). l ∷ []) (reverse-shift got b (c ∷ r)))
 
 pub records-joined : (l : List (List ℕ)) → Sound l → records-from [] (joined (bytes "\r\n") l) ≡ l
 unfolding joined
@@ -107,14 +105,14 @@ unfolding every
 one-field got [] s h = unfold fields-from in ap (λ (l : List ℕ). l ∷ fields-from [] s) (sym (append-nil (reverse got)))
 one-field got (b ∷ f) s h =
     field-step got b (f ++ (44 ∷ s)) (and-left (no-comma b) (every no-comma f) h)
-    ∙ (one-field (b ∷ got) f s (and-right (no-comma b) (every no-comma f) h) ∙ ap (λ (l : List ℕ). l ∷ fields-from [] s) (shift got b f))
+    ∙ (one-field (b ∷ got) f s (and-right (no-comma b) (every no-comma f) h) ∙ ap (λ (l : List ℕ). l ∷ fields-from [] s) (reverse-shift got b f))
 
 last-field : (got f : List ℕ) → T (every no-comma f) → fields-from got f ≡ (reverse got ++ f) ∷ []
 unfolding every
 last-field got [] h = unfold fields-from in ap (λ (l : List ℕ). l ∷ []) (sym (append-nil (reverse got)))
 last-field got (b ∷ f) h =
     field-step got b f (and-left (no-comma b) (every no-comma f) h)
-    ∙ (last-field (b ∷ got) f (and-right (no-comma b) (every no-comma f) h) ∙ ap (λ (l : List ℕ). l ∷ []) (shift got b f))
+    ∙ (last-field (b ∷ got) f (and-right (no-comma b) (every no-comma f) h) ∙ ap (λ (l : List ℕ). l ∷ []) (reverse-shift got b f))
 
 pub two-fields : (w f : List ℕ) → T (every no-comma w) → T (every no-comma f) → fields-from [] (w ++ (44 ∷ f)) ≡ w ∷ f ∷ []
 two-fields w f h g = one-field [] w f h ∙ ap (λ (l : List (List ℕ)). w ∷ l) (last-field [] f g)
@@ -162,7 +160,7 @@ fields-glued got (b ∷ r) = go (eqb b 44) (eqb→eq b 44) (fields-glued [] r) (
     go : (t : Bool) → (T t → b ≡ 44) → glued (fields-from [] r) ≡ 44 ∷ r → glued (fields-from (b ∷ got) r) ≡ 44 ∷ (reverse (b ∷ got) ++ r)
         → glued (elim t [ true ↦ reverse got ∷ fields-from [] r | false ↦ fields-from (b ∷ got) r ]) ≡ 44 ∷ (reverse got ++ (b ∷ r))
     go true e h k = ap (λ (l : List ℕ). 44 ∷ (reverse got ++ l)) (h ∙ ap (λ (c : ℕ). c ∷ r) (sym (e tt)))
-    go false e h k = k ∙ ap (λ (l : List ℕ). 44 ∷ l) (shift got b r)
+    go false e h k = k ∙ ap (λ (l : List ℕ). 44 ∷ l) (reverse-shift got b r)
 
 -- a record is its first field and the others
 abbrev pub Split : List ℕ → List (List ℕ) → Type 0

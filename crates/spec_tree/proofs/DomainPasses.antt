@@ -66,7 +66,7 @@ all-picked ts (n ∷ ns) h e =
     and-both (expression (getD ts n (Op 0 nil))) (expressions (at ts ns)) (picked ts n h (ltb→lt n (length ts) (and-left (ltb n (length ts)) (every (λ n. ltb n (length ts)) ns) e)))
     (all-picked ts ns h (and-right (ltb n (length ts)) (every (λ n. ltb n (length ts)) ns) e))
 
-length-at : (ts : List Tree) (ns : List ℕ) → length (at ts ns) ≡ length ns
+pub length-at : (ts : List Tree) (ns : List ℕ) → length (at ts ns) ≡ length ns
 unfolding at
 length-at ts [] = refl
 length-at ts (n ∷ ns) = ap suc (length-at ts ns)

@@ -23,7 +23,7 @@ use borrow.Author.Tests.{leb-true, leb-false}
 
 -- ---- a row that load lays out has at most 32 fields
 
-name-short : (s : List ℕ) → T (is-name s) → length s ≤ 32
+pub name-short : (s : List ℕ) → T (is-name s) → length s ≤ 32
 unfolding is-name
 name-short [] t = absurd t
 name-short (b ∷ l) t =
@@ -122,7 +122,7 @@ pub record Laid (ws ns : List ℕ) : Type 0 where
   pub words : ws ≡ table-words (table .rows)
   pub roots : ns ≡ table .roots
 
-loadable-domain : (t : Table) → T (loadable t) → T (in-domain t)
+pub loadable-domain : (t : Table) → T (loadable t) → T (in-domain t)
 unfolding loadable
 loadable-domain t h = and-left (in-domain t) (sheet-fits t) h
 

@@ -338,7 +338,7 @@ name-written zero n h = omega arith
 name-written (suc zero) n h = omega arith
 name-written (suc (suc class)) n h = omega arith
 
-constant-written : (b : ℕ) → constant-code (constant-at b) ≡ b
+pub constant-written : (b : ℕ) → constant-code (constant-at b) ≡ b
 unfolding constant-code constant-at
 constant-written b = go (eqb (b % 2) 0) refl
   where

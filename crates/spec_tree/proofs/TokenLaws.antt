@@ -291,7 +291,7 @@ complete-end zero ws n e = (n, e)
 complete-end (suc i) [] n e = (n, e)
 complete-end (suc i) (w ∷ ws) n e = let t = complete-tail w ws n e in complete-end i ws (t .trees) (t .are)
 
-some-is : {n m : ℕ} → some n ≡ some m → n ≡ m
+pub some-is : {n m : ℕ} → some n ≡ some m → n ≡ m
 some-is e = cc
 
 pub complete-within : (ws : List ℕ) (n : ℕ) → trees-in ws ≡ some n → n ≤ length ws
@@ -378,7 +378,7 @@ unfolding sizes total
 one-at-least [] h = absurd (omega arith)
 one-at-least (t ∷ ts) h = omega arith
 
-first-size : (ts : List Tree) → 1 ≤ length ts → sizes (take 1 ts) ≡ size (getD ts 0 (Op 0 nil))
+pub first-size : (ts : List Tree) → 1 ≤ length ts → sizes (take 1 ts) ≡ size (getD ts 0 (Op 0 nil))
 unfolding sizes total
 first-size [] h = absurd (omega arith)
 first-size (t ∷ ts) h = omega arith

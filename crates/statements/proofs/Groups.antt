@@ -25,15 +25,6 @@ use Rattle.statements.specs.Prepared.{begin-of}
 
 -- ---- lists of lists
 
-ends-none : (n : ℕ) → ends-from n [] ≡ []
-unfolding ends-from
-ends-none n = refl
-
-pub ends-count : (n : ℕ) (gs : List (List ℕ)) → length (ends-from n gs) ≡ length gs
-unfolding ends-from
-ends-count n [] = refl
-ends-count n (g ∷ l) = ap suc (ends-count (n + length g) l)
-
 none-joined : length (joined-groups []) ≡ 0
 unfolding joined-groups
 none-joined = refl

@@ -43,10 +43,6 @@ unfolding bind-each-on
 bind-each-fits [] n ts g h = h
 bind-each-fits (d ∷ l) n ts g h = bind-each-fits l (suc n) _ (rest-fits is-alone d l g) (bind-on-fits is-alone d n ts (first-fits is-alone d l g) h)
 
-front-fits : (a b : List Tree) → Fits (a ++ b) → Fits a
-front-fits [] b h = none-fit is-alone
-front-fits (t ∷ a) b h = one-fits is-alone t a (first-fits is-alone t (a ++ b) h) (front-fits a b (rest-fits is-alone t (a ++ b) h))
-
 with-fits : (a l : List Tree) → Fits (a ++ l) → Fits (a ++ with-switches l)
 unfolding with-switches
 with-fits (t ∷ a) l h = one-fits is-alone t (a ++ with-switches l) (first-fits is-alone t (a ++ l) h) (with-fits a l (rest-fits is-alone t (a ++ l) h))

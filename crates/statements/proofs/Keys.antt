@@ -7,7 +7,7 @@ use mathlib.Core.Option.{some}
 use mathlib.Core.List.{List}
 use lib.Dec.{T}
 use lib.ListN.{length, getD, take, drop, length-drop}
-use lib.Seq.{getD-drop, length-take-le, take-all}
+use lib.Seq.{getD-drop, length-take-le}
 use Rattle.spec_tree.specs.Facts.{size}
 use Rattle.spec_tree.specs.Tokens.{tokens, numbered, run-at, trees-in}
 use Rattle.spec_tree.proofs.TokenLaws.{complete-end, complete-length, complete-within, operation-takes}
@@ -30,8 +30,10 @@ use Rattle.fusion.specs.place.Overlay.{overlay}
 use Rattle.fusion.specs.place.Parts.{place-groups, joined-groups, group-at, group-start, group-end, opener, steps-from, key-run, match-head}
 use Rattle.statements.specs.Prepared.{most, Prepared, Grouped, Fusable, fused-by, begin-of}
 use Rattle.statements.proofs.Held.{held-complete, held-places-small, rewritten-one}
-use Rattle.statements.proofs.Groups.{ends-count, end-is, begin-is, group-long, group-inside, group-part, opener-is, group-switches, opener-switch, members-there}
+use Rattle.statements.proofs.Groups.{end-is, begin-is, group-long, group-inside, group-part, opener-is, group-switches, opener-switch, members-there}
 use Rattle.statements.proofs.Taking.{put-front, stands-as}
+use Rattle.node_rows.proofs.names.Leaves.{rest}
+use Rattle.fusion.proofs.grouping.Groups.{ends-length}
 
 pub first-begins : (ends : List ℕ) (g : ℕ) → g ≡ 0 → 0 ≡ begin-of ends g
 unfolding begin-of
@@ -42,10 +44,6 @@ pub next-begins : (ends : List ℕ) (g : ℕ) → (g ≡ 0 → ⊥) → getD end
 unfolding begin-of
 next-begins ends zero ne = absurd (ne refl)
 next-begins ends (suc g) ne = ap (λ (i : ℕ). getD ends i 0) (let z : suc g - 1 ≡ g = omega arith in z)
-
--- what is left of a list from a place on, as a part of it
-rest-is : (e : ℕ) (l : List ℕ) → take (length l - e) (drop e l) ≡ drop e l
-rest-is e l = take-all (length l - e) (drop e l) (omega (arith, length-drop e l))
 
 pub grouped : {ws : List ℕ} {k first : ℕ} {places held starts members ends numbers : List ℕ} → Prepared ws k first places held starts members ends numbers → Grouped held members ends numbers
 grouped {ws} {k} {first} {places} {held} p = record { complete = held-complete p; short = p .short; members-are = p .members-are; ends-are = p .ends-are; numbered = p .numbered; small = p .small; trees-small = held-places-small ws k first places held (p .there) (p .few) (p .held-is) }
@@ -58,7 +56,7 @@ module _ {held members ends numbers : List ℕ} (G : Grouped held members ends n
   q = opener gs g
 
   pub group-there : g < length (place-groups held)
-  group-there = omega (arith, h, ap length (G .ends-are), ends-count 0 gs)
+  group-there = omega (arith, h, ap length (G .ends-are), ends-length 0 gs)
 
   pub begin-at : (b : ℕ) → b ≡ begin-of ends g → b ≡ group-start (place-groups held) g
   begin-at b e = e ∙ (ap (λ (l : List ℕ). begin-of l g) (G .ends-are) ∙ begin-is gs g group-there)
@@ -173,8 +171,8 @@ module _ {held members ends numbers : List ℕ} (G : Grouped held members ends n
       pub later-fusable :
           Fusable held (take (length members - getD ends g 0) (drop (getD ends g 0) members)) (take (length numbers - getD ends g 0) (drop (getD ends g 0) numbers))
       later-fusable =
-          subst (λ (l : List ℕ). Fusable held l (take (length numbers - getD ends g 0) (drop (getD ends g 0) numbers))) (sym (rest-is (getD ends g 0) members))
-          (subst (λ (l : List ℕ). Fusable held (drop (getD ends g 0) members) l) (sym (rest-is (getD ends g 0) numbers)) later)
+          subst (λ (l : List ℕ). Fusable held l (take (length numbers - getD ends g 0) (drop (getD ends g 0) numbers))) (sym (rest (getD ends g 0) members))
+          (subst (λ (l : List ℕ). Fusable held (drop (getD ends g 0) members) l) (sym (rest (getD ends g 0) numbers)) later)
 
       key-final : fused-by held (drop (getD ends g 0) members) (drop (getD ends g 0) numbers) (words-at held k) ≡ key-run held gs numbers g
       unfolding fused-by key-run steps-from key-place
@@ -193,8 +191,8 @@ module _ {held members ends numbers : List ℕ} (G : Grouped held members ends n
           → Stands (key-run held (place-groups held) numbers g) out n
       key-done mid len t out n u =
           stands-as _ (key-run held gs numbers g) out n
-          (ap (λ (l : List ℕ). fused-by held l (take (length numbers - getD ends g 0) (drop (getD ends g 0) numbers)) (take len mid)) (rest-is (getD ends g 0) members)
-          ∙ (ap (λ (l : List ℕ). fused-by held (drop (getD ends g 0) members) l (take len mid)) (rest-is (getD ends g 0) numbers)
+          (ap (λ (l : List ℕ). fused-by held l (take (length numbers - getD ends g 0) (drop (getD ends g 0) numbers)) (take len mid)) (rest (getD ends g 0) members)
+          ∙ (ap (λ (l : List ℕ). fused-by held (drop (getD ends g 0) members) l (take len mid)) (rest (getD ends g 0) numbers)
           ∙ (ap (fused-by held (drop (getD ends g 0) members) (drop (getD ends g 0) numbers)) (t .words) ∙ key-final))) u
 
     -- ---- the match's row

@@ -3,14 +3,14 @@ use Prim.Native.Nat.{ℕ, zero, suc, _+_, _-_, _*_, _≤_, _<_}
 use native.Mathlib.Omega.{arith}
 use mathlib.Core.Path.{_≡_, refl, sym, _∙_, ap, ap₂}
 use mathlib.Core.Bool.{Bool, true, false, cond}
-use mathlib.Core.List.{List, [], _∷_, _++_, reverse, reverseAux}
+use mathlib.Core.List.{List, [], _∷_, _++_, reverse}
 use borrow.Author.Tests.{lt-ltb, le-ltb, le-leb}
 use lib.Dec.{T, eqb}
 use lib.ListN.{length, getD, take, drop, replicate, length-replicate, length-reverse}
 use Rattle.words.specs.words.Words.{some-trees}
 use Rattle.spec_cse.specs.Order.{positions-taken}
-use Rattle.laws.proofs.cse.OrderLaws.{All, taken-ok}
-use Rattle.topo_sort.specs.Needs.{table-of, rows-from, room, all-or-ring, order-answer, order-written, Orders}
+use Rattle.laws.proofs.cse.OrderLaws.{taken-ok, all-getD, all-turned}
+use Rattle.topo_sort.specs.Needs.{table-of, room, all-or-ring, order-answer, order-written, Orders}
 use Rattle.topo_sort.specs.declared.Ordered.{Ordered}
 use Rattle.laws.proofs.positions.Extraction.{Every}
 use Rattle.laws.specs.switches.Switches.{switch-at}
@@ -23,8 +23,10 @@ use Rattle.fusion.specs.place.Reads.{with-reads, all-arms-run, marks-by}
 use Rattle.fusion.specs.place.Whole.{stmts-count, tree-run, reads-run, needs-table, stmts-order}
 use Rattle.statements.specs.Prepared.{Prepared, Grouped, order-told, match-reads, begin-of}
 use Rattle.statements.proofs.Held.{lets-are, count-is}
-use Rattle.statements.proofs.Groups.{ends-count, group-switches}
+use Rattle.statements.proofs.Groups.{group-switches}
 use Rattle.statements.proofs.Keys.{group-there, members-part}
+use Rattle.topo_sort.proofs.Left.{table-length}
+use Rattle.fusion.proofs.grouping.Groups.{ends-length}
 
 -- ---- one let
 
@@ -100,7 +102,7 @@ module _ {ws : List ℕ} {k first : ℕ} {places held starts members ends number
       match-by (lets-count ws k first places) (lets-are p) (held-words ws k first places) (sym (p .held-is)) q ∙ rw (le-ltb q (lets-count ws k first places) (omega (arith, h, lets-are p))) refl
 
   pub stmt-group : (q : ℕ) → (length starts - k) + length places ≤ q → q < stmts-count ws k first places numbers → q - ((length starts - k) + length places) < length ends
-  stmt-group q h l = omega (arith, h, l, count-is p, ap length (p .ends-are), ends-count 0 (place-groups held))
+  stmt-group q h l = omega (arith, h, l, count-is p, ap length (p .ends-are), ends-length 0 (place-groups held))
 
   -- ---- all of them
 
@@ -157,7 +159,7 @@ module _ {ws : List ℕ} {k first : ℕ} {places held starts members ends number
   marked-ends {old} {count} {bits} {j} s h = s .marked ∙ ap (λ (n : ℕ). needs-table ws k first places numbers n old) (let z : j ≡ count = omega (arith, s .most) in z)
 
   pub counted : (length starts - k) + length places + length ends ≡ stmts-count ws k first places numbers
-  counted = omega (arith, count-is p, ap length (p .ends-are), ends-count 0 (place-groups held))
+  counted = omega (arith, count-is p, ap length (p .ends-are), ends-length 0 (place-groups held))
 
   -- ---- the order
 
@@ -208,28 +210,10 @@ module _ {ws : List ℕ} {k first : ℕ} {places held starts members ends number
 
 -- ---- positions in the order
 
-all-getD : (P : ℕ → Type 0) (l : List ℕ) → All P l → (q : ℕ) → q < length l → P (getD l q 0)
-all-getD P [] h q i = absurd (omega arith)
-all-getD P (j ∷ l) h zero i = h .0
-all-getD P (j ∷ l) h (suc q) i = all-getD P l (h .1) q (omega arith)
-
-all-turned : (P : ℕ → Type 0) (a b : List ℕ) → All P a → All P b → All P (reverseAux a b)
-all-turned P [] b g h = h
-all-turned P (j ∷ a) b g h = all-turned P a (j ∷ b) (g .1) (g .0, h)
-
-rows-count : (needs : List ℕ) (count j n : ℕ) → length (rows-from needs count j n) ≡ n
-unfolding rows-from
-rows-count needs count j zero = refl
-rows-count needs count j (suc n) = ap suc (rows-count needs count (suc j) n)
-
-table-count : (needs : List ℕ) (count : ℕ) → length (table-of needs count) ≡ count
-unfolding table-of
-table-count needs count = rows-count needs count 0 count
-
 taken-below : (needs : List ℕ) (count q : ℕ) → q < length (reverse (positions-taken (table-of needs count))) → getD (reverse (positions-taken (table-of needs count))) q 0 < count
 taken-below needs count q h =
     let table = table-of needs count in
-    omega (arith, table-count needs count, all-getD (λ j. j < length table) (reverse (positions-taken table)) (all-turned (λ j. j < length table) (positions-taken table) [] (taken-ok table .inside) tt) q h)
+    omega (arith, table-length needs count, all-getD (λ j. j < length table) (reverse (positions-taken table)) (all-turned (λ j. j < length table) (positions-taken table) [] (taken-ok table .inside) tt) q h)
 
 -- each is a statement's
 pub order-positions :

@@ -12,6 +12,7 @@ use Rattle.spec_cse.specs.Order.{member, within, joining}
 use Rattle.laws.proofs.cse.OrderLaws.{Distinct}
 use Rattle.topo_sort.specs.Needs.{columns, rows-from, table-of}
 use Rattle.topo_sort.specs.Turns.{joined, lower, joins}
+use Rattle.spec_tree.proofs.Logic.{not-true}
 
 -- the needs that aren't among those taken
 unfoldable pub left : List ℕ → List ℕ → ℕ
@@ -38,10 +39,6 @@ abbrev one-if : Bool → ℕ
 one-if true = 1
 one-if false = 0
 
-not-true-false : (b : Bool) → (T b → ⊥) → b ≡ false
-not-true-false true f = absurd (f tt)
-not-true-false false f = refl
-
 member-same : (i j : ℕ) (l : List ℕ) → j ≡ i → member i (j ∷ l) ≡ true
 unfolding member
 member-same i j l e = rw (eq-eqb j i e, member)
@@ -66,7 +63,7 @@ left-taken i done (n ∷ ns) f d = go (eqb i n) refl (member n done) refl (left-
     go true e c g rest =
         let q : i ≡ n = eqb-true i n e in
         let m : member n done ≡ false = subst (λ (k : ℕ). member k done ≡ false) q f in
-        let o : member i ns ≡ false = not-true-false (member i ns) (λ t. d .0 (subst (λ (k : ℕ). T (member k ns)) q t)) in
+        let o : member i ns ≡ false = not-true (member i ns) (λ t. d .0 (subst (λ (k : ℕ). T (member k ns)) q t)) in
         rw (left-step n ns done false m, left-step n ns (i ∷ done) true (member-same n i done q), member-same i n ns (sym q))
         (omega (arith, (let r : left ns done ≡ left ns (i ∷ done) + one-if false = rw o at rest in r)))
     go false e true g rest =

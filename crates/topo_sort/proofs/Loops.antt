@@ -7,7 +7,7 @@ use mathlib.Core.List.{List, [], _∷_, _++_, reverse, reverse-reverse}
 use native.Mathlib.Omega.{arith}
 use native.Mathlib.Numerals.{add-one}
 use borrow.Author.Tests.{eqb-true, eqb-false, eq-eqb, ne-eqb}
-use lib.Dec.{T, eqb, eqb·suc-zero}
+use lib.Dec.{eqb, eqb·suc-zero}
 use lib.ListN.{length, getD, take, drop, set, length-set, take-append-drop}
 use lib.Seq.{getD-set-same, getD-set-other, drop-set-lt, drop-drop, set-getD}
 use Rattle.words.specs.bits.Bits.{yes}
@@ -17,6 +17,7 @@ use Rattle.topo_sort.specs.Turns.{stack-of, joined, lower, joins, Pushed
 use Rattle.topo_sort.proofs.Stacks.{stack-length, stack-grows, stack-top, stack-empty, pushed-top, push-length, push-joined}
 use Rattle.topo_sort.proofs.Left.{left, left-none, left-lower, left-some, columns-next, columns-distinct, row-member, table-length, joins-are}
 use Rattle.topo_sort.proofs.Going.{Going, going-starts, going-room, going-turns, going-fresh, going-ends}
+use Rattle.spec_tree.proofs.Logic.{not-true}
 
 -- ---- needs counted
 
@@ -272,10 +273,6 @@ taking-starts needs count waiting stack taken top w d c =
       rest = refl;
     }
 
-not-member : (b : Bool) → (T b → ⊥) → b ≡ false
-not-member true f = absurd (f tt)
-not-member false f = refl
-
 module _ (needs : List ℕ) (count : ℕ) (old-taken waiting stack taken : List ℕ) (top n : ℕ) (s : Taking needs count old-taken waiting stack taken top n)
     (long : count ≤ length old-taken) (some : 0 < top) where
   on-top : Going (table-of needs count) (getD stack (top - 1) 0 ∷ stack-of (top - 1) stack) (stack-of n taken)
@@ -291,7 +288,7 @@ module _ (needs : List ℕ) (count : ℕ) (old-taken waiting stack taken : List 
   top-inside = omega (arith, going-fresh (table-of needs count) _ _ _ on-top .1, table-length needs count)
 
   fresh : member (getD stack (top - 1) 0) (stack-of n taken) ≡ false
-  fresh = not-member _ (going-fresh (table-of needs count) _ _ _ on-top .0)
+  fresh = not-true _ (going-fresh (table-of needs count) _ _ _ on-top .0)
 
   -- a statement that needs it waits
   pub taking-waits : (k : ℕ) → k < count → yes needs k (getD stack (top - 1) 0) ≡ true → 1 ≤ getD waiting k 0

@@ -18,7 +18,7 @@ use Rattle.topo_sort.proofs.Left.{columns-step}
 
 -- ---- the table
 
-needs-step : (i : ℕ) (read : List Name) (s : Intermediate) (l : List Intermediate) → needs-from i read (s ∷ l) ≡ joined (meets (names s) read) i (needs-from (suc i) read l)
+pub needs-step : (i : ℕ) (read : List Name) (s : Intermediate) (l : List Intermediate) → needs-from i read (s ∷ l) ≡ joined (meets (names s) read) i (needs-from (suc i) read l)
 unfolding needs-from
 needs-step i read s l = go (meets (names s) read)
   where

@@ -2,34 +2,27 @@
 -- nothing.
 use Prim.Native.Nat.{ℕ, _+_, _≤_}
 use native.Mathlib.Omega.{arith}
-use mathlib.Core.Path.{_≡_, refl, sym, _∙_, ap, ap₂, subst}
-use mathlib.Core.Bool.{Bool, true, false, not, _||_}
+use mathlib.Core.Path.{_≡_, sym, _∙_, ap, ap₂, subst}
+use mathlib.Core.Bool.{Bool, false, _||_}
 use mathlib.Core.Option.{Option}
-use mathlib.Core.List.{List, [], _∷_}
+use mathlib.Core.List.{List}
 use lib.ListN.{length, take, drop}
 use lib.Seq.{length-take-le}
-use lib.Dec.{T, leb, ltb, le→leb, nltb→le}
+use lib.Dec.{T, leb, ltb, le→leb}
 use Rattle.spec_tree.specs.Layout.{table-of, laid-out}
-use Rattle.spec_tree.specs.Tokens.{read, numbered, trees-in, run-at}
-use Rattle.spec_tree.proofs.Logic.{and-both}
+use Rattle.spec_tree.specs.Tokens.{read, numbered, trees-in}
+use Rattle.spec_tree.proofs.Logic.{and-both, or-left-false, or-right-false}
 use Rattle.spec_tree.proofs.Tests.{is-true}
-use Rattle.words.specs.words.Words.{some-trees}
 use Rattle.spec_cse.specs.Call.{work-words, work-bytes}
 use Rattle.fmt.specs.checked.Check.{rows-in}
 use Rattle.laws.proofs.positions.RowNames.{tree-words}
-use Rattle.reciprocals.proofs.bindings.Parts.{All-there}
 use Rattle.reciprocals.specs.reciprocal.Bindings.{all-there}
 use Rattle.reciprocals.specs.final.Final.{final-rows}
 use Rattle.cse_flat.specs.ending.Answers.{finish-outcome, finish-by, at-least, trees-there, room-for, finishing}
 use Rattle.cse_flat.specs.refined.Parts.{extract-from, Rounds-listed}
 use Rattle.cse_flat.proofs.refined.Flat.{to-bind, flat-rest, flat-complete, flat-results, flat-short, flat-room, flat-there, flat-made}
-
--- a tree at each place
-there-so : (base l : List ℕ) → All-there base l → T (all-there base l)
-unfolding all-there some-trees
-there-so base [] h = tt
-there-so base (p ∷ l) h =
-    and-both (some-trees (run-at base p)) (all-there base l) (subst (λ (o : Option ℕ). T (some-trees o)) (sym (h .0 .1)) tt) (there-so base l (h .1))
+use borrow.Author.Tests.{ltb-false}
+use Rattle.reciprocals.proofs.reciprocal.There.{there-tested}
 
 module _ (rows roots : List ℕ) (lent : ℕ) (h : T (laid-out rows roots)) (ws : List ℕ) (same : ws ≡ tree-words (table-of rows roots)) where
   module _ (n m d : ℕ) (tokens places : List ℕ) (l : Rounds-listed (rows-in rows) false 0 ws n m d tokens places) where
@@ -48,7 +41,7 @@ module _ (rows roots : List ℕ) (lent : ℕ) (h : T (laid-out rows roots)) (ws 
     flat-trees-there =
         and-both (at-least (length roots) (trees-in vs)) (all-there vs ds)
         (subst (λ (o : Option ℕ). T (at-least (length roots) o)) (sym (flat-complete rows roots lent h ws same vs (l .0))) (le→leb (length roots) _ (flat-results rows roots lent h ws same vs (l .0))))
-        (subst (λ (ps : List ℕ). T (all-there vs ps)) (sym ds-are) (there-so vs (to-bind rows roots lent h ws same vs (l .0)) (flat-there rows roots lent h ws same vs (l .0))))
+        (subst (λ (ps : List ℕ). T (all-there vs ps)) (sym ds-are) (there-tested vs (to-bind rows roots lent h ws same vs (l .0)) (flat-there rows roots lent h ws same vs (l .0))))
 
     pub flat-room-for : T (room-for vs (length roots) ds)
     unfolding room-for
@@ -73,23 +66,12 @@ finishes ws k places table g h =
 
 -- ---- the work area
 
-or-left : (a b : Bool) → (a || b) ≡ false → a ≡ false
-or-left true b e = e
-or-left false b e = refl
-
-or-right : (a b : Bool) → (a || b) ≡ false → b ≡ false
-or-right true b e = absurd (let z : _≡_ {A = ℕ} 0 1 = cc in omega arith)
-or-right false b e = e
-
-less-not : (m n : ℕ) → ltb m n ≡ false → n ≤ m
-less-not m n e = nltb→le m n (subst (λ (b : Bool). T (not b)) (sym e) tt)
-
 module _ (words bytes : ℕ) (e : (ltb words work-words || ltb bytes work-bytes) ≡ false) where
   pub enough-words : 65536 ≤ words
-  enough-words = less-not words 65536 (or-left (ltb words 65536) (ltb bytes 131072) e)
+  enough-words = ltb-false words 65536 (or-left-false (ltb words 65536) (ltb bytes 131072) e)
 
   pub enough-bytes : 131072 ≤ bytes
-  enough-bytes = less-not bytes 131072 (or-right (ltb words 65536) (ltb bytes 131072) e)
+  enough-bytes = ltb-false bytes 131072 (or-right-false (ltb words 65536) (ltb bytes 131072) e)
 
 -- the front of the work area
 pub front-long : (work : List ℕ) → 65536 ≤ length work → 1024 ≡ length (take 1024 work)

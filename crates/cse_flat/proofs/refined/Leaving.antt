@@ -10,7 +10,6 @@ use lib.ListN.{length, drop, length-drop}
 use lib.Dec.{T}
 use Rattle.spec_tree.specs.Bytes.{every}
 use Rattle.spec_tree.specs.Outcome.{Refusal, Outcome, ok, refused, by, _>>=_}
-use Rattle.spec_tree.specs.Tree.{Tree}
 use Rattle.spec_tree.specs.Facts.{all-operations}
 use Rattle.spec_tree.specs.Rows.{Row}
 use Rattle.spec_tree.specs.Tokens.{read, numbered, name-in, trees-in}
@@ -25,18 +24,12 @@ use Rattle.laws.proofs.positions.WordRoom.{divisors-most}
 use Rattle.laws.proofs.positions.WordSteps.{some-operation, numbers-kept}
 use Rattle.rounds.proofs.kept.Words.{words-taken}
 use Rattle.rounds.proofs.kept.Steps.{Ready, inside, operations-words}
-use Rattle.rounds.proofs.kept.Looping.{Going, ending, going-first, going-done, going-refused, going-on, going-less}
+use Rattle.rounds.proofs.kept.Looping.{Going, ending, going-first, going-done, going-refused, going-on, going-less, number-there}
 use Rattle.rounds.proofs.kept.Whole.{rounds-are}
-
-pub got : {A : Type 0} {a b : A} → _≡_ {A = Outcome A} (ok a) (ok b) → a ≡ b
-got e = cc
+use Rattle.spec_tree.proofs.Outcomes.{got}
 
 never-both : {A : Type 0} {a : A} {i : Refusal} → _≡_ {A = Outcome A} (ok a) (refused i) → ⊥
 never-both e = let z : _≡_ {A = ℕ} 0 1 = cc in omega arith
-
-number-there : (k first : ℕ) (ts : List Tree) → next-number k first ts ≡ first + length (drop k ts)
-unfolding next-number
-number-there k first ts = refl
 
 module _ (rows : List Row) (scoped : Bool) (k first : ℕ) (start : List ℕ) where
   -- rounds that have come to their end

@@ -1,5 +1,5 @@
 -- What the rounds and the list of divisors to bind come to, by what each answers (01, "Extraction", "Reciprocals"). Assumes nothing.
-use Prim.Native.Nat.{ℕ, zero, suc, _≤_, _<_}
+use Prim.Native.Nat.{ℕ, _≤_}
 use native.Mathlib.Omega.{arith}
 use types.Run
 use denote.Enum.Declared
@@ -10,13 +10,12 @@ use mathlib.Core.Option.{Option}
 use mathlib.Core.List.{List, [], _∷_, _++_}
 use lib.ListN.{length, take, drop, length-append}
 use lib.Seq.{take-at, length-take-le}
-use lib.Dec.{T, ltb, lt→ltb}
+use lib.Dec.{T, ltb}
 use Rattle.spec_tree.specs.Bytes.{every}
 use Rattle.spec_tree.specs.Rows.{Row}
 use Rattle.spec_tree.specs.Tokens.{read, numbered, name-in, trees-in}
 use Rattle.spec_tree.proofs.Logic.{and-both}
 use Rattle.spec_tree.proofs.Tests.{is-true}
-use Rattle.spec_cse.specs.Call.{work-words, work-bytes}
 use Rattle.fmt.specs.checked.Check.{word-ok}
 use Rattle.words.specs.words.Words.{some-trees}
 use Rattle.laws.specs.positions.Names.{is-number, symbols-pass}
@@ -31,17 +30,13 @@ use Rattle.reciprocals.specs.tobind.Answers.{to-bind-short, to-bind-by, to-bind
 use Rattle.reciprocals.specs.declared.tobind.ToBind.{ToBind}
 use Rattle.reciprocals.specs.declared.tobind.ToBind.the-variants as tobind
 use Rattle.reciprocals.proofs.tobind.ToBind as tobind-enum
-use Rattle.cse_flat.proofs.refined.Unfolding.{not-less}
 use Rattle.cse_flat.proofs.refined.Rounding.{Rounded, rounded}
 use Rattle.cse_flat.proofs.refined.Leaving.{Left, rounds-leave, left-complete, left-words, left-short}
 use Rattle.cse_flat.specs.refined.Parts.{Rounds-listed, Rounds-refused}
+use borrow.Author.Tests.{le-ltb}
+use Rattle.spec_tree.proofs.Lists.{fits-in}
 
 -- ---- words in front
-
-take-most : (n : ℕ) (l : List ℕ) → length (take n l) ≤ length l
-take-most zero l = omega arith
-take-most (suc n) [] = omega arith
-take-most (suc n) (x ∷ l) = omega (arith, take-most n l)
 
 module _ (rows : List Row) (old : List ℕ) (len : ℕ) (scoped : Bool) (first text : ℕ) where
   abbrev ws : List ℕ
@@ -87,7 +82,7 @@ module _ (rows : List Row) (old : List ℕ) (len : ℕ) (scoped : Bool) (first t
       vs-long = done .1
 
       pub vs-there : n ≤ length out
-      vs-there = omega (arith, vs-long, take-most n out)
+      vs-there = omega (arith, vs-long, fits-in n out)
 
       left : Left rows scoped (length (read numbered ws)) first ws vs
       unfolding all-rounds
@@ -106,8 +101,8 @@ module _ (rows : List Row) (old : List ℕ) (len : ℕ) (scoped : Bool) (first t
         has-room : to-bind-short (length vs) (length places) bytes ≡ false
         unfolding to-bind-short
         has-room =
-            none (ltb 1927 (length vs)) (ltb (length places) (length vs)) (ltb bytes 131072) (not-less 1927 (length vs) (omega (arith, vs-few, g .few)))
-            (not-less (length places) (length vs) (omega (arith, vs-few, lent))) (not-less bytes 131072 (omega (arith, kept, g .bytes)))
+            none (ltb 1927 (length vs)) (ltb (length places) (length vs)) (ltb bytes 131072) (le-ltb 1927 (length vs) (omega (arith, vs-few, g .few)))
+            (le-ltb (length places) (length vs) (omega (arith, vs-few, lent))) (le-ltb bytes 131072 (omega (arith, kept, g .bytes)))
           where
             none : (x y z : Bool) → x ≡ false → y ≡ false → z ≡ false → (x || (y || z)) ≡ false
             none x y z e f h = rw (e, f, h)

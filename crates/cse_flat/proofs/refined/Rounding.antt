@@ -14,7 +14,7 @@ use Rattle.rounds.specs.kept.Sound.{extractable}
 use Rattle.rounds.specs.Rounds.{rounds-short, all-rounds, rounds-by, rounds-answer, Leaves, Leaves-words}
 use Rattle.rounds.specs.declared.Rounds.{Rounds}
 use Rattle.rounds.specs.declared.Rounds.the-variants as rounds
-use Rattle.cse_flat.proofs.refined.Unfolding.{not-less}
+use borrow.Author.Tests.{le-ltb}
 
 -- by what rounds answer: the words stand in front and are as many, and so many bindings were made; or a coefficient was refused
 abbrev pub Rounded : List Row → Bool → ℕ → List ℕ → Rounds → List ℕ → Type 0
@@ -35,8 +35,8 @@ module _ (rows : List Row) (old : List ℕ) (len : ℕ) (scoped : Bool) (first t
     has-room : rounds-short (length old) len first text ≡ false
     unfolding rounds-short
     has-room =
-        none-true (ltb 1927 len) (ltb (length old) len) (ltb 549755813888 first) (ltb text 131072) (not-less 1927 len few) (not-less (length old) len there)
-        (not-less 549755813888 first low) (not-less text 131072 bytes)
+        none-true (ltb 1927 len) (ltb (length old) len) (ltb 549755813888 first) (ltb text 131072) (le-ltb 1927 len few) (le-ltb (length old) len there)
+        (le-ltb 549755813888 first low) (le-ltb text 131072 bytes)
 
     by-outcome :
         (o : Outcome (List ℕ)) → all-rounds rows scoped first ws ≡ o → (out : List ℕ) → Leaves false true o len old out → Rounded rows scoped first ws (rounds-by false true o (length (read numbered ws))) out

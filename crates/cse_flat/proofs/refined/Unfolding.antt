@@ -1,38 +1,26 @@
 -- What unfolding gives to a caller who lends 1,024 words (01, "Turned down": Extract, 9): the words of the roots' trees in front, or 9. Assumes nothing.
-use Prim.Native.Nat.{ℕ, suc, _≤_}
+use Prim.Native.Nat.{ℕ, _≤_}
 use native.Mathlib.Omega.{arith}
 use mathlib.Core.Path.{_≡_, refl, sym, _∙_, ap, subst}
 use mathlib.Core.Bool.{Bool, true, false, cond}
-use mathlib.Core.List.{List, [], _∷_}
+use mathlib.Core.List.{List, []}
 use lib.ListN.{length, take, drop}
 use lib.Seq.{take-at}
-use lib.Dec.{T, ltb, ltb→lt}
+use lib.Dec.{T}
 use Rattle.spec_tree.specs.Outcome.{Outcome, ok, refused, by, _>>=_}
-use Rattle.spec_tree.specs.Tree.{Tree}
-use Rattle.spec_tree.specs.Rows.{at, trees, trees-from}
+use Rattle.spec_tree.specs.Rows.{trees, trees-from}
 use Rattle.spec_tree.specs.Layout.{table-of, laid-out, table-or-9}
 use Rattle.spec_tree.specs.Tokens.{number-in, all-tokens}
 use Rattle.laws.proofs.positions.RowNames.{tree-words}
 use Rattle.node_rows.specs.unfolded.Unfold.{unfolded, Answers}
 use Rattle.node_rows.specs.declared.unfolded.Unfolded.{Unfolded}
 use Rattle.node_rows.specs.declared.unfolded.Unfolded.the-variants as unfolding-answer
-
--- a tree for each root
-at-length : (ts : List Tree) (ns : List ℕ) → length (at ts ns) ≡ length ns
-unfolding at
-at-length ts [] = refl
-at-length ts (n ∷ ns) = ap suc (at-length ts ns)
+use borrow.Author.Tests.{le-ltb}
+use Rattle.spec_tree.proofs.DomainPasses.{length-at}
 
 pub roots-are : (rows roots : List ℕ) → length (trees (table-of rows roots)) ≡ length roots
 unfolding trees table-of
-roots-are rows roots = at-length (trees-from [] (table-of rows roots .rows)) roots
-
-pub not-less : (m n : ℕ) → n ≤ m → ltb m n ≡ false
-not-less m n h = go (ltb m n) (λ t. ltb→lt m n t)
-  where
-    go : (b : Bool) → (T b → suc m ≤ n) → b ≡ false
-    go true f = absurd (let l = f tt in omega arith)
-    go false f = refl
+roots-are rows roots = length-at (trees-from [] (table-of rows roots .rows)) roots
 
 module _ (room : ℕ) (rows roots : List ℕ) (enough : 1024 ≤ room) where
   abbrev start : List ℕ
@@ -48,7 +36,7 @@ module _ (room : ℕ) (rows roots : List ℕ) (enough : 1024 ≤ room) where
   unfolded-is : unfolded room rows roots ≡ nine (laid-out rows roots)
   unfolding unfolded table-or-9
   unfolded-is =
-      ap (λ (b : Bool). cond b (refused (by 8)) ((cond (laid-out rows roots) (ok (table-of rows roots)) (refused (by 9))) >>= λ t. ok (all-tokens (number-in (t .rows)) (trees t)))) (not-less room 1024 enough)
+      ap (λ (b : Bool). cond b (refused (by 8)) ((cond (laid-out rows roots) (ok (table-of rows roots)) (refused (by 9))) >>= λ t. ok (all-tokens (number-in (t .rows)) (trees t)))) (le-ltb room 1024 enough)
       ∙ after-nine (laid-out rows roots)
 
   module _ (old : List ℕ) (a : Unfolded) (new : List ℕ) (given : Answers (unfolded room rows roots) old a new) where

@@ -1,10 +1,10 @@
 -- What a scope holds in front of the work area, and the rest of the area, which is lent on to an arm's scope (01, "Scoped fusion"). Assumes nothing.
-use Prim.Native.Nat.{ℕ, _+_, _-_, _≤_, _<_}
+use Prim.Native.Nat.{ℕ, _-_, _≤_, _<_}
 use native.Mathlib.Omega.{arith}
 use mathlib.Core.Path.{_≡_, sym, _∙_, ap, subst}
-use mathlib.Core.List.{List, _++_, append-nil}
-use lib.ListN.{length, getD, take, drop, length-drop, drop-of-length-le}
-use lib.Seq.{take-all, take-at, length-take-le}
+use mathlib.Core.List.{List}
+use lib.ListN.{length, getD, take, drop, length-drop}
+use lib.Seq.{take-at, length-take-le}
 use borrow.Rule.Slice.PartMut.{putMid}
 use Rattle.spec_tree.specs.Rows.{Row}
 use Rattle.laws.specs.switches.Switches.{arm-count, switch-places}
@@ -17,20 +17,10 @@ use Rattle.cse_scoped.specs.declared.one_scope.Scoped.{Scoped}
 use Rattle.cse_scoped.specs.declared.one_scope.Found.{Found}
 use Rattle.cse_scoped.specs.declared.one_scope.Found.the-variants as found
 use Rattle.cse_scoped.proofs.one_scope.Ending.{Scope-done}
-
--- what is lent on is the rest
-pub rest-is : (w : List ℕ) (u : ℕ) → take (length w - u) (drop u w) ≡ drop u w
-rest-is w u = take-all (length w - u) (drop u w) (omega (arith, length-drop u w))
+use Rattle.spec_tree.proofs.Lists.{rest-is, rest-back}
 
 pub rest-long : (w : List ℕ) (u : ℕ) → length (take (length w - u) (drop u w)) ≡ length w - u
 rest-long w u = ap length (rest-is w u) ∙ length-drop u w
-
--- what comes back stands after the words in front
-rest-back : (w x : List ℕ) (u : ℕ) → putMid u (length w - u) w x ≡ take u w ++ x
-rest-back w x u = ap (λ (l : List ℕ). take u w ++ (x ++ l)) (drop-of-length-le (drop u w) past) ∙ ap (λ (l : List ℕ). take u w ++ l) (append-nil x)
-  where
-    past : length (drop u w) ≤ length w - u
-    past = omega (arith, length-drop u w)
 
 -- which are as they were
 pub front-kept : (w x : List ℕ) (u : ℕ) → u ≤ length w → take u (putMid u (length w - u) w x) ≡ take u w

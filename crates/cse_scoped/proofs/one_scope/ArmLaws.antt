@@ -19,6 +19,7 @@ use Rattle.cse_scoped.specs.declared.one_scope.Scoped.the-variants as sc
 use Rattle.cse_scoped.specs.declared.one_scope.Armed.{Armed}
 use Rattle.cse_scoped.specs.declared.one_scope.Armed.the-variants as armed
 use Rattle.cse_scoped.proofs.one_scope.Laying.{laid-none, laid-append, laid-row}
+use Rattle.spec_tree.proofs.Outcomes.{got}
 
 -- arms and then one more
 abbrev pub and-arm : Arms-told → Arms-told → Arms-told
@@ -170,13 +171,6 @@ module _ (scope : ℕ → List ℕ → Outcome Told) (hs g : List ℕ) (next at 
       (done-ok (arms-told scope hs g next n) (so .done) (so .told) at old table (so .table-is) end (so .end-is))))
 
 -- ---- the arms before the last
-
-pub got : {A : Type 0} {a b : A} → _≡_ {A = Outcome A} (ok a) (ok b) → a ≡ b
-got {A} {a} {b} e = subst Is e refl
-  where
-    Is : Outcome A → Type 0
-    Is (ok c) = a ≡ c
-    Is (refused i) = ⊥
 
 pub never-ok : {A : Type 0} {a : A} {i : Refusal} → _≡_ {A = Outcome A} (refused i) (ok a) → ⊥
 never-ok {A} {a} {i} e = subst Is e tt

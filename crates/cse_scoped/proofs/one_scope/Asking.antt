@@ -18,8 +18,9 @@ use Rattle.cse_scoped.specs.declared.one_scope.Scoped.{Scoped}
 use Rattle.cse_scoped.specs.declared.one_scope.Scoped.the-variants as scoped
 use Rattle.cse_scoped.specs.declared.one_scope.Armed.{Armed}
 use Rattle.cse_scoped.specs.declared.one_scope.Armed.the-variants as armed
-use Rattle.cse_scoped.proofs.one_scope.ArmLaws.{Arm-done, done-refused, arm-refused, arm-of, Arms-so, got, arms-back}
+use Rattle.cse_scoped.proofs.one_scope.ArmLaws.{Arm-done, done-refused, arm-refused, arm-of, Arms-so, arms-back}
 use Rattle.cse_scoped.proofs.one_scope.Sound.{told-small, column-good, column-passes, arms-few, holds-later}
+use Rattle.spec_tree.proofs.Outcomes.{got}
 
 pub lent-on : (used : ℕ) (work text work' text' : List ℕ) → Lent used work text → length work' ≡ length work → length text' ≡ length text → Lent used work' text'
 lent-on used work text work' text' l e f = record { words = omega (arith, l .words, e); inside = omega (arith, l .inside, e); bytes = omega (arith, l .bytes, f) }

@@ -32,10 +32,8 @@ use Rattle.scope_laws.proofs.sound.Bounds.{Walk-bound, walk-bound, numbers-smal
 use Rattle.scope_laws.proofs.sound.Columns.{members-count, groups-count}
 use Rattle.scope_laws.proofs.sound.Counting.{places-there, held-extractable, held-passes, held-trees, first-lets, trees-few, lets-few, held-trees-few}
 use Rattle.statements.specs.Prepared.{Prepared}
-use Rattle.statements.proofs.Groups.{ends-count}
 use Rattle.cse_scoped.specs.one_scope.Answers.{walk-answer, Kept-so, Walk-wrote, walk-refusal, Holding-so}
 use Rattle.cse_scoped.specs.one_scope.Frame.{Holds, Ready, groups-told, grouped-scope, Numbered, Left, left-scope, Grouping-so}
-use Rattle.cse_scoped.specs.declared.one_scope.Scoped.{Scoped}
 use Rattle.cse_scoped.specs.declared.one_scope.Scoped.the-variants as scoped
 use Rattle.cse_scoped.specs.declared.one_scope.Holding.{Holding}
 use Rattle.cse_scoped.specs.declared.one_scope.Holding.the-variants as holding
@@ -45,8 +43,10 @@ use Rattle.cse_scoped.proofs.one_scope.Sound.{words-ok}
 use Rattle.reciprocals.proofs.bindings.Parts.{All-there, settle-tree, settled-reciprocals}
 use Rattle.laws.specs.positions.Places.{divisors-to-bind, numbered-at}
 use Rattle.fusion.specs.Switchless.{with-switches}
-use Rattle.cse_scoped.proofs.one_scope.Statements.{by-test, by-no-test, and-false}
+use Rattle.cse_scoped.proofs.one_scope.Statements.{by-test, by-no-test}
 use Rattle.cse_scoped.proofs.one_scope.Ending.{Scope-done, scope-refused}
+use Rattle.spec_tree.proofs.Logic.{and-false}
+use Rattle.fusion.proofs.grouping.Groups.{ends-length}
 
 -- ---- from the groups on
 
@@ -79,7 +79,7 @@ module _ (rows : List Row) (fuel left row : ℕ) (ws : List ℕ) (k first : ℕ)
   holds-from = subst (λ (n : ℕ). Holds rows n held) (sym (rd .last)) h
 
   pub ends-short : length ends ≤ 2048
-  ends-short = omega (arith, few-stmts, ap length (rd .grouped .ends-are), ends-count 0 gs)
+  ends-short = omega (arith, few-stmts, ap length (rd .grouped .ends-are), ends-length 0 gs)
 
   module _ (w : Walked) (numbers stops kept : List ℕ) (given : (w ≡ walk-answer (groups-told rows fuel left (first + lets) held)) × Walk-wrote (groups-told rows fuel left (first + lets) held) numbers stops kept) where
     pub record Walk-done (after extracted : ℕ) : Type 0 where
@@ -125,7 +125,7 @@ module _ (rows : List Row) (fuel left row : ℕ) (ws : List ℕ) (k first : ℕ)
       numbers-many = numbers-all gs from (length gs) (d .walk) bound refl ∙ sym (ap length (rd .grouped .members-are))
 
       arms-many : length (d .walk .arms) ≡ length ends
-      arms-many = bound .arms-many ∙ sym (ap length (rd .grouped .ends-are) ∙ ends-count 0 gs)
+      arms-many = bound .arms-many ∙ sym (ap length (rd .grouped .ends-are) ∙ ends-length 0 gs)
 
       numbers-here : take (length members) numbers ≡ d .walk .numbers
       numbers-here = ap (λ (n : ℕ). take n numbers) (sym numbers-many) ∙ d .numbers-are
@@ -179,7 +179,7 @@ unfolding stmts-count
 stmts-are ws k first places numbers trees whole = omega (arith, lets-of ws k first places trees whole)
 
 groups-many : (held : List ℕ) (m g : ℕ) (members ends : List ℕ) → Grouping-so held m g members ends → g ≡ length (place-groups held)
-groups-many held m g members ends s = omega (arith, length-take-le g ends (s .ends-in), ap length (s .ends-are), ends-count 0 (place-groups held))
+groups-many held m g members ends s = omega (arith, length-take-le g ends (s .ends-in), ap length (s .ends-are), ends-length 0 (place-groups held))
 
 -- with room for what is held, for the switches and for the statements, or without
 module _ (rows : List Row) (fuel left row : ℕ) (ws : List ℕ) (k first : ℕ) (places : List ℕ) where

@@ -1,10 +1,10 @@
 -- The end of a scope: its statements in order and its values, or refusal 11 (01, "Scoped fusion", "Order"). Assumes nothing.
-use Prim.Native.Nat.{ℕ, zero, suc, _+_, _-_, _*_, _≤_, _<_}
+use Prim.Native.Nat.{ℕ, _+_, _-_, _*_, _≤_, _<_}
 use native.Mathlib.Omega.{arith}
 use mathlib.Core.Path.{_≡_, refl, sym, _∙_, ap, subst}
 use mathlib.Core.Bool.{Bool, true, false}
-use mathlib.Core.List.{List, [], _∷_, _++_, reverse, reverseAux}
-use lib.ListN.{length, getD, take, drop, replicate, length-append}
+use mathlib.Core.List.{List, [], _++_, reverse}
+use lib.ListN.{length, take, drop, replicate, length-append}
 use lib.Seq.{take-at}
 use lib.Dec.{eqb}
 use borrow.Author.Tests.{eqb-true}
@@ -13,8 +13,8 @@ use Rattle.spec_tree.specs.Rows.{Row}
 use Rattle.spec_tree.specs.Tokens.{read, numbered}
 use Rattle.spec_tree.proofs.TokenLaws.{complete-length}
 use Rattle.spec_cse.specs.Order.{positions-taken}
-use Rattle.laws.proofs.cse.OrderLaws.{All, taken-ok}
-use Rattle.topo_sort.specs.Needs.{table-of, rows-from, all-or-ring}
+use Rattle.laws.proofs.cse.OrderLaws.{All, taken-ok, all-getD, all-turned}
+use Rattle.topo_sort.specs.Needs.{table-of, all-or-ring}
 use Rattle.topo_sort.specs.declared.Ordered.{Ordered}
 use Rattle.topo_sort.specs.declared.Ordered.the-variants as ordered
 use Rattle.fusion.specs.place.Overlay.{overlay}
@@ -25,13 +25,14 @@ use Rattle.laws.specs.positions.Names.{is-number}
 use Rattle.scope_laws.proofs.sound.Bounds.{walk-bound}
 use Rattle.cse_scoped.proofs.one_scope.Sound.{words-ok}
 use Rattle.statements.specs.Prepared.{Prepared, order-told}
-use Rattle.statements.proofs.Groups.{ends-count}
 use Rattle.statements.proofs.Held.{first-number, lets-are, count-is}
 use Rattle.cse_scoped.specs.one_scope.Answers.{scope-answer, Laid, Scope-laid, told-rows}
 use Rattle.cse_scoped.specs.one_scope.Frame.{most-rows, Holds, Positions, groups-told, grouped-scope, Numbered, scope-arms}
 use Rattle.cse_scoped.specs.declared.one_scope.Scoped.{Scoped}
 use Rattle.cse_scoped.specs.declared.one_scope.Scoped.the-variants as scoped
 use Rattle.cse_scoped.proofs.one_scope.Statements.{arms-are, by-test, by-no-test}
+use Rattle.topo_sort.proofs.Left.{table-length}
+use Rattle.fusion.proofs.grouping.Groups.{ends-length}
 
 -- ---- what a scope answers, from its outcome
 
@@ -53,31 +54,13 @@ ok-rows o t e = ap told-rows e
 
 -- ---- positions
 
-all-getD : (P : ℕ → Type 0) (l : List ℕ) → All P l → (q : ℕ) → q < length l → P (getD l q 0)
-all-getD P [] a q h = absurd (omega arith)
-all-getD P (x ∷ l) a zero h = a .0
-all-getD P (x ∷ l) a (suc q) h = all-getD P l (a .1) q (omega arith)
-
-all-turned : (P : ℕ → Type 0) (l a : List ℕ) → All P l → All P a → All P (reverseAux l a)
-all-turned P [] a h g = g
-all-turned P (x ∷ l) a h g = all-turned P l (x ∷ a) (h .1) (h .0, g)
-
-rows-count : (needs : List ℕ) (count j n : ℕ) → length (rows-from needs count j n) ≡ n
-unfolding rows-from
-rows-count needs count j zero = refl
-rows-count needs count j (suc n) = ap suc (rows-count needs count (suc j) n)
-
-table-count : (needs : List ℕ) (count : ℕ) → length (table-of needs count) ≡ count
-unfolding table-of
-table-count needs count = rows-count needs count 0 count
-
 pub order-inside : (ws : List ℕ) (k first : ℕ) (places numbers : List ℕ) → Positions (stmts-order ws k first places numbers) (stmts-count ws k first places numbers)
 unfolding stmts-order
 order-inside ws k first places numbers q h =
     let count = stmts-count ws k first places numbers in
     let bits = needs-table ws k first places numbers count (replicate (32 * count) 0) in
     let table = table-of bits count in
-    omega (arith, table-count bits count, all-getD (λ j. j < length table) (reverse (positions-taken table)) (all-turned (λ j. j < length table) (positions-taken table) [] (taken-ok table .inside) tt) q h)
+    omega (arith, table-length bits count, all-getD (λ j. j < length table) (reverse (positions-taken table)) (all-turned (λ j. j < length table) (positions-taken table) [] (taken-ok table .inside) tt) q h)
 
 -- ---- the end
 
@@ -125,7 +108,7 @@ module _ (rows : List Row) (fuel left : ℕ) (ws : List ℕ) (k first : ℕ) (pl
   outcome-ring e = outcome-is ∙ by-no-test (eqb (length order) count) (ok told) (refused (by 11)) e
 
   pub count-here : ((length starts - k) + length places) + length ends ≡ count
-  count-here = omega (arith, count-is p, ap length (p .ends-are) ∙ ends-count 0 (place-groups held))
+  count-here = omega (arith, count-is p, ap length (p .ends-are) ∙ ends-length 0 (place-groups held))
 
   pub extracted-low : extracted ≤ 4294967296
   unfolding groups-told

@@ -34,7 +34,6 @@ use Rattle.fusion.proofs.grouping.Told.{are-place-groups, places-stand}
 use Rattle.fusion.specs.place.Overlay.{overlay}
 use Rattle.fusion.proofs.tables.Laws.{overlay-none, overlay-word, overlay-append, overlay-fits}
 use Rattle.statements.specs.Prepared.{begin-of}
-use Rattle.statements.proofs.Groups.{ends-count}
 use Rattle.fusion.specs.columns.Copying.{armed-at, all-armed, Copying, copying-by, column-there, copying}
 use Rattle.fusion.specs.declared.columns.Column.{Column}
 use Rattle.fusion.specs.declared.columns.Column.the-variants as column-enum
@@ -51,6 +50,7 @@ use Rattle.cse_scoped.specs.declared.one_scope.Copied.the-variants as co
 use Rattle.cse_scoped.specs.declared.one_scope.Holding.the-variants as holding-enum
 use Rattle.cse_scoped.specs.declared.one_scope.Switches.{Switches}
 use Rattle.cse_scoped.specs.declared.one_scope.Switches.the-variants as switches-enum
+use Rattle.fusion.proofs.grouping.Groups.{ends-length}
 
 pub complete-so : (ws : List ℕ) → T (some-trees (trees-in ws)) → Complete ws
 unfolding some-trees
@@ -205,7 +205,7 @@ grouping-so held places t e {members} {ends} {n} {members'} {ends'} w =
     let m : members' ≡ j ++ drop (length j) members = w .members-are ∙ ap (λ (z : List (List ℕ)). joined-groups z ++ drop (length (joined-groups z)) members) gs in
     let d : ends' ≡ f ++ drop (length f) ends = w .ends-are ∙ ap (λ (z : List (List ℕ)). ends-from 0 z ++ drop (length (ends-from 0 z)) ends) gs in
     let p : length j ≡ length places = members-count held (c .0) (c .1) ∙ sym (ap length e) in
-    let q : length f ≡ n = ends-count 0 (place-groups held) ∙ (sym (ap length gs) ∙ sym (w .count)) in
+    let q : length f ≡ n = ends-length 0 (place-groups held) ∙ (sym (ap length gs) ∙ sym (w .count)) in
     record {
       members-are = ap (take (length places)) m ∙ take-at j (drop (length j) members) (length places) p;
       ends-are = ap (take n) d ∙ take-at f (drop (length f) ends) n q;
@@ -236,10 +236,6 @@ unfolding some-trees
 uncounted ws t r given e = subst (λ (o : Option ℕ). T (some-trees o)) (subst (Count-by ws r given) e (counted-so ws r given)) t
 
 -- ---- where a group begins
-
-pub begins-none : (ends : List ℕ) (g : ℕ) → g ≡ 0 → 0 ≡ begin-of ends g
-unfolding begin-of
-begins-none ends g e = sym (ap (begin-of ends) e)
 
 pub begins-at : (ends : List ℕ) (g : ℕ) → 0 < g → getD ends (g - 1) 0 ≡ begin-of ends g
 unfolding begin-of

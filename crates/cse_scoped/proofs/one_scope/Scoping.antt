@@ -22,7 +22,6 @@ use Rattle.scope_laws.proofs.sound.Rounds.{rounds-sound, rounds-short, rounds-p
 use Rattle.laws.specs.switches.Columns.{column-words}
 use Rattle.cse_scoped.specs.one_scope.Answers.{inner, arm-told, Lists, Copied-so}
 use Rattle.cse_scoped.specs.one_scope.Frame.{Left, left-scope}
-use Rattle.cse_scoped.specs.declared.one_scope.Scoped.{Scoped}
 use Rattle.cse_scoped.specs.declared.one_scope.Scoped.the-variants as scoped
 use Rattle.cse_scoped.specs.declared.one_scope.Armed.the-variants as armed
 use Rattle.cse_scoped.specs.declared.one_scope.Copied.{Copied}
@@ -31,8 +30,9 @@ use Rattle.cse_scoped.specs.declared.one_scope.Listed.{Listed}
 use Rattle.cse_scoped.specs.declared.one_scope.Listed.the-variants as listed
 use Rattle.cse_scoped.proofs.one_scope.Areas.{copied-none}
 use Rattle.cse_scoped.proofs.one_scope.ArmLaws.{Arm-done, done-refused, arm-refused}
-use Rattle.cse_scoped.proofs.one_scope.Statements.{by-test, by-no-test, and-false}
+use Rattle.cse_scoped.proofs.one_scope.Statements.{by-test, by-no-test}
 use Rattle.cse_scoped.proofs.one_scope.Ending.{Scope-done, scope-refused}
+use Rattle.spec_tree.proofs.Logic.{and-false}
 
 module _ (rows : List Row) (left row next : ℕ) (ws : List ℕ) (at : ℕ) (old : List ℕ) where
   pub too-deep : (fuel : ℕ) → fuel ≡ 0 → Scope-done (scope-told rows fuel left row next ws) at old (scoped.Refused 23) old

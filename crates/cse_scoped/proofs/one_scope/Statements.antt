@@ -2,7 +2,7 @@
 use Prim.Native.Nat.{ℕ, zero, suc, _+_, _-_, _≤_, _<_}
 use native.Mathlib.Omega.{arith}
 use mathlib.Core.Path.{_≡_, refl, sym, _∙_, ap, ap₂, subst}
-use mathlib.Core.Bool.{Bool, true, false, cond, _&&_}
+use mathlib.Core.Bool.{Bool, true, false, cond}
 use mathlib.Core.List.{List, [], _∷_, _++_}
 use lib.ListN.{length, getD, take, drop, length-append}
 use lib.Seq.{take-at}
@@ -21,7 +21,7 @@ use Rattle.scope_laws.proofs.sound.Columns.{group-fused}
 use Rattle.scope_laws.proofs.sound.Sums.{runs-within}
 use Rattle.scope_laws.proofs.sound.Bounds.{Walk-bound, walk-bound}
 use Rattle.statements.specs.Prepared.{Prepared, Readied, Grouped, begin-of}
-use Rattle.statements.proofs.Groups.{ends-count, end-is, begin-is, group-long, group-inside, group-part}
+use Rattle.statements.proofs.Groups.{end-is, begin-is, group-long, group-inside, group-part}
 use Rattle.statements.proofs.Held.{lets-are, count-is, first-number}
 use Rattle.statements.proofs.Keys.{grouped as all-grouped}
 use Rattle.cse_scoped.specs.one_scope.Answers.{inner, Laid, arms-of, words-of}
@@ -30,6 +30,7 @@ use Rattle.cse_scoped.proofs.one_scope.Sound.{words-ok, holds-later}
 use Rattle.cse_scoped.proofs.one_scope.Walking.{joined-low}
 use Rattle.cse_scoped.proofs.one_scope.WalkLaws.{joined-first, Walked-at, walked-at, starts-grow}
 use Rattle.cse_scoped.proofs.one_scope.Laying.{laid-none, laid-exact, laid-append, laid-as}
+use Rattle.fusion.proofs.grouping.Groups.{ends-length}
 
 pub by-test : {A : Type 0} (b : Bool) (x y : A) → b ≡ true → cond b x y ≡ x
 by-test true x y e = refl
@@ -38,10 +39,6 @@ by-test false x y e = absurd (let z : _≡_ {A = ℕ} 0 1 = cc in omega arith)
 pub by-no-test : {A : Type 0} (b : Bool) (x y : A) → b ≡ false → cond b x y ≡ y
 by-no-test true x y e = absurd (let z : _≡_ {A = ℕ} 0 1 = cc in omega arith)
 by-no-test false x y e = refl
-
-pub and-false : (b : Bool) → (b && false) ≡ false
-and-false true = refl
-and-false false = refl
 
 -- what begins alike has the same part there
 part-same : (f n : ℕ) (x y : List ℕ) → take (f + n) x ≡ take (f + n) y → take n (drop f x) ≡ take n (drop f y)
@@ -111,7 +108,7 @@ module _ (rows : List Row) (fuel left : ℕ) (ws : List ℕ) (k first : ℕ) (pl
     inside = omega (arith, count-is p)
 
     pub group-there : g < length ends
-    group-there = omega (arith, inside, ap length (p .ends-are) ∙ ends-count 0 gs)
+    group-there = omega (arith, inside, ap length (p .ends-are) ∙ ends-length 0 gs)
 
     at-g : Walked-at (inner rows fuel left) held gs from (λ n r i e. (let b = bound n r i e in (b .numbers-many, b .arms-many))) (λ j i. (let r = ready-of rows from held (h .good) in group-fused held (r .trees) (r .complete) j i .some-member)) (sz .walk) g
     at-g = walked-at (inner rows fuel left) held gs from (λ n r i e. (let b = bound n r i e in (b .numbers-many, b .arms-many))) (λ j i. (let r = ready-of rows from held (h .good) in group-fused held (r .trees) (r .complete) j i .some-member)) (length gs) (omega arith) (sz .walk) all-told g inside
@@ -127,7 +124,7 @@ module _ (rows : List Row) (fuel left : ℕ) (ws : List ℕ) (k first : ℕ) (pl
     arms-many = bound (length gs) (sz .walk) (omega arith) all-told .arms-many
 
     pub stop-in : g < length stops
-    stop-in = omega (arith, inside, ap length (sz .stops-are), ends-count 0 all-arms, arms-many)
+    stop-in = omega (arith, inside, ap length (sz .stops-are), ends-length 0 all-arms, arms-many)
 
     arms-there : g < length all-arms
     arms-there = omega (arith, inside, arms-many)

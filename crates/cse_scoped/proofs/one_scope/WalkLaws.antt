@@ -3,7 +3,7 @@
 use Prim.Native.Nat.{ℕ, zero, suc, _+_, _-_, _≤_, _<_}
 use native.Mathlib.Omega.{arith}
 use mathlib.Core.Path.{_≡_, refl, sym, _∙_, ap, ap₂, subst}
-use mathlib.Core.List.{List, [], _∷_, _++_, append-assoc, append-nil}
+use mathlib.Core.List.{List, [], _∷_, _++_, append-assoc}
 use lib.ListN.{length, getD, take, drop, set, length-append, List·getD-append}
 use mathlib.Core.Bool.{Bool, true, false, not}
 use lib.Dec.{T, ltb, ltb→lt, nltb→le}
@@ -20,9 +20,10 @@ use Rattle.cse_scoped.specs.declared.one_scope.Armed.{Armed}
 use Rattle.cse_scoped.specs.declared.one_scope.Armed.the-variants as armed
 use Rattle.cse_scoped.specs.declared.one_scope.Walked.the-variants as walked-enum
 use Rattle.cse_scoped.proofs.one_scope.Laying.{front-less}
-use Rattle.cse_scoped.proofs.one_scope.ArmLaws.{got, never-ok, Or, first, second, lt-or-eq}
+use Rattle.cse_scoped.proofs.one_scope.ArmLaws.{never-ok, Or, first, second, lt-or-eq}
 use Rattle.scope_laws.proofs.sound.Bounds.{start-next}
-use Rattle.statements.proofs.Groups.{ends-count}
+use Rattle.spec_tree.proofs.Outcomes.{got}
+use Rattle.fusion.proofs.grouping.Groups.{joined-last, ends-length}
 
 -- ---- words in front grow
 
@@ -32,12 +33,6 @@ front-grows xs new old at e f fits =
     overlay-fits at new old fits
     ∙ (ap (λ (l : List ℕ). l ++ (new ++ drop (at + length new) old)) (ap (λ (k : ℕ). take k old) e ∙ f) ∙ sym (append-assoc xs new (drop (at + length new) old))) in
     ap (take (length (xs ++ new))) s ∙ take-at (xs ++ new) (drop (at + length new) old) (length (xs ++ new)) refl
-
--- the rows of some groups' arms, and those of one more
-pub joined-more : (l : List (List ℕ)) (x : List ℕ) → joined-groups (l ++ (x ∷ [])) ≡ joined-groups l ++ x
-unfolding joined-groups
-joined-more [] x = append-nil x
-joined-more (y ∷ l) x = ap (λ (k : List ℕ). y ++ k) (joined-more l x) ∙ sym (append-assoc y (joined-groups l) x)
 
 ends-more : (n : ℕ) (l : List (List ℕ)) (x : List ℕ) → ends-from n (l ++ (x ∷ [])) ≡ ends-from n l ++ ((n + (length (joined-groups l) + length x)) ∷ [])
 unfolding ends-from joined-groups
@@ -87,7 +82,7 @@ more-kept arms x kept kept' k to e l i h = go (lt-or-eq' i (length arms))
     go (second q) =
         let s : take i (arms ++ (x ∷ [])) ≡ arms ++ (x ∷ []) = take-all i (arms ++ (x ∷ [])) (omega (arith, q, length-append arms (x ∷ []))) in
         let j = joined-groups arms in
-        let more = joined-more arms x in
+        let more = joined-last arms x in
         let fits : to + length x ≤ length kept = omega (arith, h, e, l .long, ap (λ (z : List (List ℕ)). length (joined-groups z)) s, ap length more, length-append j x) in
         let all : take (length arms) arms ≡ arms = take-all (length arms) arms (omega arith) in
         let before : take (length j) kept ≡ j =
@@ -196,13 +191,13 @@ module _ (scope : ℕ → List ℕ → Outcome Told) (hs : List ℕ) (gs : List 
             numbers-are =
                 ap (take (length (d .numbers ++ nums))) (p ∙ ap (λ (l : List ℕ). overlay start l numbers) same)
                 ∙ front-grows (d .numbers) nums numbers start (so .start-is) (so .numbers-are) (omega (arith, k, fits));
-            to-is = omega (arith, so .to-is, ap length (joined-more (d .arms) (a .words)), length-append (joined-groups (d .arms)) (a .words));
+            to-is = omega (arith, so .to-is, ap length (joined-last (d .arms) (a .words)), length-append (joined-groups (d .arms)) (a .words));
             stops-are =
                 let m = ends-from 0 (d .arms) in
                 let place = to + length (a .words) in
                 let z : ends-from 0 (d .arms ++ (a .words ∷ [])) ≡ m ++ (place ∷ []) = ends-more 0 (d .arms) (a .words) ∙ ap (λ (j : ℕ). m ++ (j ∷ [])) (omega (arith, so .to-is)) in
                 ap₂ (λ (l : List ℕ) (s : List ℕ). take (length l) s) z (sym (overlay-word n place stops))
-                ∙ (front-grows m (place ∷ []) stops n (so .arms-many ∙ sym (ends-count 0 (d .arms))) (so .stops-are) (omega (arith, inside)) ∙ sym z);
+                ∙ (front-grows m (place ∷ []) stops n (so .arms-many ∙ sym (ends-length 0 (d .arms))) (so .stops-are) (omega (arith, inside)) ∙ sym z);
             kept-is = more-kept (d .arms) (a .words) kept kept' (so .kept-is) to (so .to-is) w;
           }
 
@@ -232,7 +227,7 @@ module _ (scope : ℕ → List ℕ → Outcome Told) (hs : List ℕ) (gs : List 
     walk-all n number extracted start to numbers stops kept so count e =
         let s : walked scope hs gs next count ≡ ok (so .done) = subst (λ (k : ℕ). walked scope hs gs next k ≡ ok (so .done)) e (so .told) in
         subst (λ (o : Outcome Walk). (walked-enum.Done number extracted ≡ walk-answer o) × Walk-wrote o numbers stops kept) (sym s)
-        (ap₂ walked-enum.Done (so .number-is) (so .extracted-is), (so .numbers-are, ap (λ (k : ℕ). take k stops) (sym (ends-count 0 (so .done .arms))) ∙ so .stops-are, so .kept-is))
+        (ap₂ walked-enum.Done (so .number-is) (so .extracted-is), (so .numbers-are, ap (λ (k : ℕ). take k stops) (sym (ends-length 0 (so .done .arms))) ∙ so .stops-are, so .kept-is))
 
 -- ---- one group of those walked
 

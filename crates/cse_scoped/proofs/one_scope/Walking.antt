@@ -15,9 +15,10 @@ use Rattle.scope_laws.proofs.sound.Bounds.{per-match, Walk-bound, walk-bound}
 use Rattle.cse_scoped.specs.one_scope.Answers.{inner, arms-answer, Arms-wrote}
 use Rattle.cse_scoped.specs.one_scope.Frame.{Holds, Is-group, Members}
 use Rattle.cse_scoped.specs.declared.one_scope.Armed.{Armed}
-use Rattle.statements.proofs.Groups.{ends-count, end-is, group-long, group-inside, group-part}
+use Rattle.statements.proofs.Groups.{end-is, group-long, group-inside, group-part}
 use Rattle.cse_scoped.proofs.one_scope.Sound.{words-ok, holds-later}
 use Rattle.cse_scoped.proofs.one_scope.WalkLaws.{Walk-so}
+use Rattle.fusion.proofs.grouping.Groups.{ends-length}
 
 -- all rows of arms are paid for
 pub joined-low : (l : List (List ℕ)) → length (joined-groups l) ≤ sum-each (λ (run : List ℕ). per-match + length run) l
@@ -30,7 +31,7 @@ module _ (rows : List Row) (fuel left next : ℕ) (held members ends : List ℕ)
   gs = place-groups held
 
   pub ends-many : length ends ≡ length gs
-  ends-many = ap length (m .ends-are) ∙ ends-count 0 gs
+  ends-many = ap length (m .ends-are) ∙ ends-length 0 gs
 
   pub ends-few : length ends ≤ 3640
   ends-few =

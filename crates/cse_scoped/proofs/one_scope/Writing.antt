@@ -17,8 +17,9 @@ use Rattle.cse_scoped.specs.declared.one_scope.Armed.{Armed}
 use Rattle.cse_scoped.specs.declared.one_scope.Armed.the-variants as armed
 use Rattle.cse_scoped.proofs.one_scope.Laying.{laid-exact, laid-append, laid-past, laid-as}
 use Rattle.cse_scoped.proofs.one_scope.ArmLaws.{arms-within}
-use Rattle.statements.proofs.Groups.{ends-count, end-is, begin-is, group-long, group-inside, group-part}
+use Rattle.statements.proofs.Groups.{end-is, begin-is, group-long, group-inside, group-part}
 use Rattle.cse_scoped.proofs.one_scope.Sound.{fused, all-few, holds-later}
+use Rattle.fusion.proofs.grouping.Groups.{ends-length}
 
 -- a match's rows are those before its arms, and its arms'
 pub match-is : (hs : List ℕ) (gs : List (List ℕ)) (numbers arms : List ℕ) (g : ℕ) → match-run hs gs numbers arms g ≡ head-run hs gs numbers g ++ arms
@@ -61,7 +62,7 @@ module _ (rows : List Row) (fuel left : ℕ) (held members ends numbers : List �
     -- ---- where the group stands
 
     inside : g < length gs
-    inside = omega (arith, ap length (gr .ends-are) ∙ ends-count 0 gs)
+    inside = omega (arith, ap length (gr .ends-are) ∙ ends-length 0 gs)
 
     pub begins : begin-of ends g ≡ group-start gs g
     begins = ap (λ (e : List ℕ). begin-of e g) (gr .ends-are) ∙ begin-is gs g inside

@@ -3,23 +3,19 @@ use Prim.Native.Nat.{ℕ, _*_, _/_, _≤_}
 use native.Mathlib.Omega.{arith}
 use mathlib.Core.Path.{_≡_, refl, sym, ap, ap₂, _∙_, subst}
 use mathlib.Core.Bool.{Bool, true, false, _||_, cond}
-use mathlib.Core.List.{List, _++_}
+use mathlib.Core.List.{List}
 use mathlib.Core.Logic.{_⊎_, inl, inr}
 use lib.ListN.{length, take, drop, length-append}
 use lib.Dec.{ltb}
-use lib.Seq.{take-append-seam}
 use Rattle.spec_tree.specs.Outcome.{Refusal, Outcome, ok, refused, by, _>>=_}
 use Rattle.spec_tree.specs.Rows.{Table, trees}
-use Rattle.spec_tree.specs.Layout.{row-width, table-words, rows-of, table-of, in-domain, sheet-fits, loadable, laid-out, table-or-9}
-use Rattle.spec_tree.specs.Tokens.{name-in, number-in}
+use Rattle.spec_tree.specs.Layout.{row-width, table-words, rows-of, table-of, laid-out, table-or-9}
+use Rattle.spec_tree.specs.Tokens.{name-in}
 use Rattle.spec_tree.specs.Tree.{Tree}
-use Rattle.spec_tree.proofs.Logic.{and-left}
 use Rattle.spec_tree.proofs.LayoutLaws.{table-long}
-use Rattle.spec_tree.proofs.DomainPasses.{Domain, domain}
 use Rattle.spec_sheet.specs.Call.{load-call, rows-after, roots-after}
-use Rattle.spec_sheet.proofs.Loaded.{loaded-loadable}
 use Rattle.spec_cse.specs.Answer.{Answer, rows, answer-text}
-use Rattle.spec_cse.specs.AnswerRows.{answer-words, answer-of, answer-laid-out}
+use Rattle.spec_cse.specs.AnswerRows.{answer-of, answer-laid-out}
 use Rattle.spec_cse.specs.Scope.{answer}
 use Rattle.spec_cse.specs.Call.{Extracted, work-words, work-bytes, extract-call, table-after}
 use Rattle.laws.proofs.cse.Refusals.{refused-by-10-11-or-23}
@@ -34,6 +30,8 @@ use Rattle.print.specs.declared.Printed.the-variants as printer
 use Rattle.csescoped.specs.sheet.ScopedSheet.{rows-text, sheet-text, said-of, Says}
 use Rattle.csescoped.specs.declared.sheet.Said.{Said}
 use Rattle.csescoped.specs.declared.sheet.Said.the-variants as said
+use Rattle.spec_tree.proofs.Lists.{front}
+use Rattle.spec_sheet.proofs.Loadable.{loaded-domain}
 
 -- ---- extract and print have no records: the record of each of their refusals is 0
 
@@ -93,9 +91,6 @@ module _ (node-rows words old new : List ℕ) (g : new ≡ buffer-after (print-c
 
 -- ---- extract's
 
-front : (l old : List ℕ) → take (length l) (l ++ drop (length l) old) ≡ l
-front l old = take-append-seam l (drop (length l) old)
-
 module _ (work text : ℕ) (node-rows roots old-table : List ℕ) where
   abbrev call : Outcome Extracted
   call = extract-call true work text node-rows roots (length old-table)
@@ -131,10 +126,6 @@ module _ (work text : ℕ) (node-rows roots old-table : List ℕ) where
             subst (λ (l : List ℕ). Says (print-call node-rows l (length old)) old r new) b s
 
 -- ---- load's
-
-loaded-domain : (words places : ℕ) (sheet : List ℕ) (t : Table) → load-call words places sheet ≡ ok t → Domain t
-unfolding load-call loadable
-loaded-domain words places sheet t e = domain t (and-left (in-domain t) (sheet-fits t) (loaded-loadable (words / row-width) places sheet t e))
 
 module _ (words places : ℕ) (sheet old-rows old-roots new-rows new-roots : List ℕ) (got : Loaded) (L : Loads (load-call words places sheet) old-rows old-roots got new-rows new-roots) where
   -- the table that was loaded, in front of what was lent

@@ -19,14 +19,11 @@ use Rattle.fmt.specs.declared.checked.Checked.the-variants as checked
 use Rattle.words.specs.tokens.Answers.{end-answer}
 use Rattle.words.specs.declared.tokens.Run.the-variants as run
 use Rattle.words.proofs.tokens.Comparing.{run-ends, run-after}
+use Rattle.spec_tree.proofs.Logic.{and-assoc}
 
 and-true : (b : Bool) → (b && true) ≡ b
 and-true true = refl
 and-true false = refl
-
-and-assoc : (a b c : Bool) → ((a && b) && c) ≡ (a && (b && c))
-and-assoc true b c = refl
-and-assoc false b c = refl
 
 -- ---- a word by its kind
 

@@ -3,12 +3,12 @@ use Prim.Native.Nat.{ℕ, zero, suc, _+_, _*_, _/_, _%_, _^_, _≤_, _<_, min}
 use native.Mathlib.Omega.{arith}
 use mathlib.Core.Path.{_≡_, refl, sym, _∙_, ap}
 use mathlib.Core.Bool.{Bool, true, false, cond}
-use mathlib.Core.List.{List, [], _∷_}
+use mathlib.Core.List.{List, []}
 use borrow.Author.Tests.{eqb-true, eqb-false, leb-true, leb-false, ltb-true, le-leb, lt-leb, lt-ltb, le-ltb}
 use lib.IntN.{pos, negsuc}
 use lib.Dec.{eqb, leb, ltb}
-use lib.ListN.{length, getD, take, drop, length-take, List·getD-eq-default}
-use lib.Seq.{getD-take, getD-drop, drop-drop, take-take, take-all}
+use lib.ListN.{length, getD, take, drop, List·getD-eq-default}
+use lib.Seq.{getD-take, getD-drop, drop-drop}
 use Rattle.spec_tree.specs.Symbol.{is-name}
 use Rattle.spec_tree.specs.Rows.{Row, row-const}
 use Rattle.spec_tree.specs.Layout.{row-by, row-of, rows-of}
@@ -18,16 +18,12 @@ use Rattle.spec_tree.specs.Tokens.{constant-at, name-of-row, name-in, name-by}
 use Rattle.spec_tree.proofs.KindLaws.{kinds-long}
 use Rattle.node_rows.specs.kinds.Numbers.{kind-number}
 use Rattle.fmt.specs.checked.Check.{rows-in}
+use Rattle.spec_tree.proofs.LayoutLaws.{rows-long, row-part}
 
 -- ---- the name in a row
 
 abbrev row-at : List ℕ → ℕ → List ℕ
 row-at ws i = take 35 (drop (i * 35) ws)
-
-rows-length : (n : ℕ) (ws : List ℕ) → length (rows-of n ws) ≡ n
-unfolding rows-of
-rows-length zero ws = refl
-rows-length (suc n) ws = ap suc (rows-length n (drop 35 ws))
 
 rows-entry : (n : ℕ) (ws : List ℕ) (i : ℕ) (d : Row) → i < n → getD (rows-of n ws) i d ≡ row-of (row-at ws i)
 unfolding rows-of
@@ -47,34 +43,11 @@ no-name : is-name [] ≡ false
 unfolding is-name
 no-name = refl
 
--- a row has 32 words for its fields
-room : (ws : List ℕ) → drop 3 (take 35 ws) ≡ take 32 (drop 3 ws)
-room [] = refl
-room (a ∷ []) = refl
-room (a ∷ (b ∷ [])) = refl
-room (a ∷ (b ∷ (c ∷ l))) = refl
-
-held : (n : ℕ) (l : List ℕ) → take n (take 32 l) ≡ take (min n 32) l
-held n l = go (leb n 32) refl
-  where
-    go : (b : Bool) → leb n 32 ≡ b → take n (take 32 l) ≡ take (min n 32) l
-    go true e =
-        let h = leb-true n 32 e in
-        let m : n ≡ min n 32 = omega arith in
-        take-take n 32 l h ∙ ap (λ (k : ℕ). take k l) m
-    go false e =
-        let h = leb-false n 32 e in
-        let m : 32 ≡ min n 32 = omega arith in
-        take-all n (take 32 l) (let q = length-take 32 l in omega arith) ∙ ap (λ (k : ℕ). take k l) m
-
-part : (n : ℕ) (ws : List ℕ) → take n (drop 3 (take 35 ws)) ≡ take (min n 32) (drop 3 ws)
-part n ws = ap (take n) (room ws) ∙ held n (drop 3 ws)
-
 module _ (ws : List ℕ) (i : ℕ) where
   pub past-rows : length ws / 35 ≤ i → false ≡ is-name (name-in (rows-in ws) i)
   unfolding name-in name-of-row
   past-rows h =
-      let l = rows-length (length ws / 35) ws in
+      let l = rows-long (length ws / 35) ws in
       sym (ap (λ (r : Row). is-name (name-of-row r)) (List·getD-eq-default (rows-in ws) (row-const (pos 0)) {n = i} (omega arith)) ∙ no-name)
 
   module _ (h : i < length ws / 35) where
@@ -86,7 +59,7 @@ module _ (ws : List ℕ) (i : ℕ) where
     name-is =
         let e : i * 35 + 0 ≡ i * 35 = omega arith in
         let f = drop-drop 3 (i * 35) ws in
-        rw (rows-entry (length ws / 35) ws i (row-const (pos 0)) h, word-of-row 0 (omega arith), word-of-row 1 (omega arith), word-of-row 2 (omega arith), e, part (getD ws (i * 35 + 2) 0) (drop (i * 35) ws), f)
+        rw (rows-entry (length ws / 35) ws i (row-const (pos 0)) h, word-of-row 0 (omega arith), word-of-row 1 (omega arith), word-of-row 2 (omega arith), e, row-part (getD ws (i * 35 + 2) 0) (drop (i * 35) ws), f)
 
     pub other-kind : (getD ws (i * 35) 0 ≡ 0 → ⊥) → false ≡ is-name (name-in (rows-in ws) i)
     other-kind n =

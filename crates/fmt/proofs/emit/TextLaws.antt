@@ -5,8 +5,7 @@ use mathlib.Core.Bool.{Bool, true, false}
 use mathlib.Core.List.{List, [], _∷_, _++_, map}
 use native.Mathlib.Numerals.{add-one}
 use native.Mathlib.Omega.{arith}
-use borrow.Author.Tests.{ltb-false, lt-ltb, le-ltb, eq-eqb, ne-eqb}
-use lib.Dec.{ltb}
+use borrow.Author.Tests.{lt-ltb, le-ltb, eq-eqb, ne-eqb}
 use lib.ListN.{length, getD, take}
 use lib.Seq.{take-suc, take-all}
 use Rattle.spec_tree.specs.Bytes.{digits, decimal, integer}
@@ -14,6 +13,7 @@ use Rattle.spec_tree.specs.Tokens.{constant-at}
 use Rattle.spec_tree.proofs.TokenLaws.{map-append}
 use Rattle.fmt.specs.emit.Writing.{Writes, low-bytes}
 use Rattle.fmt.proofs.emit.WriteLaws.{writes-none, writes-then, writes-as}
+use Rattle.node_rows.proofs.records.Digits.{same-digits, by-test}
 
 -- ---- a slice's bytes, i of them written
 
@@ -45,24 +45,6 @@ module _ {dry : Bool} {old : List ℕ} {to : ℕ} (s : List ℕ) where
   words-end {new} {i} h p = writes-as (low-bytes (take i s)) (low-bytes s) (ap low-bytes (take-all i s h)) p
 
 -- ---- decimal digits
-
--- more fuel than the number gives the same digits
-same-digits : (f g n : ℕ) → n ≤ f → n ≤ g → digits f n ≡ digits g n
-unfolding digits
-same-digits zero zero n h k = refl
-same-digits zero (suc g) n h k = let z : n ≡ 0 = omega arith in rw z
-same-digits (suc f) zero n h k = let z : n ≡ 0 = omega arith in rw z
-same-digits (suc f) (suc g) n h k = go (ltb n 10) refl (λ l. same-digits f g (n / 10) (omega arith) (omega arith))
-  where
-    go : (b : Bool) → ltb n 10 ≡ b → (10 ≤ n → digits f (n / 10) ≡ digits g (n / 10))
-        → _≡_ {A = List ℕ} (elim b [ true ↦ (48 + n) ∷ [] | false ↦ digits f (n / 10) ++ ((48 + n % 10) ∷ []) ]) (elim b [ true ↦ (48 + n) ∷ [] | false ↦ digits g (n / 10) ++ ((48 + n % 10) ∷ []) ])
-    go true e i = refl
-    go false e i = ap (λ (l : List ℕ). l ++ ((48 + n % 10) ∷ [])) (i (ltb-false n 10 e))
-
--- by the test for one digit, whichever way it goes
-by-test : (n : ℕ) (l : List ℕ) (b : Bool) → ltb n 10 ≡ b
-    → _≡_ {A = List ℕ} (elim (ltb n 10) [ true ↦ (48 + n) ∷ [] | false ↦ l ]) (elim b [ true ↦ (48 + n) ∷ [] | false ↦ l ])
-by-test n l b e = ap (λ (b : Bool). elim b as (λ _. List ℕ) [ true ↦ (48 + n) ∷ [] | false ↦ l ]) e
 
 pub one-digit : (n : ℕ) → n < 10 → decimal n ≡ (48 + n) ∷ []
 unfolding decimal digits

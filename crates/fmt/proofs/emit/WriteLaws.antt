@@ -3,18 +3,14 @@ use Prim.Native.Nat.{ℕ, suc, _+_, _≤_, _<_, min}
 use mathlib.Core.Path.{_≡_, refl, sym, ap, _∙_, subst}
 use mathlib.Core.Bool.{Bool, true, false, not}
 use mathlib.Core.List.{List, [], _∷_, _++_}
-use native.Mathlib.Nat.{add-zero, add-suc, suc-add}
 use native.Mathlib.Omega.{arith}
 use lib.Dec.{T, ltb, ltb→lt, nltb→le}
 use lib.ListN.{length, set, length-append}
 use lib.Seq.{sets, length-sets, set-out}
 use Rattle.fmt.specs.emit.Writing.{Writes, bytes-after}
+use Rattle.spec_tree.proofs.Lists.{sets-append}
 
 -- ---- stores
-
-sets-append : (l : List ℕ) (i : ℕ) (v w : List ℕ) → sets (sets l i v) (i + length v) w ≡ sets l i (v ++ w)
-sets-append l i [] w = ap (λ (k : ℕ). sets l k w) (add-zero i)
-sets-append l i (a ∷ v) w = ap (λ (k : ℕ). sets (sets (set l i a) (suc i) v) k w) (add-suc i (length v) ∙ sym (suc-add i (length v))) ∙ sets-append (set l i a) (suc i) v w
 
 sets-out : (w l : List ℕ) (i : ℕ) → length l ≤ i → sets l i w ≡ l
 sets-out [] l i h = refl

@@ -1,10 +1,10 @@
 -- The names of the kinds in one row of bytes: each stands where its start says, tested at all of them by computing. Assumes nothing.
 use Prim.Native.Nat.{ℕ, zero, suc, _+_, _-_, _≤_, _<_}
-use mathlib.Core.Path.{_≡_, sym, ap, subst}
-use mathlib.Core.Bool.{Bool, true, false, _&&_, not}
+use mathlib.Core.Path.{_≡_, sym, ap}
+use mathlib.Core.Bool.{Bool, true, _&&_}
 use mathlib.Core.List.{List, [], _∷_, _++_}
 use native.Mathlib.Omega.{arith}
-use lib.Dec.{T, leb, ltb, leb→le, ltb→lt, nltb→le}
+use lib.Dec.{T, leb, leb→le}
 use lib.ListN.{getD, take, drop, List·getD-eq-default}
 use Rattle.spec_tree.specs.Bytes.{bytes, eq-bytes}
 use Rattle.spec_tree.specs.Kinds.{Kind, kinds, kind-at, printed-name}
@@ -12,6 +12,7 @@ use Rattle.spec_tree.proofs.Logic.{and-left, and-right}
 use Rattle.spec_tree.proofs.TreeLaws.{eq-bytes-sound}
 use Rattle.fmt.specs.emit.Writing.{Writes}
 use Rattle.fmt.proofs.emit.WriteLaws.{writes-then, writes-as}
+use Rattle.node_rows.proofs.kinds.Spans.{span}
 
 abbrev row : List ℕ
 row = bytes "sincostanasinacosatanatan2sinhcoshtanhexplnlog2log10sqrtabsHclampbranchselectselect_or"
@@ -35,18 +36,6 @@ stands k =
 abbrev all : (ℕ → Bool) → ℕ → ℕ → Bool
 all P lo zero = true
 all P lo (suc n) = P lo && all P (suc lo) n
-
-span : (P : ℕ → Bool) (lo n : ℕ) → T (all P lo n) → (x : ℕ) → lo ≤ x → x < lo + n → T (P x)
-span P lo zero t x h k = absurd (omega arith)
-span P lo (suc n) t x h k =
-    go (ltb lo x) (ltb→lt lo x) (nltb→le lo x) (λ g. span P (suc lo) n (and-right (P lo) (all P (suc lo) n) t) x g (omega arith))
-  where
-    here : x ≤ lo → lo ≡ x
-    here g = omega arith
-
-    go : (b : Bool) → (T b → lo < x) → (T (not b) → x ≤ lo) → (lo < x → T (P x)) → T (P x)
-    go true p q r = r (p tt)
-    go false p q r = subst (λ (y : ℕ). T (P y)) (here (q tt)) (and-left (P lo) (all P (suc lo) n) t)
 
 all-stand : T (all stands 0 29)
 unfolding stands eq-bytes printed-name kind-at kinds

@@ -23,6 +23,7 @@ use Rattle.fmt.specs.shapes.Places.{tree-here, Stands, Passes}
 use Rattle.fmt.proofs.shapes.PlaceLaws.{below-here, Operand, operand}
 use Rattle.fmt.proofs.shapes.OperandLaws.{operation-layout, operands-more, no-operands}
 use Rattle.fmt.proofs.shapes.NodeLaws.{names, stands-node, here-size, operation-is, display-operation, ok-operation, ok-at}
+use Rattle.spec_tree.proofs.Lists.{one-size}
 
 -- the operands of the node at a place
 abbrev pub under : List ℕ → List ℕ → ℕ → List Tree
@@ -39,10 +40,6 @@ pub record Writing (dry : Bool) (rows ws : List ℕ) (at : ℕ) (old : List ℕ)
 no-sizes : sizes [] ≡ 0
 unfolding sizes total
 no-sizes = refl
-
-one-size : (t : Tree) → sizes (t ∷ []) ≡ size t
-unfolding sizes total
-one-size t = omega arith
 
 display-is : (t : Tree) → display t ≡ part t .text
 unfolding display

@@ -13,7 +13,7 @@ use Rattle.spec_tree.specs.Tree.{Name, input, xname, mname, Tree, Sym, Const, O
 use Rattle.spec_tree.specs.Facts.{total, size}
 use Rattle.spec_tree.specs.Passes.{all-of, symbol-ok, of-paper, operands-ok, tree-ok, trees-ok}
 use Rattle.spec_tree.specs.Tokens.{kind-of, below-of, constant-at, name-by, name-in, tree-of-word, read}
-use Rattle.spec_tree.proofs.Logic.{and-left, and-right}
+use Rattle.spec_tree.proofs.Logic.{and-left, and-right, either}
 use Rattle.spec_tree.proofs.TokenLaws.{Word, a-symbol, a-constant, an-operation, word-is, sizes, symbol-tree, constant-tree, operation-tree, leaf-takes, fold-operation}
 use Rattle.spec_tree.specs.text.Text.{Part, name-text, precedence, operation-text, part, display, bracketed}
 use Rattle.fmt.specs.emit.Writing.{Writes, low-bytes}
@@ -27,10 +27,6 @@ use Rattle.fmt.specs.shapes.Places.{tree-here, Stands, Passes}
 use Rattle.fmt.proofs.shapes.PlaceLaws.{below-here, Node, node}
 
 -- ---- a symbol's name is bytes
-
-either : (P : Type 0) (a b : Bool) → (T a → P) → (T b → P) → T (a || b) → P
-either P true b f g t = f tt
-either P false b f g t = g t
 
 letter-low : (b : ℕ) → T (is-letter b) → b < 256
 letter-low b t =

@@ -11,15 +11,7 @@ use Rattle.spec_tree.specs.Tree.{Tree, Op, nil}
 use Rattle.spec_tree.specs.Facts.{total, size}
 use Rattle.spec_tree.specs.Tokens.{takes, tree-of-word, read, trees-at, words-of, run-at}
 use Rattle.spec_tree.proofs.FactLaws.{size-one}
-use Rattle.spec_tree.proofs.TokenLaws.{sizes, sizes-append, size-made, read-cons, read-past, complete-length, complete-read, words-complete, words-tail, tree-at}
-
-some-is : {n m : ℕ} → some n ≡ some m → n ≡ m
-some-is e = cc
-
-first-size : (ts : List Tree) → 1 ≤ length ts → sizes (take 1 ts) ≡ size (getD ts 0 (Op 0 nil))
-unfolding sizes total
-first-size [] h = absurd (omega arith)
-first-size (t ∷ ts) h = omega arith
+use Rattle.spec_tree.proofs.TokenLaws.{sizes, sizes-append, size-made, read-cons, read-past, complete-length, complete-read, words-complete, words-tail, tree-at, some-is, first-size}
 
 module _ (name-at : ℕ → List ℕ) where
   -- ---- the first trees of some words

@@ -11,7 +11,7 @@ use lib.Dec.{ltb}
 use lib.ListN.{length, getD, take, drop, length-take, length-drop, List·getD-eq-default}
 use lib.Seq.{take-add, drop-at, drop-drop, getD-take, getD-drop}
 use Rattle.spec_tree.specs.Bytes.{digits, decimal}
-use Rattle.spec_tree.specs.Rows.{Row, row-const}
+use Rattle.spec_tree.specs.Rows.{row-const}
 use Rattle.spec_tree.specs.Layout.{row-width, row-by, row-of, rows-of}
 use Rattle.spec_tree.specs.Tokens.{name-of-row, name-in, name-by}
 use Rattle.spec_tree.proofs.TokenLaws.{map-append}
@@ -20,25 +20,13 @@ use Rattle.fmt.specs.emit.Writing.{Writes, low-bytes}
 use Rattle.fmt.specs.symbols.Symbols.{row-name, symbol-text}
 use Rattle.fmt.proofs.emit.WriteLaws.{writes-none, writes-then, writes-as}
 use Rattle.fmt.proofs.emit.TextLaws.{low-none}
+use Rattle.spec_tree.proofs.LayoutLaws.{rows-long}
+use Rattle.node_rows.proofs.unfolded.RowLaws.{rows-of-at}
 
 -- ---- a row's words
 
-rows-long : (n : ℕ) (ws : List ℕ) → length (rows-of n ws) ≡ n
-unfolding rows-of
-rows-long zero ws = refl
-rows-long (suc n) ws = ap suc (rows-long n (drop row-width ws))
-
 abbrev words-at : List ℕ → ℕ → List ℕ
 words-at ws i = take row-width (drop (i * row-width) ws)
-
-next-row : (i : ℕ) (ws : List ℕ) → words-at (drop row-width ws) i ≡ words-at ws (suc i)
-next-row i ws = let e : row-width + i * row-width ≡ suc i * row-width = omega arith in rw (drop-drop (i * row-width) row-width ws, e)
-
-rows-at : (n : ℕ) (ws : List ℕ) (i : ℕ) (d : Row) → i < n → getD (rows-of n ws) i d ≡ row-of (words-at ws i)
-unfolding rows-of
-rows-at zero ws i d h = absurd (omega arith)
-rows-at (suc n) ws zero d h = refl
-rows-at (suc n) ws (suc i) d h = rows-at n (drop row-width ws) i d (omega arith) ∙ ap row-of (next-row i ws)
 
 take-min : (n m : ℕ) (l : List ℕ) → take n (take m l) ≡ take (min n m) l
 take-min zero m l = ap (λ (k : ℕ). take k l) (let e : 0 ≡ min 0 m = omega arith in e)
@@ -81,7 +69,7 @@ module _ (ws : List ℕ) (n : ℕ) where
   name-is : n < length ws / 35 → row-name ws n ≡ name-of-row (row-by number fields)
   unfolding row-name name-in row-of
   name-is h =
-      ap name-of-row (rows-at (length ws / 35) ws n (row-const (pos 0)) h)
+      ap name-of-row (rows-of-at (length ws / 35) ws n (row-const (pos 0)) h)
       ∙ ap name-of-row (ap₂ row-by (ap₂ _+_ (word 0 (omega arith) ∙ ap (λ (i : ℕ). getD ws i 0) (let e : n * 35 + 0 ≡ n * 35 = omega arith in e)) (word 1 (omega arith))) (ap₂ take (word 2 (omega arith)) (drop-take (drop (n * 35) ws) long ∙ ap (take 32) (drop-drop 3 (n * 35) ws)) ∙ take-min (getD ws (n * 35 + 2) 0) 32 (drop (n * 35 + 3) ws)))
     where
       inside : n * 35 + 35 ≤ length ws

@@ -11,19 +11,13 @@ use lib.Dec.{T, eqb, ltb}
 use lib.ListN.{length, getD}
 use Rattle.spec_tree.specs.text.Text.{before, later}
 use Rattle.fmt.proofs.texts.Comparing.{same-byte, other-byte, later-second, later-first}
+use Rattle.spec_tree.proofs.Logic.{not-true, never}
 
 -- ---- a test as an equation
 
 is-true : (b : Bool) → T b → b ≡ true
 is-true true t = refl
 is-true false t = absurd t
-
-is-false : (b : Bool) → (T b → ⊥) → b ≡ false
-is-false true n = absurd (n tt)
-is-false false n = refl
-
-never : (b : Bool) → b ≡ false → T b → ⊥
-never b e t = subst T e t
 
 holds : (b : Bool) → b ≡ true → T b
 holds b e = subst T (sym e) tt
@@ -97,7 +91,7 @@ equal-texts (a ∷ s) (b ∷ t) h g = equal-bytes a b s t (equal-texts s t) h g
 
 -- a text that is not before another, which is not before a third, is not before the third
 pub not-before-through : (s t u : List ℕ) → before s t ≡ false → before t u ≡ false → before s u ≡ false
-not-before-through s t u h g = is-false (before s u) (λ k. go (before t s) refl k)
+not-before-through s t u h g = not-true (before s u) (λ k. go (before t s) refl k)
   where
     go : (q : Bool) → before t s ≡ q → T (before s u) → ⊥
     go true e k = never (before t u) g (before-through t s u (holds (before t s) e) k)
@@ -119,7 +113,7 @@ module _ (s t : List ℕ) where
   later-not-before-first = go (before s t) refl
     where
       go : (q : Bool) → before s t ≡ q → before (later s t) s ≡ false
-      go true e = rw (← later-second s t (sym e)) (is-false (before t s) (λ k. not-both s t (holds (before s t) e) k))
+      go true e = rw (← later-second s t (sym e)) (not-true (before t s) (λ k. not-both s t (holds (before s t) e) k))
       go false e = rw (← later-first s t (sym e)) (not-before-itself s)
 
   pub later-not-before-second : before (later s t) t ≡ false

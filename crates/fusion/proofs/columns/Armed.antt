@@ -12,16 +12,13 @@ use Rattle.spec_tree.specs.Tokens.{kind-of, takes}
 use Rattle.laws.specs.switches.Switches.{switch-at, arm-count}
 use Rattle.laws.proofs.switches.Collected.{Switching}
 use Rattle.fusion.specs.columns.Copying.{armed-at, all-armed}
+use Rattle.spec_tree.proofs.Logic.{both-true}
 
 -- ---- tests joined
 
-and-false : (b : Bool) → b && false ≡ false
+pub and-false : (b : Bool) → b && false ≡ false
 and-false true = refl
 and-false false = refl
-
-pub both-true : (b c : Bool) → b && c ≡ true → (b ≡ true) × (c ≡ true)
-both-true true c e = (refl, e)
-both-true false c e = absurd (subst T (sym e) tt)
 
 -- ---- one place
 

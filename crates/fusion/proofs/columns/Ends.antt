@@ -22,14 +22,6 @@ use Rattle.fusion.specs.declared.columns.Column.the-variants as column
 abbrev pub Copies : List ℕ → List ℕ → ℕ → List ℕ → Column → List ℕ → Type 0
 Copies ws qs a old r out = (r ≡ copying ws qs a old .answer) × (out ≡ copying ws qs a old .out)
 
-pub trees-counted : (ws : List ℕ) (n : ℕ) → trees.Count n ≡ count-answer (trees-in ws) → Complete ws
-unfolding count-answer
-trees-counted ws n e = go (trees-in ws) refl e
-  where
-    go : (o : Option ℕ) → trees-in ws ≡ o → trees.Count n ≡ count-answer o → Complete ws
-    go none s q = let z : _≡_ {A = ℕ} 0 1 = cc in absurd (omega arith)
-    go (some m) s q = (m, s)
-
 module _ (ws qs : List ℕ) (a : ℕ) (old : List ℕ) where
   abbrev new : List ℕ
   new = column-words ws qs a

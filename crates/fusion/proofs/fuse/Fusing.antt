@@ -1,5 +1,5 @@
 -- Step after step, and what fusing answers: the words so far, with the steps to come, are the whole. Assumes nothing.
-use Prim.Native.Nat.{ℕ, zero, suc, _+_, _≤_, _<_}
+use Prim.Native.Nat.{ℕ, suc, _+_, _≤_, _<_}
 use native.Mathlib.Omega.{arith}
 use mathlib.Core.Path.{_≡_, refl, sym, _∙_, ap, subst}
 use mathlib.Core.Bool.{Bool, true, false}
@@ -20,6 +20,7 @@ use Rattle.fusion.specs.declared.fuse.Stepped.{Stepped}
 use Rattle.fusion.specs.declared.fuse.Stepped.the-variants as stepped
 use Rattle.fusion.specs.declared.fuse.Fused.{Fused}
 use Rattle.fusion.specs.declared.fuse.Fused.the-variants as fused
+use Rattle.spec_tree.proofs.Lists.{fits-in, none-left}
 
 -- ---- what steps keep
 
@@ -63,12 +64,6 @@ never-more base (p ∷ l) (n ∷ ns) ws new e = go (fuse-step base p (mname n) w
     go (some vs) s q h = omega (arith, step-stays base p n ws vs s .short, h vs q)
 
 -- ---- the loop
-
-none-left : (k : ℕ) (l : List ℕ) → length l ≤ k → drop k l ≡ []
-none-left zero [] h = refl
-none-left (suc k) [] h = refl
-none-left zero (x ∷ l) h = absurd (omega arith)
-none-left (suc k) (x ∷ l) h = none-left k l (omega arith)
 
 pub record State (base places numbers ws : List ℕ) (room spares : ℕ) (work spare : List ℕ) (k n : ℕ) : Type 0 where
   pub long : length work ≡ room
@@ -140,11 +135,6 @@ module _ {base places numbers ws : List ℕ} {room spares : ℕ} {work spare : L
       subst (λ (w : Option (List ℕ)). (stepped.Words n ≡ stepped-answer w) × Front w work) e (ap stepped.Words (sym l), ap (λ (i : ℕ). take i work) l)
 
 -- ---- what fusing answers and leaves
-
-fits-in : (n : ℕ) (l : List ℕ) → length (take n l) ≤ length l
-fits-in zero l = omega arith
-fits-in (suc n) [] = omega arith
-fits-in (suc n) (x ∷ l) = omega (arith, fits-in n l)
 
 module _ (base places numbers old : List ℕ) (len : ℕ) where
   abbrev pub Answers : Fused → List ℕ → Type 0

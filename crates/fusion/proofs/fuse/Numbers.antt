@@ -10,6 +10,7 @@ use lib.Seq.{drop-cons}
 use lib.Dec.{leb, T, leb→le}
 use Rattle.spec_tree.proofs.Logic.{and-left, and-right}
 use Rattle.fusion.specs.fuse.Answers.{all-small}
+use Rattle.spec_tree.proofs.Lists.{none-left}
 
 -- those from number i on decide
 abbrev pub Left : List ℕ → ℕ → Type 0
@@ -26,12 +27,6 @@ pub next-small : (l : List ℕ) (i : ℕ) → i < length l → Left l i → getD
 next-small l i h e g =
     let n : i + 1 ≡ suc i = omega arith in
     ap (λ (j : ℕ). all-small (drop j l)) n ∙ (sym (ap (λ (b : Bool). b && all-small (drop (suc i) l)) (le-leb (getD l i 0) 549755813888 g)) ∙ from-here l i h e)
-
-none-left : (k : ℕ) (l : List ℕ) → length l ≤ k → drop k l ≡ []
-none-left zero [] h = refl
-none-left (suc k) [] h = refl
-none-left zero (x ∷ l) h = absurd (omega arith)
-none-left (suc k) (x ∷ l) h = none-left k l (omega arith)
 
 pub all-seen : (l : List ℕ) (i : ℕ) → length l ≤ i → Left l i → true ≡ all-small l
 unfolding all-small

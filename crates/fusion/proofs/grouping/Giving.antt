@@ -13,10 +13,7 @@ use Rattle.fusion.specs.place.Parts.{joined-groups, ends-from}
 use Rattle.fusion.specs.grouping.Answers.{groups-at, all-stand, Groups-written, Groups-told, groups-by, room-for, groups-answer}
 use Rattle.fusion.specs.declared.grouping.Grouping.{Grouping}
 use Rattle.fusion.specs.declared.grouping.Grouping.the-variants as grouping
-
-and-none : (b : Bool) → (b && false) ≡ false
-and-none true = refl
-and-none false = refl
+use Rattle.spec_tree.proofs.Logic.{and-false}
 
 module _ (ws ps members ends : List ℕ) where
   abbrev pub Answers : Grouping → List ℕ → List ℕ → Type 0
@@ -65,7 +62,7 @@ module _ (ws ps members ends : List ℕ) where
 
       pub few-ends : length ends < length ps → Answers grouping.NoRoom members ends
       unfolding room-for
-      few-ends h = full (ap (λ (b : Bool). leb (length ps) (length members) && b) (lt-leb (length ps) (length ends) h) ∙ and-none (leb (length ps) (length members)))
+      few-ends h = full (ap (λ (b : Bool). leb (length ps) (length members) && b) (lt-leb (length ps) (length ends) h) ∙ and-false (leb (length ps) (length members)))
 
       pub grouped :
           length ps ≤ length members → length ps ≤ length ends → (n : ℕ) (members-left ends-left : List ℕ)

@@ -9,15 +9,16 @@ use borrow.Rule.Slice.PartMut.{putMid}
 use lib.ListN.{length, getD, take, drop, set, length-append, length-drop, length-map}
 use lib.Seq.{drop-cons, set-at, take-at, drop-at, drop-drop}
 use Rattle.spec_tree.proofs.TokenLaws.{map-append}
-use Rattle.words.proofs.words.Scanning.{Put, rest-is, put-lent}
+use Rattle.words.proofs.words.Scanning.{Put, put-lent}
 use Rattle.laws.specs.switches.Groups.{group-first, firsts-within, group-numbers, member-places}
 use Rattle.fusion.specs.place.Parts.{joined-groups, ends-from}
 use Rattle.fusion.specs.grouping.Answers.{groups-at, Front, Groups-written}
 use Rattle.fusion.proofs.grouping.Fewer.{members-fewer, groups-fewer}
+use Rattle.spec_tree.proofs.Lists.{rest-is}
 
 -- ---- one group more
 
-joined-last : (gs : List (List ℕ)) (g : List ℕ) → joined-groups (gs ++ (g ∷ [])) ≡ joined-groups gs ++ g
+pub joined-last : (gs : List (List ℕ)) (g : List ℕ) → joined-groups (gs ++ (g ∷ [])) ≡ joined-groups gs ++ g
 unfolding joined-groups
 joined-last [] g = append-nil g
 joined-last (f ∷ gs) g = ap (λ (l : List ℕ). f ++ l) (joined-last gs g) ∙ sym (append-assoc f (joined-groups gs) g)
@@ -29,7 +30,7 @@ ends-last n (f ∷ gs) g =
     let z : n + length f + length (joined-groups gs) + length g ≡ n + length (f ++ joined-groups gs) + length g = omega (arith, length-append f (joined-groups gs)) in
     ap (λ (l : List ℕ). (n + length f) ∷ l) (ends-last (n + length f) gs g ∙ ap (λ (k : ℕ). ends-from (n + length f) gs ++ (k ∷ [])) z)
 
-ends-length : (n : ℕ) (gs : List (List ℕ)) → length (ends-from n gs) ≡ length gs
+pub ends-length : (n : ℕ) (gs : List (List ℕ)) → length (ends-from n gs) ≡ length gs
 unfolding ends-from
 ends-length n [] = refl
 ends-length n (g ∷ gs) = ap suc (ends-length (n + length g) gs)

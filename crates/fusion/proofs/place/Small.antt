@@ -4,10 +4,10 @@ use Prim.Native.Nat.{ℕ, zero, suc, _+_, _≤_}
 use native.Mathlib.Omega.{arith}
 use mathlib.Core.Path.{_≡_, refl, sym, subst}
 use mathlib.Core.Bool.{Bool, true, false}
-use mathlib.Core.List.{List, [], _∷_, _++_, map}
+use mathlib.Core.List.{List, [], _∷_, map}
 use lib.ListN.{length, getD, take, drop, take-append-drop}
 use Rattle.spec_tree.specs.Tree.{Tree, Op, nil}
-use Rattle.spec_tree.specs.Facts.{total, size}
+use Rattle.spec_tree.specs.Facts.{size}
 use Rattle.spec_tree.specs.Tokens.{read, numbered, takes, trees-at}
 use Rattle.spec_tree.proofs.TokenLaws.{sizes, read-size, made, size-made, read-cons, trees-cons}
 use Rattle.laws.specs.positions.Places.{numbered-at}
@@ -15,8 +15,9 @@ use Rattle.laws.proofs.positions.Extraction.{Every, every-append}
 use Rattle.reciprocals.proofs.bindings.Parts.{settle-tree, reciprocal, settled-reciprocals}
 use Rattle.fusion.specs.Switchless.{switchless, with-switches}
 use Rattle.fusion.specs.Whole.{settled-roots}
-use Rattle.fusion.proofs.Sizes.{settled-size}
 use Rattle.fusion.specs.place.Parts.{reciprocals-first, trees-held, settled-trees}
+use Rattle.reciprocals.proofs.reciprocal.Reading.{settle-size}
+use Rattle.spec_tree.proofs.Lists.{sizes-cons}
 
 abbrev pub Small : ℕ → Tree → Type 0
 Small c t = size t ≤ c
@@ -33,10 +34,6 @@ small-at c (t ∷ l) h e (suc i) = small-at c l h (e .1) i
 pub more-small : (c d : ℕ) → c ≤ d → (l : List Tree) → Every (Small c) l → Every (Small d) l
 more-small c d h [] e = tt
 more-small c d h (t ∷ l) e = ((let f = e .0 in omega arith), more-small c d h l (e .1))
-
-sizes-cons : (t : Tree) (l : List Tree) → sizes (t ∷ l) ≡ size t + sizes l
-unfolding sizes total
-sizes-cons t l = refl
 
 -- each of some trees where all together are
 pub small-sum : (l : List Tree) (c : ℕ) → sizes l ≤ c → Every (Small c) l
@@ -75,7 +72,7 @@ divisors-small c ws h few (p ∷ l) = (place-small c ws h (read-small ws c few) 
 
 pub all-settled : (c : ℕ) (ds : List Tree) (n : ℕ) (l : List Tree) → Every (Small c) l → Every (Small c) (map (settle-tree ds n) l)
 all-settled c ds n [] e = tt
-all-settled c ds n (t ∷ l) e = ((let s = settled-size ds n t in let f = e .0 in omega arith), all-settled c ds n l (e .1))
+all-settled c ds n (t ∷ l) e = ((let s = settle-size ds n t in let f = e .0 in omega arith), all-settled c ds n l (e .1))
 
 reciprocal-size : (d : Tree) → size (reciprocal d) ≡ 2 + size d
 unfolding size
@@ -84,7 +81,7 @@ reciprocal-size d = omega arith
 pub all-reciprocals : (c : ℕ) (ds : List Tree) (n : ℕ) → Every (Small c) ds → Every (Small (2 + c)) (settled-reciprocals ds n)
 all-reciprocals c [] n e = tt
 all-reciprocals c (d ∷ ds) n e =
-    ((let s = settled-size ds (suc n) (reciprocal d) in let r = reciprocal-size d in let f = e .0 in omega arith), all-reciprocals c ds (suc n) (e .1))
+    ((let s = settle-size ds (suc n) (reciprocal d) in let r = reciprocal-size d in let f = e .0 in omega arith), all-reciprocals c ds (suc n) (e .1))
 
 switches-small : (c : ℕ) (l : List Tree) → Every (Small c) l → Every (Small c) (with-switches l)
 unfolding with-switches

@@ -21,8 +21,8 @@ use Rattle.laws.proofs.switches.Parts.{has-key}
 use Rattle.laws.proofs.switches.Words.{place-within, past-sizes, ends-within, arms-after, arms-end}
 use Rattle.fusion.specs.place.Reads.{with-reads, arms-run, all-arms-run}
 use Rattle.fusion.specs.scopeneeds.Marked.{switch-inside, all-switches, arms-there, arms-marked}
-use Rattle.fusion.proofs.scopeneeds.Finding.{drop-next}
 use Rattle.fusion.proofs.scopeneeds.Marking.{reads-none, reads-append, reads-long}
+use Rattle.spec_tree.proofs.Lists.{place-is}
 
 -- ---- one place
 
@@ -71,7 +71,7 @@ module _ (ws group : List ℕ) where
   module _ {i : ℕ} (state : Checking i) where
     module _ (here : i < length group) where
       check-on : (b : Bool) → switch-inside ws (getD group i 0) ≡ b → (b && all-switches ws (drop (i + 1) group)) ≡ all-switches ws group
-      check-on b e = sym (every-by ws (getD group i 0) (drop (i + 1) group) b e) ∙ (sym (ap (all-switches ws) (drop-next group i here)) ∙ state .same)
+      check-on b e = sym (every-by ws (getD group i 0) (drop (i + 1) group) b e) ∙ (sym (ap (all-switches ws) (place-is group i here)) ∙ state .same)
 
       pub check-other : switch-inside ws (getD group i 0) ≡ false → false ≡ all-switches ws group
       check-other e = check-on false e
@@ -183,7 +183,7 @@ module _ (first lets : ℕ) (numbers ends : List ℕ) (ws : List ℕ) where
             within = omega arith;
             long = ap length e ∙ (reads-long first lets numbers ends (arms-run ws (getD group i 0)) row table ∙ state .long);
             marked = ap (reads (all-arms-run ws (drop (i + 1) group)) row) e
-                ∙ (sym (ap (λ (l : List ℕ). reads (all-arms-run ws l) row table) (drop-next group i here)
+                ∙ (sym (ap (λ (l : List ℕ). reads (all-arms-run ws l) row table) (place-is group i here)
                 ∙ (ap (λ (l : List ℕ). reads l row table) (all-cons (getD group i 0) (drop (i + 1) group))
                 ∙ reads-append first lets numbers ends (arms-run ws (getD group i 0)) (all-arms-run ws (drop (i + 1) group)) row table))
                 ∙ state .marked);

@@ -7,11 +7,8 @@ use mathlib.Core.List.{List, [], _∷_}
 use borrow.Author.Tests.{eq-eqb, ne-eqb, lt-ltb, le-ltb}
 use lib.Dec.{eqb, ltb}
 use lib.ListN.{length, getD, drop, drop-of-length-le}
-use lib.Seq.{drop-cons}
 use Rattle.fusion.specs.place.Reads.{place-of, group-of}
-
-pub drop-next : (l : List ℕ) (i : ℕ) → i < length l → drop i l ≡ getD l i 0 ∷ drop (i + 1) l
-drop-next l i h = let z : suc i ≡ i + 1 = omega arith in drop-cons l i 0 h ∙ ap (λ (k : ℕ). getD l i 0 ∷ drop k l) z
+use Rattle.spec_tree.proofs.Lists.{place-is}
 
 -- ---- a number among some
 
@@ -34,7 +31,7 @@ module _ (n : ℕ) (numbers : List ℕ) where
   module _ {i : ℕ} (state : Seeking i) where
     module _ (here : i < length numbers) where
       ahead : (b : Bool) → eqb (getD numbers i 0) n ≡ b → place-of n 0 numbers ≡ elim b as (λ _. ℕ) [ true ↦ i | false ↦ place-of n (suc i) (drop (i + 1) numbers) ]
-      ahead b e = sym (state .same) ∙ (ap (place-of n i) (drop-next numbers i here) ∙ place-by n i (getD numbers i 0) (drop (i + 1) numbers) b e)
+      ahead b e = sym (state .same) ∙ (ap (place-of n i) (place-is numbers i here) ∙ place-by n i (getD numbers i 0) (drop (i + 1) numbers) b e)
 
       pub seek-found : getD numbers i 0 ≡ n → i ≡ place-of n 0 numbers
       seek-found e = sym (ahead true (eq-eqb (getD numbers i 0) n e))
@@ -68,7 +65,7 @@ module _ (i : ℕ) (ends : List ℕ) where
   module _ {g : ℕ} (state : Grouping g) where
     module _ (here : g < length ends) where
       on : (b : Bool) → ltb i (getD ends g 0) ≡ b → group-of i 0 ends ≡ elim b as (λ _. ℕ) [ true ↦ g | false ↦ group-of i (suc g) (drop (g + 1) ends) ]
-      on b e = sym (state .same) ∙ (ap (group-of i g) (drop-next ends g here) ∙ group-by i g (getD ends g 0) (drop (g + 1) ends) b e)
+      on b e = sym (state .same) ∙ (ap (group-of i g) (place-is ends g here) ∙ group-by i g (getD ends g 0) (drop (g + 1) ends) b e)
 
       pub group-found : i < getD ends g 0 → g ≡ group-of i 0 ends
       group-found h = sym (on true (lt-ltb i (getD ends g 0) h))

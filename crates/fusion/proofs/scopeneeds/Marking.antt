@@ -11,7 +11,7 @@ use Rattle.words.specs.bits.Bits.{with-yes}
 use Rattle.words.proofs.bits.BitLaws.{with-length, with-outside, outside-column}
 use Rattle.fusion.specs.place.Reads.{place-of, group-of, with-read, with-reads}
 use Rattle.fusion.specs.scopeneeds.Marked.{with-let, with-match}
-use Rattle.fusion.proofs.scopeneeds.Finding.{drop-next}
+use Rattle.spec_tree.proofs.Lists.{place-is}
 
 -- ---- a let
 
@@ -118,7 +118,7 @@ module _ (first lets : ℕ) (numbers ends : List ℕ) where
             within = omega arith;
             long = ap length e ∙ (read-long first lets numbers ends (getD ws i 0) row table ∙ state .long);
             marked = ap (with-reads first lets numbers ends (drop (i + 1) ws) row) e
-                ∙ (sym (ap (λ (l : List ℕ). with-reads first lets numbers ends l row table) (drop-next ws i here) ∙ reads-cons (getD ws i 0) (drop (i + 1) ws) row table)
+                ∙ (sym (ap (λ (l : List ℕ). with-reads first lets numbers ends l row table) (place-is ws i here) ∙ reads-cons (getD ws i 0) (drop (i + 1) ws) row table)
                 ∙ state .marked);
           }
 

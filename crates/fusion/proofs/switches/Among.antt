@@ -15,23 +15,9 @@ use Rattle.words.proofs.tokens.Complete.{same-is}
 use Rattle.words.specs.words.Words.{Complete}
 use Rattle.laws.specs.positions.Places.{numbered-at, among-places}
 use Rattle.fusion.specs.switches.Listing.{Inside}
+use Rattle.reciprocals.proofs.tobind.Counting.{told-equal, told-different, never-broken}
 
 -- ---- whether two trees are equal
-
-told-equal : (b : Bool) → equality.Equal ≡ same-answer (some b) → true ≡ b
-unfolding same-answer
-told-equal true e = refl
-told-equal false e = absurd (let z : _≡_ {A = ℕ} 0 1 = cc in omega arith)
-
-told-different : (b : Bool) → equality.Different ≡ same-answer (some b) → false ≡ b
-unfolding same-answer
-told-different true e = absurd (let z : _≡_ {A = ℕ} 0 1 = cc in omega arith)
-told-different false e = refl
-
-never-broken : (b : Bool) → equality.Broken ≡ same-answer (some b) → ⊥
-unfolding same-answer
-never-broken true e = let z : _≡_ {A = ℕ} 0 1 = cc in omega arith
-never-broken false e = let z : _≡_ {A = ℕ} 0 1 = cc in omega arith
 
 module _ (ws : List ℕ) (complete : Complete ws) (i j : ℕ) (hi : i < length ws) (hj : j < length ws) where
   is : same-answer (same-at ws i j) ≡ same-answer (some (eq-tree (numbered-at ws i) (numbered-at ws j)))

@@ -9,10 +9,7 @@ use borrow.Author.Tests.{le-ltb, le-leb, lt-leb}
 use lib.ListN.{length, getD, drop, length-append, List·getD-append}
 use lib.Dec.{leb}
 use Rattle.spec_tree.specs.Tokens.{trees-in, flag}
-use Rattle.words.specs.tokens.Answers.{count-answer}
-use Rattle.words.specs.declared.tokens.Trees.the-variants as trees
 use Rattle.words.specs.words.Words.{some-trees, Complete}
-use Rattle.words.proofs.words.Requests.{counted}
 use Rattle.laws.specs.positions.Places.{outside-at}
 use Rattle.rounds.specs.uses.Marks.{is-marked, marks-of}
 use Rattle.rounds.specs.uses.Answers.{mark-answer}
@@ -22,16 +19,9 @@ use Rattle.fusion.specs.switches.Listing.{Outsides, Listing, put-front, 
 use Rattle.fusion.specs.declared.switches.SwitchList.{SwitchList}
 use Rattle.fusion.specs.declared.switches.SwitchList.the-variants as switch-list
 use Rattle.fusion.proofs.switches.Listed.{Puts}
-
-pub complete-by : (ws : List ℕ) (n : ℕ) → trees.Count n ≡ count-answer (trees-in ws) → Complete ws
-complete-by ws n e = (n, counted n (trees-in ws) e)
+use Rattle.rounds.proofs.choice.Giving.{flag-back}
 
 -- ---- marks
-
-flag-back : (b : Bool) → leb 1 (flag b) ≡ b
-unfolding flag
-flag-back true = refl
-flag-back false = refl
 
 module _ (ws old new : List ℕ) (h : length ws ≤ length old) (c : Complete ws) (e : new ≡ mark-answer ws true old .marks) where
   marks-are : new ≡ marks-of (outside-at ws true) 0 (length ws) ++ drop (length ws) old

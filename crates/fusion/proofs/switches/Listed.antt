@@ -17,12 +17,9 @@ use Rattle.fusion.specs.switches.Listing.{switch-word, Inside, Outsides,
 use Rattle.fusion.specs.declared.switches.SwitchList.{SwitchList}
 use Rattle.fusion.specs.declared.switches.SwitchList.the-variants as switch-list
 use Rattle.fusion.proofs.switches.Words.{word-at}
+use Rattle.spec_tree.proofs.Logic.{and-false}
 
 -- ---- one place
-
-and-none : (b : Bool) → (b && false) ≡ false
-and-none true = refl
-and-none false = refl
 
 module _ (ws marks met : List ℕ) (p : ℕ) (k : Outsides ws marks) (here : p < length ws) where
   pub in-an-arm : getD marks p 0 ≡ 0 → false ≡ new-switch ws met p
@@ -35,7 +32,7 @@ module _ (ws marks met : List ℕ) (p : ℕ) (k : Outsides ws marks) (here : p <
   unfolding new-switch
   no-switch e =
       let s : switch-at ws p ≡ false = sym (word-at ws p) ∙ sym e in
-      sym (ap (λ (b : Bool). outside-at ws true p && (b && not (among-places ws p met))) s ∙ and-none (outside-at ws true p))
+      sym (ap (λ (b : Bool). outside-at ws true p && (b && not (among-places ws p met))) s ∙ and-false (outside-at ws true p))
 
   pub last-test : (getD marks p 0 ≡ 0 → ⊥) → true ≡ switch-word (getD ws p 0) → (b : Bool) → b ≡ among-places ws p met → not b ≡ new-switch ws met p
   unfolding new-switch is-marked

@@ -8,10 +8,9 @@ use lib.ListN.{length}
 use lib.Dec.{T, ltb}
 use Rattle.spec_tree.specs.Outcome.{Outcome, ok, refused, by, _>>=_}
 use Rattle.spec_tree.specs.Rows.{Row, Table, trees}
-use Rattle.spec_tree.specs.Layout.{row-width, table-words, rows-of, table-of, in-domain, sheet-fits, loadable, laid-out, table-or-9}
+use Rattle.spec_tree.specs.Layout.{row-width, table-words, rows-of, table-of, loadable, laid-out, table-or-9}
 use Rattle.spec_tree.specs.Tokens.{number-in}
-use Rattle.spec_tree.proofs.Logic.{and-left}
-use Rattle.spec_tree.proofs.LayoutLaws.{table-back, laid-out-complete}
+use Rattle.spec_tree.proofs.LayoutLaws.{table-back, laid-out-complete, loadable-domain}
 use Rattle.spec_tree.proofs.DomainPasses.{loadable-passes}
 use Rattle.spec_sheet.specs.Sheet.{load}
 use Rattle.spec_sheet.proofs.Loaded.{loaded-loadable}
@@ -33,10 +32,6 @@ unfolding load trees answer rows answer-text
 by-answer scoped rows-lent bytes-lent sheet =
     load 1024 64 sheet >>= λ t. answer scoped (trees t) >>= λ a. or-12 rows-lent a (answer-text a) >>= λ text. or-14 bytes-lent text
 
-loads-domain : (t : Table) → T (loadable t) → T (in-domain t)
-unfolding loadable
-loads-domain t h = and-left (in-domain t) (sheet-fits t) h
-
 module _ (scoped : Bool) (rows-lent bytes-lent : ℕ) where
   abbrev extracted : List Row → Answer → Extracted
   extracted l a = record { words = answer-words (number-in l) a; extracted = a .extracted }
@@ -46,7 +41,7 @@ module _ (scoped : Bool) (rows-lent bytes-lent : ℕ) where
     node-rows = table-words (t .rows)
 
     is-table : table-of node-rows (t .roots) ≡ t
-    is-table = table-back t (loads-domain t h)
+    is-table = table-back t (loadable-domain t h)
 
     is-laid : T (laid-out node-rows (t .roots))
     is-laid = laid-out-complete node-rows (t .roots) (record { table = t; loads = h; words = refl; roots = refl })

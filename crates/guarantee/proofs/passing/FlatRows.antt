@@ -7,9 +7,9 @@ use mathlib.Core.List.{List, [], _∷_}
 use native.Mathlib.Omega.{arith}
 use native.Mathlib.Nat.{mul-add, mul-le-mul-left, mul-le-mul-right}
 use lib.ListN.{length, length-append}
-use lib.Dec.{T, leb, leb→le}
+use lib.Dec.{T, leb}
 use Rattle.spec_tree.specs.Outcome.{ok}
-use Rattle.spec_tree.specs.Tree.{Name, xname, Tree}
+use Rattle.spec_tree.specs.Tree.{xname, Tree}
 use Rattle.spec_tree.specs.Facts.{size}
 use Rattle.spec_tree.specs.Rows.{occurrences, within-limits}
 use Rattle.spec_tree.specs.Passes.{expressions, passes}
@@ -25,6 +25,8 @@ use Rattle.laws.proofs.cse.ReciprocalsCount.{inverse, roots-reciprocal, bound-d
 use Rattle.laws.proofs.cse.SizeCount.{total-size, extract-all-size, reciprocals-most, reciprocal-each-size}
 use Rattle.guarantee.proofs.passing.DivisionsMost.{bound-quarter}
 use Rattle.guarantee.proofs.passing.Larger.{reciprocals-add}
+use Rattle.laws.proofs.cse.Widths.{divided-long}
+use Rattle.laws.proofs.cse.ScopeRoom.{limits-rows}
 
 -- ---- rows of an answer by its trees
 
@@ -45,11 +47,6 @@ binds-count (b ∷ l) = (let a = binds-count l in omega arith)
 
 -- ---- reciprocals add one binding each
 
-divided-length : (d : Tree) (n : Name) (l : List Tree) → length (replace-divisor-each d n l) ≡ length l
-unfolding replace-divisor-each
-divided-length d n [] = refl
-divided-length d n (t ∷ l) = ap suc (divided-length d n l)
-
 bound-length : (l : List Tree) (s : State) → length (roots (bind-reciprocals l s)) ≡ length (roots s) + length l
 unfolding bind-reciprocals
 bound-length [] s = omega arith
@@ -57,7 +54,7 @@ bound-length (d ∷ l) s =
     (let a = bound-length l (bind-reciprocal d s) in
     let b : length (roots (bind-reciprocal d s)) ≡ length (replace-divisor-each d (xname (s .next)) (roots s)) + 1 =
     ap length (roots-reciprocal d s) ∙ length-append (replace-divisor-each d (xname (s .next)) (roots s)) (inverse d ∷ []) in
-    let c = divided-length d (xname (s .next)) (roots s) in
+    let c = divided-long d (xname (s .next)) (roots s) in
     omega arith)
 
 -- ---- the bound
@@ -67,17 +64,13 @@ unfolding occurrences sum-of
 occurrences-are [] = refl
 occurrences-are (t ∷ l) = ap (λ (n : ℕ). size t + n) (occurrences-are l)
 
-few-occurrences : (es : List Tree) → T (within-limits es) → occurrences es ≤ 1024
-unfolding within-limits
-few-occurrences es h = leb→le (occurrences es) 1024 (and-left (leb (occurrences es) 1024) _ h)
-
 limited : (es : List Tree) → T (passes es) → T (within-limits es)
 unfolding passes
 limited es h = and-left (within-limits es) (expressions es) (and-right (leb (length es) 64) (within-limits es && expressions es) h)
 
 -- a list that passes 9 has at most 1,024 nodes
 pub few-nodes : (es : List Tree) → T (passes es) → total-size es ≤ 1024
-few-nodes es h = (let y = occurrences-are es in let z = few-occurrences es (limited es h) in omega arith)
+few-nodes es h = (let y = occurrences-are es in let z = limits-rows es (limited es h) in omega arith)
 
 -- by the state after reciprocals
 pub answer-rows : (es : List Tree) (a : Answer) (P : Parts es a) → rows a ≡ length (roots (reciprocals false (P .state))) + total-size (roots (reciprocals false (P .state)))

@@ -21,7 +21,7 @@ use Rattle.spec_cse.specs.Answer.{Intermediate, Intermediates, Answer, Let, blo
 use Rattle.spec_cse.specs.Scope.{binds, answer}
 use Rattle.spec_tree.specs.Value.{values}
 use Rattle.laws.proofs.cse.Outcomes.{good-at}
-use Rattle.laws.proofs.cse.PassesLaws.{passes-unmade}
+use Rattle.laws.proofs.cse.PassesLaws.{passes-unmade, passed}
 use Rattle.laws.proofs.cse.FlatCount.{Parts, parts, some-reading, rounds-model}
 use Rattle.laws.proofs.cse.SortCount.{summed, sorted-sum}
 use Rattle.laws.proofs.cse.RoundsValue.{let-names, Numbered, reciprocals-keep, roots-known}
@@ -34,7 +34,6 @@ use Rattle.rounds.proofs.kept.Passing.{first-fits, rest-fits}
 use Rattle.guarantee.proofs.passing.Trees.{Fits-all, tree-same, xname-ok, expressions-fit}
 use Rattle.guarantee.proofs.passing.Steps.{Ok-state, roots-fit, extract-all-ok, reciprocals-ok}
 use Rattle.guarantee.proofs.passing.FlatRows.{answer-rows, few-roots, flat-rows-most}
-use Rattle.guarantee.proofs.passing.Passed.{listed}
 
 -- ---- names by small numbers
 
@@ -179,7 +178,7 @@ flat-text-most es h a e =
     let more = roots-more t in
     let next = numbered-long 0 (t .next) (t .lets) (N .numbered) in
     let top : t .next ≤ 1024 = omega arith in
-    let good = reciprocals-ok false s (good-at Ok-state (extract-all false 0 es) s (P .rounds) (extract-all-ok false 0 es (expressions-fit es (listed es h)))) in
+    let good = reciprocals-ok false s (good-at Ok-state (extract-all false 0 es) s (P .rounds) (extract-all-ok false 0 es (expressions-fit es (passed es h)))) in
     let short = all-short (t .next) top (roots t) (roots-fit t good) (roots-known some-reading (λ s. true) 0 (λ n. 0) vs t N) in
     let x = roots-lines t (names-short 0 (t .next) top (t .lets) (N .numbered)) short in
     let y = text-lines es a P in

@@ -8,11 +8,10 @@ use lib.ListN.{length}
 use lib.Dec.{T, leb, le→leb}
 use Rattle.spec_tree.specs.Outcome.{Outcome, ok, refused, _>>=_}
 use Rattle.spec_tree.specs.Tree.{mname, Tree, Forest, Sym, Const, Op, nil, _◂_, operands}
-use Rattle.spec_tree.specs.Kinds.{is-switch, arity-ok, Neg}
+use Rattle.spec_tree.specs.Kinds.{is-switch, arity-ok}
 use Rattle.spec_tree.specs.Facts.{all-outer}
-use Rattle.spec_tree.specs.Passes.{symbol-ok, operands-ok}
+use Rattle.spec_tree.specs.Passes.{symbol-ok}
 use Rattle.spec_tree.proofs.Formed.{operand-count}
-use Rattle.spec_tree.proofs.Logic.{and-right}
 use Rattle.spec_rewrite.specs.Rewrite.{replace-outside-arms}
 use Rattle.spec_cse.specs.Extract.{Binding, State, roots, extract-all, reciprocals, among, distinct}
 use Rattle.spec_cse.specs.Answer.{Intermediate, Intermediates, Arms, Answer, Let, Match, end, step, no-arm, arm, block}
@@ -27,6 +26,7 @@ use Rattle.laws.proofs.cse.ScopeRoom.{or-no-room, or-not-held}
 use Rattle.rounds.proofs.kept.Passing.{none-fit, one-fits, first-fits, rest-fits}
 use Rattle.guarantee.proofs.passing.Trees.{Fits, Fits-all, mname-ok, kind-fits, operands-fit, head-fits, tail-fits, list-fits, all-outer-fit, outside-fits}
 use Rattle.guarantee.proofs.passing.Steps.{Ok-lets, Ok-state, roots-fit, extract-all-ok, reciprocals-ok}
+use Rattle.laws.proofs.cse.PassesLaws.{arity-of}
 
 -- ---- what 13 asks, but for the widths of arms
 
@@ -79,10 +79,6 @@ unfolding operands operand-count
 operands-count nil = refl
 operands-count (t ◂ f) = ap suc (operands-count f)
 
-kind-arity : (k n : ℕ) → T (operands-ok k n) → T (arity-ok k n)
-unfolding operands-ok
-kind-arity k n h = and-right (leb Neg k) (arity-ok k n) h
-
 keyed-arity : (k : ℕ) (q : Tree) (f : Forest) → T (arity-ok k (operand-count (q ◂ f))) → T (arity-ok k (suc (length (operands f))))
 unfolding operand-count
 keyed-arity k q f h = subst (λ (n : ℕ). T (arity-ok k (suc n))) (sym (operands-count f)) h
@@ -91,7 +87,7 @@ switch-step :
     (k : ℕ) (q : Tree) (f : Forest) (l : List Switch) (b : Bool) → (T b → T (is-switch k)) → Fits (Op k (q ◂ f)) → Ok-switches l
     → Ok-switches (elim b [ true ↦ record { tree = Op k (q ◂ f); kind = k; key = q; arms = operands f } ∷ l | false ↦ l ])
 switch-step k q f l true g w h = (
-  ((g tt, keyed-arity k q f (kind-arity k (operand-count (q ◂ f)) (kind-fits k (q ◂ f) w))), (head-fits q f (operands-fit k (q ◂ f) w), list-fits f (tail-fits q f (operands-fit k (q ◂ f) w)))),
+  ((g tt, keyed-arity k q f (arity-of k (operand-count (q ◂ f)) (kind-fits k (q ◂ f) w))), (head-fits q f (operands-fit k (q ◂ f) w), list-fits f (tail-fits q f (operands-fit k (q ◂ f) w)))),
   h,
 )
 switch-step k q f l false g w h = h

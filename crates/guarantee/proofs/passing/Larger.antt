@@ -18,9 +18,9 @@ use Rattle.spec_rewrite.proofs.Measure.{sum-of, sum-each, sizes, size-op, size-
 use Rattle.spec_rewrite.proofs.Counts.{count-nil, count-sym, count-const, count-none, count-operands, count-cases, all-nodes-cons, whole-count, one-equal}
 use Rattle.spec_cse.specs.Extract.{State, roots, divisor-of, divisors}
 use Rattle.laws.proofs.cse.ReciprocalsCount.{AllTrees, all-map, divisors-all, bound-divisors, bound-twice}
-use Rattle.laws.proofs.cse.DivisorsMost.{bound-once}
+use Rattle.laws.proofs.cse.DivisorsMost.{bound-once, counts-most, twice-each}
 use Rattle.laws.proofs.cse.SizeCount.{total-size, reciprocals-most}
-use Rattle.guarantee.proofs.passing.DivisionsMost.{operands-count, counts-most, twice-each}
+use Rattle.guarantee.proofs.passing.DivisionsMost.{operands-count}
 
 -- ---- those of at least a size
 
@@ -54,10 +54,6 @@ at-most-one s t = go (leb s (size t))
     go : (b : Bool) → elim b as (λ _. ℕ) [ true ↦ 1 | false ↦ 0 ] ≤ 1
     go true = omega arith
     go false = omega arith
-
-large-append : (s : ℕ) (a b : List Tree) → length (large s (a ++ b)) ≡ length (large s a) + length (large s b)
-large-append s [] b = (let z : length (large s []) ≡ 0 = (unfold large in refl) in omega arith)
-large-append s (t ∷ a) b = (let x = large-cons s t (a ++ b) in let y = large-cons s t a in let z = large-append s a b in omega arith)
 
 -- divisions by a tree of at least that size
 divided : ℕ → List Tree → ℕ
@@ -301,10 +297,6 @@ both-ways x (t ∷ l) = (let a = both-ways x l in let b = large-cons (size x) t 
 ranks-first : (x : Tree) (l : List Tree) → ranks (x ∷ l) (x ∷ l) ≡ length (large (size x) (x ∷ l)) + ranks (x ∷ l) l
 unfolding ranks sum-of
 ranks-first x l = refl
-
-no-ranks : ranks [] [] ≡ 0
-unfolding ranks sum-of
-no-ranks = refl
 
 pairs : (l : List Tree) → length l * suc (length l) ≤ 2 * ranks l l
 pairs [] = (let a = zero-mul 1 in omega arith)

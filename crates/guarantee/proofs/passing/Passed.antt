@@ -8,8 +8,8 @@ use lib.Dec.{T, eqb, leb}
 use Rattle.spec_tree.specs.Outcome.{ok}
 use Rattle.spec_tree.specs.Tree.{Tree}
 use Rattle.spec_tree.specs.Kinds.{is-switch, arity-ok}
-use Rattle.spec_tree.specs.Rows.{Table, trees, within-limits}
-use Rattle.spec_tree.specs.Passes.{expressions, passes, tree-ok, trees-ok}
+use Rattle.spec_tree.specs.Rows.{Table, trees}
+use Rattle.spec_tree.specs.Passes.{passes, tree-ok, trees-ok}
 use Rattle.spec_tree.specs.Tokens.{number-in}
 use Rattle.spec_tree.proofs.Logic.{and-left, and-right, and-both}
 use Rattle.spec_cse.specs.Answer.{Intermediate, Intermediates, Arms, Answer, Let, Match, end, step, no-arm, arm}
@@ -17,7 +17,7 @@ use Rattle.spec_cse.specs.Read.{arm-count}
 use Rattle.spec_cse.specs.Scope.{answer}
 use Rattle.spec_cse.specs.Demand.{well-scoped}
 use Rattle.spec_cse.specs.AnswerRows.{answer-words, let-name, match-names, intermediate-ok, intermediates-ok, arms-ok, references-ok, answer-laid-out}
-use Rattle.laws.proofs.cse.PassesLaws.{passes-unmade}
+use Rattle.laws.proofs.cse.PassesLaws.{passes-unmade, passed}
 use Rattle.laws.proofs.cse.ScopeNames.{answer-well-scoped}
 use Rattle.laws.proofs.cse.Widths.{even-stmt, even-stmts, even-arms, answer-even}
 use Rattle.laws.proofs.answer.ExtractRefs.{extract-references, extract-laid}
@@ -57,14 +57,10 @@ mutual
       (and-both (eqb (length vs) n) (trees-ok vs) (and-left (eqb (length vs) n) (even-stmts s && even-arms n l) w) (fit-trees vs (h .0 .1))))
       (whole-arms n l (h .1) (and-right (even-stmts s) (even-arms n l) q))
 
-pub listed : (es : List Tree) → T (passes es) → T (expressions es)
-unfolding passes
-listed es h = and-right (within-limits es) (expressions es) (and-right (leb (length es) 64) (within-limits es && expressions es) h)
-
 -- kinds, operand counts, names and constants, of every statement and of the results
 pub answer-parts : (scoped : Bool) (es : List Tree) → T (passes es) → (a : Answer) → answer scoped es ≡ ok a → T (intermediates-ok (a .inters)) × T (trees-ok (a .results))
 answer-parts scoped es h a e =
-    let q = answer-ok scoped es (expressions-fit es (listed es h)) a e in
+    let q = answer-ok scoped es (expressions-fit es (passed es h)) a e in
     (whole-stmts (a .inters) (q .0) (answer-even scoped es a e .0), fit-trees (a .results) (q .1))
 
 -- 13 on the answer of a list, its references among the list's symbols and its own names

@@ -1,14 +1,12 @@
--- The laws that the functions of a check of rows use, at places of the words: what stands from a place on, one part after another (Fronts). Assumes nothing.
+-- The laws that the functions of a check of rows use, at places of the words: what stands from a place-is on, one part after another (Fronts). Assumes nothing.
 use Prim.Native.Nat.{ℕ, zero, suc, _+_, _-_, _/_, _%_, _≤_, _<_}
 use native.Mathlib.Omega.{arith}
-use native.Mathlib.Numerals.{add-one}
 use mathlib.Core.Path.{_≡_, refl, sym, _∙_, ap, subst}
 use mathlib.Core.Bool.{Bool, true, false, not, _&&_}
 use mathlib.Core.Option.{none, some}
 use mathlib.Core.List.{List, [], _∷_}
 use borrow.Author.Tests.{ne-eqb, eqb-true, eqb-false, le-leb, lt-leb, leb-true, leb-false}
 use lib.ListN.{length, getD, take, drop, length-drop, drop-of-length-le}
-use lib.Seq.{drop-cons}
 use lib.Dec.{T, eqb, leb, ltb, leb→le}
 use Rattle.spec_tree.specs.Bytes.{every}
 use Rattle.spec_tree.specs.Kinds.{is-switch, arity-ok, kind-at, kinds}
@@ -24,6 +22,7 @@ use Rattle.laws.specs.answer.Fronts.{statement-row, match-name-row, no-s
 use Rattle.laws.proofs.answer.FrontLaws.{head-is, tail-is, tree-rest, values-none, values-apart, values-zero, values-more, values-cons, stmt-longer, stmts-none, stmts-cons, stmts-more, stmts-first, stmts-rest, arms-none, arms-cons, arms-apart, arm-made, arm-apart, arms-more}
 use Rattle.laws.proofs.answer.HeadLaws.{names-none, names-cons, names-rest, head-rest, match-made, match-apart, let-made, let-apart, answer-made, answer-apart}
 use Rattle.laws.proofs.answer.TreeFronts.{here, tree-found, tree-there}
+use Rattle.spec_tree.proofs.Lists.{place-is}
 
 -- ---- tests
 
@@ -87,16 +86,13 @@ module _ (row n : ℕ) where
 
 -- ---- places
 
-pub place : (ws : List ℕ) (i : ℕ) → i < length ws → drop i ws ≡ getD ws i 0 ∷ drop (i + 1) ws
-place ws i h = drop-cons ws i 0 h ∙ ap (λ (n : ℕ). getD ws i 0 ∷ drop n ws) (sym (add-one i))
-
 pub past : (ws : List ℕ) (i : ℕ) → length ws ≤ i → drop i ws ≡ []
 past ws i h = drop-of-length-le ws {i = i} h
 
 no-word : {w : ℕ} {l : List ℕ} → [] ≡ w ∷ l → ⊥
 no-word e = let z : _≡_ {A = ℕ} 0 1 = cc in omega arith
 
-run-starts : (ws : List ℕ) (at n : ℕ) → run-at ws at ≡ some n → at < length ws
+pub run-starts : (ws : List ℕ) (at n : ℕ) → run-at ws at ≡ some n → at < length ws
 run-starts ws at n e = go (drop at ws) refl (unfold run-at in e)
   where
     go : (l : List ℕ) → drop at ws ≡ l → words-of l 1 ≡ some n → at < length ws
@@ -147,14 +143,14 @@ module _ (rows : List Row) (ws : List ℕ) where
 
     pub values-other : (left : ℕ) → 0 < left → i < length ws → (getD ws i 0 ≡ row → ⊥) → (r : List ℕ) → ValuesFront rows row left (drop i ws) r → ⊥
     values-other zero one h n r f = absurd (omega arith)
-    values-other (suc left) one h n r f = let p = values-apart rows row left f in n (head-is (sym (place ws i h) ∙ p .2))
+    values-other (suc left) one h n r f = let p = values-apart rows row left f in n (head-is (sym (place-is ws i h) ∙ p .2))
 
     pub values-broken :
         (left : ℕ) → 0 < left → i < length ws → ((r : List ℕ) → TreeFront rows (drop (i + 1) ws) r → ⊥) → (r : List ℕ) → ValuesFront rows row left (drop i ws) r → ⊥
     values-broken zero one h n r f = absurd (omega arith)
     values-broken (suc left) one h n r f =
         let p = values-apart rows row left f in
-        let e = tail-is (sym (place ws i h) ∙ p .2) in
+        let e = tail-is (sym (place-is ws i h) ∙ p .2) in
         n (p .1) (subst (λ (x : List ℕ). TreeFront rows x (p .1)) (sym e) (p .3))
 
     pub values-next :
@@ -163,7 +159,7 @@ module _ (rows : List Row) (ws : List ℕ) where
     values-next zero e one h q t = absurd (omega arith)
     values-next (suc left) e one h q t =
         let z : suc left - 1 ≡ left = omega arith in
-        let l : drop i ws ≡ row ∷ drop (i + 1) ws = place ws i h ∙ ap (λ (w : ℕ). w ∷ drop (i + 1) ws) q in
+        let l : drop i ws ≡ row ∷ drop (i + 1) ws = place-is ws i h ∙ ap (λ (w : ℕ). w ∷ drop (i + 1) ws) q in
         rw z (record { to = λ r f. values-more rows row left l t f; from = λ r f. values-cons rows row left l t f })
 
     pub values-done : (left : ℕ) → left ≤ 0 → ValuesFront rows row left (drop i ws) (drop i ws)
@@ -175,7 +171,7 @@ module _ (rows : List Row) (ws : List ℕ) where
     results-some h f = go (f .0) (f .1)
       where
         go : (n : ℕ) → ValuesFront rows result-row n (drop i ws) [] → 0 < n
-        go zero g = absurd (no-word (sym (values-zero rows result-row g) ∙ place ws i h))
+        go zero g = absurd (no-word (sym (values-zero rows result-row g) ∙ place-is ws i h))
         go (suc n) g = omega arith
 
     pub results-other : i < length ws → (getD ws i 0 ≡ 36 → ⊥) → Results rows (drop i ws) → ⊥
@@ -188,7 +184,7 @@ module _ (rows : List Row) (ws : List ℕ) where
         (e : ℕ) → i < length ws → getD ws i 0 ≡ 36 → TreeFront rows (drop (i + 1) ws) (drop e ws)
         → (Results rows (drop i ws) → Results rows (drop e ws)) × (Results rows (drop e ws) → Results rows (drop i ws))
     results-next e h q t =
-        let l : drop i ws ≡ result-row ∷ drop (i + 1) ws = place ws i h ∙ ap (λ (w : ℕ). w ∷ drop (i + 1) ws) q in
+        let l : drop i ws ≡ result-row ∷ drop (i + 1) ws = place-is ws i h ∙ ap (λ (w : ℕ). w ∷ drop (i + 1) ws) q in
         (λ f. (f .0 - 1, values-next 36 i (f .0) e (results-some h f) h q t .to [] (f .1)), λ f. (suc (f .0), values-cons rows result-row (f .0) l t (f .1)))
 
     pub results-done : length ws ≤ i → Results rows (drop i ws)
@@ -205,7 +201,7 @@ so true e = tt
 so false e = let z : _≡_ {A = ℕ} 0 1 = cc in absurd (omega arith)
 
 no-name-here : (ws : List ℕ) (i : ℕ) → i < length ws → match-name-row (getD ws i 0) ≡ false → T (no-match-name (drop i ws))
-no-name-here ws i h e = subst (λ (l : List ℕ). T (no-match-name l)) (sym (place ws i h)) (unfold no-match-name in not-so (match-name-row (getD ws i 0)) e)
+no-name-here ws i h e = subst (λ (l : List ℕ). T (no-match-name l)) (sym (place-is ws i h)) (unfold no-match-name in not-so (match-name-row (getD ws i 0)) e)
 
 module _ (ws : List ℕ) (at : ℕ) where
   pub named-begin : Named ws at at
@@ -217,7 +213,7 @@ module _ (ws : List ℕ) (at : ℕ) where
         let w = getD ws i 0 in
         let t : match-name-row w ≡ true = rw (row, class) in
         let z : i - at + suc m ≡ i + 1 - at + m = omega arith in
-        subst (λ (n : ℕ). NamesFront rows n (drop at ws) r) z (k rows (suc m) r (names-cons rows w m (so (match-name-row w) t) (place ws i h) f))
+        subst (λ (n : ℕ). NamesFront rows n (drop at ws) r) z (k rows (suc m) r (names-cons rows w m (so (match-name-row w) t) (place-is ws i h) f))
 
     ended : T (no-match-name (drop i ws)) → (rows : List Row) → NamesFront rows (i - at) (drop at ws) (drop i ws)
     ended h rows = let z : i - at + 0 ≡ i - at = omega arith in subst (λ (n : ℕ). NamesFront rows n (drop at ws) (drop i ws)) z (k rows 0 (drop i ws) (names-none rows (drop i ws) h))
@@ -237,7 +233,7 @@ module _ (rows : List Row) (ws : List ℕ) where
   module _ (at : ℕ) (inside : at < length ws) where
     head-row : (n m : ℕ) (r : List ℕ) (f : HeadFront rows n m (drop at ws) r) → (getD ws at 0 % 64 ≡ f .kind + 4) × (getD ws at 0 / 64 ≡ suc (n + m)) × (26 ≤ f .kind) × (f .kind < 29) × (drop (at + 1) ws ≡ f .l1)
     head-row n m r f =
-        let e = sym (place ws at inside) ∙ f .row in
+        let e = sym (place-is ws at inside) ∙ f .row in
         let h = head-is e in
         let a = leb→le 26 (f .kind) (and-left (is-switch (f .kind)) (arity-ok (f .kind) (suc m)) (f .switch)) in
         let b = arity-kind (f .kind) (suc m) (and-right (is-switch (f .kind)) (arity-ok (f .kind) (suc m)) (f .switch)) in
@@ -293,7 +289,7 @@ module _ (rows : List Row) (ws : List ℕ) where
               l2 = drop s ws;
               switch = rw z at (so (is-switch (w % 64 - 4) && arity-ok (w % 64 - 4) (1 + m)) (sym fit));
               some = omega (arith, n);
-              row = place ws at inside ∙ ap (λ (x : ℕ). x ∷ drop (at + 1) ws) row;
+              row = place-is ws at inside ∙ ap (λ (x : ℕ). x ∷ drop (at + 1) ws) row;
               key = key;
               names = names;
             }
@@ -301,22 +297,22 @@ module _ (rows : List Row) (ws : List ℕ) where
     -- ---- statements
 
     pub let-unmade : getD ws at 0 % 64 ≡ 29 → (getD ws at 0 / 64 % 3 ≡ 1 → ⊥) → (r : List ℕ) → StmtFront rows (drop at ws) r → ⊥
-    let-unmade k n r f = n (let-apart rows (getD ws at 0) f (place ws at inside) k .0)
+    let-unmade k n r f = n (let-apart rows (getD ws at 0) f (place-is ws at inside) k .0)
 
     pub let-broken : getD ws at 0 % 64 ≡ 29 → ((r : List ℕ) → TreeFront rows (drop (at + 1) ws) r → ⊥) → (r : List ℕ) → StmtFront rows (drop at ws) r → ⊥
-    let-broken k n r f = n r (let-apart rows (getD ws at 0) f (place ws at inside) k .1)
+    let-broken k n r f = n r (let-apart rows (getD ws at 0) f (place-is ws at inside) k .1)
 
     pub let-ends : (e : ℕ) → getD ws at 0 % 64 ≡ 29 → getD ws at 0 / 64 % 3 ≡ 1 → TreeFront rows (drop (at + 1) ws) (drop e ws) → StmtFront rows (drop at ws) (drop e ws)
-    let-ends e k c t = let-made rows (getD ws at 0) (place ws at inside) k c t
+    let-ends e k c t = let-made rows (getD ws at 0) (place-is ws at inside) k c t
 
     pub match-headless : (getD ws at 0 % 64 ≡ 29 → ⊥) → ((n m : ℕ) (r : List ℕ) → HeadFront rows n m (drop at ws) r → ⊥) → (r : List ℕ) → StmtFront rows (drop at ws) r → ⊥
-    match-headless k n r f = let p = match-apart rows (getD ws at 0) f (place ws at inside) k in n (p .0) (p .1) (p .2) (p .3)
+    match-headless k n r f = let p = match-apart rows (getD ws at 0) f (place-is ws at inside) k in n (p .0) (p .1) (p .2) (p .3)
 
     pub match-broken :
         (n m s : ℕ) → (getD ws at 0 % 64 ≡ 29 → ⊥) → HeadFront rows n m (drop at ws) (drop s ws) → ((r : List ℕ) → ArmsFront rows n m (drop s ws) r → ⊥)
         → (r : List ℕ) → StmtFront rows (drop at ws) r → ⊥
     match-broken n m s k h b r f =
-        let p = match-apart rows (getD ws at 0) f (place ws at inside) k in
+        let p = match-apart rows (getD ws at 0) f (place-is ws at inside) k in
         let q = head-rest rows (p .0) (p .1) n m (p .3) h in
         let a1 : ArmsFront rows n (p .1) (p .2) r = subst (λ (x : ℕ). ArmsFront rows x (p .1) (p .2) r) (q .0) (p .4) in
         let a2 : ArmsFront rows n m (p .2) r = subst (λ (x : ℕ). ArmsFront rows n x (p .2) r) (q .1) a1 in
@@ -329,14 +325,14 @@ module _ (rows : List Row) (ws : List ℕ) where
   stmt-goes at e f = omega (arith, stmt-longer rows f, length-drop at ws, length-drop e ws)
 
   pub no-stmt-here : (i : ℕ) → i < length ws → false ≡ statement-row (getD ws i 0) → T (no-statement (drop i ws))
-  no-stmt-here i h e = subst (λ (l : List ℕ). T (no-statement l)) (sym (place ws i h)) (unfold no-statement in not-so (statement-row (getD ws i 0)) (sym e))
+  no-stmt-here i h e = subst (λ (l : List ℕ). T (no-statement l)) (sym (place-is ws i h)) (unfold no-statement in not-so (statement-row (getD ws i 0)) (sym e))
 
   pub no-stmt-past : (i : ℕ) → length ws ≤ i → T (no-statement (drop i ws))
   no-stmt-past i h = subst (λ (l : List ℕ). T (no-statement l)) (sym (past ws i h)) (unfold no-statement in tt)
 
   a-stmt-here : (i : ℕ) → i < length ws → true ≡ statement-row (getD ws i 0) → T (no-statement (drop i ws)) → ⊥
   unfolding no-statement
-  a-stmt-here i h e t = go (statement-row (getD ws i 0)) e (subst (λ (l : List ℕ). T (no-statement l)) (place ws i h) t)
+  a-stmt-here i h e t = go (statement-row (getD ws i 0)) e (subst (λ (l : List ℕ). T (no-statement l)) (place-is ws i h) t)
     where
       go : (b : Bool) → true ≡ b → T (not b) → ⊥
       go true q u = u
@@ -401,13 +397,13 @@ module _ (rows : List Row) (ws : List ℕ) where
         pub arm-other : (getD ws i 0 % 64 ≡ 34 → ⊥) → (r : List ℕ) → ArmsFront rows n 1 (drop i ws) r → ⊥
         arm-other k r f =
             let p = arm-apart rows n one f in
-            let e = head-is (sym (place ws i inside) ∙ p .3) in
+            let e = head-is (sym (place-is ws i inside) ∙ p .3) in
             k (omega arith)
 
         arm-stmts : (r : List ℕ) (f : ArmsFront rows n 1 (drop i ws) r) → let p = arm-apart rows n one f in StmtsFront rows (p .0) (drop (i + 1) ws) (p .2)
         arm-stmts r f =
             let p = arm-apart rows n one f in
-            let e = tail-is (sym (place ws i inside) ∙ p .3) in
+            let e = tail-is (sym (place-is ws i inside) ∙ p .3) in
             subst (λ (l : List ℕ). StmtsFront rows (p .0) l (p .2)) (sym e) (p .4)
 
         pub arm-broken : ((c : ℕ) (r : List ℕ) → StmtsFront rows c (drop (i + 1) ws) r → ⊥) → (r : List ℕ) → ArmsFront rows n 1 (drop i ws) r → ⊥
@@ -417,7 +413,7 @@ module _ (rows : List Row) (ws : List ℕ) where
           pub arm-miscounted : (getD ws i 0 / 64 ≡ c + n → ⊥) → (r : List ℕ) → ArmsFront rows n 1 (drop i ws) r → ⊥
           arm-miscounted k r f =
               let p = arm-apart rows n one f in
-              let e = head-is (sym (place ws i inside) ∙ p .3) in
+              let e = head-is (sym (place-is ws i inside) ∙ p .3) in
               let q = stmts-rest rows (p .0) c (arm-stmts r f) found in
               k (omega (arith, q .0))
 
@@ -430,7 +426,7 @@ module _ (rows : List Row) (ws : List ℕ) where
           pub arm-ends : (e : ℕ) → getD ws i 0 % 64 ≡ 34 → getD ws i 0 / 64 ≡ c + n → ValuesFront rows value-row n (drop s ws) (drop e ws) → ArmsFront rows n 1 (drop i ws) (drop e ws)
           arm-ends e k b v =
               let row : getD ws i 0 ≡ word arm-row (c + n) = omega arith in
-              arm-made rows n c (place ws i inside ∙ ap (λ (x : ℕ). x ∷ drop (i + 1) ws) row) found v
+              arm-made rows n c (place-is ws i inside ∙ ap (λ (x : ℕ). x ∷ drop (i + 1) ws) row) found v
 
   -- ---- answers
 

@@ -11,13 +11,13 @@ use Rattle.spec_tree.specs.Tree.{Name, input, Tree, Op, nil, forest}
 use Rattle.spec_tree.specs.Rows.{Row, row-sym, row-const, row-op, Table, at, tree-of-row, trees-from, trees}
 use Rattle.spec_tree.specs.Passes.{trees-ok}
 use Rattle.spec_tree.specs.Tokens.{number-in}
-use Rattle.spec_tree.proofs.Logic.{and-left, and-right, and-both}
+use Rattle.spec_tree.proofs.Logic.{and-left, and-right, and-both, or-left, or-right, or-cases}
 use Rattle.spec_rewrite.proofs.Names.{holds, holds-each, holds-all, holds-append}
 use Rattle.spec_cse.specs.Answer.{Intermediate, Intermediates, Arms, Answer, Let, Match, end, step, no-arm, arm, names, symbols, all-symbols, elem}
 use Rattle.spec_cse.specs.Scope.{answer}
 use Rattle.spec_cse.specs.Demand.{bound-stmts, all-different, known, in-scope, stmt-in-scope, arms-in-scope, well-scoped}
 use Rattle.spec_cse.specs.AnswerRows.{intermediates-ok, list-names, references-ok, answer-words, answer-laid-out}
-use Rattle.laws.proofs.cse.Symbols.{or-left, or-right, or-cases, elem-here, elem-later, holds-all-at}
+use Rattle.laws.proofs.cse.Symbols.{elem-here, elem-later, holds-all-at}
 use Rattle.laws.proofs.cse.AnyTable.{table-names-and-values}
 use Rattle.laws.proofs.answer.LaidOut.{rows-laid}
 

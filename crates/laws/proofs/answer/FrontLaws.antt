@@ -21,19 +21,13 @@ use Rattle.laws.proofs.answer.SpanLaws.{join, tree-span, read-tree-span
 use Rattle.laws.proofs.answer.RowSpans.{stmt-span, arm-spans, read-stmt, read-arms}
 use Rattle.laws.proofs.answer.ReadBack.{stmt-back, stmt-row, arms-back}
 use Rattle.laws.proofs.answer.ListNames.{numbered-back}
-
-pub cancel : (a : List ℕ) {r s : List ℕ} → a ++ r ≡ a ++ s → r ≡ s
-cancel [] e = e
-cancel (x ∷ a) e = cancel a (cc)
+use Rattle.spec_tree.proofs.Lists.{cancel}
 
 pub head-is : {a b : ℕ} {l r : List ℕ} → a ∷ l ≡ b ∷ r → a ≡ b
 head-is e = cc
 
 pub tail-is : {a b : ℕ} {l r : List ℕ} → a ∷ l ≡ b ∷ r → l ≡ r
 tail-is e = cc
-
-longer : (a r : List ℕ) → length r ≤ length (a ++ r)
-longer a r = omega (arith, length-append a r)
 
 module _ (rows : List Row) where
   abbrev number : List ℕ → ℕ

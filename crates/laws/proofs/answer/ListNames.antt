@@ -14,7 +14,7 @@ use Rattle.spec_tree.specs.Tree.{Name, input, xname, mname, Tree}
 use Rattle.spec_tree.specs.Rows.{Row, row-sym, row-const, row-op}
 use Rattle.spec_tree.specs.Passes.{tree-ok, trees-ok}
 use Rattle.spec_tree.specs.Tokens.{first-named, number-in, name-of-row, name-in}
-use Rattle.spec_tree.proofs.Logic.{and-left, and-right, and-both}
+use Rattle.spec_tree.proofs.Logic.{and-left, and-right, and-both, or-cases}
 use Rattle.spec_tree.proofs.KindLaws.{arity-kind}
 use Rattle.spec_tree.proofs.Tests.{is-true}
 use Rattle.spec_tree.proofs.TreeLaws.{eq-bytes-sound, eq-bytes-refl}
@@ -23,7 +23,7 @@ use Rattle.spec_cse.specs.Answer.{Intermediate, Intermediates, Arms, Answer, Le
 use Rattle.spec_cse.specs.Read.{arm-count}
 use Rattle.spec_cse.specs.Demand.{bound-stmts, all-different, known, in-scope, stmt-in-scope, arms-in-scope}
 use Rattle.spec_cse.specs.AnswerRows.{let-name, match-names, intermediate-ok, intermediates-ok, arms-ok, list-names, references-ok}
-use Rattle.laws.proofs.cse.Symbols.{or-cases, elem-cases, holds-by, no-elem}
+use Rattle.laws.proofs.cse.Symbols.{elem-cases, holds-by, no-elem}
 use Rattle.laws.specs.answer.Fitting.{fitting, all-fitting, a-switch-kind, stmt-fitting, stmts-fitting, arms-fitting, numbered-in}
 use Rattle.laws.proofs.answer.SpanLaws.{ok-fitting}
 

@@ -10,7 +10,7 @@ use lib.ListN.{length}
 use lib.Dec.{T, eqb, leb, ltb, leb→le, ltb→lt}
 use Rattle.spec_tree.specs.Tree.{Name, input, xname, mname, Tree, Forest, Sym, Const, Op, nil, _◂_, operands, eq-name}
 use Rattle.spec_tree.specs.Tokens.{word, constant-code, name-code, tokens, tokens-of, kind-of, below-of}
-use Rattle.spec_tree.proofs.Logic.{and-left, and-right, and-both}
+use Rattle.spec_tree.proofs.Logic.{and-left, and-right, and-both, not-so}
 use Rattle.spec_tree.proofs.TreeLaws.{eq-name-sound, eq-name-refl}
 use Rattle.spec_cse.specs.Answer.{Intermediate, Intermediates, Arms, Let, Match, end, step, no-arm, arm, elem}
 use Rattle.spec_cse.specs.Read.{arm-count}
@@ -105,10 +105,6 @@ counted-elem x (n ∷ l) h = go (eq-name n x) (counted-elem x l) h
     go : (b : Bool) → (1 ≤ cnt x l → T (elem x l)) → 1 ≤ flag b + cnt x l → T (elim b [ true ↦ true | false ↦ elem x l ])
     go true f h = tt
     go false f h = f (omega (arith, flag-no false refl))
-
-not-so : (b : Bool) → T (not b) → T b → ⊥
-not-so true t u = t
-not-so false t u = u
 
 so-not : (b : Bool) → (T b → ⊥) → T (not b)
 so-not true f = f tt

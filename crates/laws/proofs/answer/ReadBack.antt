@@ -4,7 +4,7 @@ use native.Mathlib.Omega.{arith}
 use mathlib.Core.Path.{_≡_, refl, sym, _∙_, ap, ap₂}
 use mathlib.Core.Bool.{Bool, true, false, _&&_}
 use mathlib.Core.List.{List, [], _∷_, _++_}
-use borrow.Author.Tests.{eq-eqb, ne-eqb, le-leb, lt-leb, lt-ltb, le-ltb}
+use borrow.Author.Tests.{eq-eqb, ne-eqb, le-leb, lt-ltb, le-ltb}
 use lib.ListN.{length}
 use lib.Dec.{T, eqb, leb, ltb, leb→le, ltb→lt}
 use Rattle.spec_tree.specs.Tree.{Name, input, xname, mname, Tree, Sym, Const, Op}
@@ -33,9 +33,6 @@ span-kind p = kind-of (row-of-span p)
 
 a-statement : (k : ℕ) → 29 ≤ k → k < 33 → (leb 29 k && ltb k 33) ≡ true
 a-statement k low high = rw (le-leb 29 k low, lt-ltb k 33 high)
-
-before-statements : (k : ℕ) → k < 29 → (leb 29 k && ltb k 33) ≡ false
-before-statements k h = rw (lt-leb 29 k h)
 
 after-statements : (k : ℕ) → 33 ≤ k → (leb 29 k && ltb k 33) ≡ false
 after-statements k h = let g : 29 ≤ k = omega arith in rw (le-leb 29 k g, le-ltb k 33 h)

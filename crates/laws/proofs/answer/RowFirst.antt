@@ -5,35 +5,21 @@ use native.Mathlib.Numerals.{add-one}
 use mathlib.Core.Path.{_≡_, refl, sym, _∙_, ap}
 use mathlib.Core.Bool.{Bool, true, false, not, _&&_}
 use mathlib.Core.List.{List, [], _∷_}
-use borrow.Author.Tests.{eq-eqb, ne-eqb, leb-true, leb-false}
+use borrow.Author.Tests.{eq-eqb, ne-eqb}
 use lib.IntN.{pos}
-use lib.ListN.{length, getD, take, drop, length-take, List·getD-eq-default, drop-of-length-le}
-use lib.Seq.{getD-take, getD-drop, drop-drop, take-take, take-all, drop-cons}
-use lib.Dec.{T, eqb, leb}
+use lib.ListN.{length, getD, take, drop, List·getD-eq-default, drop-of-length-le}
+use lib.Seq.{getD-take, getD-drop, drop-drop, drop-cons}
+use lib.Dec.{eqb}
 use Rattle.spec_tree.specs.Bytes.{eq-bytes}
 use Rattle.spec_tree.specs.Rows.{Row, row-sym, row-const, row-op}
 use Rattle.spec_tree.specs.Layout.{row-by, row-of, rows-of}
 use Rattle.spec_tree.specs.Tokens.{kind-of, below-of, first-named, number-in, name-of-row, name-in}
-use Rattle.spec_tree.proofs.TreeLaws.{eq-bytes-sound, eq-bytes-refl}
+use Rattle.spec_tree.proofs.TreeLaws.{eq-bytes-refl, alike, unlike}
 use Rattle.spec_tree.proofs.Tests.{is-true}
 use Rattle.laws.specs.answer.First.{is-symbol-row, has-name, none-named, first-row, first-word}
+use Rattle.spec_tree.proofs.LayoutLaws.{rows-long, row-part}
 
 -- ---- equal names, from the front
-
-pub other-lengths : (a b : List ℕ) → (length a ≡ length b → ⊥) → false ≡ eq-bytes a b
-other-lengths a b n = go (eq-bytes a b) (λ t. n (ap length (eq-bytes-sound a b t)))
-  where
-    go : (t : Bool) → (T t → ⊥) → false ≡ t
-    go true f = absurd (f tt)
-    go false f = refl
-
-alike : (x y : ℕ) (a b : List ℕ) → x ≡ y → eq-bytes (x ∷ a) (y ∷ b) ≡ eq-bytes a b
-unfolding eq-bytes
-alike x y a b e = rw (eq-eqb x y e, eq-bytes)
-
-unlike : (x y : ℕ) (a b : List ℕ) → (x ≡ y → ⊥) → eq-bytes (x ∷ a) (y ∷ b) ≡ false
-unfolding eq-bytes
-unlike x y a b n = rw (ne-eqb x y n, eq-bytes)
 
 module _ (a b : List ℕ) (l : length a ≡ length b) (i : ℕ) (q : eq-bytes a b ≡ eq-bytes (drop i a) (drop i b)) where
   pub same-next : i < length a → getD a i 0 ≡ getD b i 0 → eq-bytes a b ≡ eq-bytes (drop (i + 1) a) (drop (i + 1) b)
@@ -60,11 +46,6 @@ nothing = row-const (pos 0)
 abbrev pub all-rows : List ℕ → List Row
 all-rows ws = rows-of (length ws / 35) ws
 
-rows-length : (n : ℕ) (ws : List ℕ) → length (rows-of n ws) ≡ n
-unfolding rows-of
-rows-length zero ws = refl
-rows-length (suc n) ws = ap suc (rows-length n (drop 35 ws))
-
 rows-entry : (n : ℕ) (ws : List ℕ) (i : ℕ) (d : Row) → i < n → getD (rows-of n ws) i d ≡ row-of (take 35 (drop (i * 35) ws))
 unfolding rows-of
 rows-entry zero ws i d h = absurd (omega arith)
@@ -72,28 +53,6 @@ rows-entry (suc n) ws zero d h = refl
 rows-entry (suc n) ws (suc i) d h =
     let e : 35 + i * 35 ≡ suc i * 35 = omega arith in
     rows-entry n (drop 35 ws) i d (omega arith) ∙ ap (λ (l : List ℕ). row-of (take 35 l)) (drop-drop (i * 35) 35 ws ∙ ap (λ (m : ℕ). drop m ws) e)
-
-room : (ws : List ℕ) → drop 3 (take 35 ws) ≡ take 32 (drop 3 ws)
-room [] = refl
-room (a ∷ []) = refl
-room (a ∷ (b ∷ [])) = refl
-room (a ∷ (b ∷ (c ∷ l))) = refl
-
-held : (n : ℕ) (l : List ℕ) → take n (take 32 l) ≡ take (min n 32) l
-held n l = go (leb n 32) refl
-  where
-    go : (b : Bool) → leb n 32 ≡ b → take n (take 32 l) ≡ take (min n 32) l
-    go true e =
-        let h = leb-true n 32 e in
-        let m : n ≡ min n 32 = omega arith in
-        take-take n 32 l h ∙ ap (λ (k : ℕ). take k l) m
-    go false e =
-        let h = leb-false n 32 e in
-        let m : 32 ≡ min n 32 = omega arith in
-        take-all n (take 32 l) (let q = length-take 32 l in omega arith) ∙ ap (λ (k : ℕ). take k l) m
-
-part : (n : ℕ) (ws : List ℕ) → take n (drop 3 (take 35 ws)) ≡ take (min n 32) (drop 3 ws)
-part n ws = ap (take n) (room ws) ∙ held n (drop 3 ws)
 
 no-symbol : (k : ℕ) (fields s : List ℕ) → 0 < k → (is-symbol-row (row-by k fields) ≡ false) × (has-name (row-by k fields) s ≡ false)
 unfolding is-symbol-row has-name row-by
@@ -106,7 +65,7 @@ module _ (ws : List ℕ) (i : ℕ) where
   row = getD (all-rows ws) i nothing
 
   pub past-rows : length ws / 35 ≤ i → row ≡ nothing
-  past-rows h = let l = rows-length (length ws / 35) ws in List·getD-eq-default (all-rows ws) nothing {n = i} (omega arith)
+  past-rows h = let l = rows-long (length ws / 35) ws in List·getD-eq-default (all-rows ws) nothing {n = i} (omega arith)
 
   module _ (h : i < length ws / 35) where
     word-of-row : (k : ℕ) → k < 35 → getD (take 35 (drop (i * 35) ws)) k 0 ≡ getD ws (i * 35 + k) 0
@@ -117,7 +76,7 @@ module _ (ws : List ℕ) (i : ℕ) where
     row-is =
         let e : i * 35 + 0 ≡ i * 35 = omega arith in
         let f = drop-drop 3 (i * 35) ws in
-        rw (rows-entry (length ws / 35) ws i nothing h, word-of-row 0 (omega arith), word-of-row 1 (omega arith), word-of-row 2 (omega arith), e, part (getD ws (i * 35 + 2) 0) (drop (i * 35) ws), f)
+        rw (rows-entry (length ws / 35) ws i nothing h, word-of-row 0 (omega arith), word-of-row 1 (omega arith), word-of-row 2 (omega arith), e, row-part (getD ws (i * 35 + 2) 0) (drop (i * 35) ws), f)
 
     pub other-row : (s : List ℕ) → 0 < getD ws (i * 35) 0 + getD ws (i * 35 + 1) 0 → (is-symbol-row row ≡ false) × (has-name row s ≡ false)
     other-row s n =
@@ -194,7 +153,7 @@ module _ (s : List ℕ) where
   first-at k (row-op j ns ∷ l) (suc n) h e = let z : suc k + n ≡ k + suc n = omega arith in rw z at (first-at (suc k) l n (omega arith) e)
 
 pub rows-many : (ws : List ℕ) → length (all-rows ws) ≡ length ws / 35
-rows-many ws = rows-length (length ws / 35) ws
+rows-many ws = rows-long (length ws / 35) ws
 
 -- ---- `row_first`
 

@@ -17,7 +17,7 @@ use Rattle.spec_tree.specs.Tree.{Name, input, xname, mname, Tree, Forest, Sym, 
 use Rattle.spec_tree.specs.Rows.{Row, row-sym, row-const, row-op}
 use Rattle.spec_tree.specs.Passes.{all-of, symbol-ok, of-paper, operands-ok, tree-ok, trees-ok}
 use Rattle.spec_tree.specs.Tokens.{word, constant-code, name-code, tokens, tokens-of, number-in, name-in, name-of-row, kind-of, below-of}
-use Rattle.spec_tree.proofs.Logic.{and-left, and-right}
+use Rattle.spec_tree.proofs.Logic.{and-left, and-right, and-assoc, not-true, or-true, or-assoc}
 use Rattle.spec_tree.proofs.Tests.{is-true}
 use Rattle.spec_tree.proofs.TokenCode.{known-name}
 use Rattle.spec_cse.specs.Answer.{Intermediate, Intermediates, Arms, Let, Match, end, step, no-arm, arm, names, concat, symbols, all-symbols, elem}
@@ -38,27 +38,15 @@ or-false : (b : Bool) → (b || false) ≡ b
 or-false true = refl
 or-false false = refl
 
-or-true : (b : Bool) → (b || true) ≡ true
-or-true true = refl
-or-true false = refl
-
 and-true : (b : Bool) → (b && true) ≡ b
 and-true true = refl
 and-true false = refl
-
-and-assoc : (a b c : Bool) → ((a && b) && c) ≡ (a && (b && c))
-and-assoc true b c = refl
-and-assoc false b c = refl
 
 or-swap : (s n b : Bool) → (s || (n || b)) ≡ ((n || s) || b)
 or-swap true true b = refl
 or-swap true false b = refl
 or-swap false true b = refl
 or-swap false false b = refl
-
-not-true : (b : Bool) → (T b → ⊥) → b ≡ false
-not-true true h = absurd (h tt)
-not-true false h = refl
 
 elem-cons : (x n : Name) (l : List Name) → elem x (n ∷ l) ≡ (eq-name n x || elem x l)
 unfolding elem
@@ -68,13 +56,9 @@ elem-cons x n l = go (eq-name n x)
     go true = refl
     go false = refl
 
-elem-nil : (x : Name) → elem x [] ≡ false
+pub elem-nil : (x : Name) → elem x [] ≡ false
 unfolding elem
 elem-nil x = refl
-
-or-assoc : (a b c : Bool) → (a || (b || c)) ≡ ((a || b) || c)
-or-assoc true b c = refl
-or-assoc false b c = refl
 
 pub elem-both : (x : Name) (a b : List Name) → elem x (a ++ b) ≡ (elem x a || elem x b)
 elem-both x [] b = sym (ap (λ (t : Bool). t || elem x b) (elem-nil x))

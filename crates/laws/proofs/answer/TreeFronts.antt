@@ -5,8 +5,8 @@ use mathlib.Core.Path.{_≡_, refl, sym, _∙_, ap, ap₂, subst}
 use mathlib.Core.Bool.{Bool, true, false, _&&_, cond}
 use mathlib.Core.Option.{some}
 use mathlib.Core.List.{List, [], _∷_, _++_, append-assoc}
-use borrow.Author.Tests.{eq-eqb, ne-eqb, eqb-true, eqb-false}
-use lib.IntN.{ℤ, pos, negsuc}
+use borrow.Author.Tests.{eq-eqb, ne-eqb}
+use lib.IntN.{ℤ, pos}
 use lib.ListN.{length, getD, take, drop, length-append, length-drop, take-append-drop}
 use lib.Seq.{length-take-le, drop-drop, take-at}
 use lib.Dec.{T, eqb, leb, ltb, leb→le, ltb→lt, eqb→eq, lt→ltb}
@@ -20,7 +20,7 @@ use Rattle.spec_tree.proofs.Logic.{and-left, and-right, and-both}
 use Rattle.spec_tree.proofs.Tests.{every-more, eq→eqb}
 use Rattle.spec_tree.proofs.TreeLaws.{eq-bytes-refl}
 use Rattle.spec_tree.proofs.TokenLaws.{Word, a-symbol, a-constant, an-operation, word-is, leaf-takes, operation-takes, symbol-tree, constant-tree, operation-tree, operands-forest, made, read-cons, complete-tail, complete-length, complete-read, words-complete, words-none, tree-at}
-use Rattle.spec_tree.proofs.TokenCode.{known-name, coded, coded-each, all-coded, fits-word, renamed, read-tree, reads-back, all-tokens-cons, all-tokens-append, tokens-forest}
+use Rattle.spec_tree.proofs.TokenCode.{known-name, coded, coded-each, all-coded, fits-word, renamed, read-tree, reads-back, all-tokens-cons, all-tokens-append, tokens-forest, constant-written}
 use Rattle.spec_rewrite.proofs.Names.{holds, holds-each, holds-all, holds-left, holds-right}
 use Rattle.laws.specs.answer.Fitting.{an-operation-kind, fitting, fitting-each, numbered-in}
 use Rattle.laws.specs.answer.First.{is-symbol-row, first-row, first-word}
@@ -90,14 +90,6 @@ module _ (number : List ℕ → ℕ) (known : List ℕ → Bool) where
         let y : length (tokens number t) + (length (tokens-of number f) + m) ≡ length (tokens number t ++ tokens-of number f) + m = omega (arith, l) in
         rw (append-assoc (tokens number t) (tokens-of number f) r, z)
         (tree-words t (and-left (fitting known t) (fitting-each known f) h) (tokens-of number f ++ r) (length (operands f) + k) (length (tokens-of number f) + m) more ∙ ap some y)
-
-constant-written : (b : ℕ) → constant-code (constant-at b) ≡ b
-unfolding constant-code constant-at
-constant-written b = go (eqb (b % 2) 0) refl
-  where
-    go : (t : Bool) → eqb (b % 2) 0 ≡ t → constant-code (cond t (pos (b / 2)) (negsuc (b / 2))) ≡ b
-    go true e = omega (arith, eqb-true (b % 2) 0 e)
-    go false e = let n = eqb-false (b % 2) 0 e in omega (arith, n)
 
 -- ---- words whose symbols of the list are named by their first rows
 

@@ -16,12 +16,14 @@ use Rattle.spec_cse.specs.AnswerRows.{stands-below, answer-words, references-ok
 use Rattle.laws.specs.answer.Fitting.{numbered-in}
 use Rattle.laws.specs.answer.Fronts.{AnswerRows}
 use Rattle.laws.specs.answer.Seen.{span-words, entered, names-bind, match-binds, binds, ended, bound-by, use-ok, seen, a-binding, occurs, once, Ended, Unended, Left}
-use Rattle.laws.proofs.answer.CodeLaws.{place, past}
+use Rattle.laws.proofs.answer.CodeLaws.{past}
 use Rattle.laws.proofs.answer.BoundLaws.{none-first, row-below, ended-yes, ended-none, ended-later, pass-row, enter-row, stop-row, enters-match, enters-no, binds-let, binds-match, binds-low, binds-high}
 use Rattle.laws.proofs.answer.ListNames.{answer-fits}
 use Rattle.laws.proofs.answer.LaidOut.{laid-rows, rows-laid}
 use Rattle.laws.proofs.answer.ScopeLaws.{all-seen, stmts-bound-made}
 use Rattle.laws.proofs.answer.OnceLaws.{once-different}
+use Rattle.spec_tree.proofs.TokenLaws.{some-is}
+use Rattle.spec_tree.proofs.Lists.{place-is}
 
 -- ---- `stands_below`
 
@@ -50,9 +52,6 @@ unfolding stands-below
 stands-many w low n l high = rw (lt-leb (kind-of w) 1 low, ne-eqb (kind-of w) 33 n, ne-eqb (kind-of w) 29 l, lt-leb 35 (kind-of w) high)
 
 -- ---- `span_end`
-
-some-is : {n m : ℕ} → some n ≡ some m → n ≡ m
-some-is e = cc
 
 -- each span has a word at least
 span-long : (l : List ℕ) (n m : ℕ) → span-words l n ≡ some m → n ≤ m
@@ -107,7 +106,7 @@ module _ (ws : List ℕ) (at : ℕ) where
     pub left-next : (s : ℕ) → i < length ws → s ≡ stands-below (getD ws i 0) → Left ws at (i + 1) (left - 1 + s)
     left-next s h e =
         let z : left ≡ suc (left - 1) = omega arith in
-        let d = place ws i h in
+        let d = place-is ws i h in
         let y : left - 1 + s ≡ left - 1 + stands-below (getD ws i 0) = ap (λ (n : ℕ). left - 1 + n) e in
         record {
           to = λ n q.
@@ -138,15 +137,15 @@ module _ (ws : List ℕ) (at : ℕ) where
 module _ (ws : List ℕ) (c i : ℕ) where
   pub names-next : i < length ws → getD ws i 0 % 64 ≡ 33 → (getD ws i 0 / 64 ≡ c → ⊥) → names-bind c (drop i ws) ≡ names-bind c (drop (i + 1) ws)
   unfolding names-bind
-  names-next h e n = ap (names-bind c) (place ws i h) ∙ rw (eq-eqb (getD ws i 0 % 64) 33 e, names-bind, ne-eqb (getD ws i 0 / 64) c n)
+  names-next h e n = ap (names-bind c) (place-is ws i h) ∙ rw (eq-eqb (getD ws i 0 % 64) 33 e, names-bind, ne-eqb (getD ws i 0 / 64) c n)
 
   pub names-found : i < length ws → getD ws i 0 % 64 ≡ 33 → getD ws i 0 / 64 ≡ c → names-bind c (drop i ws) ≡ true
   unfolding names-bind
-  names-found h e n = ap (names-bind c) (place ws i h) ∙ rw (eq-eqb (getD ws i 0 % 64) 33 e, names-bind, eq-eqb (getD ws i 0 / 64) c n)
+  names-found h e n = ap (names-bind c) (place-is ws i h) ∙ rw (eq-eqb (getD ws i 0 % 64) 33 e, names-bind, eq-eqb (getD ws i 0 / 64) c n)
 
   pub names-other : i < length ws → (getD ws i 0 % 64 ≡ 33 → ⊥) → names-bind c (drop i ws) ≡ false
   unfolding names-bind
-  names-other h n = ap (names-bind c) (place ws i h) ∙ rw (ne-eqb (getD ws i 0 % 64) 33 n, names-bind)
+  names-other h n = ap (names-bind c) (place-is ws i h) ∙ rw (ne-eqb (getD ws i 0 % 64) 33 n, names-bind)
 
   pub names-past : length ws ≤ i → names-bind c (drop i ws) ≡ false
   unfolding names-bind
@@ -193,13 +192,13 @@ module _ (ws : List ℕ) (c i at : ℕ) (h : i < at) (g : at ≤ length ws) wher
   inside = omega arith
 
   way-is : way-on ≡ bound-by c 0 (suc (at - i - 1)) (getD ws i 0 ∷ drop (i + 1) ws)
-  way-is = let z : at - i ≡ suc (at - i - 1) = omega arith in ap₂ (bound-by c 0) z (place ws i inside)
+  way-is = let z : at - i ≡ suc (at - i - 1) = omega arith in ap₂ (bound-by c 0) z (place-is ws i inside)
 
   closed : (e : ℕ) → Ended ws i at e → way-on ≡ (binds c (getD ws i 0) (drop (i + 1) ws) || bound-by c 0 (at - e) (drop e ws))
   closed e k =
       let w = getD ws i 0 in
       let l = drop (i + 1) ws in
-      let r = row-below w (e - i) l (ap (λ (x : List ℕ). span-words x 1) (sym (place ws i inside)) ∙ k .words) in
+      let r = row-below w (e - i) l (ap (λ (x : List ℕ). span-words x 1) (sym (place-is ws i inside)) ∙ k .words) in
       let m = r .0 in
       let z : at - i - 1 - m ≡ at - e = omega (arith, r .2, k .after, k .before-by) in
       let y : i + 1 + m ≡ e = omega (arith, r .2, k .after) in
@@ -214,7 +213,7 @@ module _ (ws : List ℕ) (c i at : ℕ) (h : i < at) (g : at ≤ length ws) wher
   way-past e k b = closed e k ∙ rw b
 
   pub way-goes : (e : ℕ) → Ended ws i at e → i < e
-  way-goes e k = let r = row-below (getD ws i 0) (e - i) (drop (i + 1) ws) (ap (λ (x : List ℕ). span-words x 1) (sym (place ws i inside)) ∙ k .words) in omega (arith, r .2)
+  way-goes e k = let r = row-below (getD ws i 0) (e - i) (drop (i + 1) ws) (ap (λ (x : List ℕ). span-words x 1) (sym (place-is ws i inside)) ∙ k .words) in omega (arith, r .2)
 
   open-here : (u : Unended ws i at) → ended (at - i - 1) (span-words (drop (i + 1) ws) (stands-below (getD ws i 0))) ≡ none
   open-here u = go (span-words (drop (i + 1) ws) (stands-below (getD ws i 0))) refl
@@ -224,7 +223,7 @@ module _ (ws : List ℕ) (c i at : ℕ) (h : i < at) (g : at ≤ length ws) wher
       go (some m) e =
           let z : 0 + stands-below (getD ws i 0) ≡ stands-below (getD ws i 0) = omega arith in
           let q = row-from (getD ws i 0) m 0 (drop (i + 1) ws) (ap (span-words (drop (i + 1) ws)) z ∙ e) in
-          let k = u (suc m) (ap (λ (x : List ℕ). span-words x 1) (place ws i inside) ∙ q) in
+          let k = u (suc m) (ap (λ (x : List ℕ). span-words x 1) (place-is ws i inside) ∙ q) in
           ended-later (at - i - 1) m (span-words (drop (i + 1) ws) (stands-below (getD ws i 0))) e (omega (arith, k))
 
   pub way-in : Unended ws i at → entered (getD ws i 0) ≡ true → way-on ≡ bound-by c 0 (at - (i + 1)) (drop (i + 1) ws)
@@ -301,11 +300,11 @@ seen-begins ws = let z : length ws ≡ length ws - 0 = omega arith in ap (seen w
 module _ (ws : List ℕ) (w i : ℕ) where
   pub occurs-here : i < length ws → getD ws i 0 ≡ w → occurs w (drop i ws) ≡ true
   unfolding occurs
-  occurs-here h e = ap (occurs w) (place ws i h) ∙ rw (eq-eqb (getD ws i 0) w e, occurs)
+  occurs-here h e = ap (occurs w) (place-is ws i h) ∙ rw (eq-eqb (getD ws i 0) w e, occurs)
 
   pub occurs-next : i < length ws → (getD ws i 0 ≡ w → ⊥) → occurs w (drop i ws) ≡ occurs w (drop (i + 1) ws)
   unfolding occurs
-  occurs-next h n = ap (occurs w) (place ws i h) ∙ rw (ne-eqb (getD ws i 0) w n, occurs)
+  occurs-next h n = ap (occurs w) (place-is ws i h) ∙ rw (ne-eqb (getD ws i 0) w n, occurs)
 
   pub occurs-past : length ws ≤ i → occurs w (drop i ws) ≡ false
   unfolding occurs
@@ -341,7 +340,7 @@ module _ (ws : List ℕ) (i : ℕ) where
 
   once-split : i < length ws → once (drop i ws) ≡ (not again && once (drop (i + 1) ws))
   unfolding once
-  once-split h = ap once (place ws i h)
+  once-split h = ap once (place-is ws i h)
 
   pub once-next : i < length ws → again ≡ false → once (drop i ws) ≡ once (drop (i + 1) ws)
   once-next h e = once-split h ∙ ap (λ (b : Bool). not b && once (drop (i + 1) ws)) e

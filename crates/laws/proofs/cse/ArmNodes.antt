@@ -15,6 +15,7 @@ use Rattle.spec_rewrite.proofs.Measure.{sum-of, sum-append}
 use Rattle.spec_cse.specs.Extract.{Binding, State, bound, roots, among, distinct}
 use Rattle.spec_cse.specs.Scope.{Switch, Group, switches, collect-switches, joins, place, groups-from, members, first-arms, rest-arms, columns, arms-of-members, some-switch, holds-switch, held-bindings, held}
 use Rattle.laws.proofs.cse.ReciprocalsCount.{AllTrees}
+use Rattle.spec_tree.proofs.Lists.{occurrences-append}
 
 unfoldable pub sizes-of : Forest → ℕ
 unfolding size
@@ -172,11 +173,6 @@ no-switch-no-arms (Op k (q ◂ f) ∷ l) h = go (is-switch k) h (λ g. no-switch
         → ((T (some-switch (switches l)) → ⊥) → sum-of arms-size l ≤ 0) → elim b as (λ _. ℕ) [ true ↦ sizes-of f | false ↦ 0 ] + sum-of arms-size l ≤ 0
     go true h g = absurd (h tt)
     go false h g = (let a = g h in omega arith)
-
-pub occurrences-append : (l r : List Tree) → occurrences (l ++ r) ≡ occurrences l + occurrences r
-unfolding occurrences
-occurrences-append [] r = omega arith
-occurrences-append (t ∷ l) r = (let a = occurrences-append l r in omega arith)
 
 -- A weight of trees that is no more than a tree's nodes over its switches outside arms, and nothing where there is none: what the scope holds bounds its sum.
 module _ (v : Tree → ℕ) (fits : (t : Tree) → sum-of v (outer t) ≤ size t) (none : (l : List Tree) → (T (some-switch (switches l)) → ⊥) → sum-of v l ≤ 0) where

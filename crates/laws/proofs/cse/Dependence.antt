@@ -13,13 +13,13 @@ use Rattle.spec_tree.proofs.TreeLaws.{eq-tree-sound, eq-name-sound}
 use Rattle.spec_tree.specs.Facts.{nodes, nodes-of, count, has-symbol, some-of}
 use Rattle.spec_rewrite.specs.Rewrite.{divides-by, replace-divisor, replace-divisors, dividend}
 use Rattle.spec_cse.specs.Answer.{Intermediate, Let, Match, block}
-use Rattle.spec_tree.proofs.Logic.{and-left, and-right}
+use Rattle.spec_tree.proofs.Logic.{and-left, and-right, or-left, or-right, or-cases}
 use Rattle.spec_rewrite.proofs.Measure.{one-of}
 use Rattle.spec_rewrite.proofs.Names.{holds, holds-each}
 use Rattle.spec_cse.specs.Demand.{depends, dependent}
 use Rattle.spec_rewrite.proofs.Counts.{count-sym, count-const, count-op, count-none, count-operands, one-equal, either}
 use Rattle.laws.proofs.cse.SortCount.{Every}
-use Rattle.spec_rewrite.proofs.DivisorCount.{or-cases, or-left, or-right, restore, restores}
+use Rattle.spec_rewrite.proofs.DivisorCount.{restore, restores}
 
 -- some operand depends
 unfoldable pub some-depends : (Name → Bool) → Forest → Bool

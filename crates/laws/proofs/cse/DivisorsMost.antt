@@ -97,7 +97,7 @@ bound-once scoped s x =
 
 -- ---- so they are at most half of the divisions
 
-one-sym : (x y : Tree) → one-of x y ≡ one-of y x
+pub one-sym : (x y : Tree) → one-of x y ≡ one-of y x
 one-sym x y = go (one-of x y) refl (one-of y x) refl
   where
     go : (m : ℕ) → one-of x y ≡ m → (k : ℕ) → one-of y x ≡ k → one-of x y ≡ one-of y x
@@ -106,31 +106,31 @@ one-sym x y = go (one-of x y) refl (one-of y x) refl
     go (suc m) e zero f = (let q = one-equal x y (omega arith) in let a = ap (one-of y) q in let b = one-self y in absurd (omega arith))
     go (suc m) e (suc k) f = (let a = one-le x y in let b = one-le y x in omega arith)
 
-ones-count : (y : Tree) (ds : List Tree) → sum-of (λ d. one-of y d) ds ≡ count y ds
+pub ones-count : (y : Tree) (ds : List Tree) → sum-of (λ d. one-of y d) ds ≡ count y ds
 unfolding sum-of
 ones-count y [] = sym (count-nil y)
 ones-count y (d ∷ ds) = (let a = ones-count y ds in let b = count-cons y d ds in let c = one-sym y d in omega arith)
 
-counts-cons : (y : Tree) (l ds : List Tree) → sum-of (λ d. count d (y ∷ l)) ds ≡ sum-of (λ d. one-of y d) ds + sum-of (λ d. count d l) ds
+pub counts-cons : (y : Tree) (l ds : List Tree) → sum-of (λ d. count d (y ∷ l)) ds ≡ sum-of (λ d. one-of y d) ds + sum-of (λ d. count d l) ds
 unfolding sum-of
 counts-cons y l [] = omega arith
 counts-cons y l (d ∷ ds) = (let a = counts-cons y l ds in let b = count-cons d y l in omega arith)
 
-counts-nil : (ds : List Tree) → sum-of (λ d. count d []) ds ≡ 0
+pub counts-nil : (ds : List Tree) → sum-of (λ d. count d []) ds ≡ 0
 unfolding sum-of
 counts-nil [] = refl
 counts-nil (d ∷ ds) = (let a = counts-nil ds in let b = count-nil d in omega arith)
 
-counts-most : (l ds : List Tree) → ((x : Tree) → count x ds ≤ 1) → sum-of (λ d. count d l) ds ≤ length l
+pub counts-most : (l ds : List Tree) → ((x : Tree) → count x ds ≤ 1) → sum-of (λ d. count d l) ds ≤ length l
 counts-most [] ds h = (let a = counts-nil ds in omega arith)
 counts-most (y ∷ l) ds h = (let a = counts-cons y l ds in let b = ones-count y ds in let c = h y in let e = counts-most l ds h in omega arith)
 
-twice-each : (l ds : List Tree) → AllTrees (λ d. 2 ≤ count d l) ds → 2 * length ds ≤ sum-of (λ d. count d l) ds
+pub twice-each : (l ds : List Tree) → AllTrees (λ d. 2 ≤ count d l) ds → 2 * length ds ≤ sum-of (λ d. count d l) ds
 unfolding sum-of
 twice-each l [] h = omega arith
 twice-each l (d ∷ ds) h = (let a = twice-each l ds (h .1) in let b = h .0 in omega arith)
 
-divisors-length : (s t : List Tree) → length (divisors (s ++ t)) ≡ length (divisors s) + length (divisors t)
+pub divisors-length : (s t : List Tree) → length (divisors (s ++ t)) ≡ length (divisors s) + length (divisors t)
 unfolding divisors
 divisors-length [] t = omega arith
 divisors-length (e ∷ s) t = go (divisor-of e) (divisors-length s t)

@@ -16,7 +16,7 @@ use Rattle.spec_cse.specs.Scope.{holds-switch, held-bindings, held}
 use Rattle.laws.proofs.cse.ReciprocalsCount.{AllTrees, inverse, bound-divisors, reciprocals-are}
 use Rattle.laws.proofs.cse.ReciprocalBindings.{Past, past-none, past-append}
 use Rattle.laws.proofs.cse.CleanDivisors.{no-switch, divided-no-switch, inverse-no-switch, none-outside}
-use Rattle.laws.proofs.cse.ArmNodes.{occurrences-append}
+use Rattle.spec_tree.proofs.Lists.{occurrences-append}
 
 abbrev None : Tree → Type 0
 None e = T (no-switch e)

@@ -13,7 +13,7 @@ use Rattle.spec_tree.specs.Tree.{Name, Tree, Forest, Sym, Const, Op, nil, _◂_
 use Rattle.spec_tree.specs.Kinds.{is-switch}
 use Rattle.spec_tree.specs.Facts.{operations, all-operations, size, outer, outer-of, outer-first, all-outer}
 use Rattle.spec_tree.specs.Rows.{occurrences}
-use Rattle.spec_rewrite.proofs.Measure.{sum-of, sum-append, sum-each, sizes, size-op, forest-operations, operations-op}
+use Rattle.spec_rewrite.proofs.Measure.{sum-of, sum-append, sum-each, sizes, size-op, forest-operations, operations-op, operations-const}
 use Rattle.spec_rewrite.proofs.Counts.{well-formed-all}
 use Rattle.spec_rewrite.proofs.Names.{holds-all}
 use Rattle.spec_cse.specs.Extract.{State, roots, distinct, extract-all, bind-reciprocal, bind-reciprocals, reciprocals}
@@ -35,16 +35,12 @@ symbol-operations : (n : Name) → operations (Sym n) ≡ 0
 unfolding operations
 symbol-operations n = refl
 
-constant-operations : (c : ℤ) → operations (Const c) ≡ 0
-unfolding operations
-constant-operations c = refl
-
 mutual
   unfolding sum-each
 
   operations-size : (t : Tree) → operations t ≤ size t
   operations-size (Sym n) = (let a = symbol-operations n in omega arith)
-  operations-size (Const c) = (let a = constant-operations c in omega arith)
+  operations-size (Const c) = (let a = operations-const c in omega arith)
   operations-size (Op k f) = (let a = operations-op k f in let b = size-op k f in let c = operations-sizes f in omega arith)
 
   operations-sizes : (f : Forest) → forest-operations f ≤ sizes f
@@ -166,7 +162,7 @@ append-length : (l : List Switch) (s : Switch) → length (l ++ (s ∷ [])) ≡ 
 append-length [] s = omega arith
 append-length (a ∷ l) s = (let q = append-length l s in omega arith)
 
-place-members : (s : Switch) (gs : List Group) → members-total (place s gs) ≡ suc (members-total gs)
+pub place-members : (s : Switch) (gs : List Group) → members-total (place s gs) ≡ suc (members-total gs)
 unfolding place members members-total
 place-members s [] = omega arith
 place-members s (g ∷ gs) = go (joins (g .first) s) (place-members s gs)
@@ -177,7 +173,7 @@ place-members s (g ∷ gs) = go (joins (g .first) s) (place-members s gs)
     go true h = (let q = append-length (g .others) s in omega arith)
     go false h = omega arith
 
-from-members : (gs : List Group) (l : List Switch) → members-total (groups-from gs l) ≡ members-total gs + length l
+pub from-members : (gs : List Group) (l : List Switch) → members-total (groups-from gs l) ≡ members-total gs + length l
 unfolding groups-from
 from-members gs [] = omega arith
 from-members gs (s ∷ l) = (let a = from-members (place s gs) l in let b = place-members s gs in omega arith)
@@ -198,7 +194,7 @@ held-members x s =
     omega arith)
 
 -- and each group has a member
-groups-members : (gs : List Group) → length gs ≤ members-total gs
+pub groups-members : (gs : List Group) → length gs ≤ members-total gs
 unfolding members-total members
 groups-members [] = omega arith
 groups-members (g ∷ gs) = (let a = groups-members gs in omega arith)

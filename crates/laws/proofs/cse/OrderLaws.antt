@@ -11,6 +11,7 @@ use lib.ListN.{length, getD}
 use lib.Dec.{T, eqb, eqb→eq, eqb-refl}
 use Rattle.spec_cse.specs.Order.{member, within, free-from, joining, push, take-all, positions-taken}
 use Rattle.spec_tree.proofs.Logic.{and-left, and-right}
+use Rattle.spec_tree.proofs.TreeLaws.{both, then-test}
 
 -- ---- members
 
@@ -38,27 +39,19 @@ member-here i l = go (eqb i i) (eqb-refl i)
     go true t = tt
     go false t = absurd t
 
-pub within-both : (b c : Bool) → T (elim b [ true ↦ c | false ↦ false ]) → T b × T c
-within-both true c t = (tt, t)
-within-both false c t = absurd t
-
 pub within-member : (ns l : List ℕ) (j : ℕ) → T (within ns l) → T (member j ns) → T (member j l)
 unfolding within
 within-member [] l j w t = absurd (unfold member in t)
 within-member (n ∷ ns) l j w t =
-    let h = within-both (member n l) (within ns l) w in
+    let h = both (member n l) (within ns l) w in
     elim (member-cases j n ns t) [ inl e ↦ subst (λ (k : ℕ). T (member k l)) e (h .0) | inr u ↦ within-member ns l j (h .1) u ]
-
-pub then-both : (b c : Bool) → T b → T c → T (elim b [ true ↦ c | false ↦ false ])
-then-both true c s t = t
-then-both false c s t = s
 
 pub within-later : (ns l : List ℕ) (j : ℕ) → T (within ns l) → T (within ns (j ∷ l))
 unfolding within
 within-later [] l j w = tt
 within-later (n ∷ ns) l j w =
-    let h = within-both (member n l) (within ns l) w in
-    then-both (member n (j ∷ l)) (within ns (j ∷ l)) (member-later n j l (h .0)) (within-later ns l j (h .1))
+    let h = both (member n l) (within ns l) w in
+    then-test (member n (j ∷ l)) (within ns (j ∷ l)) (member-later n j l (h .0)) (within-later ns l j (h .1))
 
 -- ---- lists of positions
 

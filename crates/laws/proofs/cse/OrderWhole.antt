@@ -8,8 +8,9 @@ use native.Mathlib.Omega.{arith}
 use lib.ListN.{length, getD}
 use lib.Dec.{T, eqb, eqb→eq}
 use Rattle.spec_cse.specs.Order.{member, within, free-from, joining, push, take-all, positions-taken}
-use Rattle.laws.proofs.cse.OrderLaws.{member-cases, member-later, member-here, within-both, then-both, taken-ok, remove, at-most}
+use Rattle.laws.proofs.cse.OrderLaws.{member-cases, member-later, member-here, taken-ok, remove, at-most}
 use Rattle.spec_tree.proofs.Logic.{and-both}
+use Rattle.spec_tree.proofs.TreeLaws.{both, then-test}
 
 -- ---- what joins the stack
 
@@ -62,11 +63,11 @@ within-split : (ns done : List ℕ) (i : ℕ) → T (within ns (i ∷ done)) →
 unfolding within
 within-split [] done i w = inl tt
 within-split (n ∷ ns) done i w =
-    let h = within-both (member n (i ∷ done)) (within ns (i ∷ done)) w in
+    let h = both (member n (i ∷ done)) (within ns (i ∷ done)) w in
     elim (member-cases n i done (h .0)) [
       | inl e ↦ inr (subst (λ (k : ℕ). T (member k (n ∷ ns))) (sym e) (member-here n ns))
       | inr u ↦ elim (within-split ns done i (h .1)) [
-        | inl v ↦ inl (then-both (member n done) (within ns done) u v)
+        | inl v ↦ inl (then-test (member n done) (within ns done) u v)
         | inr m ↦ inr (member-later i n ns m)
       ]
     ]
@@ -74,7 +75,7 @@ within-split (n ∷ ns) done i w =
 within-all : (ns done : List ℕ) → ((j : ℕ) → T (member j ns) → T (member j done)) → T (within ns done)
 unfolding within
 within-all [] done f = tt
-within-all (n ∷ ns) done f = then-both (member n done) (within ns done) (f n (member-here n ns)) (within-all ns done (λ j t. f j (member-later j n ns t)))
+within-all (n ∷ ns) done f = then-test (member n done) (within ns done) (f n (member-here n ns)) (within-all ns done (λ j t. f j (member-later j n ns t)))
 
 -- ---- as many positions as there are
 

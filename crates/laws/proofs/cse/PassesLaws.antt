@@ -16,7 +16,7 @@ use Rattle.spec_rewrite.proofs.Counts.{well-formed-all}
 use Rattle.spec_rewrite.proofs.Names.{holds, holds-each, holds-all, below}
 use Rattle.laws.proofs.cse.ScopeValue.{under}
 
-arity-of : (k n : ℕ) → T (operands-ok k n) → T (arity-ok k n)
+pub arity-of : (k n : ℕ) → T (operands-ok k n) → T (arity-ok k n)
 unfolding operands-ok
 arity-of k n h = and-right (leb Neg k) (arity-ok k n) h
 
@@ -66,7 +66,7 @@ all-unmade [] h = tt
 all-unmade (t ∷ l) h =
     and-both (holds (under 0) t) (holds-all (under 0) l) (unmade t (and-left (expression t) (expressions l) h)) (all-unmade l (and-right (expression t) (expressions l) h))
 
-passed : (es : List Tree) → T (passes es) → T (expressions es)
+pub passed : (es : List Tree) → T (passes es) → T (expressions es)
 unfolding passes
 passed es h = and-right (within-limits es) (expressions es) (and-right (leb (length es) 64) (within-limits es && expressions es) h)
 

@@ -17,12 +17,11 @@ use Rattle.spec_tree.proofs.Formed.{well-formed}
 use Rattle.spec_tree.specs.Facts.{all-operations, cost, has-symbol, some-of, operations, nodes, nodes-of, all-nodes, outside, count, uses, uses-outside}
 use Rattle.spec_rewrite.specs.Rewrite.{flatten-mul-factors, flatten-operands, replace}
 use Rattle.spec_cse.specs.Extract.{Binding, State, Candidate, bound, roots, is-candidate, candidate, beats, best-from, best, replace-bound, extract, rounds, extract-all}
-use Rattle.spec_tree.proofs.Logic.{and-left, and-right, and-both}
+use Rattle.spec_tree.proofs.Logic.{and-left, and-right, and-both, or-cases}
 use Rattle.spec_rewrite.proofs.Measure.{sum-of, sum-each, length-sum, by-operations, least-operations, operations-sum, one-of, count-cons, count-sum}
 use Rattle.spec_rewrite.proofs.Factors.{factors-of, factors-cases, sum-factors}
 use Rattle.spec_rewrite.proofs.Shrinks.{replace-shrinks}
 use Rattle.spec_rewrite.proofs.Savings.{operations-saves}
-use Rattle.spec_rewrite.proofs.DivisorCount.{or-cases}
 use Rattle.spec_rewrite.proofs.Names.{holds, holds-all, holds-append, below, weaken, weaken-all, all-nodes-hold, Holds, replace-holds}
 use Rattle.spec_rewrite.proofs.Counts.{count-nil, count-op, count-operands, counted-cases, counted-holds, counted-formed, well-formed-all, all-append, all-nodes-formed, all-nodes-cons, operations-append, part-all-operations, absent}
 

@@ -17,17 +17,13 @@ use Rattle.spec_rewrite.specs.Rewrite.{replace, replace-within, replace-divisor
 use Rattle.spec_cse.specs.Extract.{Binding, State, Candidate, bound, roots, is-candidate, candidate, beats, best-from, best, replace-bound, extract, rounds, extract-all, divisor-of, divisors, among, distinct, shared-divisors, insert-by-text, sort-by-text, replace-divisor-each, replace-divisor-bound, bind-reciprocal, bind-reciprocals, reciprocals}
 use Rattle.spec_tree.specs.Value.{Reading, Env, value, values}
 use Rattle.spec_cse.specs.Read.{set}
-use Rattle.spec_tree.proofs.Logic.{and-left, and-right, and-both}
+use Rattle.spec_tree.proofs.Logic.{and-left, and-right, and-both, not-true}
 use Rattle.spec_rewrite.proofs.Names.{holds, holds-each, holds-all, holds-append, below, below-suc, below-le, below-x, weaken, weaken-all, value-same, values-same, all-nodes-hold, Holds, replace-holds, divisor-holds}
 use Rattle.spec_rewrite.proofs.ReplaceValue.{Keeps, replace-within-keeps, value-reduced}
 use Rattle.spec_rewrite.proofs.DivisorValue.{replace-divisor-keeps}
 use Rattle.spec_rewrite.proofs.Coefficient.{exactly}
 
 -- ---- one more name
-
-pub off : (b : Bool) → (T b → ⊥) → b ≡ false
-off true f = absurd (f tt)
-off false f = refl
 
 on : (b : Bool) → T b → b ≡ true
 on true t = refl
@@ -36,7 +32,7 @@ on false t = absurd t
 pub set-other : (inp : List ℕ → Bool) (σ : Env) (j k v : ℕ) (n : Name) → T (below inp j k n) → set σ (xname k) v n ≡ σ n
 unfolding set below eq-name
 set-other inp σ j k v (input s) h = refl
-set-other inp σ j k v (xname i) h = ap (λ (b : Bool). cond b v (σ (xname i))) (off (eqb i k) (λ t. let e = eqb→eq i k t in let l = ltb→lt i k h in omega arith))
+set-other inp σ j k v (xname i) h = ap (λ (b : Bool). cond b v (σ (xname i))) (not-true (eqb i k) (λ t. let e = eqb→eq i k t in let l = ltb→lt i k h in omega arith))
 set-other inp σ j k v (mname i) h = refl
 
 pub set-self : (σ : Env) (k v : ℕ) → set σ (xname k) v (xname k) ≡ v

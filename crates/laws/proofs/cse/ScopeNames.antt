@@ -18,10 +18,10 @@ use Rattle.laws.proofs.cse.OrderLaws.{member-cases, member-later, membe
 use Rattle.spec_cse.specs.Scope.{Switch, Group, Work, Scoped, Armed, members, collect-switches, groups-from, replace-in-stmts, name-members, member-names, columns, arms-of-members, scope-arms, fuse-group, fuse-groups, fuse-all, binds, unfused, finish, cse-scope, left-after, opens, area-rows, scopes-open, fuse-held, as-answer, answer}
 use Rattle.spec_tree.specs.Value.{Reading, Env, values}
 use Rattle.spec_cse.specs.Demand.{bound-stmt, bound-stmts, bound-arms, all-different, known, in-scope, stmt-in-scope, arms-in-scope, well-scoped}
-use Rattle.spec_tree.proofs.Logic.{and-left, and-right, and-both}
+use Rattle.spec_tree.proofs.Logic.{and-left, and-right, and-both, or-left, or-right, or-cases}
 use Rattle.spec_rewrite.proofs.Names.{holds, holds-all, below, weaken, weaken-all}
 use Rattle.laws.proofs.cse.RoundsValue.{let-names, Numbered, Binds, Model, Modeled, extract-all-keeps, reciprocals-keep, roots-known}
-use Rattle.laws.proofs.cse.Symbols.{decide, or-left, or-right, or-cases, elem-cases, elem-here, elem-later, elem-left, elem-right, elem-append, holds-at, holds-all-at, Sub, sub-append, no-elem, holds-all-by, all-names}
+use Rattle.laws.proofs.cse.Symbols.{decide, elem-cases, elem-here, elem-later, elem-left, elem-right, elem-append, holds-at, holds-all-at, Sub, sub-append, no-elem, holds-all-by, all-names}
 use Rattle.laws.proofs.cse.ReadLaws.{needs-length, name-place, place-name, bound-before, free-back}
 use Rattle.laws.proofs.cse.SwitchLaws.{outside-holds, results-hold, Fair-group, Fair-groups, groups-fair, first-key-known, All-hold, group-columns-known}
 use Rattle.laws.proofs.cse.ScopeValue.{under, under-le, under-m, under-below, names-to-come, all-names-append, one-named, names-kept, name-members-later, names-made, hold-more, bind-names, numbered-elem}

@@ -13,6 +13,7 @@ use Rattle.spec_tree.specs.Outcome.{Outcome, ok, refused, by}
 use Rattle.spec_cse.specs.Answer.{Intermediate}
 use Rattle.spec_cse.specs.Order.{needs, member, positions-taken, nothing, at-each, topo-sort-intermediates}
 use Rattle.laws.proofs.cse.OrderLaws.{member-cases, member-here, member-later, All, Distinct, taken-ok, at-most}
+use Rattle.laws.proofs.cse.ReadLaws.{needs-length}
 
 -- ---- positions past the first, counted from the second
 
@@ -80,11 +81,6 @@ module _ (v : Intermediate → ℕ) where
 
 -- ---- the order
 
-needs-length : (all l : List Intermediate) → length (needs all l) ≡ length l
-unfolding needs
-needs-length all [] = refl
-needs-length all (s ∷ l) = ap suc (needs-length all l)
-
 taken-inside : (l : List Intermediate) → All (λ j. j < length l) (positions-taken (needs l l))
 taken-inside l = subst (λ (m : ℕ). All (λ j. j < m) (positions-taken (needs l l))) (needs-length l l) (taken-ok (needs l l) .inside)
 
@@ -111,7 +107,7 @@ length-reversed : (l r : List Intermediate) → length (reverseAux l r) ≡ leng
 length-reversed [] r = omega arith
 length-reversed (s ∷ l) r = (let q = length-reversed l (s ∷ r) in omega arith)
 
-length-at-each : (l : List Intermediate) (o : List ℕ) → length (at-each l o) ≡ length o
+pub length-at-each : (l : List Intermediate) (o : List ℕ) → length (at-each l o) ≡ length o
 unfolding at-each
 length-at-each l [] = refl
 length-at-each l (i ∷ o) = ap suc (length-at-each l o)

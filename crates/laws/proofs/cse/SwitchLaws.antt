@@ -15,9 +15,9 @@ use Rattle.spec_rewrite.specs.Rewrite.{replace-outside-arms, replace-operands, 
 use Rattle.spec_cse.specs.Extract.{distinct}
 use Rattle.spec_tree.specs.Value.{Reading, Env, value, operand-values, values, choice, switched, other, apply}
 use Rattle.spec_cse.specs.Scope.{Switch, Group, switches, collect-switches, joins, place, groups-from, members, replace-in-results, first-arms, rest-arms, columns, arms-of-members}
-use Rattle.spec_tree.proofs.Logic.{and-left, and-right, and-both}
+use Rattle.spec_tree.proofs.Logic.{and-left, and-right, and-both, not-true}
 use Rattle.spec_rewrite.proofs.Names.{holds, holds-each, holds-all, holds-append}
-use Rattle.laws.proofs.cse.RoundsValue.{off, distinct-known}
+use Rattle.laws.proofs.cse.RoundsValue.{distinct-known}
 
 -- ---- rewriting outside arms
 
@@ -258,7 +258,7 @@ module _ (R : Reading) (σ : Env) where
 
   -- a switch is none of the other kinds that a value looks for
   other-kind : (k c : ℕ) → T (is-switch k) → c < 26 → eqb k c ≡ false
-  other-kind k c t h = off (eqb k c) (λ u. let e = eqb→eq k c u in let l = leb→le 26 k t in omega arith)
+  other-kind k c t h = not-true (eqb k c) (λ u. let e = eqb→eq k c u in let l = leb→le 26 k t in omega arith)
 
   five : (a b c d e : Bool) (u v w x y z : ℕ) → a ≡ false → b ≡ false → c ≡ false → d ≡ false → e ≡ false
       → cond a u (cond b v (cond c w (cond d x (cond e y z)))) ≡ z

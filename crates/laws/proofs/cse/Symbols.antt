@@ -1,7 +1,7 @@
 -- The symbols of trees and the names of statements, as lists and as tests. Assumes nothing.
 use mathlib.Core.Path.{_≡_, sym, subst}
 use mathlib.Core.Logic.{_⊎_, inl, inr}
-use mathlib.Core.Bool.{Bool, true, false, _||_}
+use mathlib.Core.Bool.{Bool, true, false}
 use mathlib.Core.List.{List, [], _∷_, _++_}
 use lib.Dec.{T}
 use Rattle.spec_tree.specs.Tree.{Name, Tree, Forest, Sym, Const, Op, nil, _◂_, folds, eq-name}
@@ -16,18 +16,6 @@ use Rattle.spec_rewrite.proofs.Names.{holds, holds-each, holds-all}
 pub decide : (b : Bool) → T b ⊎ (T b → ⊥)
 decide true = inl tt
 decide false = inr (λ t. t)
-
-pub or-left : (b c : Bool) → T b → T (b || c)
-or-left true c t = tt
-or-left false c t = absurd t
-
-pub or-right : (b c : Bool) → T c → T (b || c)
-or-right true c t = tt
-or-right false c t = t
-
-pub or-cases : (b c : Bool) → T (b || c) → T b ⊎ T c
-or-cases true c t = inl tt
-or-cases false c t = inr t
 
 -- ---- symbols as a list, and as a test
 

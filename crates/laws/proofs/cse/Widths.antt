@@ -62,7 +62,7 @@ extract-all-long : (scoped : Bool) (next : ℕ) (es : List Tree) → Good (Long 
 extract-all-long scoped next es =
     extract-all-good scoped (Long (length es)) (λ x s t c e h. good-at (Long (length es)) (extract x s) t e (extract-long (length es) x s h)) next es (unfold begin in refl)
 
-divided-long : (d : Tree) (n : Name) (l : List Tree) → length (replace-divisor-each d n l) ≡ length l
+pub divided-long : (d : Tree) (n : Name) (l : List Tree) → length (replace-divisor-each d n l) ≡ length l
 unfolding replace-divisor-each
 divided-long d n [] = refl
 divided-long d n (t ∷ l) = ap suc (divided-long d n l)
@@ -106,7 +106,7 @@ unfolding arms-of-members
 members-wide a [] h = (tt, refl)
 members-wide a (s ∷ l) h = (let q = members-wide a l (h .1) in ((h .0 .count, q .0), ap suc (q .1)))
 
-member-names-long : (i : ℕ) (l : List Switch) → length (member-names i l) ≡ length l
+pub member-names-long : (i : ℕ) (l : List Switch) → length (member-names i l) ≡ length l
 unfolding member-names
 member-names-long i [] = refl
 member-names-long i (s ∷ l) = ap suc (member-names-long (suc i) l)

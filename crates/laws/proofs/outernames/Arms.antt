@@ -2,7 +2,7 @@
 -- as they were collected (01, "Order", "Scoped fusion"). Assumes nothing.
 use Prim.Native.Nat.{ℕ, _+_, _≤_}
 use native.Mathlib.Omega.{arith}
-use mathlib.Core.Path.{_≡_, refl, sym, _∙_, ap, subst}
+use mathlib.Core.Path.{_≡_, sym, _∙_, ap, subst}
 use mathlib.Core.Logic.{_⊎_, inl, inr}
 use mathlib.Core.Bool.{Bool, true, false, not, _||_}
 use mathlib.Core.List.{List, [], _∷_, _++_}
@@ -16,23 +16,18 @@ use Rattle.spec_rewrite.proofs.Names.{holds-all}
 use Rattle.spec_cse.specs.Answer.{Arms, Match, no-arm, arm, block, symbols, all-symbols, free, free-stmts, free-arms, elem}
 use Rattle.spec_cse.specs.Scope.{Group, Scoped, Armed, members, arms-of-members, scope-arms}
 use Rattle.laws.proofs.cse.Outcomes.{Good, then-good, good-ok}
-use Rattle.laws.proofs.cse.Symbols.{decide, or-left, or-right, or-cases, elem-left, elem-right, elem-append, holds-all-at, Sub, sub-left, sub-right, sub-append, no-elem, holds-all-by}
+use Rattle.laws.proofs.cse.Symbols.{decide, elem-left, elem-right, elem-append, holds-all-at, Sub, sub-left, sub-right, sub-append, no-elem, holds-all-by}
 use Rattle.laws.proofs.cse.SwitchLaws.{Fair-group, All-hold}
 use Rattle.laws.proofs.cse.ScopeValue.{under, under-le, hold-more}
 use Rattle.laws.proofs.outernames.Rounds.{New}
 use Rattle.laws.proofs.outernames.Switches.{All-formed, columns-forth, group-columns, group-arms-back}
+use Rattle.spec_tree.proofs.Logic.{or-left, or-right, or-cases, same-test}
 
 -- ---- tests that only one name fails
 
 unfoldable pub apart : Name → Name → Bool
 unfolding eq-name
 apart n m = not (eq-name m n)
-
-same-tests : (b c : Bool) → (T b → T c) → (T c → T b) → b ≡ c
-same-tests true true f g = refl
-same-tests true false f g = absurd (f tt)
-same-tests false true f g = absurd (g tt)
-same-tests false false f g = refl
 
 not-so : (b : Bool) → (T b → ⊥) → T (not b)
 not-so true f = f tt
@@ -60,14 +55,14 @@ apart-new start n u m f = not-so (eq-name m n) (λ t. f (subst (λ (x : Name). T
 
 -- two lists that pass the same of these tests hold the name or don't
 pub elem-same : (n : Name) (s t : List Name) → (Sub (apart n) s → Sub (apart n) t) → (Sub (apart n) t → Sub (apart n) s) → elem n s ≡ elem n t
-elem-same n s t f g = same-tests (elem n s) (elem n t) (along s t g) (along t s f)
+elem-same n s t f g = same-test (elem n s) (elem n t) (along s t g) (along t s f)
   where
     along : (s t : List Name) → (Sub (apart n) t → Sub (apart n) s) → T (elem n s) → T (elem n t)
     along s t h u = elim (decide (elem n t)) [ inl v ↦ v | inr v ↦ absurd (sub-lacks n s (h (lacks-sub n t v)) u) ]
 
 pub elem-or : (n : Name) (s t : List Name) → elem n (s ++ t) ≡ (elem n s || elem n t)
 elem-or n s t =
-    same-tests (elem n (s ++ t)) (elem n s || elem n t)
+    same-test (elem n (s ++ t)) (elem n s || elem n t)
     (λ u. elim (elem-append n s t u) [ inl a ↦ or-left (elem n s) (elem n t) a | inr b ↦ or-right (elem n s) (elem n t) b ])
     (λ u. elim (or-cases (elem n s) (elem n t) u) [ inl a ↦ elem-left n s t a | inr b ↦ elem-right n s t b ])
 
@@ -166,7 +161,7 @@ abbrev pub Outside : ℕ → ℕ → Name → Type 0
 Outside start next n = T (under start n) ⊎ (T (under next n) → ⊥)
 
 none-there : (n : Name) (s t : List Name) → (T (elem n s) → ⊥) → (T (elem n t) → ⊥) → elem n s ≡ elem n t
-none-there n s t f g = same-tests (elem n s) (elem n t) (λ u. absurd (f u)) (λ u. absurd (g u))
+none-there n s t f g = same-test (elem n s) (elem n t) (λ u. absurd (f u)) (λ u. absurd (g u))
 
 pub scope-elem-any :
     (start : ℕ) (es : List Tree) (a : Scoped) → Same-names start es a → T (holds-all (under start) es) → (n : Name) → Outside start (a .next) n → elem n (read-by a) ≡ elem n (all-symbols es)

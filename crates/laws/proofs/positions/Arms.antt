@@ -14,6 +14,7 @@ use Rattle.spec_tree.specs.Facts.{total, size, nodes, nodes-of, outer, outer-of
 use Rattle.spec_tree.specs.Tokens.{read, trees-at, numbered, kind-of, takes}
 use Rattle.spec_tree.proofs.TokenLaws.{Word, a-symbol, a-constant, an-operation, word-is, leaf-takes, symbol-tree, constant-tree, operation-tree, made, size-made, sizes, read-cons, read-size, tree-at, places-are-nodes, trees-length}
 use Rattle.laws.specs.positions.Places.{numbered-at, in-arm-of, in-arm}
+use Rattle.spec_tree.proofs.Logic.{and-false}
 
 -- ---- a mark for each node of a tree: true outside arms
 
@@ -169,10 +170,6 @@ after-run (b ∷ a) x y c (suc j) e h = after-run a x y c j e (omega arith)
 pub and-true : (b : Bool) → (b && true) ≡ b
 and-true true = refl
 and-true false = refl
-
-pub and-false : (b : Bool) → (b && false) ≡ false
-and-false true = refl
-and-false false = refl
 
 inside-length : (l : List Tree) → length (marks-inside l) ≡ length l
 unfolding marks-inside

@@ -2,17 +2,15 @@
 -- nothing.
 use Prim.Native.Nat.{ℕ}
 use mathlib.Core.Path.{_≡_, refl, _∙_, ap, ap₂, subst}
-use mathlib.Core.Bool.{Bool, true, false, _&&_, _||_, cond}
+use mathlib.Core.Bool.{Bool, true, false, _||_, cond}
 use mathlib.Core.List.{List}
-use lib.ListN.{length}
-use lib.Dec.{T, leb, ltb}
+use lib.Dec.{T, ltb}
 use Rattle.spec_tree.specs.Outcome.{Outcome, ok, refused, by, _>>=_}
 use Rattle.spec_tree.specs.Tree.{Tree}
-use Rattle.spec_tree.specs.Rows.{Row, Table, trees, within-limits}
-use Rattle.spec_tree.specs.Passes.{expressions, passes}
+use Rattle.spec_tree.specs.Rows.{Row, Table, trees}
+use Rattle.spec_tree.specs.Passes.{expressions}
 use Rattle.spec_tree.specs.Layout.{table-of, laid-out, table-or-9}
 use Rattle.spec_tree.specs.Tokens.{number-in, read, numbered}
-use Rattle.spec_tree.proofs.Logic.{and-right}
 use Rattle.spec_tree.proofs.LayoutLaws.{laid-out-passes}
 use Rattle.spec_tree.proofs.TokenCode.{unnumbered}
 use Rattle.spec_cse.specs.Answer.{Answer, rows}
@@ -26,6 +24,7 @@ use Rattle.laws.proofs.positions.Extraction.{shown}
 use Rattle.laws.proofs.positions.Answers.{renamed-answer, Known-answer, rows-renamed, answer-words-renamed}
 use Rattle.laws.proofs.positions.RowNames.{names-of, known-number, tree-words, table-renamed, table-known}
 use Rattle.laws.proofs.positions.Scopes.{answer-renamed}
+use Rattle.laws.proofs.cse.PassesLaws.{passed}
 
 -- an answer as rows, where as many are lent
 abbrev pub written : (List ℕ → ℕ) → ℕ → Answer → Outcome Extracted
@@ -65,12 +64,8 @@ table-rows scoped t h lent =
 
 -- ---- the whole call
 
-expressions-of : (ts : List Tree) → T (passes ts) → T (expressions ts)
-unfolding passes
-expressions-of ts h = and-right (within-limits ts) (expressions ts) (and-right (leb (length ts) 64) (within-limits ts && expressions ts) h)
-
 pub laid-expressions : (ws ns : List ℕ) → T (laid-out ws ns) → T (expressions (trees (table-of ws ns)))
-laid-expressions ws ns h = expressions-of (trees (table-of ws ns)) (laid-out-passes ws ns h)
+laid-expressions ws ns h = passed (trees (table-of ws ns)) (laid-out-passes ws ns h)
 
 -- what the call gives from the words of a table's trees
 abbrev pub from-words : Bool → ℕ → Table → Outcome Extracted

@@ -16,8 +16,9 @@ use Rattle.spec_tree.specs.Tokens.{read, trees-at, numbered, kind-of, takes, tr
 use Rattle.spec_tree.proofs.TokenLaws.{Word, a-symbol, a-constant, an-operation, word-is, symbol-tree, constant-tree, operation-tree, made, sizes, map-append, read-cons, read-past, trees-length, places-are-nodes, tree-at, complete-end, complete-tail, complete-length}
 use Rattle.spec_cse.specs.Extract.{divisor-of, divisors}
 use Rattle.laws.specs.positions.Places.{numbered-at, in-arm, outside-at, divides-at, second-at, divisor-places}
-use Rattle.laws.proofs.positions.Arms.{and-true, and-false, those-passing, outer-passing}
+use Rattle.laws.proofs.positions.Arms.{and-true, those-passing, outer-passing}
 use Rattle.laws.proofs.positions.UsesAt.{passing-append, all-passing}
+use Rattle.spec_tree.proofs.Logic.{and-false}
 
 divisors-append-step : (o : Option Tree) (p q r : List Tree) → p ≡ q ++ r → _≡_ {A = List Tree} (elim o [ none ↦ p | some d ↦ d ∷ p ]) (elim o as (λ _. List Tree) [ none ↦ q | some d ↦ d ∷ q ] ++ r)
 divisors-append-step none p q r e = e

@@ -21,8 +21,8 @@ use Rattle.laws.specs.positions.Rounds.{state-of, rounds-words, reciproc
 use Rattle.laws.proofs.positions.Extraction.{shown}
 use Rattle.laws.proofs.positions.RowNames.{names-of, tree-words, table-complete}
 use Rattle.laws.proofs.positions.Calls.{written, laid-expressions, call-from-words}
-use Rattle.laws.proofs.positions.RoundsOn.{then-then}
 use Rattle.laws.proofs.positions.WordRounds.{flat-words}
+use Rattle.spec_tree.proofs.Outcomes.{then-then}
 
 -- the scope that words are, with k results, after its rounds: its bindings by number, with reciprocals, in the order of their needs
 abbrev pub flat-end : (ℕ → List ℕ) → ℕ → List ℕ → Outcome Scoped

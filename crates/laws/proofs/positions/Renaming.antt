@@ -13,7 +13,7 @@ use Rattle.spec_tree.specs.Facts.{total, greatest, first-and-greatest, some-of,
 use Rattle.spec_tree.specs.Rows.{occurrences}
 use Rattle.spec_tree.proofs.Formed.{operand-count, well-formed, well-formed-each}
 use Rattle.spec_tree.proofs.TreeLaws.{eq-bytes-sound, eq-bytes-refl}
-use Rattle.spec_tree.proofs.Logic.{and-left, and-right, and-both}
+use Rattle.spec_tree.proofs.Logic.{and-left, and-right, and-both, same-test}
 use Rattle.spec_tree.proofs.TokenLaws.{map-append}
 use Rattle.spec_tree.proofs.TokenCode.{known-name, renamed-name, renamed as renamed-by, renamed-each as renamed-each-by}
 use Rattle.spec_rewrite.proofs.Counts.{well-formed-all}
@@ -25,12 +25,6 @@ pub record Renaming : Type 0 where
   pub name-at : ℕ → List ℕ
   pub known : List ℕ → Bool
   pub one-to-one : (s r : List ℕ) → T (known s) → T (known r) → name-at (number s) ≡ name-at (number r) → s ≡ r
-
-pub same-test : (a b : Bool) → (T a → T b) → (T b → T a) → a ≡ b
-same-test true true f g = refl
-same-test true false f g = absurd (f tt)
-same-test false true f g = absurd (g tt)
-same-test false false f g = refl
 
 module _ (R : Renaming) where
   abbrev pub named : Name → Name

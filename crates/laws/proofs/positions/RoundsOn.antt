@@ -19,6 +19,7 @@ use Rattle.spec_cse.specs.Scope.{Scoped, unfused, finish, left-after, fuse-held
 use Rattle.laws.proofs.cse.Outcomes.{Good, then-good, good-ok}
 use Rattle.laws.specs.positions.Shown.{best-by, rounds-by, extract-all-by, sort-by, reciprocals-by, cse-scope-by}
 use Rattle.laws.specs.positions.Rounds.{by-number, next-number, state-of, extract-on, bind-on, bind-each-on, rounds-on, reciprocals-on}
+use Rattle.spec_tree.proofs.Outcomes.{then-then}
 
 -- ---- chains of steps
 
@@ -26,10 +27,6 @@ pub then-same : {A B : Type 0} (Q : A → Type 0) (o : Outcome A) (f g : A → O
 unfolding Good
 then-same Q (ok a) f g h e = e a h
 then-same Q (refused i) f g h e = refl
-
-pub then-then : {A B C : Type 0} (o : Outcome A) (f : A → Outcome B) (g : B → Outcome C) → ((o >>= f) >>= g) ≡ (o >>= λ a. f a >>= g)
-then-then (ok a) f g = refl
-then-then (refused i) f g = refl
 
 -- ---- a step at each element
 

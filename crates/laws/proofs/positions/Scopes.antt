@@ -16,7 +16,6 @@ use Rattle.spec_cse.specs.Answer.{Intermediate}
 use Rattle.spec_cse.specs.Order.{topo-sort-intermediates}
 use Rattle.spec_cse.specs.Scope.{Switch, Work, Scoped, switches, collect-switches, groups-from, fuse-groups, fuse-all, unfused, finish, some-switch, holds-switch, held-bindings, held, left-after, most-switches, statements, most-stmts, has-room, fuse-held, scope-rows, most-number, opens, area-rows, scopes-open, cse-scope, as-answer, answer}
 use Rattle.laws.proofs.cse.Outcomes.{Good}
-use Rattle.laws.proofs.cse.ArmNodes.{occurrences-append}
 use Rattle.laws.specs.positions.Shown.{extract-all-by, reciprocals-by, cse-scope-by, answer-by}
 use Rattle.laws.proofs.positions.Renaming.{Renaming, renamed, Known-all, occurrences-renamed, outer-renamed}
 use Rattle.laws.proofs.positions.Rewriting.{Agree, agree-ok, then-agree}
@@ -24,6 +23,7 @@ use Rattle.laws.proofs.positions.Extraction.{Every, shown, renamed-bind
 use Rattle.laws.proofs.positions.Answers.{renamed-stmt, Known-stmt, renamed-answer, Known-answer, block-renamed, block-known}
 use Rattle.laws.proofs.positions.Ordering.{topo-sort-renamed}
 use Rattle.laws.proofs.positions.Fusing.{renamed-switch, switches-renamed, renamed-group, groups-renamed, groups-known, collect-renamed, collect-known, renamed-work, Known-work, renamed-scoped, Known-scoped, fuse-groups-renamed, unfused-renamed, unfused-known}
+use Rattle.spec_tree.proofs.Lists.{occurrences-append}
 
 module _ (R : Renaming) where
   finish-renamed : (w : Work) → Known-work R w → Agree (Known-scoped R) (renamed-scoped R) (finish w) (finish (renamed-work R w))

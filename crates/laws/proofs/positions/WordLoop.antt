@@ -7,16 +7,13 @@ use mathlib.Core.Path.{_≡_, refl, sym, _∙_, ap}
 use mathlib.Core.Bool.{Bool}
 use mathlib.Core.Option.{Option, none, some}
 use mathlib.Core.List.{List}
-use Rattle.spec_tree.specs.Outcome.{Outcome, ok, refused, _>>=_}
+use Rattle.spec_tree.specs.Outcome.{Outcome, ok, _>>=_}
 use Rattle.spec_tree.specs.Facts.{all-operations}
 use Rattle.spec_tree.specs.Tokens.{read, numbered}
 use Rattle.laws.specs.positions.Places.{numbered-at, best-place}
 use Rattle.laws.specs.positions.Rounds.{next-number, extract-words, rounds-words}
 use Rattle.laws.proofs.positions.WordSteps.{Turn, one-turn, some-operation}
-
-then-known : {A B : Type 0} (o : Outcome A) (f g : A → Outcome B) → ((a : A) → o ≡ ok a → f a ≡ g a) → (o >>= f) ≡ (o >>= g)
-then-known (ok a) f g h = h a refl
-then-known (refused i) f g h = refl
+use Rattle.spec_tree.proofs.Outcomes.{then-known}
 
 module _ (name-at : ℕ → List ℕ) (scoped : Bool) (k first : ℕ) where
   -- one extraction, of the tree at a place

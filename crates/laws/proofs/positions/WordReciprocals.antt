@@ -225,7 +225,7 @@ reciprocals-words-are name-at scoped k first ws m c =
 
 -- ---- what is bound is within the code
 
-bind-each-fits : (l : List Tree) (n : ℕ) (ts : List Tree) → T (all-coded is-alone l) → T (all-coded is-alone ts) → T (all-coded is-alone (bind-each-on l n ts))
+pub bind-each-fits : (l : List Tree) (n : ℕ) (ts : List Tree) → T (all-coded is-alone l) → T (all-coded is-alone ts) → T (all-coded is-alone (bind-each-on l n ts))
 unfolding bind-each-on
 bind-each-fits [] n ts g h = h
 bind-each-fits (d ∷ l) n ts g h = bind-each-fits l (suc n) (bind-on d n ts) (rest-fits is-alone d l g) (bind-on-fits is-alone d n ts (first-fits is-alone d l g) h)

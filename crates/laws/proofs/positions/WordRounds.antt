@@ -19,10 +19,11 @@ use Rattle.laws.specs.positions.Places.{numbered-at, best-place}
 use Rattle.laws.specs.positions.Rounds.{next-number, state-of, extract-on, rounds-on, reciprocals-on, extract-words, rounds-words, reciprocals-words}
 use Rattle.laws.proofs.positions.Rewriting.{Agree, then-agree}
 use Rattle.laws.proofs.positions.BestPlace.{if-some, text-of, there, best-by-place, Best, best-place-is}
-use Rattle.laws.proofs.positions.RoundsOn.{then-same, then-then, flat-on, scoped-on}
+use Rattle.laws.proofs.positions.RoundsOn.{then-same, flat-on, scoped-on}
 use Rattle.laws.proofs.positions.Coded.{is-alone, take-fits, made-alone, read-fits, read-again, extract-on-fits}
 use Rattle.laws.proofs.positions.DivisorPlaces.{here-is}
 use Rattle.laws.proofs.positions.WordReciprocals.{reciprocals-words-are, reciprocals-fit}
+use Rattle.spec_tree.proofs.Outcomes.{then-then}
 
 -- trees within the code, and their words
 abbrev pub In-code : List Tree → Type 0

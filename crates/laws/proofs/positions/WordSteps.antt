@@ -8,11 +8,11 @@ use mathlib.Core.Option.{some}
 use mathlib.Core.List.{List, [], _∷_}
 use lib.ListN.{length}
 use lib.Seq.{drop-length}
-use lib.Dec.{T, leb}
+use lib.Dec.{T}
 use Rattle.spec_tree.specs.Outcome.{Outcome, ok, refused, _>>=_}
 use Rattle.spec_tree.specs.Tree.{Name, input, xname, mname, Tree}
-use Rattle.spec_tree.specs.Rows.{Table, trees, within-limits}
-use Rattle.spec_tree.specs.Passes.{passes, expressions}
+use Rattle.spec_tree.specs.Rows.{Table, trees}
+use Rattle.spec_tree.specs.Passes.{passes}
 use Rattle.spec_tree.specs.Facts.{size, total, all-operations}
 use Rattle.spec_tree.specs.Tokens.{read, numbered, trees-in, trees-at}
 use Rattle.spec_tree.proofs.Logic.{and-right, and-both}
@@ -25,7 +25,7 @@ use Rattle.spec_cse.specs.Extract.{State, is-candidate, roots, extract}
 use Rattle.laws.proofs.cse.Outcomes.{good-at, then-good, good-ok}
 use Rattle.laws.proofs.cse.RoundsCount.{made-before, Sound, round, candidate-facts, costs-operation}
 use Rattle.laws.proofs.cse.SizeCount.{round-size}
-use Rattle.laws.proofs.cse.PassesLaws.{passes-formed, passes-unmade}
+use Rattle.laws.proofs.cse.PassesLaws.{passes-formed, passes-unmade, passed}
 use Rattle.laws.proofs.cse.FlatCount.{list-made}
 use Rattle.spec_tree.proofs.TreeLaws.{eq-bytes-refl}
 use Rattle.laws.proofs.positions.Reading.{read-holds, all-tokens-pass}
@@ -174,15 +174,11 @@ no-bindings : (ts : List Tree) (first : ℕ) → next-number (length ts) first t
 unfolding next-number
 no-bindings ts first = let z : first + 0 ≡ first = omega arith in ap (λ (l : List Tree). first + length l) (drop-length ts) ∙ z
 
-expressed : (es : List Tree) → T (passes es) → T (expressions es)
-unfolding passes
-expressed es h = and-right (within-limits es) (expressions es) (and-right (leb (length es) 64) (within-limits es && expressions es) h)
-
 pub first-turn : (t : Table) → T (passes (trees t)) → Turn (length (trees t)) 0 (tree-words t)
 first-turn t h =
     let R = names-of (t .rows) in
     let ts = read numbered (tree-words t) in
-    let e = expressed (trees t) h in
+    let e = passed (trees t) h in
     let c = table-complete t e in
     let same = table-renamed t e in
     let l : length ts ≡ length (trees t) = complete-length numbered (tree-words t) (length (trees t)) c in

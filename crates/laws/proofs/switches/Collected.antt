@@ -17,13 +17,13 @@ use Rattle.spec_tree.proofs.TreeLaws.{eq-tree-sound}
 use Rattle.spec_tree.proofs.TokenLaws.{map-append, trees-length}
 use Rattle.spec_cse.specs.Extract.{among, distinct}
 use Rattle.spec_cse.specs.Scope.{Switch, switches, collect-switches}
-use Rattle.laws.proofs.cse.RoundsValue.{off}
 use Rattle.laws.specs.positions.Places.{numbered-at, outside-at, among-places, distinct-places}
 use Rattle.laws.proofs.positions.Arms.{those-passing, outer-passing}
 use Rattle.laws.proofs.positions.UsesAt.{passing-append}
 use Rattle.laws.proofs.positions.Extraction.{Every, every-append}
 use Rattle.laws.specs.switches.Switches.{switch-at, switches-passing, places-within, switch-places, switch-there}
 use Rattle.laws.proofs.switches.Parts.{switch-tree, switch-at-is, switch-there-is}
+use Rattle.spec_tree.proofs.Logic.{not-true, never}
 
 -- ---- switches among trees
 
@@ -35,7 +35,7 @@ skipped (Op k nil) l e = refl
 skipped (Op k (q ◂ f)) l e =
     ap (λ (b : Bool). elim b as (λ _. List Switch) [ true ↦ record { tree = Op k (q ◂ f); kind = k; key = q; arms = operands f } ∷ switches l | false ↦ switches l ]) e
 
-in-front : (t : Tree) (l r : List Tree) → switches l ≡ switches r → switches (t ∷ l) ≡ switches (t ∷ r)
+pub in-front : (t : Tree) (l r : List Tree) → switches l ≡ switches r → switches (t ∷ l) ≡ switches (t ∷ r)
 unfolding switches
 in-front (Sym n) l r e = e
 in-front (Const c) l r e = e
@@ -68,13 +68,10 @@ alike-both : (t : Tree) (seen met : List Tree) → Alike seen met → Alike (t �
 unfolding among
 alike-both t seen met h s k = ap (λ (b : Bool). elim (eq-tree t s) as (λ _. Bool) [ true ↦ true | false ↦ b ]) (h s k)
 
-no-tree : (b : Bool) → b ≡ false → T b → ⊥
-no-tree b e t = subst (λ (c : Bool). T c) e t
-
 alike-one : (t : Tree) (seen met : List Tree) → switch-tree t ≡ false → Alike seen met → Alike (t ∷ seen) met
 unfolding among
 alike-one t seen met e h s k =
-    let apart : eq-tree t s ≡ false = off (eq-tree t s) (λ u. no-tree (switch-tree s) (ap switch-tree (sym (eq-tree-sound t s u)) ∙ e) k) in
+    let apart : eq-tree t s ≡ false = not-true (eq-tree t s) (λ u. never (switch-tree s) (ap switch-tree (sym (eq-tree-sound t s u)) ∙ e) k) in
     ap (λ (b : Bool). elim b as (λ _. Bool) [ true ↦ true | false ↦ among s seen ]) apart ∙ h s k
 
 pub is-so : (b : Bool) → b ≡ true → T b

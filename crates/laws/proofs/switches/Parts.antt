@@ -11,21 +11,17 @@ use lib.Seq.{take-suc, getD-drop, drop-drop}
 use lib.Dec.{T, leb, leb→le}
 use Rattle.spec_tree.specs.Tree.{Tree, Sym, Const, Op, nil, _◂_, operands, forest}
 use Rattle.spec_tree.specs.Kinds.{is-switch}
-use Rattle.spec_tree.specs.Facts.{total, size}
+use Rattle.spec_tree.specs.Facts.{size}
 use Rattle.spec_tree.specs.Tokens.{read, numbered, kind-of, takes, trees-in}
-use Rattle.spec_tree.proofs.Logic.{and-left, and-right}
-use Rattle.spec_tree.proofs.TokenLaws.{Word, a-symbol, a-constant, an-operation, word-is, symbol-tree, constant-tree, operation-tree, operands-forest, made, map-append, sizes, read-past, tree-at}
+use Rattle.spec_tree.proofs.Logic.{and-left, and-right, and-false}
+use Rattle.spec_tree.proofs.TokenLaws.{Word, a-symbol, a-constant, an-operation, word-is, symbol-tree, constant-tree, operation-tree, operands-forest, made, map-append, sizes, read-past, tree-at, first-size}
 use Rattle.spec_cse.specs.Scope.{Switch, switches}
 use Rattle.laws.specs.positions.Places.{numbered-at, second-at}
-use Rattle.laws.proofs.positions.Arms.{and-true, and-false}
+use Rattle.laws.proofs.positions.Arms.{and-true}
 use Rattle.laws.proofs.positions.DivisorPlaces.{here-is, enough}
 use Rattle.laws.specs.switches.Switches.{switch-at, key-place, arm-count, trees-past, arm-place, arms-within, arm-places, switch-there}
 
 -- ---- trees one after another
-
-one-size : (l : List Tree) → 1 ≤ length l → sizes (take 1 l) ≡ size (getD l 0 (Op 0 nil))
-one-size [] h = absurd (omega arith)
-one-size (t ∷ l) h = (unfold sizes total in (omega arith))
 
 module _ (ws : List ℕ) where
   abbrev pub after : ℕ → List Tree
@@ -38,7 +34,7 @@ module _ (ws : List ℕ) where
   -- past a tree the others are read
   pub next-read : (q : ℕ) → 1 ≤ length (after q) → after (q + size (numbered-at ws q)) ≡ drop 1 (after q)
   next-read q h =
-      let e : size (numbered-at ws q) ≡ sizes (take 1 (after q)) = ap size (first-after q) ∙ sym (one-size (after q) h) in
+      let e : size (numbered-at ws q) ≡ sizes (take 1 (after q)) = ap size (first-after q) ∙ sym (first-size (after q) h) in
       ap (λ (n : ℕ). after (q + n)) e
       ∙ ap (read numbered) (sym (drop-drop (sizes (take 1 (after q))) q ws))
       ∙ read-past numbered (drop q ws) 1

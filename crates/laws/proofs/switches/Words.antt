@@ -17,24 +17,12 @@ use Rattle.laws.specs.switches.Switches.{arm-count, trees-past, arm-plac
 use Rattle.laws.specs.switches.Columns.{words-at}
 use Rattle.laws.proofs.switches.Parts.{after, first-after, after-key, read-trees-past, tree-past, has-key}
 use Rattle.laws.proofs.switches.Collected.{Switching}
-
-one-alone : (l : List Tree) → length l ≡ 1 → l ≡ getD l 0 (Op 0 nil) ∷ []
-one-alone [] e = absurd (omega arith)
-one-alone (t ∷ []) e = refl
-one-alone (t ∷ (u ∷ l)) e = absurd (omega arith)
-
-first-of : (l m : List Tree) → length l ≡ 1 → getD (l ++ m) 0 (Op 0 nil) ≡ getD l 0 (Op 0 nil)
-first-of [] m e = absurd (omega arith)
-first-of (t ∷ l) m e = refl
+use Rattle.spec_tree.proofs.Lists.{one-size, one-alone, first-alone}
 
 one-and : (n : ℕ) (l : List Tree) → 1 ≤ length l → sizes (take (suc n) l) ≡ size (getD l 0 (Op 0 nil)) + sizes (take n (drop 1 l))
 unfolding sizes total
 one-and n [] h = absurd (omega arith)
 one-and n (t ∷ l) h = refl
-
-one-last : (t : Tree) → sizes (t ∷ []) ≡ size t
-unfolding sizes total
-one-last t = omega arith
 
 none-read : length (read numbered []) ≡ 0
 unfolding read
@@ -67,7 +55,7 @@ module _ (ws : List ℕ) where
       let e = past-sizes n q (omega arith) in
       let more : sizes (take (suc n) (after ws q)) ≡ sizes (take n (after ws q)) + sizes (t ∷ []) =
       ap sizes (take-suc (after ws q) n (Op 0 nil) (omega arith)) ∙ sizes-append (take n (after ws q)) (t ∷ []) in
-      let o = one-last t in
+      let o = one-size t in
       let s = ap size here in
       omega arith
 
@@ -94,7 +82,7 @@ module _ (ws : List ℕ) (m : ℕ) (complete : trees-in ws ≡ some m) where
       let e = complete-read numbered words (drop n (drop r ws)) 1 c in
       let whole : after ws r ≡ read numbered words ++ read numbered (drop n (drop r ws)) = rw take-append-drop at e in
       let here : numbered-at ws r ≡ getD (read numbered words) 0 (Op 0 nil) =
-      first-after ws r ∙ ap (λ (l : List Tree). getD l 0 (Op 0 nil)) whole ∙ first-of (read numbered words) (read numbered (drop n (drop r ws))) l in
+      first-after ws r ∙ ap (λ (l : List Tree). getD l 0 (Op 0 nil)) whole ∙ first-alone (read numbered words) (read numbered (drop n (drop r ws))) l in
       one-alone (read numbered words) l ∙ ap (λ (t : Tree). t ∷ []) (sym here)
 
   pub words-are : (r : ℕ) → r < length ws → all-tokens unnumbered (numbered-at ws r ∷ []) ≡ words-at ws r

@@ -3,7 +3,7 @@ use Prim.Native.Nat.{ℕ, suc, _+_, _≤_, _<_}
 use mathlib.Core.Path.{_≡_, refl, sym, _∙_, ap}
 use mathlib.Core.Bool.{Bool, true, false}
 use mathlib.Core.Option.{Option, none, some}
-use mathlib.Core.List.{List, [], _∷_, _++_, reverse, reverse-cons, append-nil, append-assoc}
+use mathlib.Core.List.{List, [], _∷_, _++_, reverse, append-nil}
 use native.Mathlib.Numerals.{add-one}
 use native.Mathlib.Omega.{arith}
 use borrow.Author.Tests.{eq-eqb, ne-eqb}
@@ -14,6 +14,7 @@ use Rattle.spec_sheet.specs.Sheet.{fields-from}
 use Rattle.load.specs.commas.Comma.{comma-from, comma-at}
 use Rattle.load.specs.commas.Answers.{split-answer}
 use Rattle.load.specs.declared.commas.Split.the-variants as split
+use Rattle.spec_tree.proofs.Lists.{reverse-shift}
 
 -- ---- the search
 
@@ -41,9 +42,6 @@ module _ (s : List ℕ) (i : ℕ) (q : comma-at s ≡ comma-from i (drop i s)) w
 
 -- ---- what it says of the fields
 
-pub shift : (got : List ℕ) (b : ℕ) (r : List ℕ) → reverse (b ∷ got) ++ r ≡ reverse got ++ (b ∷ r)
-shift got b r = ap (λ (l : List ℕ). l ++ r) (reverse-cons b got) ∙ append-assoc (reverse got) (b ∷ []) r
-
 -- fields fs of s, whose first starts with `got`, where the comma's place is counted from k
 record Cut (fs : List (List ℕ)) (got s : List ℕ) (k i : ℕ) : Type 0 where
   place : ℕ
@@ -56,13 +54,13 @@ Cuts fs got s k none = fs ≡ (reverse got ++ s) ∷ []
 Cuts fs got s k (some i) = Cut fs got s k i
 
 cut-later : (fs : List (List ℕ)) (got : List ℕ) (b : ℕ) (s : List ℕ) (k : ℕ) (o : Option ℕ) → Cuts fs (b ∷ got) s (suc k) o → Cuts fs got (b ∷ s) k o
-cut-later fs got b s k none h = h ∙ ap (λ (l : List ℕ). l ∷ []) (shift got b s)
+cut-later fs got b s k none h = h ∙ ap (λ (l : List ℕ). l ∷ []) (reverse-shift got b s)
 cut-later fs got b s k (some i) h =
     record {
       place = suc (h .place);
       counted = omega arith;
       inside = omega arith;
-      parts = h .parts ∙ ap (λ (l : List ℕ). l ∷ fields-from [] (drop (suc (h .place)) s)) (shift got b (take (h .place) s));
+      parts = h .parts ∙ ap (λ (l : List ℕ). l ∷ fields-from [] (drop (suc (h .place)) s)) (reverse-shift got b (take (h .place) s));
     }
 
 cuts : (got s : List ℕ) (k : ℕ) → Cuts (fields-from got s) got s k (comma-from k s)

@@ -12,7 +12,7 @@ use borrow.Rule.Slice.PartMut.{putMid}
 use Rattle.spec_tree.specs.Bytes.{every}
 use Rattle.spec_tree.proofs.Logic.{and-left, and-right}
 use Rattle.load.specs.one_record.Reading.{capped-all}
-use Rattle.load.proofs.one_record.Writing.{rest-is, rest-back}
+use Rattle.spec_tree.proofs.Lists.{rest-is, rest-back}
 
 -- ---- zeros
 

@@ -11,7 +11,7 @@ use lib.ListN.{length, getD, drop, set, replicate, length-replicate, drop-of-len
 use lib.Seq.{drop-cons, set-at}
 use Rattle.spec_tree.specs.Kinds.{Kind, kinds, kind-at, arity-ok, Select, SelectOr}
 use Rattle.spec_tree.proofs.Logic.{and-left, and-right}
-use Rattle.spec_tree.proofs.KindLaws.{kinds-long, arity-kind}
+use Rattle.spec_tree.proofs.KindLaws.{kinds-long, arity-kind, arity-by}
 use Rattle.spec_tree.proofs.Tests.{all-from, entry-at}
 use Rattle.node_rows.specs.kinds.Numbers.{kind-number}
 use Rattle.spec_sheet.specs.Sheet.{fields-from, Root, fields-ok}
@@ -143,10 +143,6 @@ numbered k n e = go (ltb k 28) refl
 
 pub ok-operation : (k n : ℕ) → (k ≡ Root → ⊥) → 1 < k → (k ≡ SelectOr → ⊥) → fields-ok k n ≡ arity-ok (kind-number k false) n
 ok-operation k n r h e = rw (ne-eqb k Root r, lt-leb k 1 h) (sym (numbered k n e))
-
-pub arity-by : (k n : ℕ) → arity-ok k n ≡ (leb (kind-at k .fewest) n && leb n (kind-at k .most))
-unfolding arity-ok
-arity-by k n = refl
 
 -- every kind with operands has at least one and at most 32
 counts-small : ℕ → Kind → Bool

@@ -23,8 +23,8 @@ use Rattle.load.specs.one_record.Item.{Item, row-item, fields-item, spli
 use Rattle.load.specs.one_record.Reading.{Follows, Reads, room}
 use Rattle.load.specs.declared.one_record.Read.{Read}
 use Rattle.load.specs.declared.one_record.Read.the-variants as read
-use Rattle.load.proofs.one_record.Writing.{rest-is}
 use Rattle.load.proofs.one_record.Pieces.{ok-leaf, right-count}
+use Rattle.spec_tree.proofs.Lists.{rest-is}
 
 -- ---- one field
 

@@ -2,11 +2,11 @@
 use Prim.Native.Nat.{ℕ, suc, _+_, _-_, _≤_, _<_, min}
 use mathlib.Core.Path.{_≡_, refl, sym, _∙_, ap, subst}
 use mathlib.Core.Option.{Option, none, some}
-use mathlib.Core.List.{List, [], _∷_, _++_, append-nil}
+use mathlib.Core.List.{List, [], _∷_, _++_}
 use native.Mathlib.Omega.{arith}
 use native.Mathlib.Numerals.{add-one}
-use lib.ListN.{length, take, drop, set, length-drop, drop-of-length-le}
-use lib.Seq.{take-all, length-take-le, drop-drop}
+use lib.ListN.{length, take, drop, set, length-drop}
+use lib.Seq.{length-take-le, drop-drop}
 use borrow.Rule.Slice.PartMut.{putMid}
 use Rattle.spec_sheet.specs.Sheet.{number, numbers, fields-from}
 use Rattle.load.specs.commas.Comma.{comma-at}
@@ -19,17 +19,9 @@ use Rattle.load.specs.one_record.Reading.{capped-all, Writes}
 use Rattle.load.specs.declared.one_record.Fields.{Fields}
 use Rattle.load.specs.declared.one_record.Fields.the-variants as fields
 use Rattle.load.proofs.one_record.Pieces.{fields-some}
+use Rattle.spec_tree.proofs.Lists.{rest-is, rest-back}
 
 -- ---- a part lent on: what the callee is handed, and what the whole is when it comes back
-
-pub rest-is : (w : List ℕ) (u : ℕ) → take (length w - u) (drop u w) ≡ drop u w
-rest-is w u = take-all (length w - u) (drop u w) (omega (arith, length-drop u w))
-
-pub rest-back : (w x : List ℕ) (u : ℕ) → putMid u (length w - u) w x ≡ take u w ++ x
-rest-back w x u = ap (λ (l : List ℕ). take u w ++ (x ++ l)) (drop-of-length-le (drop u w) past) ∙ ap (λ (l : List ℕ). take u w ++ l) (append-nil x)
-  where
-    past : length (drop u w) ≤ length w - u
-    past = omega (arith, length-drop u w)
 
 -- after the first word
 pub tail-is : (old : List ℕ) (v : ℕ) → take (length (set old 0 v) - 1) (drop 1 (set old 0 v)) ≡ drop 1 old

@@ -13,7 +13,7 @@ use lib.Seq.{drop-cons, drop-drop, getD-drop}
 use Rattle.spec_tree.proofs.Logic.{and-left, and-right}
 use Rattle.spec_sheet.specs.Sheet.{records-from}
 use Rattle.load.specs.recordend.End.{end-from, record-end}
-use Rattle.load.proofs.commas.Commas.{shift}
+use Rattle.spec_tree.proofs.Lists.{reverse-shift}
 
 -- ---- the search
 
@@ -83,7 +83,7 @@ ended-later rs got b s k e h =
       place = suc (h .place);
       counted = omega arith;
       stops = ⊎-elim (λ q. inl (ap suc q)) (λ q. inr (omega (arith, q .0), q .1, q .2)) (h .stops);
-      parts = h .parts ∙ ap (λ (l : List ℕ). l ∷ records-from [] (drop (suc (suc (h .place))) s)) (shift got b (take (h .place) s));
+      parts = h .parts ∙ ap (λ (l : List ℕ). l ∷ records-from [] (drop (suc (suc (h .place))) s)) (reverse-shift got b (take (h .place) s));
     }
 
 ended : (got : List ℕ) (b : ℕ) (s : List ℕ) (k : ℕ) → Ended (records-from got (b ∷ s)) got (b ∷ s) k (end-from k (b ∷ s))

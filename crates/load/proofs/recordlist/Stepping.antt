@@ -1,14 +1,13 @@
 -- One record read into the rest of the table: what each answer of `read_record` makes of table and list. Assumes nothing.
-use Prim.Native.Nat.{ℕ, zero, suc, _+_, _-_, _*_, _≤_, _<_}
+use Prim.Native.Nat.{ℕ, suc, _+_, _-_, _*_, _≤_}
 use mathlib.Core.Path.{_≡_, refl, sym, ap, _∙_, subst}
-use mathlib.Core.Bool.{Bool, true, false, _&&_}
-use mathlib.Core.List.{List, [], _∷_, _++_, append-assoc, append-nil}
+use mathlib.Core.Bool.{Bool, true}
+use mathlib.Core.List.{List, _++_, append-assoc}
 use native.Mathlib.Omega.{arith}
 use borrow.Author.Tests.{le-leb}
 use borrow.Rule.Slice.PartMut.{putMid}
-use lib.Dec.{leb}
-use lib.ListN.{length, take, drop, set, length-append, length-take, length-drop, drop-of-length-le}
-use lib.Seq.{take-all, take-at, length-take-le}
+use lib.ListN.{length, take, drop, set, length-append, length-take, length-drop}
+use lib.Seq.{take-at, length-take-le}
 use Rattle.spec_tree.specs.Outcome.{Outcome, ok, refused}
 use Rattle.spec_tree.specs.Layout.{row-words}
 use Rattle.load.specs.one_record.Item.{Item, a-row, a-root, record-item}
@@ -16,15 +15,9 @@ use Rattle.load.specs.declared.one_record.Read.{Read}
 use Rattle.load.specs.declared.one_record.Read.the-variants as read
 use Rattle.load.specs.one_record.Reading.{Follows, Reads, Reads-in, room}
 use Rattle.load.specs.declared.recordlist.Step.the-variants as step
-use Rattle.load.specs.recordlist.Steps.{Stepped, Row-joined, Root-joined}
+use Rattle.load.specs.recordlist.Steps.{Stepped}
 use Rattle.load.proofs.recordlist.Limits.{Limits, record-limit}
-
--- what comes back stands after the part that was kept
-rest-back : (w x : List ℕ) (u : ℕ) → putMid u (length w - u) w x ≡ take u w ++ x
-rest-back w x u = ap (λ (l : List ℕ). take u w ++ (x ++ l)) (drop-of-length-le (drop u w) past) ∙ ap (λ (l : List ℕ). take u w ++ l) (append-nil x)
-  where
-    past : length (drop u w) ≤ length w - u
-    past = omega (arith, length-drop u w)
+use Rattle.spec_tree.proofs.Lists.{rest-back}
 
 module _ (s : List ℕ) (n m : ℕ) (table list : List ℕ) (new : List ℕ) (answer : Read)
     (long : 35875 ≤ length table) (few : n ≤ 1024) where

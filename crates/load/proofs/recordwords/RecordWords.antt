@@ -1,39 +1,23 @@
 -- Record words: bytes compared from the front, and the words found one after another. Assumes nothing.
 use Prim.Native.Nat.{ℕ, suc, _+_, _-_, _≤_, _<_}
-use mathlib.Core.Path.{_≡_, refl, sym, _∙_, ap}
+use mathlib.Core.Path.{_≡_, refl, sym, _∙_}
 use mathlib.Core.Bool.{Bool, true, false, _&&_}
 use mathlib.Core.Option.{some}
 use mathlib.Core.List.{List, [], _∷_}
 use native.Mathlib.Numerals.{add-one}
 use native.Mathlib.Omega.{arith}
-use borrow.Author.Tests.{eq-eqb, ne-eqb}
 use lib.Dec.{T, leb, leb→le}
 use lib.ListN.{length, getD, take, drop, drop-of-length-le}
 use lib.Seq.{drop-cons}
 use Rattle.spec_tree.specs.Bytes.{bytes, eq-bytes}
 use Rattle.spec_tree.proofs.Logic.{and-left, and-right}
-use Rattle.spec_tree.proofs.TreeLaws.{eq-bytes-sound}
+use Rattle.spec_tree.proofs.TreeLaws.{eq-bytes-sound, alike, unlike}
 use Rattle.spec_sheet.specs.Sheet.{words, find}
 use Rattle.node_rows.proofs.kinds.Spans.{all, span}
 use Rattle.load.specs.recordwords.Answers.{word-answer}
 use Rattle.load.specs.declared.recordwords.Word.the-variants as word
 
 -- ---- two runs of bytes, from the front
-
-pub other-lengths : (a b : List ℕ) → (length a ≡ length b → ⊥) → false ≡ eq-bytes a b
-other-lengths a b n = go (eq-bytes a b) (λ t. n (ap length (eq-bytes-sound a b t)))
-  where
-    go : (t : Bool) → (T t → ⊥) → false ≡ t
-    go true f = absurd (f tt)
-    go false f = refl
-
-alike : (x y : ℕ) (a b : List ℕ) → x ≡ y → eq-bytes (x ∷ a) (y ∷ b) ≡ eq-bytes a b
-unfolding eq-bytes
-alike x y a b e = rw (eq-eqb x y e, eq-bytes)
-
-unlike : (x y : ℕ) (a b : List ℕ) → (x ≡ y → ⊥) → eq-bytes (x ∷ a) (y ∷ b) ≡ false
-unfolding eq-bytes
-unlike x y a b n = rw (ne-eqb x y n, eq-bytes)
 
 module _ (a b : List ℕ) (l : length a ≡ length b) (i : ℕ) (q : eq-bytes a b ≡ eq-bytes (drop i a) (drop i b)) where
   pub same-next : i < length a → getD a i 0 ≡ getD b i 0 → eq-bytes a b ≡ eq-bytes (drop (i + 1) a) (drop (i + 1) b)

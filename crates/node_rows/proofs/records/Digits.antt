@@ -14,7 +14,7 @@ use Rattle.spec_tree.specs.Records.{numbers-text}
 use Rattle.spec_tree.specs.Layout.{signed}
 
 -- more fuel than the number gives the same digits
-same-digits : (f g n : ℕ) → n ≤ f → n ≤ g → digits f n ≡ digits g n
+pub same-digits : (f g n : ℕ) → n ≤ f → n ≤ g → digits f n ≡ digits g n
 unfolding digits
 same-digits zero zero n h k = refl
 same-digits zero (suc g) n h k = let z : n ≡ 0 = omega arith in rw z
@@ -27,7 +27,7 @@ same-digits (suc f) (suc g) n h k = go (ltb n 10) refl (λ l. same-digits f g (n
     go false e i = ap (λ (l : List ℕ). l ++ ((48 + n % 10) ∷ [])) (i (ltb-false n 10 e))
 
 -- by the test for one digit, whichever way it goes
-by-test : (n : ℕ) (l : List ℕ) (b : Bool) → ltb n 10 ≡ b
+pub by-test : (n : ℕ) (l : List ℕ) (b : Bool) → ltb n 10 ≡ b
     → _≡_ {A = List ℕ} (elim (ltb n 10) [ true ↦ (48 + n) ∷ [] | false ↦ l ]) (elim b [ true ↦ (48 + n) ∷ [] | false ↦ l ])
 by-test n l b e = ap (λ (b : Bool). elim b as (λ _. List ℕ) [ true ↦ (48 + n) ∷ [] | false ↦ l ]) e
 

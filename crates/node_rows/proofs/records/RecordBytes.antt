@@ -16,6 +16,7 @@ use Rattle.spec_tree.specs.Records.{numbers-text, row-record, row-records, root
 use Rattle.spec_tree.specs.Layout.{signed, row-by, row-of, rows-of, table-of, sheet-fits}
 use Rattle.spec_tree.proofs.RecordLaws.{terminated-append, joined-bytes, records-long}
 use Rattle.node_rows.specs.records.Shape.{Shape}
+use Rattle.spec_tree.proofs.LayoutLaws.{rows-long}
 
 row-by-op : (n : ℕ) (fields : List ℕ) → 2 ≤ n → row-by n fields ≡ row-op n fields
 unfolding row-by
@@ -51,11 +52,6 @@ module _ (row : List ℕ) (S : Shape row) where
   operation-record h = rw (row-by-op kind fields h, length-append)
 
 -- ---- all records
-
-pub rows-long : (n : ℕ) (ws : List ℕ) → length (rows-of n ws) ≡ n
-unfolding rows-of
-rows-long zero ws = refl
-rows-long (suc n) ws = ap suc (rows-long n (drop 35 ws))
 
 -- the rows from the i-th on, one fewer at a time
 pub rows-from : (n : ℕ) (ws : List ℕ) (i : ℕ) → i < n

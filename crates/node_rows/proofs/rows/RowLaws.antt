@@ -17,7 +17,7 @@ use Rattle.spec_tree.specs.Symbol.{is-name}
 use Rattle.spec_tree.specs.Rows.{Row, row-sym, row-const, row-op}
 use Rattle.spec_tree.specs.Passes.{of-paper, operands-ok}
 use Rattle.spec_tree.specs.Layout.{row-kind, row-default, row-fields, row-words, signed, row-by, row-of, row-ok}
-use Rattle.spec_tree.proofs.Logic.{and-left, and-right, and-both}
+use Rattle.spec_tree.proofs.Logic.{and-left, and-right, and-both, same-test}
 use Rattle.spec_tree.proofs.TreeLaws.{eq-bytes-sound, eq-bytes-refl}
 use Rattle.spec_tree.proofs.LayoutLaws.{row-number}
 use Rattle.node_rows.specs.kinds.Numbers.{kind-number}
@@ -26,12 +26,6 @@ use Rattle.node_rows.specs.constants.Constant.{constant-test}
 use Rattle.node_rows.specs.fields.Tests.{operation-test, plain-test, fields-test}
 use Rattle.node_rows.specs.rows.Check.{row-test}
 use Rattle.node_rows.proofs.rows.RowTrees.{flag-cases}
-
-pub same-test : (a b : Bool) → (T a → T b) → (T b → T a) → a ≡ b
-same-test true true f g = refl
-same-test true false f g = absurd (f tt)
-same-test false true f g = absurd (g tt)
-same-test false false f g = refl
 
 -- ---- the words past the fields are 0
 

@@ -13,15 +13,15 @@ use Rattle.spec_tree.specs.Tree.{Tree}
 use Rattle.spec_tree.specs.Facts.{total, size, nesting, greatest}
 use Rattle.spec_tree.specs.Rows.{Row, row-const, at, tree-of-row, trees-from, trees, occurrences, within-limits}
 use Rattle.spec_tree.specs.Layout.{row-fields, row-words, table-words, signed, row-by, row-of, rows-of, table-of, row-ok, rows-ok, in-domain}
-use Rattle.spec_tree.proofs.Logic.{and-left, and-right, and-both}
+use Rattle.spec_tree.proofs.Logic.{and-left, and-right, and-both, same-test}
 use Rattle.spec_tree.proofs.TreeLaws.{eq-bytes-sound}
-use Rattle.spec_tree.proofs.LayoutLaws.{words-long}
+use Rattle.spec_tree.proofs.LayoutLaws.{words-long, rows-long}
 use lib.IntN.{ℤ, pos, negsuc}
 use Rattle.node_rows.specs.bounds.Below.{below}
 use Rattle.node_rows.specs.rows.Check.{laid-in-domain, check-domain, rows-test}
 use Rattle.node_rows.specs.rows.Measure.{pick, capped-size, capped-level, Filled}
 use Rattle.node_rows.proofs.rows.RowTrees.{nestings, picked-sizes, picked-levels}
-use Rattle.node_rows.proofs.rows.RowLaws.{same-test, row-fine, row-fine-is}
+use Rattle.node_rows.proofs.rows.RowLaws.{row-fine, row-fine-is}
 
 -- ---- equal words, cut in two
 
@@ -57,11 +57,6 @@ read-long ws =
   where
     short : (n : ℕ) → length (take n (drop 3 (take 35 ws))) ≤ 32
     short n = simp (length-take, length-drop) (omega arith)
-
-pub rows-long : (n : ℕ) (ws : List ℕ) → length (rows-of n ws) ≡ n
-unfolding rows-of
-rows-long zero ws = refl
-rows-long (suc n) ws = ap suc (rows-long n (drop 35 ws))
 
 table-long : (n : ℕ) (ws : List ℕ) → length (table-words (rows-of n ws)) ≡ n * 35
 unfolding rows-of table-words

@@ -15,7 +15,8 @@ use Rattle.spec_tree.specs.Passes.{operands-ok}
 use Rattle.spec_tree.proofs.Logic.{and-left}
 use Rattle.spec_tree.proofs.TreeLaws.{eq-bytes-sound, eq-bytes-refl}
 use Rattle.node_rows.specs.unfolded.Unfold.{row-count, rows-in, row-at, words-at, row-number, Rows-laid}
-use Rattle.node_rows.proofs.unfolded.RowLaws.{length-rows-of, Stands, stands, few-kinds}
+use Rattle.node_rows.proofs.unfolded.RowLaws.{Stands, stands, few-kinds}
+use Rattle.spec_tree.proofs.LayoutLaws.{rows-long}
 
 true-is : (b : Bool) → T b → b ≡ true
 true-is true t = refl
@@ -63,7 +64,7 @@ unfolding rows-in row-at number-in
 found {ws} laid r e h z l p f =
     let c = stands laid r h in
     let q : row-at ws r ≡ row-sym (row-fields (row-at ws r)) = symbol-is r (row-at ws r) (c .tested) z in
-    let n : e < length (rows-in ws) = rw (length-rows-of (row-count ws) ws) (omega arith) in
+    let n : e < length (rows-in ws) = rw (rows-long (row-count ws) ws) (omega arith) in
     sym (first-is (rows-in ws) 0 e (row-fields (row-at ws r)) (row-op 0 []) n (p ∙ q) (λ k m g. f k m (g ∙ sym q)) ∙ zero-add e)
 
 -- rows are the same where their words are

@@ -15,19 +15,15 @@ use Rattle.spec_tree.specs.Rows.{Row, row-sym, row-const, row-op}
 use Rattle.spec_tree.specs.Layout.{row-width, row-kind, row-default, row-fields, row-words, table-words, signed, row-by, row-of, rows-of, row-ok, rows-ok}
 use Rattle.spec_tree.proofs.Logic.{and-left, and-right}
 use Rattle.node_rows.specs.unfolded.Unfold.{row-count, rows-in, row-at, words-at, row-number, Rows-laid}
+use Rattle.spec_tree.proofs.LayoutLaws.{rows-long}
 
 -- ---- rows of words
 
-pub length-rows-of : (n : ℕ) (ws : List ℕ) → length (rows-of n ws) ≡ n
-unfolding rows-of
-length-rows-of zero ws = refl
-length-rows-of (suc n) ws = ap suc (length-rows-of n (drop row-width ws))
-
-next-row : (i : ℕ) (ws : List ℕ) → words-at (drop row-width ws) i ≡ words-at ws (suc i)
+pub next-row : (i : ℕ) (ws : List ℕ) → words-at (drop row-width ws) i ≡ words-at ws (suc i)
 unfolding words-at
 next-row i ws = let e : row-width + i * row-width ≡ suc i * row-width = omega arith in rw (drop-drop (i * row-width) row-width ws, e)
 
-rows-of-at : (n : ℕ) (ws : List ℕ) (i : ℕ) (d : Row) → i < n → getD (rows-of n ws) i d ≡ row-of (words-at ws i)
+pub rows-of-at : (n : ℕ) (ws : List ℕ) (i : ℕ) (d : Row) → i < n → getD (rows-of n ws) i d ≡ row-of (words-at ws i)
 unfolding rows-of words-at
 rows-of-at zero ws i d h = absurd (omega arith)
 rows-of-at (suc n) ws zero d h = refl
@@ -174,5 +170,5 @@ stands {ws} laid i h =
       count = sym k2;
       most = m;
       fields = fields-are ws i r m w;
-      tested = subst (λ (j : ℕ). T (row-ok j r)) (zero-add i) (row-tested 0 (rows-in ws) i (row-op 0 []) (laid .good) (rw (length-rows-of n ws) h));
+      tested = subst (λ (j : ℕ). T (row-ok j r)) (zero-add i) (row-tested 0 (rows-in ws) i (row-op 0 []) (laid .good) (rw (rows-long n ws) h));
     }

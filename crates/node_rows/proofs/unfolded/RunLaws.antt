@@ -20,7 +20,8 @@ use Rattle.spec_tree.proofs.TokenCode.{all-tokens-length}
 use Rattle.spec_tree.proofs.Logic.{and-left, and-right}
 use Rattle.spec_tree.proofs.TreeLaws.{eq-bytes-sound}
 use Rattle.node_rows.specs.unfolded.Unfold.{row-count, rows-in, row-at, trees-of-rows, operand-rows, run, runs, Rows-laid}
-use Rattle.node_rows.proofs.unfolded.RowLaws.{length-rows-of, stands}
+use Rattle.node_rows.proofs.unfolded.RowLaws.{stands}
+use Rattle.spec_tree.proofs.LayoutLaws.{rows-long}
 
 -- ---- each of a list's numbers below a bound
 
@@ -103,7 +104,7 @@ unfolding run runs rows-in row-at trees-of-rows
 run-is {ws} laid i h =
     let number = number-in (rows-in ws) in
     let ts = trees-of-rows ws in
-    let l : i < length (rows-in ws) = rw (length-rows-of (row-count ws) ws) h in
+    let l : i < length (rows-in ws) = rw (rows-long (row-count ws) ws) h in
     let e : getD ts i (Op 0 nil) ≡ tree-of-row ts (row-at ws i) =
     subst (λ (n : ℕ). getD ts n (Op 0 nil) ≡ tree-of-row ts (row-at ws i)) (zero-add i) (tree-is (rows-in ws) [] i l (laid .good)) in
     ap (tokens number) e ∙ row-tokens number ts (row-at ws i)
@@ -180,7 +181,7 @@ module _ (ws roots : List ℕ) (t : T (laid-out ws roots)) where
 
   count-is : length (table-of ws roots .rows) ≡ row-count ws
   unfolding table-of row-count
-  count-is = length-rows-of (row-count ws) ws
+  count-is = rows-long (row-count ws) ws
 
   pub laid : Rows-laid ws
   unfolding laid-out table-of rows-in row-count

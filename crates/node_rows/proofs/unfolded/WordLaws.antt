@@ -14,7 +14,7 @@ use Rattle.spec_tree.specs.Passes.{of-paper, operands-ok}
 use Rattle.spec_tree.specs.Rows.{Row, row-sym, row-const, row-op}
 use Rattle.spec_tree.specs.Layout.{row-fields, row-ok, signed}
 use Rattle.spec_tree.specs.Tokens.{constant-code, number-in}
-use Rattle.spec_tree.proofs.Logic.{and-left}
+use Rattle.spec_tree.proofs.Logic.{and-left, false-is}
 use Rattle.spec_tree.proofs.TreeLaws.{eq-bytes-sound, eq-bytes-refl}
 use Rattle.node_rows.specs.unfolded.Unfold.{row-count, rows-in, row-at, row-number, operand-rows, run, Rows-laid}
 use Rattle.node_rows.proofs.unfolded.RowLaws.{Stands, few-kinds}
@@ -95,10 +95,6 @@ minus-code (suc s) (suc n) e h =
     c ∙ sym (ap constant-code m)
 
 -- ---- equal words
-
-false-is : (b : Bool) → (T b → ⊥) → false ≡ b
-false-is true f = absurd (f tt)
-false-is false f = refl
 
 true-is : (b : Bool) → T b → true ≡ b
 true-is true t = refl

@@ -1,16 +1,15 @@
 -- A line has at most 34,857 bytes where its expression has at most 1,024 nodes: so there is room for it in 65,536. Assumes nothing.
-use Prim.Native.Nat.{ℕ, suc, _+_, _/_, _^_, _≤_, _<_}
+use Prim.Native.Nat.{ℕ, _+_, _/_, _^_, _≤_, _<_}
 use native.Mathlib.Omega.{arith}
 use mathlib.Core.Path.{_≡_, sym, ap, _∙_}
 use mathlib.Core.Bool.{Bool, true, false, cond}
 use mathlib.Core.List.{List, [], _∷_, _++_}
 use lib.ListN.{length, getD, length-append}
-use lib.Dec.{T, eqb, ltb, lt→ltb}
-use Rattle.spec_tree.specs.Bytes.{bytes, decimal, every}
+use lib.Dec.{T, eqb, lt→ltb}
+use Rattle.spec_tree.specs.Bytes.{bytes, decimal}
 use Rattle.spec_tree.specs.Tree.{xname}
 use Rattle.spec_tree.specs.Facts.{size}
 use Rattle.spec_tree.specs.Passes.{symbol-ok}
-use Rattle.spec_tree.proofs.Logic.{and-both}
 use Rattle.spec_tree.specs.text.Text.{name-text, display}
 use Rattle.fmt.specs.shapes.Places.{tree-here, Stands}
 use Rattle.fmt.proofs.shapes.NodeLaws.{names}
@@ -19,6 +18,7 @@ use Rattle.fmt.proofs.lengths.Leaves.{symbol-short}
 use Rattle.fmt.proofs.lengths.Whole.{text-fits, read-fits}
 use Rattle.print.specs.lines.Line.{row-line, opening, closing}
 use Rattle.print.proofs.lines.RowLaws.{line-parts}
+use Rattle.fmt.proofs.lengths.Callers.{small-words}
 
 pub decimal-short : (n : ℕ) → n < 2 ^ 64 → length (decimal n) ≤ 29
 unfolding symbol-ok number-fits name-text
@@ -42,12 +42,6 @@ closing-short w = go (eqb w 36)
     go : (b : Bool) → length (cond b (10 ∷ []) (bytes ";\n")) ≤ 2
     go true = omega arith
     go false = omega arith
-
--- words of 64 bits, as a slice has them
-small-words : (ws : List ℕ) → ((i : ℕ) → getD ws i 0 < 2 ^ 64) → T (every (λ w. ltb w (2 ^ 64)) ws)
-unfolding every
-small-words [] f = tt
-small-words (w ∷ ws) f = and-both (ltb w (2 ^ 64)) (every (λ w. ltb w (2 ^ 64)) ws) (lt→ltb w (2 ^ 64) (f 0)) (small-words ws (λ i. f (suc i)))
 
 module _ (rows ws : List ℕ) (at : ℕ) (words : (i : ℕ) → getD ws i 0 < 2 ^ 64) (S : Stands rows ws (at + 1)) where
   fit : T (numbers-fit (tree-here rows ws (at + 1)))

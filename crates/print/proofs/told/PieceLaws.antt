@@ -1,12 +1,12 @@
 -- The text of tuples, arms and matches is its pieces one after another (Pieces). Assumes nothing.
-use Prim.Native.Nat.{ℕ, zero, suc, _+_, _≤_, _<_}
+use Prim.Native.Nat.{ℕ, suc, _+_, _≤_}
 use native.Mathlib.Omega.{arith}
-use mathlib.Core.Path.{_≡_, refl, sym, ap, ap₂, _∙_}
-use mathlib.Core.Bool.{Bool, true, false, cond, _&&_, _||_}
+use mathlib.Core.Path.{_≡_, refl, sym, ap, _∙_}
+use mathlib.Core.Bool.{Bool, true, false, cond}
 use mathlib.Core.List.{List, [], _∷_, _++_, append-assoc}
 use borrow.Author.Tests.{eq-eqb, ne-eqb}
 use lib.ListN.{length}
-use lib.Dec.{T, eqb, ltb}
+use lib.Dec.{eqb}
 use Rattle.spec_tree.specs.Bytes.{bytes, decimal, joined}
 use Rattle.spec_tree.specs.Tree.{Name, Tree}
 use Rattle.spec_tree.specs.text.Text.{name-text, display}
@@ -112,10 +112,6 @@ pub arms-counted : (l : Arms) (bare : Bool) → length (arms-texts l bare) ≡ a
 unfolding arm-count
 arms-counted no-arm bare = ap length (arms-none bare)
 arms-counted (arm s vs l) bare = ap length (arms-cons s vs l bare) ∙ ap suc (arms-counted l bare)
-
-by-kind : (b : Bool) (x y : List ℕ) → T b → _≡_ {A = List ℕ} (elim b [ true ↦ x | false ↦ y ]) x
-by-kind true x y h = refl
-by-kind false x y h = absurd h
 
 module _ (key : Tree) (ns : List Name) (arms : Arms) where
   abbrev names : List ℕ

@@ -7,7 +7,7 @@ use mathlib.Core.Bool.{Bool}
 use mathlib.Core.Option.{Option, none, some}
 use mathlib.Core.List.{List, [], _∷_, _++_, append-assoc, map}
 use lib.IntN.{pos}
-use lib.ListN.{length, getD, drop}
+use lib.ListN.{drop}
 use lib.Dec.{T}
 use Rattle.spec_tree.specs.Tree.{Name, xname, Tree, Sym, Const, Op, nil, _◂_}
 use Rattle.spec_tree.specs.Kinds.{Div}
@@ -17,9 +17,8 @@ use Rattle.spec_tree.proofs.TokenCode.{unnumbered, all-tokens-append, writes-ba
 use Rattle.spec_rewrite.specs.Rewrite.{replace-divisor}
 use Rattle.laws.specs.positions.Places.{numbered-at, divisors-to-bind}
 use Rattle.laws.specs.positions.Rounds.{next-number, bind-on, bind-each-on, reciprocals-on, reciprocals-words}
-use Rattle.laws.proofs.positions.BestPlace.{text-of}
 use Rattle.laws.proofs.positions.WordReciprocals.{to-bind-are, reciprocals-words-are}
-use Rattle.words.specs.words.Words.{rewritten-words, tree-of, name-of}
+use Rattle.words.specs.words.Words.{rewritten-words, tree-of}
 use Rattle.words.proofs.words.Chains.{readable, name-readable, rewritten-trees, rewritten-complete}
 use Rattle.replace.proofs.divisor.Chaining.{divisor-readable}
 use Rattle.reciprocals.specs.settle.Steps.{step-words, settled-words}
@@ -100,7 +99,7 @@ abbrev pub All-there : List ℕ → List ℕ → Type 0
 All-there base [] = Unit {0}
 All-there base (p ∷ l) = ((n : ℕ) × (run-at base p ≡ some n)) × All-there base l
 
-made-name : (n : ℕ) → T (readable (Sym (xname n)))
+pub made-name : (n : ℕ) → T (readable (Sym (xname n)))
 made-name n = subst (λ (x : Name). T (readable (Sym x))) (x-word-name n) (name-readable (x-word n))
 
 settles-first :

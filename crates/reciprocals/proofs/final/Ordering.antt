@@ -1,9 +1,9 @@
 -- The order of the bindings by the marked needs is that of `topo_sort_intermediates` (01, "Order"). Assumes nothing.
 use Prim.Native.Nat.{ℕ, zero, suc, _+_, _-_, _*_, _≤_, _<_}
 use native.Mathlib.Omega.{arith}
-use mathlib.Core.Path.{_≡_, refl, sym, _∙_, ap, ap₂}
+use mathlib.Core.Path.{_≡_, sym, _∙_, ap, ap₂}
 use mathlib.Core.Option.{some}
-use mathlib.Core.List.{List, [], _∷_, reverse, reverseAux}
+use mathlib.Core.List.{List, [], _∷_, reverse}
 use lib.Dec.{T}
 use lib.ListN.{length, getD, drop, replicate, length-drop}
 use Rattle.spec_tree.specs.Outcome.{ok, refused, by}
@@ -12,9 +12,9 @@ use Rattle.spec_tree.specs.Tokens.{trees-in}
 use Rattle.spec_tree.proofs.TokenCode.{coded, all-coded}
 use Rattle.spec_cse.specs.Answer.{Intermediate, names, free}
 use Rattle.spec_cse.specs.Order.{meets, needs, nothing, at-each, positions-taken, topo-sort-intermediates}
-use Rattle.laws.proofs.cse.OrderLaws.{All, taken-ok}
+use Rattle.laws.proofs.cse.OrderLaws.{taken-ok, all-getD, all-turned}
 use Rattle.words.specs.bits.Bits.{yes}
-use Rattle.topo_sort.specs.Needs.{table-of, rows-from}
+use Rattle.topo_sort.specs.Needs.{table-of}
 use Rattle.topo_sort.proofs.Sorted.{table-needs, sorted-all, sorted-ring}
 use Rattle.words.specs.words.Words.{number}
 use Rattle.laws.proofs.positions.Coded.{is-alone, first-fits, rest-fits}
@@ -26,26 +26,9 @@ use Rattle.reciprocals.specs.final.Ready.{marks, binding-run}
 use Rattle.reciprocals.proofs.final.Trees.{final-fit, final-count, binds-count, lets-by-number}
 use Rattle.reciprocals.proofs.final.Ending.{lets}
 use Rattle.reciprocals.proofs.final.Marking.{marked-yes}
+use Rattle.topo_sort.proofs.Left.{table-length}
 
 -- ---- positions
-
-all-getD : (P : ℕ → Type 0) (l : List ℕ) → All P l → (q : ℕ) → q < length l → P (getD l q 0)
-all-getD P [] h q i = absurd (omega arith)
-all-getD P (j ∷ l) h zero i = h .0
-all-getD P (j ∷ l) h (suc q) i = all-getD P l (h .1) q (omega arith)
-
-all-turned : (P : ℕ → Type 0) (a b : List ℕ) → All P a → All P b → All P (reverseAux a b)
-all-turned P [] b g h = h
-all-turned P (j ∷ a) b g h = all-turned P a (j ∷ b) (g .1) (g .0, h)
-
-rows-count : (needs : List ℕ) (count j n : ℕ) → length (rows-from needs count j n) ≡ n
-unfolding rows-from
-rows-count needs count j zero = refl
-rows-count needs count j (suc n) = ap suc (rows-count needs count (suc j) n)
-
-table-count : (needs : List ℕ) (count : ℕ) → length (table-of needs count) ≡ count
-unfolding table-of
-table-count needs count = rows-count needs count 0 count
 
 fits-at : (l : List Tree) → T (all-coded is-alone l) → (i : ℕ) → i < length l → T (coded is-alone (getD l i (Op 0 nil)))
 fits-at [] h i g = absurd (omega arith)
@@ -89,4 +72,4 @@ module _ (k m : ℕ) (places ws : List ℕ) (complete : trees-in ws ≡ some m) 
     pub marked-positions : (q : ℕ) → q < length (reverse (positions-taken (table-of bits count))) → getD (reverse (positions-taken (table-of bits count))) q 0 < count
     marked-positions q h =
         let table = table-of bits count in
-        omega (arith, table-count bits count, all-getD (λ j. j < length table) (reverse (positions-taken table)) (all-turned (λ j. j < length table) (positions-taken table) [] (taken-ok table .inside) tt) q h)
+        omega (arith, table-length bits count, all-getD (λ j. j < length table) (reverse (positions-taken table)) (all-turned (λ j. j < length table) (positions-taken table) [] (taken-ok table .inside) tt) q h)

@@ -17,8 +17,8 @@ use Rattle.spec_cse.specs.Scope.{binds}
 use Rattle.words.specs.words.Words.{tree-of}
 use Rattle.laws.specs.positions.Places.{numbered-at}
 use Rattle.laws.specs.positions.Rounds.{by-number, next-number, bind-each-on, bind-each-words}
-use Rattle.laws.proofs.positions.Coded.{is-alone, none-fit, one-fits, first-fits, rest-fits, read-fits, read-again, bind-on-fits}
-use Rattle.laws.proofs.positions.WordReciprocals.{bind-each-are}
+use Rattle.laws.proofs.positions.Coded.{is-alone, none-fit, one-fits, first-fits, read-fits, read-again}
+use Rattle.laws.proofs.positions.WordReciprocals.{bind-each-are, bind-each-fits}
 use Rattle.reciprocals.proofs.bindings.Parts.{settle-tree, settled-reciprocals, bound-are-settled, tree-there, All-there}
 use Rattle.reciprocals.proofs.reciprocal.Made.{settled-long}
 use Rattle.reciprocals.specs.final.Final.{divisors-at, final-trees, final-words}
@@ -37,11 +37,6 @@ divisors-fit ws [] h = none-fit is-alone
 divisors-fit ws (p ∷ l) h =
     one-fits is-alone (numbered-at ws p) (divisors-at ws l) (subst (λ (t : Tree). T (coded is-alone t)) (tree-there ws p) (first-fits-word (drop p ws) (h .0 .0) (h .0 .1)))
     (divisors-fit ws l (h .1))
-
-bind-each-fits : (l : List Tree) (n : ℕ) (ts : List Tree) → T (all-coded is-alone l) → T (all-coded is-alone ts) → T (all-coded is-alone (bind-each-on l n ts))
-unfolding bind-each-on
-bind-each-fits [] n ts g h = h
-bind-each-fits (d ∷ l) n ts g h = bind-each-fits l (suc n) _ (rest-fits is-alone d l g) (bind-on-fits is-alone d n ts (first-fits is-alone d l g) h)
 
 -- ---- the final trees
 

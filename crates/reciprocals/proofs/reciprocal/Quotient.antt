@@ -1,27 +1,19 @@
 -- `1 / d` written to the front of an area: two words, then those of d, and the rest as it was. Assumes nothing.
 use Prim.Native.Nat.{ℕ, suc, _+_, _-_, _≤_}
 use native.Mathlib.Omega.{arith}
-use mathlib.Core.Path.{_≡_, refl, sym, _∙_, ap}
+use mathlib.Core.Path.{_≡_, sym, _∙_, ap}
 use mathlib.Core.Bool.{cond}
 use mathlib.Core.Option.{Option, none, some}
-use mathlib.Core.List.{List, [], _∷_, _++_, append-nil}
-use lib.ListN.{length, take, drop, set, length-set, length-drop, drop-of-length-le}
+use mathlib.Core.List.{List, [], _∷_, _++_}
+use lib.ListN.{length, take, drop, set, length-set, length-drop}
 use lib.Dec.{leb}
-use lib.Seq.{take-all, length-take-le}
+use lib.Seq.{length-take-le}
 use borrow.Rule.Slice.PartMut.{putMid}
 use Rattle.spec_tree.specs.Tokens.{takes, trees-in}
 use Rattle.reciprocals.specs.reciprocal.Bindings.{one-over}
+use Rattle.spec_tree.proofs.Lists.{rest-is, rest-back}
 
 -- ---- a part lent on: what the callee is handed, and what the whole is when it comes back
-
-rest-is : (w : List ℕ) (u : ℕ) → take (length w - u) (drop u w) ≡ drop u w
-rest-is w u = take-all (length w - u) (drop u w) (omega (arith, length-drop u w))
-
-rest-back : (w x : List ℕ) (u : ℕ) → putMid u (length w - u) w x ≡ take u w ++ x
-rest-back w x u = ap (λ (l : List ℕ). take u w ++ (x ++ l)) (drop-of-length-le (drop u w) past) ∙ ap (λ (l : List ℕ). take u w ++ l) (append-nil x)
-  where
-    past : length (drop u w) ≤ length w - u
-    past = omega (arith, length-drop u w)
 
 -- two words written, the rest lent on, and what comes back
 abbrev begun : List ℕ → ℕ → ℕ → List ℕ

@@ -2,14 +2,14 @@
 -- nothing.
 use Prim.Native.Nat.{ℕ, suc, _+_, _≤_}
 use native.Mathlib.Omega.{arith}
-use mathlib.Core.Path.{_≡_, refl, sym, _∙_, ap, subst}
+use mathlib.Core.Path.{_≡_, refl, sym, _∙_, ap}
 use mathlib.Core.Option.{some}
 use mathlib.Core.List.{List, [], _∷_, map}
 use lib.ListN.{length, getD, take, drop, length-drop}
 use lib.Seq.{length-take-le}
 use lib.Dec.{T}
 use Rattle.spec_tree.specs.Facts.{size}
-use Rattle.spec_tree.specs.Tree.{Name, xname, Tree, Sym, Op, nil}
+use Rattle.spec_tree.specs.Tree.{xname, Tree, Op, nil}
 use Rattle.spec_tree.specs.Tokens.{takes, tree-of-word, constant-at, tokens, all-tokens, read, numbered, run-at, trees-in}
 use Rattle.spec_tree.proofs.TokenLaws.{complete-length}
 use Rattle.spec_tree.proofs.TokenCode.{unnumbered, tokens-length}
@@ -18,19 +18,14 @@ use Rattle.spec_rewrite.proofs.DivisorCount.{divisor-size}
 use Rattle.laws.specs.positions.Places.{numbered-at}
 use Rattle.words.specs.words.Words.{number, rewritten-words, tree-of}
 use Rattle.words.proofs.words.Rewriting.{segment, one-written, one-tree-words, rewritten-short}
-use Rattle.words.proofs.words.Chains.{readable, name-readable, rewritten-trees, rewritten-complete}
+use Rattle.words.proofs.words.Chains.{readable, rewritten-trees, rewritten-complete}
 use Rattle.replace.proofs.divisor.Chaining.{divisor-readable}
-use Rattle.reciprocals.proofs.settle.Settling.{x-word, x-word-name}
-use Rattle.reciprocals.proofs.bindings.Parts.{settle-tree, reciprocal, tree-there}
+use Rattle.reciprocals.proofs.bindings.Parts.{settle-tree, reciprocal, tree-there, made-name}
 use Rattle.reciprocals.specs.reciprocal.Bindings.{one-over}
 use Rattle.reciprocals.proofs.reciprocal.Quotient.{one-tree-over, one-over-long}
+use Rattle.spec_tree.proofs.Lists.{one-alone}
 
 -- ---- one divisor
-
-only : (l : List Tree) → length l ≡ 1 → l ≡ getD l 0 (Op 0 nil) ∷ []
-only [] e = absurd (omega arith)
-only (t ∷ []) e = refl
-only (t ∷ (u ∷ l)) e = absurd (omega arith)
 
 first-of-one : (l : List Tree) → getD (take 1 l) 0 (Op 0 nil) ≡ getD l 0 (Op 0 nil)
 first-of-one [] = refl
@@ -81,12 +76,9 @@ module _ (base : List ℕ) (place n : ℕ) (stands : run-at base place ≡ some 
   pub over-read : read numbered (one-over base place n) ≡ reciprocal divisor ∷ []
   unfolding one-over tree-of
   over-read =
-      read-over run divisor (only (read numbered run) (complete-length numbered run 1 one-run) ∙ ap (λ (t : Tree). t ∷ []) run-read)
+      read-over run divisor (one-alone (read numbered run) (complete-length numbered run 1 one-run) ∙ ap (λ (t : Tree). t ∷ []) run-read)
 
 -- ---- settled trees
-
-made-name : (n : ℕ) → T (readable (Sym (xname n)))
-made-name n = subst (λ (x : Name). T (readable (Sym x))) (x-word-name n) (name-readable (x-word n))
 
 pub settle-readable : (ds : List Tree) (n : ℕ) (t : Tree) → T (readable t) → T (readable (settle-tree ds n t))
 settle-readable [] n t h = h

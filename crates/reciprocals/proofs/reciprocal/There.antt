@@ -2,7 +2,7 @@
 use Prim.Native.Nat.{ℕ, zero, suc, _+_, _≤_, _<_}
 use native.Mathlib.Omega.{arith}
 use mathlib.Core.Path.{_≡_, refl, sym, _∙_, ap}
-use mathlib.Core.Bool.{Bool, true, false, _&&_}
+use mathlib.Core.Bool.{true, false, _&&_}
 use mathlib.Core.Option.{Option, none, some}
 use mathlib.Core.List.{List, [], _∷_}
 use lib.ListN.{length, getD, drop}
@@ -15,6 +15,8 @@ use Rattle.words.specs.declared.tokens.Run.the-variants as run
 use Rattle.words.specs.words.Words.{some-trees}
 use Rattle.reciprocals.proofs.bindings.Parts.{All-there}
 use Rattle.reciprocals.specs.reciprocal.Bindings.{all-there}
+use Rattle.spec_tree.proofs.Lists.{none-left}
+use Rattle.rounds.proofs.kept.Steps.{some-there}
 
 -- ---- the loop
 
@@ -46,12 +48,6 @@ module _ (base places : List ℕ) (k : ℕ) (more : k < length places) (state : 
       go none s q = let z : _≡_ {A = ℕ} 0 1 = cc in absurd (omega arith)
       go (some n) s q = ap (λ (x : ℕ). all-there base (drop x places)) i ∙ next (some n) s
 
-none-left : (k : ℕ) (l : List ℕ) → length l ≤ k → drop k l ≡ []
-none-left zero [] h = refl
-none-left (suc k) [] h = refl
-none-left zero (x ∷ l) h = absurd (omega arith)
-none-left (suc k) (x ∷ l) h = none-left k l (omega arith)
-
 pub all-tested : (base places : List ℕ) (k : ℕ) → length places ≤ k → Decides base places k → true ≡ all-there base places
 unfolding all-there
 all-tested base places k h state = sym (ap (all-there base) (none-left k places h)) ∙ state
@@ -64,17 +60,12 @@ there-tested base [] h = tt
 there-tested base (p ∷ l) h =
     and-both (some-trees (run-at base p)) (all-there base l) (rw (h .0 .1) tt) (there-tested base l (h .1))
 
-some-run : (o : Option ℕ) → T (some-trees o) → (n : ℕ) × (o ≡ some n)
-unfolding some-trees
-some-run none h = absurd h
-some-run (some n) h = (n, refl)
-
 pub tested-there : (base places : List ℕ) → T (all-there base places) → All-there base places
 unfolding all-there
 tested-there base [] h = tt
 tested-there base (p ∷ l) h =
     let b = some-trees (run-at base p) in
-    (some-run (run-at base p) (and-left b (all-there base l) h), tested-there base l (and-right b (all-there base l) h))
+    (some-there (run-at base p) (and-left b (all-there base l) h), tested-there base l (and-right b (all-there base l) h))
 
 -- ---- each of the places, and those after it
 

@@ -1,5 +1,5 @@
 -- Step after step, and what settling answers: the words so far, with the steps to come, are the whole. Assumes nothing.
-use Prim.Native.Nat.{ℕ, zero, suc, _+_, _-_, _*_, _/_, _%_, _≤_, _<_}
+use Prim.Native.Nat.{ℕ, suc, _+_, _-_, _*_, _/_, _%_, _≤_, _<_}
 use native.Mathlib.Omega.{arith}
 use mathlib.Core.Path.{_≡_, refl, sym, _∙_, ap, subst}
 use mathlib.Core.Bool.{Bool, true, false}
@@ -8,9 +8,8 @@ use mathlib.Core.List.{List, [], _∷_, _++_}
 use borrow.Author.Tests.{le-leb, lt-leb}
 use lib.ListN.{length, getD, take, drop}
 use lib.Seq.{length-take-le, take-at, drop-cons}
-use lib.Dec.{leb}
 use Rattle.spec_tree.specs.Tree.{Name, xname}
-use Rattle.spec_tree.specs.Tokens.{kind-of, below-of, name-by, numbered, run-at, trees-in}
+use Rattle.spec_tree.specs.Tokens.{kind-of, below-of, name-by, run-at, trees-in}
 use Rattle.spec_rewrite.specs.Rewrite.{replace-divisor}
 use Rattle.words.specs.words.Words.{rewritten-words, tree-of, name-of, some-trees, Complete}
 use Rattle.replace.proofs.divisor.Chaining.{never-longer, as-many-trees}
@@ -20,6 +19,7 @@ use Rattle.reciprocals.specs.declared.settle.Stepped.{Stepped}
 use Rattle.reciprocals.specs.declared.settle.Stepped.the-variants as stepped
 use Rattle.reciprocals.specs.declared.settle.Settled.{Settled}
 use Rattle.reciprocals.specs.declared.settle.Settled.the-variants as settled
+use Rattle.spec_tree.proofs.Lists.{fits-in, none-left}
 
 -- ---- names
 
@@ -78,12 +78,6 @@ settled-short base (p ∷ l) n ws new e = go (step-words base p (xname n) ws) re
     go (some vs) s q h = omega (arith, step-stays base p n ws vs s .short, h vs q)
 
 -- ---- the loop
-
-none-left : (k : ℕ) (l : List ℕ) → length l ≤ k → drop k l ≡ []
-none-left zero [] h = refl
-none-left (suc k) [] h = refl
-none-left zero (x ∷ l) h = absurd (omega arith)
-none-left (suc k) (x ∷ l) h = none-left k l (omega arith)
 
 pub record State (base places : List ℕ) (from first : ℕ) (ws : List ℕ) (room spares : ℕ) (work spare : List ℕ) (k n : ℕ) : Type 0 where
   pub long : length work ≡ room
@@ -158,11 +152,6 @@ module _ {base places : List ℕ} {from first : ℕ} {ws : List ℕ} {room spare
       subst (λ (w : Option (List ℕ)). (stepped.Words n ≡ stepped-answer w) × Front w work) e (ap stepped.Words (sym l), ap (λ (i : ℕ). take i work) l)
 
 -- ---- what settling answers and leaves
-
-fits-in : (n : ℕ) (l : List ℕ) → length (take n l) ≤ length l
-fits-in zero l = omega arith
-fits-in (suc n) [] = omega arith
-fits-in (suc n) (x ∷ l) = omega (arith, fits-in n l)
 
 module _ (base places : List ℕ) (from first : ℕ) (old : List ℕ) (len : ℕ) where
   abbrev pub Answers : Settled → List ℕ → Type 0

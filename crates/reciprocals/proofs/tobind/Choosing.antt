@@ -11,6 +11,7 @@ use Rattle.spec_tree.specs.Tree.{eq-tree}
 use Rattle.spec_tree.proofs.TreeLaws.{eq-tree-sound}
 use Rattle.laws.specs.positions.Places.{numbered-at, among-places, count-places, distinct-places, shared-places}
 use Rattle.reciprocals.specs.tobind.Places.{Listed, chosen-at, chosen-places}
+use Rattle.spec_tree.proofs.Logic.{or-true}
 
 -- ---- whether a tree is among some
 
@@ -18,12 +19,8 @@ or-none : (b : Bool) → (b || false) ≡ b
 or-none true = refl
 or-none false = refl
 
-or-all : (b : Bool) → (b || true) ≡ true
-or-all true = refl
-or-all false = refl
-
 or-swap : (a b : Bool) → (a || b) ≡ (b || a)
-or-swap true b = sym (or-all b)
+or-swap true b = sym (or-true b)
 or-swap false b = sym (or-none b)
 
 step-or : (a b : Bool) → elim a as (λ _. Bool) [ true ↦ true | false ↦ b ] ≡ (a || b)
@@ -60,7 +57,7 @@ module _ (ws : List ℕ) where
     where
       go : (b : Bool) → equal r q ≡ b → (among-places ws q l || b) ≡ among-places ws q l
       go true f =
-          or-all (among-places ws q l)
+          or-true (among-places ws q l)
           ∙ sym (sym (among-same q r l (eq-tree-sound (numbered-at ws r) (numbered-at ws q) (subst T (sym f) tt))) ∙ e)
       go false f = or-none (among-places ws q l)
 

@@ -17,20 +17,21 @@ use Rattle.words.proofs.tokens.Complete.{same-is}
 use Rattle.words.specs.words.Words.{Complete}
 use Rattle.laws.specs.positions.Places.{numbered-at, among-places, count-places}
 use Rattle.reciprocals.specs.tobind.Places.{chosen-at}
+use Rattle.spec_tree.proofs.Logic.{and-false}
 
 -- ---- whether two trees are equal
 
-told-equal : (b : Bool) → equality.Equal ≡ same-answer (some b) → true ≡ b
+pub told-equal : (b : Bool) → equality.Equal ≡ same-answer (some b) → true ≡ b
 unfolding same-answer
 told-equal true e = refl
 told-equal false e = absurd (let z : _≡_ {A = ℕ} 0 1 = cc in omega arith)
 
-told-different : (b : Bool) → equality.Different ≡ same-answer (some b) → false ≡ b
+pub told-different : (b : Bool) → equality.Different ≡ same-answer (some b) → false ≡ b
 unfolding same-answer
 told-different true e = absurd (let z : _≡_ {A = ℕ} 0 1 = cc in omega arith)
 told-different false e = refl
 
-never-broken : (b : Bool) → equality.Broken ≡ same-answer (some b) → ⊥
+pub never-broken : (b : Bool) → equality.Broken ≡ same-answer (some b) → ⊥
 unfolding same-answer
 never-broken true e = let z : _≡_ {A = ℕ} 0 1 = cc in omega arith
 never-broken false e = let z : _≡_ {A = ℕ} 0 1 = cc in omega arith
@@ -93,10 +94,6 @@ unfolding among-places count-places
 among-counted ws q [] = refl
 among-counted ws q (r ∷ l) = among-step (eq-tree (numbered-at ws r) (numbered-at ws q)) (among-places ws q l) (count-places ws q l) (among-counted ws q l)
 
-and-none : (b : Bool) → (b && false) ≡ false
-and-none true = refl
-and-none false = refl
-
 module _ (ws all out : List ℕ) (i n : ℕ) where
   abbrev tree-here : ℕ
   tree-here = getD all i 0
@@ -112,7 +109,7 @@ module _ (ws all out : List ℕ) (i n : ℕ) where
   unfolding chosen-at
   stands-once e h =
       sym (ap (λ (b : Bool). not (among-places ws tree-here (take i all)) && (b && leb 1 (count-places ws tree-here out))) (lt-leb 2 (count-places ws tree-here all) (omega (arith, e, h)))
-      ∙ and-none (not (among-places ws tree-here (take i all))))
+      ∙ and-false (not (among-places ws tree-here (take i all))))
 
   pub last-test :
       (m k : ℕ) → n ≡ count-places ws (getD all i 0) (take i all) → n ≤ 0 → m ≡ count-places ws (getD all i 0) all → 2 ≤ m

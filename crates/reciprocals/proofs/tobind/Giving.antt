@@ -13,10 +13,7 @@ use Rattle.spec_tree.specs.Bytes.{every}
 use Rattle.spec_tree.specs.Rows.{Row}
 use Rattle.spec_tree.specs.Tokens.{trees-in, name-in}
 use Rattle.fmt.specs.checked.Check.{word-ok}
-use Rattle.words.specs.tokens.Answers.{count-answer}
-use Rattle.words.specs.declared.tokens.Trees.the-variants as trees
 use Rattle.words.specs.words.Words.{some-trees, Complete}
-use Rattle.words.proofs.words.Requests.{counted}
 use Rattle.reciprocals.specs.divisors.Listing.{all-places, listing-by, listing}
 use Rattle.reciprocals.specs.declared.divisors.Divisors.the-variants as divisors
 use Rattle.laws.specs.positions.Places.{sort-places, divisors-to-bind}
@@ -27,9 +24,6 @@ use Rattle.reciprocals.specs.declared.tobind.ToBind.the-variants as tobi
 use Rattle.reciprocals.proofs.tobind.Within.{divisors-inside, divisors-few, chosen-inside, sort-length}
 
 -- ---- what `count_trees` and `list_divisors` tell and leave
-
-pub complete-by : (ws : List ℕ) (n : ℕ) → trees.Count n ≡ count-answer (trees-in ws) → Complete ws
-complete-by ws n e = (n, counted n (trees-in ws) e)
 
 module _ (ws old : List ℕ) (complete : Complete ws) (room : length ws ≤ length old) where
   listing-is : listing ws old ≡ record { answer = divisors.Count (length (all-places ws)); out = all-places ws ++ drop (length (all-places ws)) old }

@@ -18,28 +18,9 @@ use Rattle.rounds.proofs.choice.Passing.{order-is}
 use Rattle.laws.specs.positions.Places.{text-at, insert-place, sort-places}
 use Rattle.reciprocals.specs.tobind.Places.{Inside}
 use Rattle.reciprocals.proofs.tobind.Within.{inside-at, inside-drop, sort-inside, sort-length}
+use Rattle.rounds.proofs.choice.Leaders.{told-before, told-not, never-broken, never-short}
 
 -- ---- two texts
-
-told-before : (b : Bool) → order.Before ≡ ordered-by true true b → true ≡ b
-unfolding ordered-by
-told-before true e = refl
-told-before false e = absurd (let z : _≡_ {A = ℕ} 0 1 = cc in omega arith)
-
-told-not : (b : Bool) → order.NotBefore ≡ ordered-by true true b → false ≡ b
-unfolding ordered-by
-told-not true e = absurd (let z : _≡_ {A = ℕ} 0 1 = cc in omega arith)
-told-not false e = refl
-
-never-broken : (b : Bool) → order.Broken ≡ ordered-by true true b → ⊥
-unfolding ordered-by
-never-broken true e = let z : _≡_ {A = ℕ} 0 1 = cc in omega arith
-never-broken false e = let z : _≡_ {A = ℕ} 0 1 = cc in omega arith
-
-never-short : (b : Bool) → order.NoRoom ≡ ordered-by true true b → ⊥
-unfolding ordered-by
-never-short true e = let z : _≡_ {A = ℕ} 0 1 = cc in omega arith
-never-short false e = let z : _≡_ {A = ℕ} 0 1 = cc in omega arith
 
 -- whether the text at one place comes before that at another
 abbrev pub precedes : List ℕ → List ℕ → ℕ → ℕ → Bool

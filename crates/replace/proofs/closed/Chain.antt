@@ -7,17 +7,9 @@ use lib.ListN.{length}
 use Rattle.spec_tree.specs.Outcome.{Outcome, ok, refused, _>>=_, each}
 use Rattle.spec_tree.specs.Tree.{Tree}
 
-pub chain : {A B C : Type 0} (o : Outcome A) (f : A → Outcome B) (g : B → Outcome C) → ((o >>= f) >>= g) ≡ (o >>= λ a. f a >>= g)
-chain (ok a) f g = refl
-chain (refused i) f g = refl
-
 pub chain-end : {A : Type 0} (o : Outcome A) → (o >>= λ a. ok a) ≡ o
 chain-end (ok a) = refl
 chain-end (refused i) = refl
-
-pub chain-same : {A B : Type 0} (o : Outcome A) (f g : A → Outcome B) → ((a : A) → o ≡ ok a → f a ≡ g a) → (o >>= f) ≡ (o >>= g)
-chain-same (ok a) f g h = h a refl
-chain-same (refused i) f g h = refl
 
 -- ---- steps at each of some trees
 

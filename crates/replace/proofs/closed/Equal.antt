@@ -1,7 +1,7 @@
 -- `replace` is the closed form, for trees with as many operands as their kinds have and any target but an endless one. Assumes nothing.
 use Prim.Native.Nat.{ℕ, zero, suc, _+_, _*_, _≤_}
 use mathlib.Core.Path.{_≡_, refl, sym, _∙_, ap, ap₂, subst}
-use mathlib.Core.Bool.{Bool, true, false, not, _&&_}
+use mathlib.Core.Bool.{Bool, true, false, _&&_}
 use mathlib.Core.Logic.{_⊎_, inl, inr}
 use mathlib.Core.Option.{Option, none, some}
 use mathlib.Core.List.{List, [], _∷_, _++_, append-assoc, append-nil}
@@ -11,21 +11,19 @@ use lib.ListN.{length}
 use lib.Ieee as Ieee
 use lib.Ieee.{Float}
 use Rattle.spec_tree.specs.Outcome.{Outcome, ok, _>>=_, each}
-use Rattle.spec_tree.specs.Tree.{Name, Tree, Forest, Sym, Const, Op, nil, _◂_, folds, eq-tree, eq-name}
+use Rattle.spec_tree.specs.Tree.{Name, Tree, Forest, Sym, Const, Op, nil, _◂_, eq-tree}
 use Rattle.spec_tree.specs.Kinds.{Neg, Mul, arity-ok}
-use Rattle.spec_tree.specs.Facts.{count, has-symbol, some-of}
+use Rattle.spec_tree.specs.Facts.{count}
 use Rattle.spec_tree.proofs.Formed.{operand-count, well-formed, well-formed-each}
-use Rattle.spec_tree.proofs.TreeLaws.{eq-tree-sound, eq-tree-refl, eq-name-refl}
+use Rattle.spec_tree.proofs.TreeLaws.{eq-tree-sound, eq-tree-refl}
 use Rattle.spec_tree.proofs.Logic.{and-left, and-right}
 use Rattle.spec_rewrite.specs.Rewrite.{Factors, one, flatten-mul-factors, flatten-operands, flatten-after, times, negated, constant-of, built, remove-each, is-mul, match-factors, each-operand, replace}
-use Rattle.spec_rewrite.proofs.Measure.{sum-of, sum-each, length-sum, count-sum, count-cons, one-of}
-use Rattle.spec_rewrite.proofs.Factors.{All, Product, factors-of, factors-cases, sum-factors}
-use Rattle.spec_rewrite.proofs.DivisorCount.{or-cases}
-use Rattle.spec_rewrite.proofs.Names.{holds, holds-each}
-use Rattle.spec_rewrite.proofs.Counts.{one-none, one-cases, one-le}
+use Rattle.spec_rewrite.proofs.Measure.{count-cons}
+use Rattle.spec_rewrite.proofs.Factors.{All, Product, factors-of, append-all}
+use Rattle.spec_rewrite.proofs.Counts.{one-cases, one-le}
 use Rattle.replace.specs.closed.Closed.{Taken, once-more, take-out, taken, by-factors, lone, endless, rebuilt, Rewriting, becomes-in, closed, closed-each, rewritings, rewritings-of}
 use Rattle.replace.proofs.closed.Taken.{rest-of}
-use Rattle.replace.proofs.closed.Spine.{append-all, each-all}
+use Rattle.replace.proofs.closed.Spine.{each-all}
 use Rattle.replace.proofs.closed.Steps.{at-operation, at-op}
 use Rattle.replace.proofs.closed.Products.{count-most, at-symbol, at-constant, at-other, at-unmatched, no-match, name-stays, at-product}
 

@@ -17,26 +17,23 @@ use Rattle.spec_tree.specs.Kinds.{Neg, Mul}
 use Rattle.spec_tree.specs.Facts.{size, count}
 use Rattle.spec_tree.proofs.Formed.{well-formed}
 use Rattle.spec_tree.proofs.TreeLaws.{eq-tree-sound, eq-tree-refl, eq-int-sound}
-use Rattle.spec_tree.proofs.Logic.{and-left, and-right, and-both}
+use Rattle.spec_tree.proofs.Logic.{and-left, and-right, and-both, not-true}
 use Rattle.spec_tree.proofs.Tests.{is-true}
 use Rattle.spec_rewrite.specs.Rewrite.{Factors, one, flatten-mul-factors, times, constant-of, nested-product, with-coefficient, built, build-mul-from-factors, remove-first, remove-each, is-mul, match-factors, each-operand, replace-within, replace}
 use Rattle.spec_rewrite.proofs.Measure.{count-cons, one-self}
 use Rattle.spec_rewrite.proofs.Counts.{count-append, one-le}
 use Rattle.spec_rewrite.proofs.ReplaceValue.{exact}
 use Rattle.spec_rewrite.proofs.Coefficient.{exactly}
-use Rattle.spec_rewrite.proofs.Factors.{All, Factor, Product, factors-of, built-factors}
+use Rattle.spec_rewrite.proofs.Factors.{All, Factor, Product, factors-of, built-factors, append-all}
 use Rattle.replace.specs.closed.Closed.{Taken, once-more, take-out, taken, by-factors, rebuilt}
-use Rattle.replace.proofs.closed.Chain.{chain, chain-end, chain-same, each-long}
+use Rattle.replace.proofs.closed.Chain.{chain-end, each-long}
 use Rattle.replace.proofs.closed.Unit.{Small, one-small, accepted-small}
 use Rattle.replace.proofs.closed.Taken.{none-before, rest-of, count-of-rest}
 use Rattle.replace.proofs.closed.Steps.{at-operation, at-op}
-use Rattle.replace.proofs.closed.Spine.{append-all, each-all, Alone, alone-factor, name-alone, headed, built-coefficient, built-mul, factors-alone}
+use Rattle.replace.proofs.closed.Spine.{each-all, Alone, alone-factor, name-alone, headed, built-coefficient, built-mul, factors-alone}
+use Rattle.spec_tree.proofs.Outcomes.{then-then, then-known}
 
 -- ---- tests
-
-not-true : (b : Bool) → (T b → ⊥) → b ≡ false
-not-true true f = absurd (f tt)
-not-true false f = refl
 
 pub leaf-sym : (s : Name) (target : Tree) → T (is-mul target) → eq-tree (Sym s) target ≡ false
 unfolding eq-tree is-mul
@@ -169,7 +166,7 @@ module _ (target : Tree) (n : Name) (several : Product target → 2 + count (Sym
     with-match f r w e q =
         at-op target n several Mul f w
         ∙ ap₂ (λ (b : Bool) (o : Option Factors). at-operation target n rep Mul f b true o) e (match-is (Op Mul f) ∙ ap (matched-by (Op Mul f)) q)
-        ∙ chain (constant-of (flatten-mul-factors (Op Mul f) .coefficient)) (λ c. ok (built c (r ++ (Sym n ∷ [])))) rep
+        ∙ then-then (constant-of (flatten-mul-factors (Op Mul f) .coefficient)) (λ c. ok (built c (r ++ (Sym n ∷ [])))) rep
 
     -- ---- a product without a match
 
@@ -387,8 +384,8 @@ module _ (target : Tree) (n : Name) (several : Product target → 2 + count (Sym
         ap rep (minus-built l some-there)
         ∙ minus-plain (built (pos 1) l) (built-factors (pos 1) l (each-all Alone Factor alone-factor l (append-all Alone r (Sym n ∷ []) a (name-alone n, tt))) .1)
         ∙ ap (λ (o : Outcome Tree). o >>= λ u. ok (Op Neg (u ◂ nil))) (ends most (pos 1) r one-small (unfold eq-int in refl) a b)
-        ∙ chain (each rep q) (λ l. ok (built (pos 1) l)) (λ u. ok (Op Neg (u ◂ nil)))
-        ∙ chain-same (each rep q) (λ l. ok (Op Neg (built (pos 1) l ◂ nil))) (λ l. ok (built (negsuc 0) l))
+        ∙ then-then (each rep q) (λ l. ok (built (pos 1) l)) (λ u. ok (Op Neg (u ◂ nil)))
+        ∙ then-known (each rep q) (λ l. ok (Op Neg (built (pos 1) l ◂ nil))) (λ l. ok (built (negsuc 0) l))
         (λ m e. ap ok (sym (minus-built m (let x = each-long rep q m e in let y = taken-some most l some-there in omega arith))))
 
     all-ends :
@@ -425,7 +422,7 @@ module _ (target : Tree) (n : Name) (several : Product target → 2 + count (Sym
           go (some s) q =
               let x = rest-of Alone ts (factors-of (Op Mul f)) s q in
               with-match f s w e q
-              ∙ chain-same (constant-of coefficient) (λ c. rep (built c (with-name s))) (λ c. each rep (take-out most n ts (with-name s) .factors) >>= λ l. ok (built c l))
+              ∙ then-known (constant-of coefficient) (λ c. rep (built c (with-name s))) (λ c. each rep (take-out most n ts (with-name s) .factors) >>= λ l. ok (built c l))
               (λ c z. all-ends most c s (accepted-small coefficient c z) (x .0 (factors-alone (Op Mul f) w))
               (let y = x .1 in let h = enough in let l = name-length s in let k = name-count s in omega arith))
 

@@ -2,7 +2,7 @@
 use Prim.Native.Nat.{ℕ}
 use mathlib.Core.Path.{_≡_, refl, sym, _∙_, ap, ap₂, subst}
 use mathlib.Core.Bool.{Bool, true, false}
-use mathlib.Core.List.{List, [], _∷_, _++_}
+use mathlib.Core.List.{List, [], _∷_}
 use native.Mathlib.Omega.{arith}
 use lib.IntN.{ℤ, pos, negsuc}
 use lib.Dec.{T, eqb}
@@ -15,12 +15,8 @@ use Rattle.spec_tree.proofs.Formed.{operand-count, well-formed, well-formed-eac
 use Rattle.spec_tree.proofs.TreeLaws.{eq-int-sound}
 use Rattle.spec_tree.proofs.Logic.{and-left, and-right}
 use Rattle.spec_rewrite.specs.Rewrite.{Factors, one, flatten-mul-factors, flatten-operands, flatten-after, times, negated, nested-product, with-coefficient, built, constant-of}
-use Rattle.spec_rewrite.proofs.Factors.{All, Factor, factors-of}
+use Rattle.spec_rewrite.proofs.Factors.{All, Factor, factors-of, append-all}
 use Rattle.replace.proofs.closed.Unit.{Small, small-accepted, times-one, one-times-one, one-accepted}
-
-pub append-all : (P : Tree → Type 0) (s t : List Tree) → All P s → All P t → All P (s ++ t)
-append-all P [] t g h = h
-append-all P (x ∷ s) t g h = (g .0, append-all P s t (g .1) h)
 
 pub each-all : (P Q : Tree → Type 0) → ((t : Tree) → P t → Q t) → (l : List Tree) → All P l → All Q l
 each-all P Q f [] h = tt

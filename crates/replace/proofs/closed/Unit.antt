@@ -2,7 +2,7 @@
 use Prim.Native.Nat.{ℕ, zero, suc, _*_, _/_, _%_, _^_, _≤_, _<_}
 use mathlib.Core.Path.{_≡_, refl, sym, _∙_, ap, ap₂, subst}
 use mathlib.Core.Bool.{Bool, true, false, _&&_}
-use native.Mathlib.Nat.{mul-one, mul-div-cancel, mul-mod-left, zero-lt-suc}
+use native.Mathlib.Nat.{mul-one, zero-lt-suc}
 use native.Mathlib.Omega.{arith}
 use lib.IntN.{ℤ, pos, negsuc}
 use lib.Dec.{T, eqb, ltb, ltb→lt, lt→ltb, lit≤}
@@ -16,6 +16,7 @@ use Rattle.spec_tree.specs.Outcome.{Refusal, Outcome, ok, refused, by}
 use Rattle.spec_tree.proofs.Logic.{and-right}
 use Rattle.spec_tree.proofs.Tests.{is-true}
 use Rattle.spec_rewrite.specs.Rewrite.{one, constant-of, whole-number}
+use Rattle.spec_rewrite.proofs.Coefficient.{cut}
 
 -- ---- the integers of coefficients
 
@@ -64,11 +65,6 @@ accepted-small (fin s m e) c h =
     (λ t. ltb→lt (m * up e / down e) (10 ^ 15) (and-right (eqb (m * up e % down e) 0) _ t)) h
 
 -- ---- a small integer's float is accepted as that integer
-
-cut : (X D n : ℕ) → 0 < D → X * 1 ≡ n * D → (X / D ≡ n) × (X % D ≡ 0)
-cut X D n h e =
-    let q : X ≡ n * D = sym (mul-one X) ∙ e in
-    (ap (λ (x : ℕ). x / D) q ∙ mul-div-cancel n h, ap (λ (x : ℕ). x % D) q ∙ mul-mod-left n D)
 
 value-constant : (x : Float) (s : Bool) (n : ℕ) → n < 10 ^ 15 → HasValue x s n 1 → constant-of x ≡ whole-number s n
 unfolding constant-of

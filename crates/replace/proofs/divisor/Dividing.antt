@@ -16,6 +16,7 @@ use Rattle.spec_rewrite.specs.Rewrite.{divides-by, replace-divisor, replace-div
 use Rattle.words.specs.words.Words.{number, rewritten-words, tree-of, name-of, Complete}
 use Rattle.words.proofs.words.Rewriting.{segment, name-written, first-tree, first-of, take-one, one-tree-words, node, rewritten-read, rewritten-word, rewritten-node}
 use Rattle.replace.specs.divisor.Division.{divided-by}
+use Rattle.spec_tree.proofs.Logic.{and-not, and-second}
 
 -- ---- on trees
 
@@ -87,14 +88,6 @@ two-at-least d (suc zero) [] h = absurd (subst T (sym h) tt)
 two-at-least d (suc zero) (t ∷ l) h = absurd (subst T (sym h) tt)
 two-at-least d (suc (suc a)) l h = omega arith
 
-and-false : (b c : Bool) → c ≡ false → (b && c) ≡ false
-and-false true c e = e
-and-false false c e = refl
-
-and-second : (b c : Bool) → (b && c) ≡ true → c ≡ true
-and-second true c e = e
-and-second false c e = absurd (subst T (sym e) tt)
-
 -- ---- on words
 
 module _ (d : Tree) where
@@ -119,7 +112,7 @@ module _ (d : Tree) where
   other-few [] h few = absurd (omega arith)
   other-few (w ∷ ws) h few =
       no-division w ws
-      (λ k. and-false (eqb (kind-of w) 6) (divides-by d (forest (take (takes w) (read numbered ws))))
+      (λ k. and-not (eqb (kind-of w) 6) (divides-by d (forest (take (takes w) (read numbered ws))))
       (few-operands d (takes w) (read numbered ws) (omega (arith, takes-below w))))
 
   -- a Div of two operands or more: whether the second is d

@@ -16,10 +16,10 @@ use Rattle.words.proofs.tokens.Comparing.{run-ends, run-after}
 use Rattle.words.specs.words.Words.{tree-of, begins-with, Complete}
 use Rattle.words.proofs.words.Rewriting.{segment, begins-tree}
 use Rattle.words.proofs.words.Runs.{first-run, whole-run, first-not-broken, whole-not-broken}
-use Rattle.words.proofs.words.Scanning.{rest-is}
 use Rattle.replace.specs.divisor.Division.{divided-by, division-answer, division-of}
 use Rattle.replace.specs.declared.divisor.Division.the-variants as division
 use Rattle.replace.proofs.divisor.Dividing.{second-tree, takes-two}
+use Rattle.spec_tree.proofs.Lists.{rest-is}
 
 -- ---- the second operand
 

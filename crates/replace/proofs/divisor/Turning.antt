@@ -13,11 +13,12 @@ use Rattle.spec_rewrite.specs.Rewrite.{replace-divisor}
 use Rattle.spec_rewrite.proofs.DivisorCount.{divisor-size}
 use Rattle.words.specs.words.Words.{rewritten-words, tree-of, name-of, Complete, Writes}
 use Rattle.words.proofs.words.Rewriting.{rewritten-short}
-use Rattle.words.proofs.words.Scanning.{put-one, put-more, put-lent, put-long, rest-is, here-long, here-complete, Scanned, scan-long, scan-turn}
+use Rattle.words.proofs.words.Scanning.{put-one, put-more, put-lent, put-long, here-long, here-complete, Scanned, scan-long, scan-turn}
 use Rattle.replace.specs.divisor.Division.{division-of}
 use Rattle.replace.specs.declared.divisor.Division.the-variants as division
 use Rattle.replace.proofs.divisor.Dividing.{Divided, division-made, node-stays}
 use Rattle.replace.proofs.divisor.Searching.{by-means, other-means}
+use Rattle.spec_tree.proofs.Lists.{rest-is}
 
 -- the rewriting by a divisor's words and a name's word
 abbrev pub by-words : List ℕ → ℕ → Tree → Tree

@@ -1,7 +1,7 @@
 -- What `past` and `flatten_mul_factors` answer in each case. Assumes nothing.
 use Prim.Native.Nat.{ℕ, _+_, _-_, _≤_, _<_}
 use native.Mathlib.Omega.{arith}
-use mathlib.Core.Path.{_≡_, refl, sym, _∙_, ap, ap₂}
+use mathlib.Core.Path.{_≡_, sym, _∙_, ap, ap₂}
 use mathlib.Core.Bool.{Bool, true, false}
 use mathlib.Core.Option.{Option, none, some}
 use mathlib.Core.List.{List, _++_}
@@ -15,7 +15,7 @@ use Rattle.spec_tree.specs.Facts.{size}
 use Rattle.spec_tree.specs.Tokens.{run-at}
 use Rattle.words.specs.tokens.Answers.{end-answer}
 use Rattle.words.specs.declared.tokens.Run.the-variants as run
-use Rattle.words.proofs.tokens.Comparing.{run-ends}
+use Rattle.words.proofs.tokens.Comparing.{run-ends, broken-none}
 use Rattle.replace.specs.factors.Places.{tree, Stands, factor-places}
 use Rattle.replace.specs.factors.Answers.{Flattening, flattened-by, flatten-answer}
 use Rattle.replace.specs.declared.factors.Flattened.{Flattened}
@@ -38,11 +38,6 @@ past-is s e = cc (e, ends-there s)
 
 -- ---- the answers
 
-run-none : (at : ℕ) (o : Option ℕ) → run.Broken ≡ end-answer at o → o ≡ none
-unfolding end-answer
-run-none at none p = refl
-run-none at (some n) p = absurd (let z : _≡_ {A = ℕ} 0 1 = cc in omega arith)
-
 unfoldable pub by-run : (o : Option ℕ) (at : ℕ) (t : Tree) (old : List ℕ) → Flattening
 by-run o at t old = elim o [ none ↦ record { answer = flattened.Broken; places = old } | some n ↦ flattened-by (ltb (length old) n) at t old ]
 
@@ -60,7 +55,7 @@ module _ (ws : List ℕ) (at : ℕ) (old : List ℕ) where
 
   pub answers-broken : run.Broken ≡ end-answer at (run-at ws at) → Answers flattened.Broken old
   answers-broken p =
-      let e = no-tree (run-none at (run-at ws at) p) in
+      let e = no-tree (broken-none at (run-at ws at) p) in
       (ap (λ (f : Flattening). f .answer) (sym e), ap (λ (f : Flattening). f .places) (sym e))
 
   module _ (end : ℕ) (p : run.Ends end ≡ end-answer at (run-at ws at)) where

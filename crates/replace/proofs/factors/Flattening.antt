@@ -19,14 +19,9 @@ use Rattle.spec_rewrite.specs.Rewrite.{Factors, one, flatten-mul-factors, flatt
 use Rattle.replace.specs.factors.Places.{tree, trees-from, Stands, factor-places, operand-places, Flat, passes-through}
 use Rattle.replace.proofs.factors.WordRuns.{First, first-of, none-from, node-of}
 use Rattle.replace.proofs.factors.PlaceLaws.{few-places}
+use Rattle.spec_tree.proofs.Lists.{sets-append}
 
 -- ---- words stored one run after another
-
-sets-append : (l : List ℕ) (i : ℕ) (a b : List ℕ) → sets (sets l i a) (i + length a) b ≡ sets l i (a ++ b)
-sets-append l i [] b = let z : i + 0 ≡ i = omega arith in ap (λ (k : ℕ). sets l k b) z
-sets-append l i (x ∷ a) b =
-    let z : i + suc (length a) ≡ suc i + length a = omega arith in
-    ap (λ (k : ℕ). sets (sets (set l i x) (suc i) a) k b) z ∙ sets-append (set l i x) (suc i) a b
 
 pub flat-long : {c : Float} {ps old new : List ℕ} {used n : ℕ} {x : Float} → Flat c ps old used x n new → length new ≡ length old
 flat-long {c} {ps} {old} {new} {used} f = ap length (f .places-are) ∙ length-sets old used ps

@@ -9,7 +9,7 @@ use lib.Seq.{drop-cons, drop-drop, take-add}
 use Rattle.spec_tree.specs.Tree.{Tree, Op, nil}
 use Rattle.spec_tree.specs.Facts.{total, size}
 use Rattle.spec_tree.specs.Tokens.{numbered, takes, tree-of-word, read, words-of, run-at}
-use Rattle.spec_tree.proofs.TokenLaws.{sizes, sizes-append, size-made, read-past, read-cons, tree-at, words-tail, words-none}
+use Rattle.spec_tree.proofs.TokenLaws.{sizes, sizes-append, size-made, read-past, read-cons, tree-at, words-tail, words-none, some-is, first-size}
 use Rattle.replace.specs.factors.Places.{tree, trees-from, Stands}
 
 -- ---- a run in two
@@ -62,12 +62,9 @@ pub record Trees (us : List ℕ) (n m : ℕ) : Type 0 where
   pub enough : n ≤ length (read numbered us)
   pub long : m ≡ sizes (take n (read numbered us))
 
-same : {m n : ℕ} → some m ≡ some n → m ≡ n
-same e = cc
-
 nothing : (us : List ℕ) (m : ℕ) → words-of us 0 ≡ some m → Trees us 0 m
 unfolding sizes total
-nothing us m e = record { enough = omega arith; long = same (sym e ∙ words-none us) }
+nothing us m e = record { enough = omega arith; long = some-is (sym e ∙ words-none us) }
 
 pub words-are : (us : List ℕ) (n m : ℕ) → words-of us n ≡ some m → Trees us n m
 unfolding sizes total
@@ -94,11 +91,6 @@ words-are (w ∷ us) (suc n) m e =
 cons-form : (ts : List Tree) → 1 ≤ length ts → ts ≡ getD ts 0 (Op 0 nil) ∷ drop 1 ts
 cons-form [] h = absurd (omega arith)
 cons-form (t ∷ ts) h = refl
-
-first-size : (ts : List Tree) → 1 ≤ length ts → sizes (take 1 ts) ≡ size (getD ts 0 (Op 0 nil))
-unfolding sizes total
-first-size [] h = absurd (omega arith)
-first-size (t ∷ ts) h = omega arith
 
 pub record First (ws : List ℕ) (at n : ℕ) : Type 0 where
   pub alone : Stands ws at 1

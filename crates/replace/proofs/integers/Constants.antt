@@ -1,6 +1,6 @@
 -- Which floats are constants, and the answers of `constant_of`. Assumes nothing.
 use Prim.Native.Nat.{ℕ, zero, suc, _+_, _-_, _*_, _/_, _%_, _^_, _<_}
-use native.Mathlib.Nat.{mul-one, mul-div-cancel, mul-mod-left, div-add-mod', eq-zero-or-pos}
+use native.Mathlib.Nat.{div-add-mod', eq-zero-or-pos}
 use native.Mathlib.Omega.{arith}
 use mathlib.Core.Path.{_≡_, refl, sym, ap, ap₂, _∙_, subst}
 use mathlib.Core.Bool.{Bool, true, false, _&&_, true≢false}
@@ -22,13 +22,9 @@ use Rattle.replace.proofs.coefficient.Whole.{plus-zero, neg-float, neg-
 use Rattle.replace.specs.integers.Size.{SizeOf}
 use Rattle.replace.specs.declared.integers.Size.{Size}
 use Rattle.replace.specs.declared.integers.Size.the-variants as size
+use Rattle.spec_rewrite.proofs.Coefficient.{cut}
 
 -- ---- the floats of the numbers below 10^15 are constants
-
-whole-cut : (X D n : ℕ) → 0 < D → X * 1 ≡ n * D → (X / D ≡ n) × (X % D ≡ 0)
-whole-cut X D n h e =
-    let q : X ≡ n * D = sym (mul-one X) ∙ e in
-    (ap (λ (x : ℕ). x / D) q ∙ mul-div-cancel n h, ap (λ (x : ℕ). x % D) q ∙ mul-mod-left n D)
 
 whole-step :
     (b s t : Bool) (q n : ℕ) → b ≡ true → t ≡ s → q ≡ n
@@ -41,7 +37,7 @@ unfolding constant-of
 of-value nan s n l h = absurd h
 of-value (inf t) s n l h = absurd h
 of-value (fin t m e) s n l (p, q) =
-    let c = whole-cut (m * up e) (down e) n (down-pos e) q in
+    let c = cut (m * up e) (down e) n (down-pos e) q in
     whole-step (eqb (m * up e % down e) 0 && ltb (m * up e / down e) (10 ^ 15)) s t (m * up e / down e) n
     (ap₂ (λ (r q : ℕ). eqb r 0 && ltb q (10 ^ 15)) (c .1) (c .0) ∙ lt-ltb n (10 ^ 15) l) p (c .0)
 

@@ -3,13 +3,13 @@ use native.Mathlib.Omega.{arith}
 use mathlib.Core.Path.{_∙_, ap}
 use mathlib.Core.List.{[], _∷_}
 use Rattle.words.specs.words.Words.{begins-with}
-use Rattle.words.proofs.words.Scanning.{rest-is}
 use Rattle.words.proofs.words.Rewriting.{one-long}
 use lib.ListN.{getD}
 use Rattle.replace.proofs.Deciding.{lone-none, lone-many, lone-one, at-within}
 use borrow.Author.Needs.{needs}
 use Rattle.replace.proofs.is_lone.Statement.{statement}
 use Rattle.replace.proofs.is_lone.Tie as tie
+use Rattle.spec_tree.proofs.Lists.{rest-is}
 
 returns : tie.Need-returns
 returns c = let a = c .before .before .before .args in let p = c .before .before .before .pre in lone-none (a .target .now) (a .name) (a .coefficient) (a .count) (a .places .now) (p .0 .0) (p .0 .1) (p .1 .0) (c .if1 .taken)

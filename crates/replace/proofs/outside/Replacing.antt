@@ -21,6 +21,7 @@ use Rattle.spec_rewrite.proofs.Measure.{sum-each, size-op}
 use Rattle.words.specs.words.Words.{number, rewritten-words, tree-of, name-of, begins-with, Complete}
 use Rattle.words.proofs.words.Rewriting.{segment, node-written, first-tree, first-of, take-one, one-tree-words, begins-so, node, rewritten-read, rewritten-word, rewritten-node, rewritten-symbol}
 use Rattle.replace.specs.outside.Part.{has-arms}
+use Rattle.spec_tree.proofs.Lists.{cancel}
 
 test-true : (b : Bool) → T b → b ≡ true
 test-true true t = refl
@@ -152,10 +153,6 @@ module _ (g : Tree) (n : Name) where
     key-size (t ◂ f) = omega (arith, outside-size t)
 
 -- ---- on words
-
-cancel : (a : List ℕ) {r s : List ℕ} → a ++ r ≡ a ++ s → r ≡ s
-cancel [] e = e
-cancel (x ∷ a) e = cancel a cc
 
 -- the arms of a node are the words between its first operand and its end
 arms-words :

@@ -20,6 +20,7 @@ use Rattle.words.proofs.words.Rewriting.{begins-tree}
 use Rattle.words.proofs.words.Runs.{first-run, whole-run, first-not-broken}
 use Rattle.replace.specs.outside.Part.{has-arms, part-answer, part-of}
 use Rattle.replace.specs.declared.outside.Part.the-variants as part
+use Rattle.spec_tree.proofs.Logic.{and-not}
 
 pub some-tree : (us : List ℕ) → 0 < length us → (c : Complete us) → 1 ≤ c .0
 some-tree [] h c = absurd (omega arith)
@@ -34,13 +35,9 @@ pub low-kind : (w : ℕ) → kind-of w < 26 → has-arms w ≡ false
 unfolding has-arms
 low-kind w h = ap (λ (b : Bool). b && leb 1 (below-of w)) (lt-leb 26 (kind-of w) h)
 
-and-false : (b c : Bool) → c ≡ false → (b && c) ≡ false
-and-false true c e = e
-and-false false c e = refl
-
 pub no-operand : (w : ℕ) → below-of w < 1 → has-arms w ≡ false
 unfolding has-arms
-no-operand w h = and-false (is-switch (kind-of w)) (leb 1 (below-of w)) (lt-leb 1 (below-of w) h)
+no-operand w h = and-not (is-switch (kind-of w)) (leb 1 (below-of w)) (lt-leb 1 (below-of w) h)
 
 arms-so : (w : ℕ) → 26 ≤ kind-of w → 1 ≤ below-of w → has-arms w ≡ true
 unfolding has-arms

@@ -12,11 +12,12 @@ use Rattle.spec_tree.specs.Tokens.{kind-of, trees-in}
 use Rattle.spec_rewrite.specs.Rewrite.{replace-outside-arms}
 use Rattle.words.specs.words.Words.{rewritten-words, tree-of, name-of, Complete, Writes}
 use Rattle.words.proofs.words.Rewriting.{one-long, rewritten-short}
-use Rattle.words.proofs.words.Scanning.{put-one, put-more, put-lent, put-long, rest-is, here-long, here-complete, Scanned, scan-long, scan-turn}
+use Rattle.words.proofs.words.Scanning.{put-one, put-more, put-lent, put-long, here-long, here-complete, Scanned, scan-long, scan-turn}
 use Rattle.replace.specs.outside.Part.{part-of}
 use Rattle.replace.specs.declared.outside.Part.the-variants as part
 use Rattle.replace.proofs.outside.Replacing.{outside-size, node-stays, Switched, switch-made, target-made}
 use Rattle.replace.proofs.outside.Searching.{some-tree, target-means, switch-means, node-means, arms-mean}
+use Rattle.spec_tree.proofs.Lists.{rest-is}
 
 -- the rewriting by a target's words and a name's word
 abbrev pub by-words : List ℕ → ℕ → Tree → Tree

@@ -4,35 +4,30 @@ use native.Mathlib.Omega.{arith}
 use mathlib.Core.Path.{_≡_, refl, sym, _∙_, ap, ap₂}
 use mathlib.Core.Bool.{Bool, true, false, _&&_, _||_, cond}
 use mathlib.Core.List.{List, [], _∷_}
-use borrow.Author.Tests.{eq-eqb, ne-eqb, le-leb, lt-leb, le-ltb, eqb-true, leb-true, leb-false}
+use borrow.Author.Tests.{le-leb, lt-leb, le-ltb, eqb-true, leb-true, leb-false}
 use lib.ListN.{length, getD, drop}
-use lib.Seq.{drop-cons, drop-length}
+use lib.Seq.{drop-length}
 use lib.Dec.{T, eqb, leb, ltb}
 use Rattle.spec_tree.specs.Bytes.{every}
-use Rattle.spec_tree.specs.Kinds.{arity-ok, kind-at}
+use Rattle.spec_tree.specs.Kinds.{arity-ok}
 use Rattle.spec_tree.specs.Tokens.{kind-of, below-of}
 use Rattle.spec_tree.proofs.KindLaws.{arity-kind}
 use Rattle.node_rows.specs.kinds.Numbers.{kind-number}
 use Rattle.replace.specs.replacing.Replacing.{formed-word}
+use Rattle.spec_tree.proofs.Logic.{and-false}
+use Rattle.spec_tree.proofs.Lists.{place-before}
 
 -- ---- from the right
 
 pub every-none : (p : ℕ → Bool) (ws : List ℕ) → every p (drop (length ws) ws) ≡ true
 every-none p ws = ap (every p) (drop-length ws) ∙ (unfold every in refl)
 
-here : (ws : List ℕ) (i : ℕ) → 0 < i → i ≤ length ws → drop (i - 1) ws ≡ getD ws (i - 1) 0 ∷ drop i ws
-here ws i p h = drop-cons ws (i - 1) 0 (omega arith) ∙ ap (λ (k : ℕ). getD ws (i - 1) 0 ∷ drop k ws) (let z : suc (i - 1) ≡ i = omega arith in z)
-
 every-cons : (p : ℕ → Bool) (w : ℕ) (ws : List ℕ) → every p (w ∷ ws) ≡ (p w && every p ws)
 unfolding every
 every-cons p w ws = refl
 
 pub every-more : (p : ℕ → Bool) (ws : List ℕ) (i : ℕ) → 0 < i → i ≤ length ws → every p (drop i ws) ≡ true → p (getD ws (i - 1) 0) ≡ true → every p (drop (i - 1) ws) ≡ true
-every-more p ws i q h e f = ap (every p) (here ws i q h) ∙ every-cons p (getD ws (i - 1) 0) (drop i ws) ∙ ap₂ _&&_ f e
-
-and-false : (b : Bool) → (b && false) ≡ false
-and-false true = refl
-and-false false = refl
+every-more p ws i q h e f = ap (every p) (place-before ws i q h) ∙ every-cons p (getD ws (i - 1) 0) (drop i ws) ∙ ap₂ _&&_ f e
 
 pub every-fails : (p : ℕ → Bool) (ws : List ℕ) (k : ℕ) → k < length ws → p (getD ws k 0) ≡ false → false ≡ every p ws
 unfolding every
@@ -44,10 +39,6 @@ pub every-ends : (p : ℕ → Bool) (ws : List ℕ) (i : ℕ) → i ≤ 0 → ev
 every-ends p ws i h e = (let z : i ≡ 0 = omega arith in sym (ap (λ (k : ℕ). every p (drop k ws)) (sym z) ∙ e))
 
 -- ---- a word by its kind
-
-pub arity-by : (k n : ℕ) → arity-ok k n ≡ (leb (kind-at k .fewest) n && leb n (kind-at k .most))
-unfolding arity-ok
-arity-by k n = refl
 
 pub leaf-formed : (w : ℕ) → kind-of w ≤ 1 → true ≡ formed-word w
 unfolding formed-word

@@ -34,7 +34,7 @@ use Rattle.replace.specs.declared.factors.Product.{Product}
 use Rattle.replace.proofs.factors.PlaceLaws.{Each, Inside}
 use Rattle.replace.proofs.factors.Products.{Product-of}
 use Rattle.replace.specs.closed.Closed.{Taken, taken, take-out, by-factors, rebuilt}
-use Rattle.replace.proofs.closed.Chain.{chain, chain-same, each-both, each-long}
+use Rattle.replace.proofs.closed.Chain.{each-both, each-long}
 use Rattle.replace.proofs.closed.Unit.{Small, magnitude, accepted-small}
 use Rattle.replace.proofs.closed.Steps.{at-operation, at-op}
 use Rattle.replace.proofs.closed.Products.{at-symbol, at-constant, at-other, at-unmatched, no-match, name-stays, at-product}
@@ -47,6 +47,7 @@ use Rattle.replace.proofs.replacing.Turns.{words-formed, each-forest, t
 use Rattle.replace.proofs.replacing.Targets.{several, some-factor}
 use Rattle.replace.proofs.replacing.Runs.{Runs, target-runs, factors-at, at-within, at-end, Apart, Agree, taken-agree}
 use Rattle.replace.proofs.replacing.Products.{product-words, repeated-long, named-long, rest-size, built-size}
+use Rattle.spec_tree.proofs.Outcomes.{then-then, then-known}
 
 module _ (part : List ℕ) (name : ℕ) (t : Target part name) where
   abbrev rep : Tree → Outcome Tree
@@ -127,8 +128,8 @@ module _ (part : List ℕ) (name : ℕ) (t : Target part name) where
       go (an-operation k) =
           ap rep (operation-tree numbered w (take (takes w) rs) k) ∙ h k
           ∙ ap (λ (o : Outcome Forest). o >>= λ g. ok (Op (kind-of w) g)) (each-forest rep (take (takes w) rs))
-          ∙ chain (each rep (take (takes w) rs)) (λ m. ok (forest m)) (λ g. ok (Op (kind-of w) g))
-          ∙ chain-same (each rep (take (takes w) rs)) (λ m. ok (Op (kind-of w) (forest m))) (λ m. ok (tree-of-word numbered w m)) (λ m q. ap ok (sym (operation-tree numbered w m k)))
+          ∙ then-then (each rep (take (takes w) rs)) (λ m. ok (forest m)) (λ g. ok (Op (kind-of w) g))
+          ∙ then-known (each rep (take (takes w) rs)) (λ m. ok (Op (kind-of w) (forest m))) (λ m. ok (tree-of-word numbered w m)) (λ m q. ap ok (sym (operation-tree numbered w m k)))
 
   -- any word where the target isn't sought by factors, and any but a Mul
   pub plain-turn :
@@ -406,7 +407,7 @@ module _
         split =
             ap (λ (m : List Tree). each rp m >>= λ l. ok (built c l)) factors-are
             ∙ ap (λ (o : Outcome (List Tree)). o >>= λ l. ok (built c l)) (each-both rp X (named n copies) ∙ ap (λ (o : Outcome (List Tree)). each rp X >>= λ a. o >>= λ b. ok (a ++ b)) (names-stay copies))
-            ∙ chain (each rp X) (λ a. ok (a ++ named n copies)) (λ l. ok (built c l))
+            ∙ then-then (each rp X) (λ a. ok (a ++ named n copies)) (λ l. ok (built c l))
 
         becomes :
             (rp (tree-of ws) >>= λ u. ok (tokens number u))
@@ -414,8 +415,8 @@ module _
         becomes =
             ap (λ (o : Outcome Tree). o >>= λ u. ok (tokens number u))
             (ap rp (is-product .is) ∙ opened ∙ ap (λ (o : Outcome ℤ). o >>= λ c. each rp (q .factors) >>= λ l. ok (built c l)) c-is ∙ split)
-            ∙ chain (each rp X) (λ l. ok (built c (l ++ named n copies))) (λ u. ok (tokens number u))
-            ∙ chain-same (each rp X) (λ l. ok (tokens number (built c (l ++ named n copies))))
+            ∙ then-then (each rp X) (λ l. ok (built c (l ++ named n copies))) (λ u. ok (tokens number u))
+            ∙ then-known (each rp X) (λ l. ok (tokens number (built c (l ++ named n copies))))
             (λ l. ok (head-words code (left + copies - 1) ++ (all-tokens number l ++ repeated copies name))) (λ l x. ap ok (words-of l (each-long rp X l x ∙ X-long)))
 
         long-names : (k : ℕ) → length (named n k) ≡ k

@@ -2,10 +2,9 @@
 use Prim.Native.Nat.{ℕ, zero, suc, _+_, _-_, _≤_, _<_}
 use native.Mathlib.Omega.{arith}
 use mathlib.Core.Path.{_≡_, refl, sym, _∙_, ap, ap₂, subst}
-use mathlib.Core.Option.{some}
 use mathlib.Core.List.{List, [], _∷_, _++_, append-assoc, append-nil}
 use borrow.Rule.Slice.PartMut.{putMid}
-use lib.ListN.{length, getD, take, drop, length-append, length-drop, take-append-drop, drop-of-length-le}
+use lib.ListN.{length, getD, take, drop, length-append, length-drop, take-append-drop}
 use lib.Seq.{length-take-le, take-at, drop-at, drop-drop, take-all, take-suc, getD-take}
 use Rattle.spec_tree.specs.Outcome.{Refusal, Outcome, ok, refused, _>>=_, each}
 use Rattle.spec_tree.specs.Tree.{Tree, Op, nil}
@@ -26,21 +25,9 @@ use Rattle.replace.proofs.replacing.Turns.{replaced-read}
 use Rattle.replace.proofs.replacing.Targets.{fewer-words}
 use Rattle.replace.proofs.replacing.Products.{repeated-long}
 use Rattle.replace.proofs.replacing.Scanning.{trees-at}
-
--- a lent part comes back
-back : (w y : List ℕ) (u : ℕ) → putMid u (length w - u) w y ≡ take u w ++ y
-back w y u = ap (λ (l : List ℕ). take u w ++ (y ++ l)) (drop-of-length-le (drop u w) (past w u)) ∙ ap (λ (l : List ℕ). take u w ++ l) (append-nil y)
-  where
-    past : (w : List ℕ) (u : ℕ) → length (drop u w) ≤ length w - u
-    past w u = omega (arith, length-drop u w)
+use Rattle.spec_tree.proofs.Lists.{rest-back, occurrences-append}
 
 -- ---- the trees at some places
-
-places-take : (ws ps : List ℕ) (j : ℕ) → take j (at-places ws ps) ≡ at-places ws (take j ps)
-unfolding at-places
-places-take ws ps zero = refl
-places-take ws [] (suc j) = refl
-places-take ws (p ∷ ps) (suc j) = ap (λ (l : List Tree). tree ws p ∷ l) (places-take ws ps j)
 
 places-get : (ws ps : List ℕ) (j : ℕ) → j < length ps → getD (at-places ws ps) j (Op 0 nil) ≡ tree ws (getD ps j 0)
 unfolding at-places
@@ -52,11 +39,6 @@ places-long : (ws ps : List ℕ) → length (at-places ws ps) ≡ length ps
 unfolding at-places
 places-long ws [] = refl
 places-long ws (p ∷ ps) = ap suc (places-long ws ps)
-
-occurrences-append : (a b : List Tree) → occurrences (a ++ b) ≡ occurrences a + occurrences b
-unfolding occurrences
-occurrences-append [] b = omega arith
-occurrences-append (t ∷ a) b = (let i = occurrences-append a b in omega arith)
 
 occurrences-one : (t : Tree) → occurrences (t ∷ []) ≡ size t
 unfolding occurrences
@@ -237,7 +219,7 @@ module _ (part : List ℕ) (name : ℕ) (t : Target part name) (ws : List ℕ) (
           let nn : o + length (w .new) ≡ o + n = ap (λ (k : ℕ). o + k) (sym (w .count)) in
           let past : drop (o + length (w .new)) out ≡ drop (o + n) old =
           sym (drop-drop (length (w .new)) o out) ∙ ap (drop (length (w .new))) tail ∙ drop-drop (length (w .new)) o old ∙ ap (λ (k : ℕ). drop k old) nn in
-          let pz : putMid left (length places - left) places z ≡ take left places ++ z = back places z left in
+          let pz : putMid left (length places - left) places z ≡ take left places ++ z = rest-back places z left in
           let lt : length (take left places) ≡ left = length-take-le left places (omega (arith, s .same, m .there)) in
           record {
             most = omega arith;
@@ -304,7 +286,7 @@ module _ (part : List ℕ) (name : ℕ) (t : Target part name) (ws : List ℕ) (
             why = f .why;
             is = m .becomes ∙ ap (λ (a : Outcome (List Tree)). a >>= λ q. ok (H ++ (all-tokens number q ++ repeated copies name))) all;
             rest =
-                ap (drop long) (back out y o) ∙ ap (λ (k : ℕ). drop k (take o out ++ y)) (sym z) ∙ sym (drop-drop (long - o) o (take o out ++ y))
+                ap (drop long) (rest-back out y o) ∙ ap (λ (k : ℕ). drop k (take o out ++ y)) (sym z) ∙ sym (drop-drop (long - o) o (take o out ++ y))
                 ∙ ap (drop (long - o)) (drop-at (take o out) y o lo)
                 ∙ ap (λ (k : ℕ). drop k y) (sym w) ∙ sym (drop-drop (long - o - n) n y) ∙ ap (drop (long - o - n)) (f .rest ∙ ap (drop n) (lent ∙ tail))
                 ∙ drop-drop (long - o - n) n (drop o old) ∙ ap (λ (k : ℕ). drop k (drop o old)) w ∙ drop-drop (long - o) o old ∙ ap (λ (k : ℕ). drop k old) z;

@@ -15,7 +15,7 @@ use Rattle.spec_tree.specs.Kinds.{Neg, Mul}
 use Rattle.spec_tree.specs.Tokens.{kind-of, below-of, name-by, constant-at, takes, tree-of-word, numbered, read, trees-in, words-of}
 use Rattle.spec_tree.proofs.TokenLaws.{Word, a-symbol, a-constant, an-operation, word-is, symbol-tree, constant-tree, operation-tree, made, read-cons, Takes, complete-tail, complete-cons, complete-end, complete-length, tree-at, leaf-takes, words-tail}
 use Rattle.spec_rewrite.specs.Rewrite.{Factors, one, flatten-mul-factors, flatten-operands, flatten-after, times, negated, remove-first, remove-each}
-use Rattle.spec_rewrite.proofs.Factors.{factors-of}
+use Rattle.spec_rewrite.proofs.Factors.{factors-of, factors-alone}
 use Rattle.words.specs.words.Words.{tree-of, name-of, begins-with}
 use Rattle.words.proofs.words.Rewriting.{segment, begins-tree, first-tree, whole-there}
 use Rattle.replace.specs.factors.Places.{tree}
@@ -26,6 +26,7 @@ use Rattle.replace.proofs.matching.Runs.{skipped, stands-within, stands
 use Rattle.replace.proofs.matching.Removing.{unrolled}
 use Rattle.replace.specs.replacing.Replacing.{repeated}
 use Rattle.replace.proofs.replacing.Products.{repeated-more}
+use Rattle.spec_tree.proofs.Lists.{one-alone}
 
 -- ---- the factors of several trees
 
@@ -58,11 +59,6 @@ node-passed k f e =
 node-minus : (k : ℕ) (f : Forest) → eqb k Mul ≡ false → eqb k Neg ≡ true → factors-of (Op k f) ≡ flatten-operands f .factors
 unfolding flatten-mul-factors negated
 node-minus k f e g =
-    ap₂ (λ (b d : Bool). (elim b as (λ _. Factors) [ true ↦ flatten-operands f | false ↦ elim d [ true ↦ negated (flatten-operands f) | false ↦ record { coefficient = one; factors = Op k f ∷ [] } ] ]) .factors) e g
-
-node-alone : (k : ℕ) (f : Forest) → eqb k Mul ≡ false → eqb k Neg ≡ false → factors-of (Op k f) ≡ Op k f ∷ []
-unfolding flatten-mul-factors
-node-alone k f e g =
     ap₂ (λ (b d : Bool). (elim b as (λ _. Factors) [ true ↦ flatten-operands f | false ↦ elim d [ true ↦ negated (flatten-operands f) | false ↦ record { coefficient = one; factors = Op k f ∷ [] } ] ]) .factors) e g
 
 symbol-alone : (n : Name) → factors-of (Sym n) ≡ Sym n ∷ []
@@ -100,7 +96,7 @@ word-alone w l p = go (word-is w)
     by-kind : (b d c : Bool) → eqb (kind-of w) Mul ≡ b → eqb (kind-of w) Neg ≡ d → (b || (d || c)) ≡ false → factors-of (Op (kind-of w) (forest l)) ≡ Op (kind-of w) (forest l) ∷ []
     by-kind true d c e f h = (let y : _≡_ {A = ℕ} 0 1 = cc in absurd (omega arith))
     by-kind false true c e f h = (let y : _≡_ {A = ℕ} 0 1 = cc in absurd (omega arith))
-    by-kind false false c e f h = node-alone (kind-of w) (forest l) e f
+    by-kind false false c e f h = factors-alone (kind-of w) (forest l) e f
 
     one-kind : (k : ℕ) → k ≡ 1 → (eqb k Mul || (eqb k Neg || eqb k 1)) ≡ false → ⊥
     one-kind k e h = (let q : (eqb 1 Mul || (eqb 1 Neg || eqb 1 1)) ≡ false = subst (λ (j : ℕ). (eqb j Mul || (eqb j Neg || eqb j 1)) ≡ false) e h in let y : _≡_ {A = ℕ} 0 1 = cc in omega arith)
@@ -184,16 +180,11 @@ pub runs-are : (ws : List ℕ) (n : ℕ) → trees-in ws ≡ some n → Runs (fa
 unfolding factor-runs
 runs-are ws n e = runs-most (length ws) ws n (omega arith) e
 
-only : (l : List Tree) → length l ≡ 1 → l ≡ getD l 0 (Op 0 nil) ∷ []
-only [] e = absurd (omega arith)
-only (t ∷ []) e = refl
-only (t ∷ (u ∷ l)) e = absurd (omega arith)
-
 -- of one tree
 pub target-runs : (part : List ℕ) → trees-in part ≡ some 1 → Runs (factor-runs part) (factors-of (tree-of part))
 unfolding tree-of
 target-runs part e =
-    subst (Runs (factor-runs part)) (ap factors-all (only (read numbered part) (complete-length numbered part 1 e)) ∙ (unfold factors-all in append-nil (factors-of (getD (read numbered part) 0 (Op 0 nil)))))
+    subst (Runs (factor-runs part)) (ap factors-all (one-alone (read numbered part) (complete-length numbered part 1 e)) ∙ (unfold factors-all in append-nil (factors-of (getD (read numbered part) 0 (Op 0 nil)))))
     (runs-are part 1 e)
 
 -- ---- places by runs are trees by factors

@@ -22,23 +22,23 @@ use Rattle.spec_rewrite.proofs.Shrinks.{replace-shrinks}
 use Rattle.words.specs.words.Words.{number, tree-of, name-of, begins-with}
 use Rattle.words.proofs.words.Rewriting.{segment}
 use Rattle.words.proofs.words.Scanning.{Put, put-one, put-long, put-lent}
-use Rattle.replace.specs.factors.Places.{tree}
-use Rattle.replace.proofs.closed.Chain.{chain, chain-end, chain-same}
+use Rattle.replace.proofs.closed.Chain.{chain-end}
 use Rattle.replace.specs.replacing.Replacing.{formed-word}
 use Rattle.replace.specs.replacing.Deciding.{Trees, Target, rewritten, rewritten-words, StaysAt, RefusedAt, Match, product-out, Wrote, Left}
 use Rattle.replace.proofs.replacing.Turns.{first-out, replaced-none}
 use Rattle.replace.proofs.replacing.Targets.{some-factor}
 use Rattle.replace.proofs.replacing.Deciding.{equal-turn, head-formed}
+use Rattle.spec_tree.proofs.Outcomes.{then-then, then-known}
 
 -- ---- parts of formed and complete words
 
-every-drop : (p : ℕ → Bool) (n : ℕ) (ws : List ℕ) → T (every p ws) → T (every p (drop n ws))
+pub every-drop : (p : ℕ → Bool) (n : ℕ) (ws : List ℕ) → T (every p ws) → T (every p (drop n ws))
 unfolding every
 every-drop p zero ws h = h
 every-drop p (suc n) [] h = tt
 every-drop p (suc n) (w ∷ ws) h = every-drop p n ws (and-right (p w) (every p ws) h)
 
-every-take : (p : ℕ → Bool) (n : ℕ) (ws : List ℕ) → T (every p ws) → T (every p (take n ws))
+pub every-take : (p : ℕ → Bool) (n : ℕ) (ws : List ℕ) → T (every p ws) → T (every p (take n ws))
 unfolding every
 every-take p zero ws h = tt
 every-take p (suc n) [] h = tt
@@ -129,8 +129,8 @@ module _ (part : List ℕ) (name : ℕ) where
           written = put ∙ (ap₂ (λ (x y : List ℕ). x ++ (new ++ y)) first past ∙ sym (append-assoc (s .done) new (drop o' old)));
           to-come =
               s .to-come ∙ ap (λ (x : Outcome (List ℕ)). x >>= λ b. ok (s .done ++ b)) (step ∙ ap (λ (x : Outcome (List ℕ)). x >>= λ b. ok (new ++ b)) on)
-              ∙ chain (rw-out (drop i' ws)) (λ b. ok (new ++ b)) (λ b. ok (s .done ++ b))
-              ∙ chain-same (rw-out (drop i' ws)) (λ b. ok (s .done ++ (new ++ b))) (λ b. ok ((s .done ++ new) ++ b)) (λ b e. ap ok (sym (append-assoc (s .done) new b)));
+              ∙ then-then (rw-out (drop i' ws)) (λ b. ok (new ++ b)) (λ b. ok (s .done ++ b))
+              ∙ then-known (rw-out (drop i' ws)) (λ b. ok (s .done ++ (new ++ b))) (λ b. ok ((s .done ++ new) ++ b)) (λ b e. ap ok (sym (append-assoc (s .done) new b)));
         }
 
     pub scan-ends : {out : List ℕ} {i o : ℕ} → Scanned out i o → length ws ≤ i → Wrote (rw-out ws) old o out

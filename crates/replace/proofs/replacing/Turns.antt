@@ -45,7 +45,7 @@ formed-forest [] h = tt
 formed-forest (t ∷ l) h =
     and-both (well-formed t) (well-formed-each (forest l)) (and-left (well-formed t) (well-formed-all l) h) (formed-forest l (and-right (well-formed t) (well-formed-all l) h))
 
-count-forest : (l : List Tree) → operand-count (forest l) ≡ length l
+pub count-forest : (l : List Tree) → operand-count (forest l) ≡ length l
 unfolding operand-count forest
 count-forest [] = refl
 count-forest (t ∷ l) = ap suc (count-forest l)

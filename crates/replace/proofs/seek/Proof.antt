@@ -2,14 +2,15 @@
 use native.Mathlib.Omega.{arith}
 use mathlib.Core.Path.{sym, _∙_}
 use mathlib.Core.Bool.{true, false}
-use Rattle.replace.proofs.Deciding.{some-words, not-sought, sought-by, flat-first, never-broken, never-full}
+use Rattle.replace.proofs.Deciding.{not-sought, sought-by, flat-first, never-broken, never-full}
 use Rattle.replace.proofs.Ends.{seeks-whole, seeks-factors, seeks-endless}
 use borrow.Author.Needs.{needs}
 use Rattle.replace.proofs.seek.Statement.{statement}
 use Rattle.replace.proofs.seek.Tie as tie
+use Rattle.words.proofs.words.Rewriting.{one-long}
 
 shared-slice-read-if1 : tie.Need-shared-slice-read-if1
-shared-slice-read-if1 c = some-words (c .before .before .before .args .target .now) (c .before .before .before .pre .0)
+shared-slice-read-if1 c = one-long (c .before .before .before .args .target .now) (c .before .before .before .pre .0)
 
 returns : tie.Need-returns
 returns c = let a = c .before .before .before .before .args in seeks-whole (a .target .now) (a .name) (not-sought (a .target .now) (c .before .before .before .before .pre .0) (c .if1 .taken))
@@ -54,13 +55,13 @@ same-length-4 : tie.Need-same-length-4
 same-length-4 c = search needs
 
 returns-5 : tie.Need-returns-5
-returns-5 c = let a = c .before .before .before .before .before .before .before .before .before .before .args in absurd (never-broken (a .target .now) (a .places .now) 1 (c .before .before .before .before .before .before .before .before .before .before .pre .0) (some-words (a .target .now) (c .before .before .before .before .before .before .before .before .before .before .pre .0)) (c .before .before .before .before .before .before .before .before .before .before .pre .2) (sym (c .enum-told .given .1) ∙ c .before .before .before .before .flatten-mul-factors .ensures .0))
+returns-5 c = let a = c .before .before .before .before .before .before .before .before .before .before .args in absurd (never-broken (a .target .now) (a .places .now) 1 (c .before .before .before .before .before .before .before .before .before .before .pre .0) (one-long (a .target .now) (c .before .before .before .before .before .before .before .before .before .before .pre .0)) (c .before .before .before .before .before .before .before .before .before .before .pre .2) (sym (c .enum-told .given .1) ∙ c .before .before .before .before .flatten-mul-factors .ensures .0))
 
 same-length-5 : tie.Need-same-length-5
 same-length-5 c = search needs
 
 returns-6 : tie.Need-returns-6
-returns-6 c = let a = c .before .before .before .before .before .before .before .before .before .before .args in absurd (never-full (a .target .now) (a .places .now) 1 (c .before .before .before .before .before .before .before .before .before .before .pre .0) (some-words (a .target .now) (c .before .before .before .before .before .before .before .before .before .before .pre .0)) (c .before .before .before .before .before .before .before .before .before .before .pre .2) (sym (c .enum-told2 .given .1) ∙ c .before .before .before .before .flatten-mul-factors .ensures .0))
+returns-6 c = let a = c .before .before .before .before .before .before .before .before .before .before .args in absurd (never-full (a .target .now) (a .places .now) 1 (c .before .before .before .before .before .before .before .before .before .before .pre .0) (one-long (a .target .now) (c .before .before .before .before .before .before .before .before .before .before .pre .0)) (c .before .before .before .before .before .before .before .before .before .before .pre .2) (sym (c .enum-told2 .given .1) ∙ c .before .before .before .before .flatten-mul-factors .ensures .0))
 
 pub seek-spec : {M : Type 1} → statement M
 seek-spec =

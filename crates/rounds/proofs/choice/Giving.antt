@@ -32,6 +32,7 @@ use Rattle.rounds.proofs.choice.Leaders.{same-places}
 use Rattle.rounds.specs.choice.Leading.{HasFacts, HasMarks, HasUses, leader-of, Leads}
 use Rattle.rounds.specs.choice.Answers.{has-room, best-of, best-answer}
 use Rattle.rounds.specs.declared.choice.Best.the-variants as best
+use Rattle.words.proofs.words.Requests.{uncounted}
 
 -- ---- room
 
@@ -125,13 +126,8 @@ module _ (rows ws : List ℕ) (scoped : Bool) (f m t : ℕ) where
 
 -- ---- what `count_trees`, `measure` and `mark_outside` tell and leave
 
-none-counted : (o : Option ℕ) → trees.Broken ≡ count-answer o → o ≡ none
-unfolding count-answer
-none-counted none e = refl
-none-counted (some n) e = absurd (let z : _≡_ {A = ℕ} 0 1 = cc in omega arith)
-
 pub no-trees : (ws : List ℕ) → trees.Broken ≡ count-answer (trees-in ws) → trees-in ws ≡ none
-no-trees ws e = none-counted (trees-in ws) e
+no-trees ws e = uncounted (trees-in ws) e
 
 module _ (ws old new : List ℕ) (h : 5 * length ws ≤ length old) (facts-are : new ≡ all-facts (trees-at numbered ws) ++ drop (5 * length ws) old) where
   fact-at : (i k : ℕ) → i < length ws → k < 5 → getD new (5 * i + k) 0 ≡ getD (facts (numbered-at ws i)) k 0
@@ -148,7 +144,7 @@ module _ (ws old new : List ℕ) (h : 5 * length ws ≤ length old) (facts-are :
         symbol-at = λ i g. fact-at i 4 g (omega arith);
       }
 
-flag-back : (b : Bool) → leb 1 (flag b) ≡ b
+pub flag-back : (b : Bool) → leb 1 (flag b) ≡ b
 unfolding flag
 flag-back true = refl
 flag-back false = refl

@@ -119,22 +119,22 @@ module _ (ws : List ℕ) (scoped : Bool) (i : ℕ) where
 
 -- ---- of two that save as much
 
-told-before : (b : Bool) → order.Before ≡ ordered-by true true b → true ≡ b
+pub told-before : (b : Bool) → order.Before ≡ ordered-by true true b → true ≡ b
 unfolding ordered-by
 told-before true e = refl
 told-before false e = absurd (let z : _≡_ {A = ℕ} 0 1 = cc in omega arith)
 
-told-not : (b : Bool) → order.NotBefore ≡ ordered-by true true b → false ≡ b
+pub told-not : (b : Bool) → order.NotBefore ≡ ordered-by true true b → false ≡ b
 unfolding ordered-by
 told-not true e = absurd (let z : _≡_ {A = ℕ} 0 1 = cc in omega arith)
 told-not false e = refl
 
-never-broken : (b : Bool) → order.Broken ≡ ordered-by true true b → ⊥
+pub never-broken : (b : Bool) → order.Broken ≡ ordered-by true true b → ⊥
 unfolding ordered-by
 never-broken true e = let z : _≡_ {A = ℕ} 0 1 = cc in omega arith
 never-broken false e = let z : _≡_ {A = ℕ} 0 1 = cc in omega arith
 
-never-short : (b : Bool) → order.NoRoom ≡ ordered-by true true b → ⊥
+pub never-short : (b : Bool) → order.NoRoom ≡ ordered-by true true b → ⊥
 unfolding ordered-by
 never-short true e = let z : _≡_ {A = ℕ} 0 1 = cc in omega arith
 never-short false e = let z : _≡_ {A = ℕ} 0 1 = cc in omega arith

@@ -4,9 +4,9 @@ use native.Mathlib.Omega.{arith}
 use mathlib.Core.Path.{_≡_, refl, sym, subst}
 use mathlib.Core.Bool.{Bool, true, false}
 use mathlib.Core.Option.{Option, none, some}
-use mathlib.Core.List.{List, [], _∷_, _++_}
+use mathlib.Core.List.{List}
 use borrow.Author.Tests.{le-leb}
-use lib.ListN.{length, getD, take, drop, length-drop, take-append-drop}
+use lib.ListN.{length, getD, take, drop, length-drop}
 use lib.Seq.{take-add, take-all}
 use lib.Dec.{T}
 use Rattle.spec_tree.specs.Bytes.{every}
@@ -14,7 +14,7 @@ use Rattle.spec_tree.specs.Facts.{size}
 use Rattle.spec_tree.specs.Passes.{tree-ok}
 use Rattle.spec_tree.specs.Tokens.{trees-in, run-at, name-in}
 use Rattle.spec_tree.proofs.Tests.{is-true, every-more}
-use Rattle.spec_tree.proofs.Logic.{and-left, and-right, and-both}
+use Rattle.spec_tree.proofs.Logic.{false-is}
 use Rattle.spec_tree.proofs.TokenLaws.{run-size, words-complete}
 use Rattle.spec_tree.specs.text.Text.{before}
 use Rattle.fmt.specs.checked.Check.{rows-in, tree-in, word-ok, checked-answer}
@@ -27,28 +27,9 @@ use Rattle.laws.specs.positions.Places.{text-at}
 use Rattle.fmt.specs.textorder.Order.{is-there, writable, ordered-by, text-here, order-answer}
 use Rattle.fmt.proofs.textorder.Lengths.{text-short}
 use Rattle.rounds.specs.choice.Leading.{Writable}
+use Rattle.replace.proofs.replacing.Scanning.{every-drop, every-take}
 
 -- ---- parts of words that pass
-
-every-front : (p : ℕ → Bool) (l r : List ℕ) → T (every p (l ++ r)) → T (every p l)
-unfolding every
-every-front p [] r h = tt
-every-front p (b ∷ l) r h = and-both (p b) (every p l) (and-left (p b) (every p (l ++ r)) h) (every-front p l r (and-right (p b) (every p (l ++ r)) h))
-
-every-back : (p : ℕ → Bool) (l r : List ℕ) → T (every p (l ++ r)) → T (every p r)
-unfolding every
-every-back p [] r h = h
-every-back p (b ∷ l) r h = every-back p l r (and-right (p b) (every p (l ++ r)) h)
-
-every-take : (p : ℕ → Bool) (n : ℕ) (l : List ℕ) → T (every p l) → T (every p (take n l))
-every-take p n l h = every-front p (take n l) (drop n l) (subst (λ (x : List ℕ). T (every p x)) (sym (take-append-drop n l)) h)
-
-every-drop : (p : ℕ → Bool) (n : ℕ) (l : List ℕ) → T (every p l) → T (every p (drop n l))
-every-drop p n l h = every-back p (take n l) (drop n l) (subst (λ (x : List ℕ). T (every p x)) (sym (take-append-drop n l)) h)
-
-refuted : (b : Bool) → (T b → ⊥) → false ≡ b
-refuted true h = absurd (h tt)
-refuted false h = refl
 
 -- ---- from tree to tree
 
@@ -95,7 +76,7 @@ module _ {rows ws : List ℕ} {at : ℕ} (k : Passing rows ws at) where
       let m = how-many (trees-in ws) c in
       let r = run-size (name-in (rows-in rows)) ws (m .0) at (m .1) h in
       let n = size (tree-in (rows-in rows) ws at) in
-      refuted (every (word-ok (rows-in rows)) ws)
+      false-is (every (word-ok (rows-in rows)) ws)
       (λ t.
       let u : T (tree-ok (tree-in (rows-in rows) ws at)) = subst T (sym (run-tested (rows-in rows) ws at n r)) (every-take (word-ok (rows-in rows)) n (drop at ws) (every-drop (word-ok (rows-in rows)) at ws t)) in
       broken at (run-at ws at) (tree-ok (tree-in (rows-in rows) ws at)) n r u p)

@@ -14,11 +14,11 @@ use Rattle.spec_tree.specs.Rows.{Row}
 use Rattle.spec_tree.specs.Tokens.{read, numbered, name-in}
 use Rattle.spec_tree.proofs.TokenLaws.{complete-length}
 use Rattle.laws.specs.positions.Places.{numbered-at, best-place}
-use Rattle.laws.specs.positions.Rounds.{next-number, extract-words, rounds-words}
+use Rattle.laws.specs.positions.Rounds.{next-number, extract-words}
 use Rattle.laws.proofs.positions.WordLoop.{all-rounds, rounds-done, rounds-go-on}
 use Rattle.rounds.proofs.kept.Steps.{Ready, ready-turn, stepped, ready-next, operations-words}
 
-number-there : (k first : ℕ) (ts : List Tree) → next-number k first ts ≡ first + length (drop k ts)
+pub number-there : (k first : ℕ) (ts : List Tree) → next-number k first ts ≡ first + length (drop k ts)
 unfolding next-number
 number-there k first ts = refl
 

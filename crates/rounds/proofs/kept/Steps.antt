@@ -3,7 +3,7 @@
 use Prim.Native.Nat.{ℕ, suc, _+_, _*_, _≤_, _<_}
 use native.Mathlib.Omega.{arith}
 use mathlib.Core.Path.{_≡_, refl, sym, _∙_, ap, ap₂, subst}
-use mathlib.Core.Bool.{Bool, true, false, _&&_}
+use mathlib.Core.Bool.{Bool, false, _&&_}
 use mathlib.Core.Option.{Option, none, some}
 use mathlib.Core.List.{List, [], _∷_, _++_, append-nil}
 use lib.ListN.{length, getD, take, drop}
@@ -13,10 +13,10 @@ use Rattle.spec_tree.specs.Outcome.{Outcome, ok, refused, _>>=_, each}
 use Rattle.spec_tree.specs.Tree.{Name, xname, Tree, Forest, Sym, Const, Op, nil, _◂_, folds}
 use Rattle.spec_tree.specs.Facts.{total, operations, all-operations, all-nodes, size}
 use Rattle.spec_tree.specs.Rows.{Row}
-use Rattle.spec_tree.specs.Tokens.{read, numbered, name-in, trees-in, trees-at, run-at, tokens, all-tokens, kind-of}
+use Rattle.spec_tree.specs.Tokens.{read, numbered, name-in, trees-in, run-at, tokens, all-tokens, kind-of}
 use Rattle.spec_tree.proofs.Logic.{and-left, and-right, and-both}
 use Rattle.spec_tree.proofs.Tests.{eq→eqb}
-use Rattle.spec_tree.proofs.TokenLaws.{complete-length, run-size, words-complete}
+use Rattle.spec_tree.proofs.TokenLaws.{run-size, words-complete}
 use Rattle.spec_tree.proofs.TokenCode.{unnumbered}
 use Rattle.spec_rewrite.specs.Rewrite.{replace}
 use Rattle.spec_rewrite.proofs.Measure.{sum-of}
@@ -33,7 +33,6 @@ use Rattle.replace.specs.replacing.Replacing.{replaced-words, formed-word, repl
 use Rattle.laws.specs.positions.Places.{numbered-at, best-place}
 use Rattle.laws.specs.positions.Rounds.{next-number, extract-on, extract-words}
 use Rattle.laws.proofs.positions.BestPlace.{Best, best-place-is, candidate-at-is}
-use Rattle.laws.proofs.positions.RoundsOn.{then-then}
 use Rattle.laws.proofs.positions.Coded.{is-alone, none-fit, one-fits, read-fits, read-again, extract-on-fits}
 use Rattle.laws.proofs.positions.WordRounds.{In-code, written, place-fits}
 use Rattle.laws.proofs.positions.WordForms.{extract-words-form, place-words}
@@ -41,6 +40,7 @@ use Rattle.laws.proofs.positions.WordSteps.{Turn, Next, one-turn, words-size}
 use Rattle.rounds.specs.kept.Sound.{name-word, numbered-below, extractable}
 use Rattle.rounds.proofs.kept.Passing.{all-taken, extract-on-taken}
 use Rattle.rounds.proofs.kept.Words.{name-ok, words-taken, made-ok, all-taken-formed, taken-at, formed-words, kind-zero, word-names, names-below}
+use Rattle.spec_tree.proofs.Outcomes.{then-then}
 
 -- ---- words that may be extracted from
 
@@ -50,7 +50,7 @@ pub record Ready (rows : List Row) (n : ℕ) (ws : List ℕ) : Type 0 where
   pub taken : T (all-taken (name-ok rows) (read numbered ws))
   pub below : T (every (numbered-below n) ws)
 
-some-there : (o : Option ℕ) → T (some-trees o) → (m : ℕ) × (o ≡ some m)
+pub some-there : (o : Option ℕ) → T (some-trees o) → (m : ℕ) × (o ≡ some m)
 unfolding some-trees
 some-there none h = absurd h
 some-there (some m) h = (m, refl)

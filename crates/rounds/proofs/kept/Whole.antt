@@ -18,10 +18,11 @@ use Rattle.laws.specs.positions.Names.{is-number, symbols-pass}
 use Rattle.laws.specs.positions.Rounds.{by-number, next-number, state-of, rounds-on, rounds-words}
 use Rattle.laws.proofs.positions.Renaming.{Renaming, renamed}
 use Rattle.laws.proofs.positions.Extraction.{shown, renamed-binding, renamed-state, extract-all-renamed}
-use Rattle.laws.proofs.positions.RoundsOn.{then-same, then-then, extract-all-on}
+use Rattle.laws.proofs.positions.RoundsOn.{then-same, extract-all-on}
 use Rattle.laws.proofs.positions.RowNames.{names-of, words-known, words-renamed}
 use Rattle.laws.proofs.positions.Coded.{read-again}
 use Rattle.laws.proofs.positions.WordRounds.{In-code, written, rounds-words-are}
+use Rattle.spec_tree.proofs.Outcomes.{then-then}
 
 module _ (R : Renaming) where
   bindings-renamed : (i : ℕ) (l : List Tree) → map (renamed-binding R) (by-number i l) ≡ by-number i (map (renamed R) l)

@@ -1,32 +1,28 @@
 -- What words that may be extracted from are as trees: operand counts, names below a number, and the tree at a place. Assumes nothing.
 use Prim.Native.Nat.{ℕ, zero, suc, _+_, _-_, _*_, _/_, _%_, _≤_, _<_}
 use native.Mathlib.Omega.{arith}
-use native.Mathlib.Nat.{zero-add}
 use mathlib.Core.Path.{_≡_, refl, sym, _∙_, ap, ap₂, subst}
-use mathlib.Core.Bool.{Bool, true, false, not, _&&_, _||_, cond}
-use mathlib.Core.Logic.{_⊎_, inl, inr}
+use mathlib.Core.Bool.{Bool, true, false, _&&_, _||_, cond}
 use mathlib.Core.Option.{some}
 use mathlib.Core.List.{List, [], _∷_, _++_}
 use borrow.Author.Tests.{eq-eqb, ne-eqb}
 use lib.ListN.{length, getD, take, drop, take-append-drop}
 use lib.Seq.{length-take-le}
-use lib.Dec.{T, eqb, leb, ltb, le→leb, leb→le, ltb→lt, eqb→eq}
+use lib.Dec.{T, eqb, leb, ltb, le→leb}
 use Rattle.spec_tree.specs.Bytes.{every}
 use Rattle.spec_tree.specs.Kinds.{arity-ok}
 use Rattle.spec_tree.specs.Symbol.{is-name}
-use Rattle.spec_tree.specs.Tree.{Name, input, xname, mname, Tree, Forest, Sym, Const, Op, nil, _◂_, forest, operands, folds}
-use Rattle.spec_tree.specs.Facts.{has-symbol, some-of, nodes, nodes-of, all-nodes}
+use Rattle.spec_tree.specs.Tree.{Name, input, xname, mname, Tree, Forest, Sym, Const, Op, nil, _◂_, forest}
+use Rattle.spec_tree.specs.Facts.{nodes, nodes-of, all-nodes}
 use Rattle.spec_tree.specs.Rows.{Row}
 use Rattle.spec_tree.specs.Passes.{symbol-ok, operands-ok}
-use Rattle.spec_tree.specs.Tokens.{kind-of, below-of, takes, name-by, name-in, numbered, read, trees-at, trees-in, tree-of-word, tokens, tokens-of, name-code}
+use Rattle.spec_tree.specs.Tokens.{kind-of, below-of, takes, name-by, name-in, numbered, read, trees-at, trees-in, tree-of-word}
 use Rattle.spec_tree.proofs.Formed.{operand-count, well-formed, well-formed-each}
-use Rattle.spec_tree.proofs.Logic.{and-left, and-right, and-both}
+use Rattle.spec_tree.proofs.Logic.{and-left, and-right, and-both, and-assoc, or-left, or-right}
 use Rattle.spec_tree.proofs.TokenLaws.{Word, a-symbol, a-constant, an-operation, word-is, leaf-takes, operation-takes, symbol-tree, constant-tree, operation-tree, made, read-cons, complete-tail, complete-length, places-are-nodes, trees-length}
 use Rattle.spec_tree.proofs.TokenCode.{unnumbered}
-use Rattle.spec_tree.proofs.Tests.{eq→eqb}
-use Rattle.spec_rewrite.proofs.DivisorCount.{or-cases}
 use Rattle.spec_rewrite.proofs.Names.{holds, holds-each, holds-all}
-use Rattle.spec_rewrite.proofs.Counts.{well-formed-all}
+use Rattle.spec_rewrite.proofs.Counts.{well-formed-all, all-append as formed-append}
 use Rattle.laws.proofs.cse.RoundsCount.{made-before}
 use Rattle.words.specs.words.Words.{name-of}
 use Rattle.replace.specs.replacing.Replacing.{formed-word}
@@ -35,21 +31,13 @@ use Rattle.fmt.specs.checked.Check.{word-ok}
 use Rattle.fmt.proofs.checked.RunLaws.{symbol-word, constant-word, operation-word}
 use Rattle.rounds.specs.kept.Sound.{name-word, numbered-below}
 use Rattle.rounds.proofs.kept.Passing.{taken, taken-each, all-taken}
+use Rattle.replace.proofs.replacing.Turns.{count-forest}
 
 and-true : (b : Bool) → (b && true) ≡ b
 and-true true = refl
 and-true false = refl
 
-and-assoc : (a b c : Bool) → ((a && b) && c) ≡ (a && (b && c))
-and-assoc true b c = refl
-and-assoc false b c = refl
-
 -- ---- trees that print takes, with numbers for names
-
-count-forest : (l : List Tree) → operand-count (forest l) ≡ length l
-unfolding operand-count forest
-count-forest [] = refl
-count-forest (t ∷ l) = ap suc (count-forest l)
 
 module _ (rows : List Row) where
   unfoldable pub name-ok : Name → Bool
@@ -200,25 +188,11 @@ formed-cons : (t : Tree) (l : List Tree) → well-formed-all (t ∷ l) ≡ (well
 unfolding well-formed-all
 formed-cons t l = refl
 
-formed-append : (a b : List Tree) → T (well-formed-all a) → T (well-formed-all b) → T (well-formed-all (a ++ b))
-unfolding well-formed-all
-formed-append [] b g h = h
-formed-append (t ∷ a) b g h =
-    and-both (well-formed t) (well-formed-all (a ++ b)) (and-left (well-formed t) (well-formed-all a) g) (formed-append a b (and-right (well-formed t) (well-formed-all a) g) h)
-
 forest-formed : (l : List Tree) → T (well-formed-each (forest l)) → T (well-formed-all l)
 unfolding well-formed-all well-formed forest
 forest-formed [] h = tt
 forest-formed (t ∷ l) h =
     and-both (well-formed t) (well-formed-all l) (and-left (well-formed t) (well-formed-each (forest l)) h) (forest-formed l (and-right (well-formed t) (well-formed-each (forest l)) h))
-
-or-left : (b c : Bool) → T b → T (b || c)
-or-left true c h = tt
-or-left false c h = absurd h
-
-or-right : (b c : Bool) → T c → T (b || c)
-or-right true c h = tt
-or-right false c h = h
 
 made-formed : (w : ℕ) (l : List Tree) → length l ≡ takes w → T (well-formed (tree-of-word numbered w l)) → T (formed-word w) × (1 < kind-of w → T (well-formed-all l))
 unfolding formed-word

@@ -17,11 +17,7 @@ use Rattle.rounds.specs.uses.Answers.{mark-answer}
 use Rattle.rounds.specs.declared.uses.Marked.{Marked}
 use Rattle.rounds.specs.declared.uses.Marked.the-variants as marked
 use Rattle.rounds.proofs.uses.Marking.{marked-list}
-
-none-counted : (o : Option ℕ) → trees.Broken ≡ count-answer o → o ≡ none
-unfolding count-answer
-none-counted none e = refl
-none-counted (some n) e = absurd (let z : _≡_ {A = ℕ} 0 1 = cc in omega arith)
+use Rattle.words.proofs.words.Requests.{uncounted}
 
 some-counted : (o : Option ℕ) (n : ℕ) → trees.Count n ≡ count-answer o → o ≡ some n
 unfolding count-answer
@@ -45,7 +41,7 @@ module _ (ws : List ℕ) (scoped : Bool) (old : List ℕ) where
   unfolding mark-answer
   gives-broken h e =
       let t = le-ltb (length old) (length ws) h in
-      let b = none-counted (trees-in ws) e in
+      let b = uncounted (trees-in ws) e in
       (rw (t, b), rw (t, b))
 
   pub gives-done : (new : List ℕ) (n : ℕ) → length ws ≤ length old → trees.Count n ≡ count-answer (trees-in ws) → Marking ws (outside-at ws scoped) old new → Gives ws scoped old marked.Done new

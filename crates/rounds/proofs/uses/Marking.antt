@@ -3,7 +3,7 @@ use Prim.Native.Nat.{ℕ, zero, suc, _+_, _-_, _≤_, _<_}
 use native.Mathlib.Omega.{arith}
 use mathlib.Core.Path.{_≡_, refl, sym, _∙_, ap, ap₂}
 use mathlib.Core.Bool.{Bool, true, false, not, _&&_, _||_, cond}
-use mathlib.Core.Option.{Option, none, some}
+use mathlib.Core.Option.{Option, some}
 use mathlib.Core.List.{List, _++_}
 use borrow.Author.Tests.{lt-ltb, le-ltb, le-leb, lt-leb, ltb-true, ltb-false, leb-true, leb-false, eqb-true, eqb-false}
 use lib.ListN.{length, getD, set, drop, length-set, length-drop, length-append, List·getD-append}
@@ -15,7 +15,7 @@ use Rattle.spec_tree.proofs.FactLaws.{size-one}
 use Rattle.spec_tree.proofs.TokenLaws.{words-short}
 use Rattle.words.specs.tokens.Answers.{end-answer}
 use Rattle.words.specs.declared.tokens.Run.the-variants as run
-use Rattle.words.proofs.tokens.Comparing.{run-ends, run-after}
+use Rattle.words.proofs.tokens.Comparing.{run-ends, run-after, broken-none}
 use Rattle.laws.specs.positions.Places.{numbered-at, in-arm-of, in-arm}
 use Rattle.rounds.specs.uses.Marks.{Complete, marks-of, Cleared, Ones, Arms, Marking, not-in-arms}
 use Rattle.rounds.proofs.uses.Runs.{run-there, ends-within}
@@ -113,11 +113,6 @@ clearing-ends {old} {new} {from} {to} {i} k h =
 
 -- ---- the arms of one switch
 
-no-run : (at : ℕ) (o : Option ℕ) → run.Broken ≡ end-answer at o → o ≡ none
-unfolding end-answer
-no-run at none p = refl
-no-run at (some n) p = absurd (let z : _≡_ {A = ℕ} 0 1 = cc in omega arith)
-
 arms-none : {ws old : List ℕ} {p : ℕ} → ((j : ℕ) → in-arm-of ws p j ≡ false) → Arms ws p old old
 arms-none {ws} {old} {p} f = record { long = refl; each = λ j. rw (f j) }
 
@@ -157,7 +152,7 @@ module _ (ws : List ℕ) (c : Complete ws) (p : ℕ) (h : p < length ws) where
         | true ↦ λ q. leb-true (length ws) (p + 1) q
         | false ↦ λ q. (let l = leb-false (length ws) (p + 1) q in
             let x = run-there ws c (p + 1) l in
-            let y = no-run (p + 1) (run-at ws (p + 1)) b in
+            let y = broken-none (p + 1) (run-at ws (p + 1)) b in
             absurd (let z : _≡_ {A = ℕ} 0 1 = cc in omega arith))
       ] refl
 
@@ -180,7 +175,7 @@ module _ (ws : List ℕ) (c : Complete ws) (p : ℕ) (h : p < length ws) where
   pub never-broken : (j : ℕ) → j < length ws → run.Broken ≡ end-answer j (run-at ws j) → ⊥
   never-broken j l q =
       let x = run-there ws c j l in
-      let y = no-run j (run-at ws j) q in
+      let y = broken-none j (run-at ws j) q in
       let z : _≡_ {A = ℕ} 0 1 = cc in omega arith
 
   -- a run that is there begins among the words

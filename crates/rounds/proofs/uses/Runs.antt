@@ -2,7 +2,7 @@
 use Prim.Native.Nat.{ℕ, _+_, _-_, _≤_, _<_}
 use native.Mathlib.Omega.{arith}
 use mathlib.Core.Path.{_≡_, refl, sym, _∙_, ap, subst}
-use mathlib.Core.Bool.{Bool, true, false}
+use mathlib.Core.Bool.{false}
 use mathlib.Core.Option.{Option, none, some}
 use mathlib.Core.List.{List, [], _∷_, _++_}
 use lib.ListN.{length, getD, take, drop, length-drop, take-append-drop}
@@ -16,23 +16,12 @@ use Rattle.spec_tree.proofs.TokenLaws.{tree-at, words-complete, complete-read, 
 use Rattle.spec_tree.proofs.TokenCode.{unnumbered, writes-back}
 use Rattle.laws.specs.positions.Places.{numbered-at}
 use Rattle.rounds.specs.uses.Marks.{Complete}
-
-refuted : (b : Bool) → (T b → ⊥) → false ≡ b
-refuted true h = absurd (h tt)
-refuted false h = refl
+use Rattle.spec_tree.proofs.Lists.{one-alone, first-alone}
+use Rattle.spec_tree.proofs.Logic.{false-is}
 
 pub how-many : (o : Option ℕ) → (o ≡ none → ⊥) → (m : ℕ) × (o ≡ some m)
 how-many none h = absurd (h refl)
 how-many (some m) h = (m, refl)
-
-only : (l : List Tree) → length l ≡ 1 → l ≡ getD l 0 (Op 0 nil) ∷ []
-only [] e = absurd (omega arith)
-only (t ∷ []) e = refl
-only (t ∷ (u ∷ l)) e = absurd (omega arith)
-
-first : (l m : List Tree) → length l ≡ 1 → getD (l ++ m) 0 (Op 0 nil) ≡ getD l 0 (Op 0 nil)
-first [] m e = absurd (omega arith)
-first (t ∷ l) m e = refl
 
 -- a run that is one whole tree is the tree of its place
 run-is : (ws : List ℕ) (j n : ℕ) → trees-in (take n (drop j ws)) ≡ some 1 → numbered-at ws j ≡ getD (read numbered (take n (drop j ws))) 0 (Op 0 nil)
@@ -43,14 +32,14 @@ run-is ws j n e =
     let r = complete-read numbered words (drop n us) 1 e in
     let whole : read numbered us ≡ read numbered words ++ read numbered (drop n us) = rw take-append-drop at r in
     tree-at numbered ws j
-    ∙ (ap (λ (q : List Tree). getD q 0 (Op 0 nil)) whole ∙ first (read numbered words) (read numbered (drop n us)) (complete-length numbered words 1 e))
+    ∙ (ap (λ (q : List Tree). getD q 0 (Op 0 nil)) whole ∙ first-alone (read numbered words) (read numbered (drop n us)) (complete-length numbered words 1 e))
 
 -- and its words are the tree's
 run-words : (ws : List ℕ) (j n : ℕ) → trees-in (take n (drop j ws)) ≡ some 1 → all-tokens unnumbered (numbered-at ws j ∷ []) ≡ take n (drop j ws)
 run-words ws j n e =
     let words = take n (drop j ws) in
     ap (λ (t : Tree). all-tokens unnumbered (t ∷ [])) (run-is ws j n e)
-    ∙ (ap (all-tokens unnumbered) (sym (only (read numbered words) (complete-length numbered words 1 e))) ∙ writes-back words 1 e)
+    ∙ (ap (all-tokens unnumbered) (sym (one-alone (read numbered words) (complete-length numbered words 1 e))) ∙ writes-back words 1 e)
 
 module _ (ws : List ℕ) (c : Complete ws) where
   pub run-there : (j : ℕ) → j < length ws → run-at ws j ≡ some (size (numbered-at ws j))
@@ -87,5 +76,5 @@ module _ (ws : List ℕ) (c : Complete ws) where
 
     pub word-differs : (k : ℕ) → k < n → (getD ws (i + k) 0 ≡ getD ws (at + k) 0 → ⊥) → false ≡ eq-tree (numbered-at ws i) (numbered-at ws at)
     word-differs k h ne =
-        refuted (eq-tree (numbered-at ws i) (numbered-at ws at))
+        false-is (eq-tree (numbered-at ws i) (numbered-at ws at))
         (λ t. ne (sym (word-at i k h) ∙ (ap (λ (l : List ℕ). getD l k 0) (equal-words t) ∙ word-at at k h)))

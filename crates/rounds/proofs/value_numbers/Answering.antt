@@ -17,12 +17,10 @@ use Rattle.words.specs.tokens.Answers.{count-answer}
 use Rattle.words.specs.declared.tokens.Trees.the-variants as trees
 use Rattle.rounds.specs.value_numbers.Answers.{has-room, classed-by, class-answer, is-among, distinct, Passed, Tables}
 use Rattle.rounds.specs.declared.value_numbers.Classed.the-variants as classed
+use Rattle.spec_tree.proofs.Logic.{and-not}
+use Rattle.words.proofs.words.Requests.{uncounted}
 
 -- ---- room
-
-and-false : (a b : Bool) → b ≡ false → (a && b) ≡ false
-and-false true b e = e
-and-false false b e = refl
 
 module _ (w f m t : ℕ) where
   few-facts : f < 5 * w → has-room w f m t ≡ false
@@ -31,11 +29,11 @@ module _ (w f m t : ℕ) where
 
   few-marks : m < w → has-room w f m t ≡ false
   unfolding has-room
-  few-marks h = and-false (leb (5 * w) f) (leb w m && leb w t) (ap (λ (b : Bool). b && leb w t) (lt-leb w m h))
+  few-marks h = and-not (leb (5 * w) f) (leb w m && leb w t) (ap (λ (b : Bool). b && leb w t) (lt-leb w m h))
 
   few-tables : t < w → has-room w f m t ≡ false
   unfolding has-room
-  few-tables h = and-false (leb (5 * w) f) (leb w m && leb w t) (and-false (leb w m) (leb w t) (lt-leb w t h))
+  few-tables h = and-not (leb (5 * w) f) (leb w m && leb w t) (and-not (leb w m) (leb w t) (lt-leb w t h))
 
   room : 5 * w ≤ f → w ≤ m → w ≤ t → has-room w f m t ≡ true
   unfolding has-room
@@ -69,11 +67,6 @@ no-room-done n e = absurd (let z : _≡_ {A = ℕ} 0 1 = cc in omega arith)
 pub broken-done : {A : Type 0} (n : ℕ) → classed.Broken ≡ classed.Done n → A
 broken-done n e = absurd (let z : _≡_ {A = ℕ} 0 1 = cc in omega arith)
 
-none-counted : (o : Option ℕ) → trees.Broken ≡ count-answer o → o ≡ none
-unfolding count-answer
-none-counted none e = refl
-none-counted (some n) e = absurd (let z : _≡_ {A = ℕ} 0 1 = cc in omega arith)
-
 module _ (ws : List ℕ) (f m t : ℕ) where
   gives-no-room : has-room (length ws) f m t ≡ false → classed.NoRoom ≡ class-answer ws f m t
   unfolding class-answer
@@ -94,7 +87,7 @@ module _ (ws : List ℕ) (f m t : ℕ) where
 
     pub gives-broken : trees.Broken ≡ count-answer (trees-in ws) → classed.Broken ≡ class-answer ws f m t
     unfolding class-answer
-    gives-broken e = broken-is (has-room (length ws) f m t) (trees-in ws) (length ws) there (none-counted (trees-in ws) e)
+    gives-broken e = broken-is (has-room (length ws) f m t) (trees-in ws) (length ws) there (uncounted (trees-in ws) e)
 
     pub gives-done : (n : ℕ) → Complete ws → n ≡ length ws → classed.Done n ≡ class-answer ws f m t
     unfolding class-answer

@@ -1,31 +1,25 @@
 -- Rows that are measured by laying them over an empty table, and then laid over a table that has room for them; and 12 where it hasn't (01, "Turned down":
 -- Extract). Assumes nothing.
 use Prim.Native.Nat.{ℕ, suc, _+_, _-_, _≤_}
-use native.Mathlib.Nat.{zero-add}
-use native.Mathlib.Omega.{arith}
-use mathlib.Core.Path.{_≡_, sym, _∙_, ap, ap₂}
+use mathlib.Core.Path.{_≡_, sym, _∙_, ap}
 use mathlib.Core.Bool.{Bool, cond}
-use mathlib.Core.List.{List, [], _++_}
-use lib.ListN.{length, drop}
-use lib.Seq.{take-all, drop-nil}
+use mathlib.Core.List.{List, []}
+use lib.ListN.{length}
+use lib.Seq.{drop-nil}
 use lib.Dec.{ltb, lt→ltb}
 use Rattle.spec_tree.specs.Outcome.{Outcome, ok, refused, by}
 use Rattle.spec_tree.proofs.Tests.{is-true}
 use Rattle.spec_cse.specs.Call.{Extracted, table-after}
 use Rattle.fusion.specs.place.Overlay.{overlay}
 use Rattle.fusion.specs.place.Whole.{Told}
-use Rattle.cse_flat.proofs.refined.Unfolding.{not-less}
 use Rattle.scope_laws.specs.measured.Roots.{told-or-12}
+use borrow.Author.Tests.{le-ltb}
+use Rattle.fusion.proofs.tables.Laws.{overlay-front}
 
 -- an empty table stays empty
 pub measured-none : (new : List ℕ) → overlay 0 new [] ≡ []
 unfolding overlay
 measured-none new = drop-nil (0 + length new)
-
--- words laid over the front
-pub laid-in-front : (new old : List ℕ) → length new ≤ length old → overlay 0 new old ≡ new ++ drop (length new) old
-unfolding overlay
-laid-in-front new old h = ap₂ (λ (l : List ℕ) (n : ℕ). l ++ drop n old) (take-all (length old - 0) new (omega arith)) (zero-add (length new))
 
 module _ (lent : ℕ) (a : Told) where
   abbrev rows-told : Bool → Outcome Extracted
@@ -37,9 +31,9 @@ module _ (lent : ℕ) (a : Told) where
 
   pub enough : length (a .words) ≤ lent → told-or-12 lent a ≡ ok (record { words = a .words; extracted = a .extracted })
   unfolding told-or-12
-  enough h = ap rows-told (not-less lent (length (a .words)) h)
+  enough h = ap rows-told (le-ltb lent (length (a .words)) h)
 
 -- what the call leaves in a table with room
 pub table-told : (a : Told) (old : List ℕ) → length (a .words) ≤ length old → overlay 0 (a .words) old ≡ table-after (told-or-12 (length old) a) old
 unfolding table-after
-table-told a old h = laid-in-front (a .words) old h ∙ ap (λ (o : Outcome Extracted). table-after o old) (sym (enough (length old) a h))
+table-told a old h = overlay-front (a .words) old h ∙ ap (λ (o : Outcome Extracted). table-after o old) (sym (enough (length old) a h))

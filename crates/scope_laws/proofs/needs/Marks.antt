@@ -12,10 +12,9 @@ use lib.Dec.{eqb, leb, ltb}
 use lib.ListN.{length}
 use Rattle.words.specs.bits.Bits.{word-of, inside, yes, with-yes}
 use Rattle.words.proofs.bits.BitLaws.{made-yes, kept-yes, no-outside, with-length, inside-of}
-use Rattle.topo_sort.proofs.reads.Turns.{and-false}
 use Rattle.topo_sort.proofs.reads.MarkLaws.{or-false}
-use Rattle.topo_sort.proofs.reads.NameLaws.{or-assoc}
 use Rattle.fusion.specs.place.Reads.{place-of, group-of, with-read, with-reads, marks-by}
+use Rattle.spec_tree.proofs.Logic.{and-false, or-assoc, together}
 
 -- ---- words that pass a test
 
@@ -27,11 +26,6 @@ pub any-append : (p : ℕ → Bool) (a b : List ℕ) → any p (a ++ b) ≡ (any
 unfolding any
 any-append p [] b = refl
 any-append p (w ∷ a) b = ap (λ (t : Bool). p w || t) (any-append p a b) ∙ or-assoc (p w) (any p a) (any p b)
-
-together : (y a b c : Bool) → ((y || (a && b)) || (a && c)) ≡ (y || (a && (b || c)))
-together true a b c = refl
-together false true b c = refl
-together false false b c = refl
 
 -- ---- positions, where there is one
 

@@ -20,6 +20,7 @@ use Rattle.fusion.specs.place.Parts.{ends-from}
 use Rattle.fusion.specs.place.Reads.{place-of, group-of}
 use Rattle.scope_laws.proofs.needs.Marks.{hit, position, names-place}
 use Rattle.scope_laws.proofs.needs.Positions.{Ascending, Counted, group-names, found, not-member-x, not-member-input}
+use Rattle.spec_tree.proofs.Logic.{and-second}
 
 no-input : (s : List ℕ) (ls : List Numbered) (j : ℕ) → elem (input s) (group-names ls j) ≡ false
 no-input s [] j = (unfold elem in refl)
@@ -47,10 +48,6 @@ and-right-false false b f = refl
 true-left : (a b : Bool) → (a && b) ≡ true → a ≡ true
 true-left true b e = refl
 true-left false b e = e
-
-true-right : (a b : Bool) → (a && b) ≡ true → b ≡ true
-true-right true b e = e
-true-right false b e = absurd (let z : _≡_ {A = ℕ} 0 1 = cc in omega arith)
 
 module _ (first lets : ℕ) (numbers ends : List ℕ) where
   abbrev ours : ℕ → Bool
@@ -150,7 +147,7 @@ module _ (first lets low : ℕ) (ls : List Numbered) (pss : List (List ℕ)) (as
       ∙ (and-right-false (ours first lets (all-numbers ls) (ends-from 0 pss) i) (eqb (i - first) (lets + j))
       (λ o.
       let a = leb-true first i (true-left (leb first i) (ltb i (first + lets)) o) in
-      let b = ltb-true i (first + lets) (true-right (leb first i) (ltb i (first + lets)) o) in
+      let b = ltb-true i (first + lets) (and-second (leb first i) (ltb i (first + lets)) o) in
       ne-eqb (i - first) (lets + j) (λ e. omega arith))
       ∙ sym (no-x i ls j))
   names-match number (mname i) j h = m-class first lets (all-numbers ls) (ends-from 0 pss) (word 0 (2 + 3 * i)) i (lets + j) (omega arith) ∙ match-test i j h

@@ -5,7 +5,7 @@ use native.Mathlib.Omega.{arith}
 use mathlib.Core.Path.{_≡_, refl, sym, _∙_, ap, ap₂, subst}
 use mathlib.Core.Bool.{Bool, true, false, _&&_, cond}
 use mathlib.Core.Option.{some}
-use mathlib.Core.List.{List, [], _∷_, _++_, map, reverse, reverseAux}
+use mathlib.Core.List.{List, [], _∷_, _++_, map, reverse}
 use borrow.Author.Tests.{ltb-true, ltb-false, lt-ltb, le-ltb}
 use lib.ListN.{length, getD, drop, replicate, length-append, length-map, length-drop, length-replicate, length-reverse, getD-replicate, List·getD-append}
 use lib.Seq.{getD-append-add, getD-drop}
@@ -21,7 +21,7 @@ use Rattle.spec_cse.specs.Answer.{Intermediate, names, symbols, elem}
 use Rattle.spec_cse.specs.Order.{meets, needs, nothing, at-each, positions-taken, topo-sort-intermediates}
 use Rattle.spec_cse.specs.Scope.{Scoped}
 use Rattle.laws.proofs.cse.Outcomes.{Good, good-at}
-use Rattle.laws.proofs.cse.OrderLaws.{All, taken-ok}
+use Rattle.laws.proofs.cse.OrderLaws.{taken-ok, all-getD, all-turned}
 use Rattle.laws.proofs.cse.ScopeValue.{under}
 use Rattle.laws.specs.positions.Places.{numbered-at}
 use Rattle.laws.specs.positions.Rounds.{next-number}
@@ -71,15 +71,6 @@ when-false true x y e = absurd (subst T e tt)
 when-false false x y e = refl
 
 -- ---- positions taken
-
-all-getD : (P : ℕ → Type 0) (l : List ℕ) → All P l → (q : ℕ) → q < length l → P (getD l q 0)
-all-getD P [] h q i = absurd (omega arith)
-all-getD P (j ∷ l) h zero i = h .0
-all-getD P (j ∷ l) h (suc q) i = all-getD P l (h .1) q (omega arith)
-
-all-turned : (P : ℕ → Type 0) (a b : List ℕ) → All P a → All P b → All P (reverseAux a b)
-all-turned P [] b g h = h
-all-turned P (j ∷ a) b g h = all-turned P a (j ∷ b) (g .1) (g .0, h)
 
 module _ (ws : List ℕ) (k first : ℕ) (places : List ℕ) (m : ℕ) (complete : trees-in ws ≡ some m) (enough : k ≤ m) (there : All-there ws places) where
   abbrev ts : List Tree

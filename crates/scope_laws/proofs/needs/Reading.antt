@@ -3,7 +3,7 @@
 use Prim.Native.Nat.{ℕ, zero, suc, _+_, _<_}
 use native.Mathlib.Omega.{arith}
 use mathlib.Core.Path.{_≡_, refl, sym, _∙_, ap, ap₂, subst}
-use mathlib.Core.Bool.{Bool, true, false, _||_}
+use mathlib.Core.Bool.{Bool, false, _||_}
 use mathlib.Core.Option.{some}
 use mathlib.Core.List.{List, [], _∷_, _++_, map}
 use lib.ListN.{length, getD, drop}
@@ -20,7 +20,6 @@ use Rattle.laws.proofs.positions.DivisorPlaces.{enough}
 use Rattle.laws.proofs.positions.Extraction.{Every}
 use Rattle.words.specs.bits.Bits.{yes}
 use Rattle.topo_sort.specs.Needs.{columns, rows-from, table-of}
-use Rattle.topo_sort.specs.Turns.{joined}
 use Rattle.topo_sort.proofs.Left.{columns-step}
 use Rattle.laws.specs.switches.Switches.{key-place, switch-there}
 use Rattle.laws.proofs.switches.Collected.{Switching}
@@ -41,16 +40,9 @@ use Rattle.scope_laws.proofs.needs.Symbols.{any-name, any-name-append, 
 use Rattle.scope_laws.proofs.needs.Positions.{group-names}
 use Rattle.scope_laws.proofs.needs.ArmWords.{tree-fits, any-arms}
 use Rattle.scope_laws.proofs.needs.Held.{fused-fits, Beside, steps-of-later}
+use Rattle.topo_sort.proofs.Sorted.{needs-step}
 
 -- ---- the table of needs from what is read
-
-needs-step : (i : ℕ) (read : List Name) (s : Intermediate) (l : List Intermediate) → needs-from i read (s ∷ l) ≡ joined (meets (names s) read) i (needs-from (suc i) read l)
-unfolding needs-from
-needs-step i read s l = go (meets (names s) read)
-  where
-    go : (b : Bool) → _≡_ {A = List ℕ} (elim b [ true ↦ i ∷ needs-from (suc i) read l | false ↦ needs-from (suc i) read l ]) (joined b i (needs-from (suc i) read l))
-    go true = refl
-    go false = refl
 
 module _ (bits : List ℕ) where
   row-needs :

@@ -1,48 +1,36 @@
 -- A scope's statements as lets of its settled trees and then matches, and their needs from what is read before the scopes of arms (01, "Order", "Scoped fusion").
 -- Assumes nothing.
-use Prim.Native.Nat.{ℕ, zero, suc, _+_, _≤_}
+use Prim.Native.Nat.{ℕ, _+_, _≤_}
 use native.Mathlib.Omega.{arith}
-use mathlib.Core.Path.{_≡_, refl, sym, _∙_, ap, ap₂, subst}
-use mathlib.Core.List.{List, [], _∷_, _++_, append-assoc, map}
+use mathlib.Core.Path.{_≡_, refl, sym, _∙_, ap, subst}
+use mathlib.Core.List.{List, [], _++_, append-assoc, map}
 use lib.ListN.{length, drop, length-append, length-map, length-drop}
 use lib.Dec.{T}
 use Rattle.spec_tree.specs.Outcome.{Outcome, ok, _>>=_}
-use Rattle.spec_tree.specs.Tree.{xname, Tree}
+use Rattle.spec_tree.specs.Tree.{Tree}
 use Rattle.spec_tree.proofs.TokenLaws.{map-append}
 use Rattle.spec_rewrite.proofs.Counts.{well-formed-all}
 use Rattle.spec_rewrite.proofs.Names.{holds-all}
 use Rattle.spec_cse.specs.Extract.{State, roots}
-use Rattle.spec_cse.specs.Answer.{Intermediate, Let}
+use Rattle.spec_cse.specs.Answer.{Intermediate}
 use Rattle.spec_cse.specs.Order.{needs}
-use Rattle.spec_cse.specs.Scope.{Group, collect-switches, groups-from, Work, Scoped, binds, unfused, fuse-all, fuse-groups}
+use Rattle.spec_cse.specs.Scope.{Group, collect-switches, groups-from, Work, Scoped, unfused, fuse-all, fuse-groups}
 use Rattle.laws.proofs.cse.Outcomes.{Good}
 use Rattle.laws.proofs.cse.ScopeValue.{under}
-use Rattle.laws.specs.positions.Rounds.{by-number, next-number, state-of}
+use Rattle.laws.specs.positions.Rounds.{next-number, state-of}
 use Rattle.laws.proofs.positions.RoundsOn.{roots-of-state}
 use Rattle.reciprocals.proofs.bindings.Parts.{settle-tree, settled-reciprocals}
 use Rattle.laws.proofs.outernames.Rounds.{Begun, state-below}
 use Rattle.laws.proofs.outernames.Arms.{Same-names}
 use Rattle.laws.proofs.outernames.Ordering.{needs-of, read-before, fused-needs}
-use Rattle.fusion.specs.Settled.{Step, fused-tree, fused-stmt, Numbered, Walked, numbered-groups, all-steps, group-matches, settled-work, settled-groups}
+use Rattle.fusion.specs.Settled.{fused-tree, Numbered, Walked, numbered-groups, all-steps, group-matches, settled-work, settled-groups}
 use Rattle.fusion.specs.Whole.{settled-fused, lets-from, settled-roots, scope-groups, scope-stmts}
 use Rattle.fusion.proofs.Fusing.{fused-are}
-use Rattle.fusion.proofs.Whole.{lets-append, reciprocals-count}
+use Rattle.fusion.proofs.Whole.{lets-append, lets-fused}
+use Rattle.reciprocals.proofs.reciprocal.Made.{settled-long}
+use Rattle.spec_tree.proofs.Lists.{map-through, drop-front}
 
 -- ---- lists
-
-through : (f g h : Tree → Tree) → ((t : Tree) → g (f t) ≡ h t) → (l : List Tree) → map g (map f l) ≡ map h l
-through f g h e [] = refl
-through f g h e (t ∷ l) = ap₂ _∷_ (e t) (through f g h e l)
-
-drop-front : (f : Tree → Tree) (k : ℕ) (l r : List Tree) → k ≤ length l → drop k (map f l ++ r) ≡ map f (drop k l) ++ r
-drop-front f zero l r h = refl
-drop-front f (suc k) [] r h = absurd (omega arith)
-drop-front f (suc k) (t ∷ l) r h = drop-front f k l r (omega arith)
-
-lets-fused : (steps : List Step) (i : ℕ) (l : List Tree) → map (fused-stmt steps) (binds (by-number i l)) ≡ lets-from i (map (fused-tree steps) l)
-unfolding binds by-number lets-from fused-stmt
-lets-fused steps i [] = refl
-lets-fused steps i (t ∷ l) = ap (λ (r : List Intermediate). Let (xname i) (fused-tree steps t) ∷ r) (lets-fused steps (suc i) l)
 
 -- ---- the statements
 
@@ -55,7 +43,7 @@ module _ (k first : ℕ) (ts ds : List Tree) (within : k ≤ length ts) where
 
   pub roots-count : length (settled-roots ds (next-number k first ts) ts) ≡ length ts + length ds
   unfolding settled-roots
-  roots-count = omega (arith, length-append (map (settle-tree ds n) ts) (settled-reciprocals ds n), length-map ts (settle-tree ds n), reciprocals-count ds n)
+  roots-count = omega (arith, length-append (map (settle-tree ds n) ts) (settled-reciprocals ds n), length-map ts (settle-tree ds n), settled-long ds n)
 
   pub next-is : next-number k first (settled-roots ds (next-number k first ts) ts) ≡ next-number k first ts + length ds
   unfolding next-number
@@ -74,7 +62,7 @@ module _ (k first : ℕ) (ts ds : List Tree) (within : k ≤ length ts) where
       let lets : lets-from first (map g (drop k (map f ts ++ rs))) ≡ a ++ lets-from n (map g rs) =
       ap (λ (y : List Tree). lets-from first (map g y)) (drop-front f k ts rs within)
       ∙ (ap (lets-from first) (map-append g (map f (drop k ts)) rs)
-      ∙ (ap (λ (y : List Tree). lets-from first (y ++ map g rs)) (through f g h (λ (t : Tree). refl) (drop k ts))
+      ∙ (ap (λ (y : List Tree). lets-from first (y ++ map g rs)) (map-through f g h (λ (t : Tree). refl) (drop k ts))
       ∙ (lets-append first (map h (drop k ts)) (map g rs) ∙ ap (λ (i : ℕ). a ++ lets-from i (map g rs)) z))) in
       sym (append-assoc a (lets-from n (map g rs)) (group-matches ls)) ∙ ap (λ (y : List Intermediate). y ++ group-matches ls) (sym lets)
 

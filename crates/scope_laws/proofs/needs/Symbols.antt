@@ -9,12 +9,11 @@ use lib.Dec.{T, leb, ltb, leb→le, ltb→lt}
 use lib.ListN.{length}
 use Rattle.spec_tree.specs.Tree.{Name, Tree, Forest, Sym, Const, Op, nil, _◂_, operands, fold, folds, eq-name}
 use Rattle.spec_tree.specs.Tokens.{word, constant-code, name-code, tokens, tokens-of, all-tokens, kind-of}
-use Rattle.spec_tree.proofs.Logic.{and-left, and-right}
+use Rattle.spec_tree.proofs.Logic.{and-left, and-right, or-assoc, same-test}
 use Rattle.spec_tree.proofs.TreeLaws.{eq-name-sound, eq-name-refl}
 use Rattle.spec_tree.proofs.TokenCode.{fits-word, coded, coded-each, all-coded}
 use Rattle.spec_cse.specs.Answer.{concat, symbols, all-symbols, elem}
 use Rattle.spec_cse.specs.Order.{meets}
-use Rattle.topo_sort.proofs.reads.NameLaws.{or-assoc}
 use Rattle.scope_laws.proofs.needs.Marks.{any, any-append}
 
 -- ---- names that pass a test
@@ -28,17 +27,11 @@ unfolding any-name
 any-name-append t [] b = refl
 any-name-append t (n ∷ a) b = ap (λ (x : Bool). t n || x) (any-name-append t a b) ∙ or-assoc (t n) (any-name t a) (any-name t b)
 
-same-tests : (b c : Bool) → (T b → T c) → (T c → T b) → b ≡ c
-same-tests true true f g = refl
-same-tests true false f g = absurd (f tt)
-same-tests false true f g = absurd (g tt)
-same-tests false false f g = refl
-
 turned : (a b : Name) → T (eq-name a b) → T (eq-name b a)
 turned a b t = subst (λ (x : Name). T (eq-name b x)) (sym (eq-name-sound a b t)) (eq-name-refl b)
 
 pub eq-name-turned : (a b : Name) → eq-name a b ≡ eq-name b a
-eq-name-turned a b = same-tests (eq-name a b) (eq-name b a) (turned a b) (turned b a)
+eq-name-turned a b = same-test (eq-name a b) (eq-name b a) (turned a b) (turned b a)
 
 meets-none : (ns : List Name) → meets ns [] ≡ false
 unfolding meets elem

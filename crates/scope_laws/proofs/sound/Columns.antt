@@ -3,7 +3,7 @@
 use Prim.Native.Nat.{ℕ, suc, _+_, _≤_, _<_}
 use native.Mathlib.Omega.{arith}
 use mathlib.Core.Path.{_≡_, refl, sym, _∙_, ap, ap₂, subst}
-use mathlib.Core.Bool.{Bool, true, false}
+use mathlib.Core.Bool.{Bool}
 use mathlib.Core.Option.{some}
 use mathlib.Core.List.{List, [], _∷_, _++_, map}
 use lib.ListN.{length, getD, drop, length-append, length-map}
@@ -12,7 +12,7 @@ use Rattle.spec_tree.specs.Rows.{Row}
 use Rattle.spec_tree.specs.Tree.{Tree}
 use Rattle.spec_tree.specs.Tokens.{all-tokens, read, numbered, trees-in}
 use Rattle.spec_tree.proofs.TokenCode.{unnumbered, all-tokens-append}
-use Rattle.spec_cse.specs.Scope.{Switch, Group, collect-switches, joins, place, groups-from, members}
+use Rattle.spec_cse.specs.Scope.{collect-switches, members}
 use Rattle.laws.specs.positions.Names.{symbols-pass}
 use Rattle.laws.specs.positions.Places.{numbered-at}
 use Rattle.laws.proofs.positions.Extraction.{Every, every-append}
@@ -28,9 +28,10 @@ use Rattle.laws.proofs.switches.Turned.{Armed}
 use Rattle.laws.proofs.switches.Words.{words-are, arm-within}
 use Rattle.laws.proofs.switches.Grouped.{every-so, Opens, opener-first, numbers-open, collected-groups}
 use Rattle.laws.proofs.switches.GroupColumns.{every-at, members-armed, members-by-place, group-column-short}
-use Rattle.fusion.proofs.Totals.{members-total, groups-few}
+use Rattle.fusion.proofs.Totals.{members-total}
 use Rattle.fusion.specs.place.Parts.{place-groups, joined-groups, group-at}
 use Rattle.scope_laws.proofs.sound.Held.{Fine, all-in-code, fine-ready, fine-pass, place-fine}
+use Rattle.laws.proofs.cse.NumbersMost.{groups-members, from-members}
 
 -- ---- a column of switches
 
@@ -99,22 +100,6 @@ pub record Fused (hs g : List ℕ) : Type 0 where
   pub armed : Every (Armed hs (arm-count hs (getD g 0 0))) g
   pub short : (a : ℕ) → a < arm-count hs (getD g 0 0) → length (column-words hs g a) ≤ length hs
 
-placed-total : (s : Switch) (gs : List Group) → members-total (place s gs) ≡ suc (members-total gs)
-unfolding place members
-placed-total s [] = refl
-placed-total s (g ∷ l) = go (joins (g .first) s) (placed-total s l)
-  where
-    go : (b : Bool) → members-total (place s l) ≡ suc (members-total l)
-        → members-total (elim b as (λ _. List Group) [ true ↦ record { first = g .first; others = g .others ++ (s ∷ []) } ∷ l | false ↦ g ∷ place s l ])
-        ≡ suc (members-total (g ∷ l))
-    go true h = omega (arith, length-append (g .others) (s ∷ []))
-    go false h = omega (arith, h)
-
-grouped-total : (gs : List Group) (l : List Switch) → members-total (groups-from gs l) ≡ members-total gs + length l
-unfolding groups-from
-grouped-total gs [] = omega arith
-grouped-total gs (s ∷ l) = omega (arith, grouped-total (place s gs) l, placed-total s gs)
-
 module _ (hs : List ℕ) (m : ℕ) (complete : trees-in hs ≡ some m) where
   abbrev ps : List ℕ
   ps = switch-places hs
@@ -163,7 +148,7 @@ module _ (hs : List ℕ) (m : ℕ) (complete : trees-in hs ≡ some m) where
   total-there : members-total (map (group-there hs ps) numbers) ≡ length ps
   total-there =
       let e = ap members-total (sym (collected-groups hs m complete)) in
-      let f = grouped-total [] (collect-switches (read numbered hs)) in
+      let f = from-members [] (collect-switches (read numbered hs)) in
       let g = ap length (collected-are hs m complete) in
       let h = length-map ps (switch-there hs) in
       omega (arith, e, f, g, h)
@@ -175,7 +160,7 @@ module _ (hs : List ℕ) (m : ℕ) (complete : trees-in hs ≡ some m) where
   pub groups-count : length (place-groups hs) ≤ length (switch-places hs)
   unfolding place-groups
   groups-count =
-      let a = groups-few (map (group-there hs ps) numbers) in
+      let a = groups-members (map (group-there hs ps) numbers) in
       let b = length-map numbers (group-there hs ps) in
       let c = length-map numbers (member-places hs ps) in
       omega (arith, a, b, c, total-there)

@@ -32,7 +32,6 @@ use Rattle.rounds.specs.kept.Sound.{extractable}
 use Rattle.rounds.proofs.kept.Steps.{Ready, ready-of}
 use Rattle.rounds.proofs.kept.Words.{words-taken}
 use Rattle.fusion.specs.Switchless.{switchless, with-switches}
-use Rattle.fusion.proofs.Whole.{reciprocals-count}
 use Rattle.laws.specs.switches.Switches.{switch-at, arm-count, switches-passing, switch-places}
 use Rattle.laws.proofs.switches.Collected.{Switching}
 use Rattle.fusion.specs.place.Parts.{place-groups, joined-groups, trees-held, words-held, reciprocals-first, lets-count, held-words}
@@ -41,6 +40,8 @@ use Rattle.fusion.proofs.place.Small.{Small, place-small, divisors-small, held-
 use Rattle.scope_laws.proofs.sound.Held.{held-sound, held-pass, held-complete, held-read}
 use Rattle.scope_laws.proofs.sound.Columns.{members-count, groups-count}
 use Rattle.scope_laws.proofs.sound.Sums.{sum-first, sum-each, first-entries}
+use Rattle.reciprocals.proofs.reciprocal.Made.{settled-long}
+use Rattle.laws.proofs.cse.PassesLaws.{arity-of}
 
 -- ---- operands and trees are words
 
@@ -162,10 +163,6 @@ default-arity n t = (let a = leb→le 3 n (and-left (leb 3 n) (leb n 18) t) in l
 pub switch-arity : (k n : ℕ) → 26 ≤ k → T (arity-ok k n) → (2 ≤ n) × (n ≤ 18)
 switch-arity k n h t = kind-cases k h (arity-kind k n t) Arity branch-arity select-arity default-arity n t
 
-arity-of : (k n : ℕ) → T (operands-ok k n) → T (arity-ok k n)
-unfolding operands-ok
-arity-of k n h = and-right (leb 2 k) (arity-ok k n) h
-
 pub switch-takes : (rows : List Row) (w : ℕ) → 26 ≤ kind-of w → T (word-ok rows w) → (2 ≤ takes w) × (takes w ≤ 18)
 switch-takes rows w h t =
     let o : T (operands-ok (kind-of w) (below-of w)) = subst T (operation-word rows w (λ e. omega (arith, h, e)) (λ e. omega (arith, h, e))) t in
@@ -274,7 +271,7 @@ module _ (rows : List Row) (good : ℕ → Bool) (k first : ℕ) (vs : List ℕ)
       let a = length-append (map (settle-tree ds n) (read numbered vs)) (with-switches (settled-reciprocals ds n)) in
       let b = length-map (read numbered vs) (settle-tree ds n) in
       let c = some-switched (settled-reciprocals ds n) in
-      let d = reciprocals-count ds n in
+      let d = settled-long ds n in
       let e = length-map places (numbered-at vs) in
       omega (arith, a, b, c, d, e)
 

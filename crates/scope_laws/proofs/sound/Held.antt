@@ -4,16 +4,15 @@ use Prim.Native.Nat.{ℕ, zero, suc, _+_, _≤_, _<_}
 use native.Mathlib.Omega.{arith}
 use mathlib.Core.Path.{_≡_, refl, sym, _∙_, ap, subst}
 use mathlib.Core.Bool.{Bool, true, false, _&&_}
-use mathlib.Core.Option.{Option, none, some}
+use mathlib.Core.Option.{some}
 use mathlib.Core.List.{List, [], _∷_, map}
-use lib.ListN.{length, getD, drop}
-use lib.Dec.{T, eqb, ltb, lt→ltb}
-use borrow.Author.Tests.{ltb-true, ltb-false}
+use lib.ListN.{length, getD}
+use lib.Dec.{T, eqb, lt→ltb}
 use Rattle.spec_tree.specs.Tree.{Name, xname, Tree, Forest, Sym, Const, Op, nil, _◂_}
 use Rattle.spec_tree.specs.Kinds.{Mul, Div}
 use Rattle.spec_tree.specs.Passes.{of-paper, operands-ok}
 use Rattle.spec_tree.specs.Rows.{Row}
-use Rattle.spec_tree.specs.Tokens.{read, numbered, trees-in, trees-at, run-at, words-of}
+use Rattle.spec_tree.specs.Tokens.{read, numbered, trees-in, trees-at}
 use Rattle.spec_tree.proofs.Formed.{operand-count}
 use Rattle.spec_tree.proofs.Logic.{and-left, and-right, and-both}
 use Rattle.spec_tree.proofs.TokenLaws.{places-are-nodes, trees-length}
@@ -35,6 +34,7 @@ use Rattle.rounds.proofs.kept.Words.{name-ok, made-ok, taken-at, names-below}
 use Rattle.rounds.proofs.kept.Steps.{Ready, ready-of, ready-so}
 use Rattle.fusion.specs.Switchless.{switchless, with-switches}
 use Rattle.fusion.specs.place.Parts.{trees-held, words-held}
+use Rattle.laws.proofs.answer.CodeLaws.{run-starts}
 
 -- ---- a division made a product keeps operand counts and constants
 
@@ -236,28 +236,6 @@ module _ (rows : List Row) (good : ℕ → Bool) (n : ℕ) (ws : List ℕ) (r : 
         fine-of (numbered-at ws i) (taken-at (name-ok rows) ws i h (r .taken)) (place-holds (made-before n) i h read-below) (place-fits ws (r .trees) (r .complete) i h)
         (place-holds (known-name (by-number good)) i h read-known)
 
--- a place where a tree is, is one of the words'
-none-there : (n : ℕ) → words-of [] (suc n) ≡ none
-unfolding words-of
-none-there n = refl
-
-past-all : (i : ℕ) (l : List ℕ) → length l ≤ i → drop i l ≡ []
-past-all zero [] h = refl
-past-all (suc i) [] h = refl
-past-all zero (x ∷ l) h = absurd (omega arith)
-past-all (suc i) (x ∷ l) h = past-all i l (omega arith)
-
-pub there-within : (ws : List ℕ) (i n : ℕ) → run-at ws i ≡ some n → i < length ws
-unfolding run-at
-there-within ws i n e = go (ltb i (length ws)) refl
-  where
-    go : (b : Bool) → ltb i (length ws) ≡ b → i < length ws
-    go true q = ltb-true i (length ws) q
-    go false q =
-        let z : _≡_ {A = Option ℕ} (some n) none = sym e ∙ (ap (λ (l : List ℕ). words-of l 1) (past-all i ws (ltb-false i (length ws) q)) ∙ none-there 0) in
-        let y : _≡_ {A = ℕ} 0 1 = cc in
-        absurd (omega arith)
-
 -- ---- what is held
 
 module _ (rows : List Row) (good : ℕ → Bool) (n : ℕ) (ws : List ℕ) (sound : T (extractable rows n ws)) (pass : T (symbols-pass good ws)) (places : List ℕ) (there : All-there ws places) where
@@ -270,7 +248,7 @@ module _ (rows : List Row) (good : ℕ → Bool) (n : ℕ) (ws : List ℕ) (soun
   divisors-fine : (l : List ℕ) → All-there ws l → Every (Fine rows good next) (map (numbered-at ws) l)
   divisors-fine [] h = tt
   divisors-fine (p ∷ l) h =
-      (place-fine rows good n ws ready pass next (omega arith) p (there-within ws p (h .0 .0) (h .0 .1)), divisors-fine l (h .1))
+      (place-fine rows good n ws ready pass next (omega arith) p (run-starts ws p (h .0 .0) (h .0 .1)), divisors-fine l (h .1))
 
   as-many : (l : List ℕ) → length (map (numbered-at ws) l) ≡ length l
   as-many [] = refl

@@ -15,7 +15,7 @@ use Rattle.spec_tree.specs.Tokens.{trees-in}
 use Rattle.spec_tree.proofs.TokenCode.{unnumbered, tokens-length}
 use Rattle.spec_cse.specs.Order.{positions-taken}
 use Rattle.laws.proofs.cse.OrderLaws.{taken-ok}
-use Rattle.topo_sort.specs.Needs.{rows-from, table-of}
+use Rattle.topo_sort.specs.Needs.{table-of}
 use Rattle.laws.specs.positions.Places.{numbered-at}
 use Rattle.laws.proofs.positions.Extraction.{Every}
 use Rattle.reciprocals.proofs.bindings.Parts.{All-there}
@@ -26,8 +26,9 @@ use Rattle.fusion.proofs.Sizes.{fused-size}
 use Rattle.fusion.specs.place.Parts.{place-groups, group-at, group-start, group-end, opener, lets-count, held-words, settled-trees, steps-from, fused-run, key-run, name-rows, names-run, match-run, let-run, value-run}
 use Rattle.fusion.specs.place.Whole.{stmts-count, tree-run, needs-table, stmts-order, stmt-run, stmts-runs, values-runs}
 use Rattle.fusion.proofs.place.Small.{Small, small-at, settled-small}
-use Rattle.scope_laws.proofs.sound.Held.{there-within}
 use Rattle.scope_laws.proofs.sound.Sums.{sum-first, sum-each, first-more, first-none, first-entries, each-reversed, runs-length, first-most, different-most}
+use Rattle.topo_sort.proofs.Left.{table-length}
+use Rattle.laws.proofs.answer.CodeLaws.{run-starts}
 
 -- ---- trees
 
@@ -37,7 +38,7 @@ module _ (ws : List ℕ) (m : ℕ) (complete : trees-in ws ≡ some m) where
 
   divisors-small : (l : List ℕ) → All-there ws l → Every (Small (length ws)) (map (numbered-at ws) l)
   divisors-small [] h = tt
-  divisors-small (p ∷ l) h = (place-size p (there-within ws p (h .0 .0) (h .0 .1)), divisors-small l (h .1))
+  divisors-small (p ∷ l) h = (place-size p (run-starts ws p (h .0 .0) (h .0 .1)), divisors-small l (h .1))
 
   module _ (k first : ℕ) (places : List ℕ) (there : All-there ws places) where
     fused-length : (hs : List ℕ) (gs : List (List ℕ)) (numbers : List ℕ) (t : Tree) → length (fused-run hs gs numbers t) ≤ size t
@@ -91,15 +92,6 @@ module _ (hs : List ℕ) (c : ℕ) (small : (p : ℕ) → size (numbered-at hs p
 
 -- ---- statements in the order in which they are taken
 
-rows-count : (needs : List ℕ) (count j n : ℕ) → length (rows-from needs count j n) ≡ n
-unfolding rows-from
-rows-count needs count j zero = refl
-rows-count needs count j (suc n) = ap suc (rows-count needs count (suc j) n)
-
-table-count : (needs : List ℕ) (count : ℕ) → length (table-of needs count) ≡ count
-unfolding table-of
-table-count needs count = rows-count needs count 0 count
-
 module _ (vs : List ℕ) (k first : ℕ) (places : List ℕ) (numbers : List ℕ) where
   abbrev count : ℕ
   count = stmts-count vs k first places numbers
@@ -116,7 +108,7 @@ module _ (vs : List ℕ) (k first : ℕ) (places : List ℕ) (numbers : List ℕ
   order-most f =
       let table = table-of (needs-table vs k first places numbers count (replicate (32 * count) 0)) count in
       let t = taken-ok table in
-      let c = table-count (needs-table vs k first places numbers count (replicate (32 * count) 0)) count in
+      let c = table-length (needs-table vs k first places numbers count (replicate (32 * count) 0)) count in
       let d = different-most f (length table) (positions-taken table) (t .distinct) (t .inside) in
       let e : sum-first f (length table) ≡ sum-first f count = ap (sum-first f) c in
       omega (arith, each-reversed f (positions-taken table), d, e)

@@ -23,7 +23,7 @@ use Rattle.laws.specs.positions.Places.{numbered-at, divisors-to-bind}
 use Rattle.laws.specs.positions.Rounds.{next-number, state-of, bind-each-on, rounds-on, reciprocals-on}
 use Rattle.laws.proofs.positions.BestPlace.{text-of}
 use Rattle.laws.proofs.positions.Coded.{read-again}
-use Rattle.laws.proofs.positions.RoundsOn.{then-then, rounds-on-length}
+use Rattle.laws.proofs.positions.RoundsOn.{rounds-on-length}
 use Rattle.laws.proofs.positions.WordReciprocals.{to-bind-are, reciprocals-fit}
 use Rattle.laws.proofs.positions.WordRounds.{In-code, written, written-complete, rounds-words-are}
 use Rattle.reciprocals.proofs.bindings.Parts.{bound-are-settled}
@@ -39,7 +39,8 @@ use Rattle.fusion.specs.place.Whole.{Told, stmts-order, room-for, fused-scope}
 use Rattle.scope_laws.specs.told.Told.{told}
 use Rattle.scope_laws.proofs.told.Groups.{places-of, Opens-group}
 use Rattle.scope_laws.proofs.told.Walking.{Proper}
-use Rattle.scope_laws.proofs.told.Fusing.{then-known, left-is, fused-is}
+use Rattle.scope_laws.proofs.told.Fusing.{left-is, fused-is}
+use Rattle.spec_tree.proofs.Outcomes.{then-then, then-known}
 
 -- ---- the trees that a scope settles are within the code
 

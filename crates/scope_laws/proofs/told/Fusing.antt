@@ -20,7 +20,7 @@ use Rattle.laws.proofs.cse.Outcomes.{Good, good-at}
 use Rattle.laws.specs.positions.Places.{numbered-at}
 use Rattle.laws.specs.positions.Rounds.{next-number, state-of, bind-each-on}
 use Rattle.laws.proofs.positions.Extraction.{Every}
-use Rattle.laws.proofs.positions.RoundsOn.{then-then, roots-of-state}
+use Rattle.laws.proofs.positions.RoundsOn.{roots-of-state}
 use Rattle.laws.proofs.positions.WordRounds.{In-code}
 use Rattle.reciprocals.proofs.bindings.Parts.{bound-are-settled}
 use Rattle.laws.specs.switches.Switches.{arm-count, switch-places, switch-there}
@@ -38,11 +38,7 @@ use Rattle.scope_laws.proofs.told.Groups.{group-of, places-of, numbers-
 use Rattle.scope_laws.proofs.told.Walking.{Proper, told-groups, walked-is}
 use Rattle.scope_laws.proofs.told.Matches.{its-group, Armed-well, groups-armed}
 use Rattle.scope_laws.proofs.told.Ordering.{ordered-is}
-
--- what comes next may know what was given
-pub then-known : {A B : Type 0} (o : Outcome A) (f g : A → Outcome B) → ((a : A) → o ≡ ok a → f a ≡ g a) → (o >>= f) ≡ (o >>= g)
-then-known (ok a) f g h = h a refl
-then-known (refused i) f g h = refl
+use Rattle.spec_tree.proofs.Outcomes.{then-then, then-known}
 
 module _ (scope : ℕ → List Tree → Outcome Scoped) (proper : (n : ℕ) (es : List Tree) → Good (Proper n es) (scope n es)) (by-words : ℕ → List ℕ → Outcome Told)
     (left : ℕ) (vs : List ℕ) (k first : ℕ) (places : List ℕ) (within : k ≤ length (read numbered vs))

@@ -22,6 +22,7 @@ use Rattle.fusion.specs.Switchless.{switchless, with-switches}
 use Rattle.fusion.specs.Whole.{settled-roots}
 use Rattle.fusion.proofs.Outer.{none-outside, switchless-none}
 use Rattle.fusion.specs.place.Parts.{trees-held, words-held}
+use Rattle.spec_tree.proofs.Lists.{drop-front}
 
 -- ---- within the code
 
@@ -75,9 +76,6 @@ module _ (ws : List ℕ) (n : ℕ) (places : List ℕ) (fit : In-code (settled-r
 
 -- ---- as `cse_scope` holds them
 
-no-length : {A : Type 0} (l : List A) → l ≡ [] → length l ≡ 0
-no-length l e = ap length e
-
 pub holds-is : (t : Tree) → holds-switch t ≡ not (switchless t)
 unfolding holds-switch some-switch
 holds-is t = go (switchless t) refl (switches (outer t)) refl
@@ -115,11 +113,6 @@ take-front : (f : Tree → Tree) (k : ℕ) (l r : List Tree) → k ≤ length l 
 take-front f zero l r h = refl
 take-front f (suc k) [] r h = absurd (omega arith)
 take-front f (suc k) (t ∷ l) r h = ap (λ (x : List Tree). f t ∷ x) (take-front f k l r (omega arith))
-
-drop-front : (f : Tree → Tree) (k : ℕ) (l r : List Tree) → k ≤ length l → drop k (map f l ++ r) ≡ map f (drop k l) ++ r
-drop-front f zero l r h = refl
-drop-front f (suc k) [] r h = absurd (omega arith)
-drop-front f (suc k) (t ∷ l) r h = drop-front f k l r (omega arith)
 
 map-length : (f : Tree → Tree) (l : List Tree) → length (map f l) ≡ length l
 map-length f [] = refl

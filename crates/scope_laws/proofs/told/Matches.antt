@@ -21,10 +21,10 @@ use Rattle.laws.proofs.switches.Grouped.{numbers-open}
 use Rattle.fusion.specs.Settled.{Step, fused-tree, Numbered, group-columns, Walked, numbered-groups, all-steps, group-match}
 use Rattle.fusion.specs.Words.{steps-at, numbers-from, all-numbers}
 use Rattle.fusion.proofs.Members.{tree-of-switch, Stand-at, all-places, members-before, numbers-count, all-steps-at, all-numbers-from, steps-after}
-use Rattle.fusion.proofs.Rows.{names-count}
 use Rattle.fusion.specs.place.Parts.{place-groups, joined-groups, group-at, group-start, group-end, opener, steps-from, key-run, name-rows, names-run, match-head, match-run}
 use Rattle.scope_laws.proofs.told.Groups.{group-of, places-of, numbers-of, Opens-group, group-places, number-opens, opener-is, members-are-at, members-count, columns-count}
 use Rattle.scope_laws.proofs.told.Walking.{arm-words}
+use Rattle.laws.proofs.cse.Widths.{member-names-long}
 
 abbrev pub its-group : Numbered → Group
 its-group g = g .group
@@ -237,7 +237,7 @@ module _ (hs : List ℕ) (gs : List Numbered) (same : map its-group gs ≡ map (
     unfolding match-head
     head-is =
         ap₂ (λ (x y : ℕ). word (match-row x) (suc y)) kind-is
-        (ap₂ _+_ (names-count (g .start) (members (g .group)) ∙ many) arms-many-are)
+        (ap₂ _+_ (member-names-long (g .start) (members (g .group)) ∙ many) arms-many-are)
 
     key-words : tokens number (fused-tree (all-steps after) (g .group .first .key)) ≡ key-run hs pss ns j
     unfolding key-run

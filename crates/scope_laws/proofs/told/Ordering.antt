@@ -1,10 +1,10 @@
 -- A scope's statements in the order of their needs, and its values, as words (01, "Order", "Scoped fusion"): given that the positions are taken in the same order.
 -- Assumes nothing.
-use Prim.Native.Nat.{ℕ, zero, suc, _+_, _-_, _≤_, _<_}
+use Prim.Native.Nat.{ℕ, suc, _+_, _-_, _≤_, _<_}
 use native.Mathlib.Omega.{arith}
 use mathlib.Core.Path.{_≡_, refl, sym, _∙_, ap, ap₂}
 use mathlib.Core.Bool.{Bool, true, false, cond}
-use mathlib.Core.List.{List, [], _∷_, _++_, map, reverse, reverseAux}
+use mathlib.Core.List.{List, [], _∷_, _++_, map, reverse}
 use borrow.Author.Tests.{eqb-true, eqb-false}
 use lib.ListN.{length, getD, take, drop, length-drop, length-reverse}
 use lib.Dec.{eqb}
@@ -16,7 +16,7 @@ use Rattle.spec_cse.specs.Answer.{Intermediate, block}
 use Rattle.spec_cse.specs.AnswerRows.{intermediate-words, intermediates-words, each-words}
 use Rattle.spec_cse.specs.Order.{needs, nothing, at-each, positions-taken, topo-sort-intermediates}
 use Rattle.spec_cse.specs.Scope.{Scoped, finish}
-use Rattle.laws.proofs.cse.OrderLaws.{All, taken-ok}
+use Rattle.laws.proofs.cse.OrderLaws.{taken-ok, all-getD, all-turned}
 use Rattle.laws.specs.positions.Places.{numbered-at}
 use Rattle.laws.specs.positions.Rounds.{next-number}
 use Rattle.laws.proofs.positions.Extraction.{Every}
@@ -33,27 +33,10 @@ use Rattle.scope_laws.proofs.told.Groups.{group-of, numbers-of}
 use Rattle.scope_laws.proofs.told.Walking.{arm-words, told-groups}
 use Rattle.scope_laws.proofs.told.Matches.{its-group, Armed-well}
 use Rattle.scope_laws.proofs.told.Statements.{count-is, stmt-words, values-words}
+use Rattle.laws.proofs.cse.ReadLaws.{needs-length}
+use Rattle.laws.proofs.cse.SortCount.{length-at-each}
 
 -- ---- positions
-
-all-getD : (P : ℕ → Type 0) (l : List ℕ) → All P l → (q : ℕ) → q < length l → P (getD l q 0)
-all-getD P [] h q i = absurd (omega arith)
-all-getD P (j ∷ l) h zero i = h .0
-all-getD P (j ∷ l) h (suc q) i = all-getD P l (h .1) q (omega arith)
-
-all-turned : (P : ℕ → Type 0) (a b : List ℕ) → All P a → All P b → All P (reverseAux a b)
-all-turned P [] b g h = h
-all-turned P (j ∷ a) b g h = all-turned P a (j ∷ b) (g .1) (g .0, h)
-
-table-count : (all l : List Intermediate) → length (needs all l) ≡ length l
-unfolding needs
-table-count all [] = refl
-table-count all (s ∷ l) = ap suc (table-count all l)
-
-each-count : (l : List Intermediate) (order : List ℕ) → length (at-each l order) ≡ length order
-unfolding at-each
-each-count l [] = refl
-each-count l (i ∷ r) = ap suc (each-count l r)
 
 -- the order of some statements
 abbrev pub order-of : List Intermediate → List ℕ
@@ -62,7 +45,7 @@ order-of l = reverse (positions-taken (needs l l))
 order-inside : (l : List Intermediate) (q : ℕ) → q < length (order-of l) → getD (order-of l) q 0 < length l
 order-inside l q h =
     let table = needs l l in
-    let c = table-count l l in
+    let c = needs-length l l in
     let a = all-getD (λ j. j < length table) (order-of l) (all-turned (λ j. j < length table) (positions-taken table) [] (taken-ok table .inside) tt) q h in
     omega (arith, c, a)
 
@@ -129,7 +112,7 @@ module _
         ≡ intermediates-words number (block (at-each stmts T)) ++ each-words number row values =
         ap₂ (λ (a b : List ℕ). a ++ b) (ap (stmts-runs vs k first places ns arms T) (sym e) ∙ stmts-words)
         (sym (values-words vs k first places within (l .groups) same well row)) in
-        let steps : length stmts ≡ length (at-each stmts T) = sym (each-count stmts T ∙ e) in
+        let steps : length stmts ≡ length (at-each stmts T) = sym (length-at-each stmts T ∙ e) in
         let made : (length ts - k) + l .extracted ≡ length (drop k ts) + l .extracted = omega (arith, length-drop k ts) in
         rw words (ap₂ (λ (x y : ℕ). record { words = intermediates-words number (block (at-each stmts T)) ++ each-words number row values; steps = x; next = l .next; extracted = y }) steps made)
 

@@ -22,7 +22,7 @@ use Rattle.reciprocals.proofs.bindings.Parts.{settle-tree, settled-reciprocals}
 use Rattle.fusion.specs.Settled.{Step, fused-tree, Numbered, all-steps, group-matches}
 use Rattle.fusion.specs.Words.{all-numbers}
 use Rattle.fusion.specs.Whole.{settled-fused, lets-from, settled-roots, scope-stmts}
-use Rattle.fusion.proofs.Whole.{lets-append, reciprocals-count}
+use Rattle.fusion.proofs.Whole.{lets-append}
 use Rattle.fusion.proofs.Places.{lets-count, let-at, matches-count, match-at}
 use Rattle.reciprocals.specs.final.Entries.{runs}
 use Rattle.reciprocals.proofs.final.Entering.{runs-front}
@@ -32,22 +32,10 @@ use Rattle.fusion.specs.place.Whole.{stmts-count, tree-run, stmt-run, values-ru
 use Rattle.scope_laws.proofs.told.Groups.{group-of, numbers-of, groups-count}
 use Rattle.scope_laws.proofs.told.Walking.{arm-words}
 use Rattle.scope_laws.proofs.told.Matches.{its-group, Armed-well, all-steps-from, match-words}
+use Rattle.reciprocals.proofs.reciprocal.Made.{settled-long}
+use Rattle.spec_tree.proofs.Lists.{map-through, take-front, drop-front}
 
 -- ---- lists
-
-map-through : (f g h : Tree → Tree) → ((t : Tree) → g (f t) ≡ h t) → (l : List Tree) → map g (map f l) ≡ map h l
-map-through f g h e [] = refl
-map-through f g h e (t ∷ l) = ap₂ _∷_ (e t) (map-through f g h e l)
-
-drop-front : (f : Tree → Tree) (k : ℕ) (l r : List Tree) → k ≤ length l → drop k (map f l ++ r) ≡ map f (drop k l) ++ r
-drop-front f zero l r h = refl
-drop-front f (suc k) [] r h = absurd (omega arith)
-drop-front f (suc k) (t ∷ l) r h = drop-front f k l r (omega arith)
-
-take-front : (f : Tree → Tree) (k : ℕ) (l r : List Tree) → k ≤ length l → take k (map f l ++ r) ≡ map f (take k l)
-take-front f zero l r h = refl
-take-front f (suc k) [] r h = absurd (omega arith)
-take-front f (suc k) (t ∷ l) r h = ap (λ (x : List Tree). f t ∷ x) (take-front f k l r (omega arith))
 
 -- ---- lets, reciprocals among them, and then matches
 
@@ -83,7 +71,7 @@ module _ (k first : ℕ) (ts ds : List Tree) (within : k ≤ length ts) (steps :
 
   roots-count : length us ≡ length ts + length ds
   unfolding settled-roots
-  roots-count = omega (arith, length-append (map (settle-tree ds n) ts) (settled-reciprocals ds n), length-map ts (settle-tree ds n), reciprocals-count ds n)
+  roots-count = omega (arith, length-append (map (settle-tree ds n) ts) (settled-reciprocals ds n), length-map ts (settle-tree ds n), settled-long ds n)
 
 -- ---- by position
 

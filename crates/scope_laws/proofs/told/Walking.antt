@@ -15,7 +15,7 @@ use Rattle.spec_cse.specs.Answer.{Intermediate, Arms, no-arm, arm, block}
 use Rattle.spec_cse.specs.AnswerRows.{arm-row, value-row, step-count, intermediates-words, each-words, arms-words}
 use Rattle.spec_cse.specs.Scope.{Group, members, Scoped, Armed, scope-arms}
 use Rattle.laws.proofs.cse.Outcomes.{Good}
-use Rattle.laws.proofs.positions.RoundsOn.{then-same, then-then}
+use Rattle.laws.proofs.positions.RoundsOn.{then-same}
 use Rattle.laws.specs.switches.Switches.{arm-count}
 use Rattle.laws.specs.switches.Columns.{column-words}
 use Rattle.fusion.specs.Settled.{Numbered, group-columns, Walked, numbered-groups}
@@ -26,6 +26,7 @@ use Rattle.fusion.specs.place.Parts.{place-groups}
 use Rattle.fusion.specs.place.Whole.{Told, Arms-told, Walk, arms-told, group-told, walked}
 use Rattle.scope_laws.specs.told.Told.{told}
 use Rattle.scope_laws.proofs.told.Groups.{group-of, places-of, numbers-of, Opens-group, groups-count, group-places, number-opens, members-count, columns-count, column-is, column-count}
+use Rattle.spec_tree.proofs.Outcomes.{then-then}
 
 -- ---- as words
 

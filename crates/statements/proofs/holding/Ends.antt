@@ -19,16 +19,10 @@ use Rattle.statements.specs.holding.Holding.{whole-there, room-to-hold, 
 use Rattle.statements.specs.declared.holding.Held.{Held}
 use Rattle.statements.specs.declared.holding.Held.the-variants as held
 use Rattle.statements.proofs.holding.Front.{held-length}
+use Rattle.fusion.proofs.columns.Armed.{and-false}
+use Rattle.spec_tree.proofs.Logic.{both-true}
 
 -- ---- the tests
-
-both-true : (b c : Bool) → b && c ≡ true → (b ≡ true) × (c ≡ true)
-both-true true c e = (refl, e)
-both-true false c e = absurd (subst T (sym e) tt)
-
-and-false : (b : Bool) → b && false ≡ false
-and-false true = refl
-and-false false = refl
 
 pub not-whole : (ws places : List ℕ) → trees.Broken ≡ count-answer (trees-in ws) → false ≡ whole-there ws places
 unfolding count-answer whole-there some-trees

@@ -11,7 +11,7 @@ use lib.Dec.{T}
 use Rattle.spec_tree.specs.Tree.{Tree}
 use Rattle.spec_tree.specs.Tokens.{all-tokens}
 use Rattle.spec_tree.proofs.TokenCode.{all-tokens-append}
-use Rattle.spec_tree.proofs.Logic.{and-left, and-both}
+use Rattle.spec_tree.proofs.Logic.{and-left, and-both, same-test}
 use Rattle.words.specs.words.Words.{number}
 use Rattle.laws.specs.positions.Places.{numbered-at}
 use Rattle.reciprocals.specs.settle.Answers.{Settling, settling}
@@ -29,12 +29,6 @@ use Rattle.fusion.proofs.Outer.{no-switch-read, read-no-switch}
 use Rattle.fusion.specs.place.Overlay.{overlay}
 use Rattle.fusion.proofs.tables.Laws.{overlay-length, overlay-front}
 use Rattle.statements.specs.holding.Holding.{settled-held, reciprocal-words, reciprocal-held, reciprocals-held, Ready}
-
-same-tests : (b c : Bool) → (T b → T c) → (T c → T b) → b ≡ c
-same-tests true true f g = refl
-same-tests true false f g = absurd (f tt)
-same-tests false true f g = absurd (g tt)
-same-tests false false f g = refl
 
 hold-first : (t : Tree) (l : List Tree) → with-switches (t ∷ l) ≡ with-switches (t ∷ []) ++ with-switches l
 unfolding with-switches
@@ -158,7 +152,7 @@ module _ (ws places : List ℕ) (first : ℕ) (ready : Ready ws places first) wh
         (subst (λ (l : List Tree). T (all-switchless l)) (sym (made-read ws places first j more there)) r)
 
     test-is : no-switch-words (reciprocal-words ws first places j) ≡ switchless (made ws places first j)
-    test-is = ap no-switch-words words-are ∙ same-tests (no-switch-words (made-words ws places first j)) (switchless one) told-so so-told
+    test-is = ap no-switch-words words-are ∙ same-test (no-switch-words (made-words ws places first j)) (switchless one) told-so so-told
 
     held-by : (b : Bool) → switchless (made ws places first j) ≡ b → reciprocal-held ws first places j ≡ all-tokens number (elim b as (λ _. List Tree) [ true ↦ [] | false ↦ made ws places first j ∷ [] ])
     unfolding reciprocal-held with-switches

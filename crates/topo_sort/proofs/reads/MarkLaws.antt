@@ -12,7 +12,8 @@ use lib.ListN.{length}
 use Rattle.words.specs.bits.Bits.{inside, yes, with-yes}
 use Rattle.words.proofs.bits.BitLaws.{made-yes, kept-yes, no-outside, with-length}
 use Rattle.topo_sort.specs.reads.Marks.{name-word, number-of, holds-name, with-need, with-needs}
-use Rattle.topo_sort.proofs.reads.Turns.{and-false, need-length, needs-cons, needs-none, name-marked, other-kept}
+use Rattle.topo_sort.proofs.reads.Turns.{need-length, needs-cons, needs-none, name-marked, other-kept}
+use Rattle.spec_tree.proofs.Logic.{and-false, together}
 
 -- ---- words of names
 
@@ -29,12 +30,6 @@ holds-cons w ws i = refl
 pub or-false : (b : Bool) → (b || false) ≡ b
 or-false true = refl
 or-false false = refl
-
--- what is so after a word, then after the others
-together : (y a b c : Bool) → ((y || (a && b)) || (a && c)) ≡ (y || (a && (b || c)))
-together true a b c = refl
-together false true b c = refl
-together false false b c = refl
 
 -- ---- one word
 

@@ -11,18 +11,14 @@ use lib.Dec.{T, eqb, leb, ltb, leb→le, ltb→lt}
 use lib.ListN.{length}
 use Rattle.spec_tree.specs.Tree.{Name, input, xname, mname, Tree, Forest, Sym, Const, Op, nil, _◂_, operands, fold, folds, eq-name}
 use Rattle.spec_tree.specs.Tokens.{word, constant-code, name-code, tokens, tokens-of, all-tokens, kind-of}
-use Rattle.spec_tree.proofs.Logic.{and-left, and-right}
+use Rattle.spec_tree.proofs.Logic.{and-left, and-right, or-assoc}
 use Rattle.spec_tree.proofs.TokenCode.{fits-word, coded, coded-each, all-coded}
 use Rattle.spec_cse.specs.Answer.{Let, names, free, concat, symbols, all-symbols, elem}
 use Rattle.spec_cse.specs.Order.{meets}
-use Rattle.laws.proofs.answer.ScopeLaws.{elem-both}
+use Rattle.laws.proofs.answer.ScopeLaws.{elem-both, elem-nil}
 use Rattle.words.specs.bits.Bits.{inside, yes}
 use Rattle.topo_sort.specs.reads.Marks.{name-word, holds-name, with-needs}
 use Rattle.topo_sort.proofs.reads.MarkLaws.{or-false, holds-none, holds-cons, needs-fresh}
-
-pub or-assoc : (a b c : Bool) → (a || (b || c)) ≡ ((a || b) || c)
-or-assoc true b c = refl
-or-assoc false b c = refl
 
 -- ---- words
 
@@ -55,10 +51,6 @@ code-test number (xname n) i = go (eqb n i) refl
 code-test number (mname n) i = ne-eqb (word 0 (2 + 3 * n)) (name-word i) (λ e. omega arith)
 
 -- ---- symbols
-
-pub elem-none : (n : Name) → elem n [] ≡ false
-unfolding elem
-elem-none n = refl
 
 pub elem-one : (n s : Name) → elem n (s ∷ []) ≡ eq-name s n
 unfolding elem
@@ -109,7 +101,7 @@ module _ (number : List ℕ → ℕ) (known : List ℕ → Bool) (i : ℕ) where
     pub holds-tree : (t : Tree) → T (coded known t) → holds-name (tokens number t) i ≡ elem (xname i) (symbols t)
     holds-tree (Sym n) h =
         holds-one (word 0 (name-code number n)) i ∙ (code-test number n i ∙ (sym (elem-one (xname i) n) ∙ ap (elem (xname i)) (sym (symbol-symbols n))))
-    holds-tree (Const c) h = holds-one (word 1 (constant-code c)) i ∙ (other-kind (word 1 (constant-code c)) i (omega arith) ∙ (sym (elem-none (xname i)) ∙ ap (elem (xname i)) (sym (constant-symbols c))))
+    holds-tree (Const c) h = holds-one (word 1 (constant-code c)) i ∙ (other-kind (word 1 (constant-code c)) i (omega arith) ∙ (sym (elem-nil (xname i)) ∙ ap (elem (xname i)) (sym (constant-symbols c))))
     holds-tree (Op k f) h =
         let fit = and-left (fits-word k) (coded-each known f) h in
         let low = leb→le 2 k (and-left (leb 2 k) (ltb k 64) fit) in
@@ -119,7 +111,7 @@ module _ (number : List ℕ → ℕ) (known : List ℕ → Bool) (i : ℕ) where
         ∙ (holds-each f (and-right (fits-word k) (coded-each known f) h) ∙ ap (elem (xname i)) (sym (operation-symbols k f))))
 
     holds-each : (f : Forest) → T (coded-each known f) → holds-name (tokens-of number f) i ≡ elem (xname i) (symbols-each f)
-    holds-each nil h = holds-none i ∙ (sym (elem-none (xname i)) ∙ ap (elem (xname i)) (sym each-none))
+    holds-each nil h = holds-none i ∙ (sym (elem-nil (xname i)) ∙ ap (elem (xname i)) (sym each-none))
     holds-each (t ◂ f) h =
         holds-append (tokens number t) (tokens-of number f) i
         ∙ (ap₂ _||_ (holds-tree t (and-left (coded known t) (coded-each known f) h)) (holds-each f (and-right (coded known t) (coded-each known f) h))
@@ -127,7 +119,7 @@ module _ (number : List ℕ → ℕ) (known : List ℕ → Bool) (i : ℕ) where
 
   pub holds-all : (ts : List Tree) → T (all-coded known ts) → holds-name (all-tokens number ts) i ≡ elem (xname i) (all-symbols ts)
   unfolding all-tokens all-coded all-symbols
-  holds-all [] h = holds-none i ∙ sym (elem-none (xname i))
+  holds-all [] h = holds-none i ∙ sym (elem-nil (xname i))
   holds-all (t ∷ ts) h =
       holds-append (tokens number t) (all-tokens number ts) i
       ∙ (ap₂ _||_ (holds-tree t (and-left (coded known t) (all-coded known ts) h)) (holds-all ts (and-right (coded known t) (all-coded known ts) h))

@@ -11,6 +11,7 @@ use lib.Seq.{drop-cons}
 use Rattle.words.specs.bits.Bits.{inside, with-yes}
 use Rattle.words.proofs.bits.BitLaws.{with-length}
 use Rattle.topo_sort.specs.reads.Marks.{number-of, with-need, with-needs, place-inside, all-inside}
+use Rattle.spec_tree.proofs.Logic.{and-false}
 
 -- ---- one word
 
@@ -55,10 +56,6 @@ inside-cons w ws row words = refl
 pub inside-none : (row words : ℕ) → all-inside [] row words ≡ true
 unfolding all-inside
 inside-none row words = refl
-
-pub and-false : (b : Bool) → (b && false) ≡ false
-and-false true = refl
-and-false false = refl
 
 and-true : (b : Bool) → (b && true) ≡ b
 and-true true = refl

@@ -15,6 +15,7 @@ use Rattle.spec_tree.proofs.TokenLaws.{sizes, sizes-append, read-past, read-siz
 use Rattle.spec_tree.proofs.TokenCode.{unnumbered, tokens-length, all-tokens-cons, writes-back}
 use Rattle.laws.specs.positions.Places.{numbered-at}
 use Rattle.topo_sort.specs.treelist.Starts.{starts-from, starts-of}
+use Rattle.spec_tree.proofs.Lists.{sizes-cons}
 
 -- ---- trees one after another
 
@@ -22,10 +23,6 @@ pub starts-length : (i : ℕ) (ts : List Tree) → length (starts-from i ts) ≡
 unfolding starts-from
 starts-length i [] = refl
 starts-length i (t ∷ ts) = ap suc (starts-length (i + size t) ts)
-
-sizes-cons : (t : Tree) (ts : List Tree) → sizes (t ∷ ts) ≡ size t + sizes ts
-unfolding sizes total
-sizes-cons t ts = refl
 
 sizes-none : sizes [] ≡ 0
 unfolding sizes total

@@ -17,16 +17,14 @@ use Rattle.spec_tree.proofs.TokenCode.{unnumbered, writes-back}
 use Rattle.words.specs.tokens.Answers.{end-answer, same-answer}
 use Rattle.words.specs.declared.tokens.Run.the-variants as run
 use Rattle.words.specs.declared.tokens.Equality.the-variants as equality
+use Rattle.spec_tree.proofs.Logic.{not-true}
+use Rattle.spec_tree.proofs.Lists.{one-alone, first-alone}
 
 -- ---- a test as an equation
 
 test-true : (b : Bool) → T b → b ≡ true
 test-true true t = refl
 test-true false t = absurd t
-
-test-false : (b : Bool) → (T b → ⊥) → b ≡ false
-test-false true h = absurd (h tt)
-test-false false h = refl
 
 -- ---- two runs of as many words
 
@@ -50,7 +48,7 @@ pub runs-differ :
 runs-differ ws i j n k h ne =
     let a = take n (drop i ws) in
     let b = take n (drop j ws) in
-    sym (test-false (eq-bytes a b)
+    sym (not-true (eq-bytes a b)
     (λ t. ne (sym (word-at ws i n k h) ∙ (ap (λ (l : List ℕ). getD l k 0) (eq-bytes-sound a b t) ∙ word-at ws j n k h))))
 
 -- ---- the tree of a run
@@ -65,15 +63,6 @@ record RunTree (ws : List ℕ) (i n : ℕ) : Type 0 where
   -- and the run is its words
   code : all-tokens unnumbered (tree ws i ∷ []) ≡ take n (drop i ws)
 
-only : (l : List Tree) → length l ≡ 1 → l ≡ getD l 0 (Op 0 nil) ∷ []
-only [] e = absurd (omega arith)
-only (t ∷ []) e = refl
-only (t ∷ (u ∷ l)) e = absurd (omega arith)
-
-first : (l m : List Tree) → length l ≡ 1 → getD (l ++ m) 0 (Op 0 nil) ≡ getD l 0 (Op 0 nil)
-first [] m e = absurd (omega arith)
-first (t ∷ l) m e = refl
-
 run-tree : (ws : List ℕ) (i n : ℕ) → run-at ws i ≡ some n → RunTree ws i n
 unfolding run-at
 run-tree ws i n e =
@@ -84,13 +73,13 @@ run-tree ws i n e =
     let r = complete-read numbered words (drop n us) 1 (k .1) in
     let whole : read numbered us ≡ read numbered words ++ read numbered (drop n us) = rw take-append-drop at r in
     let is : tree ws i ≡ getD (read numbered words) 0 (Op 0 nil) =
-    tree-at numbered ws i ∙ (ap (λ (q : List Tree). getD q 0 (Op 0 nil)) whole ∙ first (read numbered words) (read numbered (drop n us)) l) in
+    tree-at numbered ws i ∙ (ap (λ (q : List Tree). getD q 0 (Op 0 nil)) whole ∙ first-alone (read numbered words) (read numbered (drop n us)) l) in
     record {
       within = k .0;
       from = is;
       code =
           ap (λ (t : Tree). all-tokens unnumbered (t ∷ [])) is
-          ∙ (ap (all-tokens unnumbered) (sym (only (read numbered words) l)) ∙ writes-back words 1 (k .1));
+          ∙ (ap (all-tokens unnumbered) (sym (one-alone (read numbered words) l)) ∙ writes-back words 1 (k .1));
     }
 
 -- ---- the answers
@@ -133,7 +122,7 @@ module _ (ws : List ℕ) (i j n m : ℕ) (ri : run-at ws i ≡ some n) (rj : run
   different-trees h =
       let a = run-tree ws i n ri in
       let b = run-tree ws j m rj in
-      test-false (eq-tree (tree ws i) (tree ws j))
+      not-true (eq-tree (tree ws i) (tree ws j))
       (λ t. h (sym (a .code) ∙ (ap (λ (u : Tree). all-tokens unnumbered (u ∷ [])) (eq-tree-sound (tree ws i) (tree ws j) t) ∙ b .code)))
 
   pub same-length-differs : (n ≡ m → ⊥) → equality.Different ≡ same-answer (same-at ws i j)
@@ -183,7 +172,7 @@ run-after ws at e p = go (run-at ws at) p
     go none p = absurd (let z : _≡_ {A = ℕ} 0 1 = cc in omega arith)
     go (some n) p = let q : e ≡ at + n = cc in omega arith
 
-broken-none : (at : ℕ) (o : Option ℕ) → run.Broken ≡ end-answer at o → o ≡ none
+pub broken-none : (at : ℕ) (o : Option ℕ) → run.Broken ≡ end-answer at o → o ≡ none
 unfolding end-answer
 broken-none at none p = refl
 broken-none at (some n) p = absurd (let z : _≡_ {A = ℕ} 0 1 = cc in omega arith)

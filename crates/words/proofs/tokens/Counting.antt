@@ -11,12 +11,7 @@ use Rattle.spec_tree.proofs.TokenLaws.{complete-cons, broken-here, broken-end, 
 use Rattle.words.specs.tokens.Answers.{count-answer, end-answer}
 use Rattle.words.specs.declared.tokens.Trees.the-variants as trees
 use Rattle.words.specs.declared.tokens.Run.the-variants as run
-
--- the words from one place earlier on
-pub earlier : (ws : List ℕ) (i : ℕ) → 0 < i → i ≤ length ws → drop (i - 1) ws ≡ getD ws (i - 1) 0 ∷ drop i ws
-earlier ws i h l =
-    let e : suc (i - 1) ≡ i = omega arith in
-    drop-cons ws (i - 1) 0 (omega arith) ∙ ap (λ (k : ℕ). getD ws (i - 1) 0 ∷ drop k ws) e
+use Rattle.spec_tree.proofs.Lists.{place-before}
 
 -- ---- counting from the right
 
@@ -36,12 +31,12 @@ pub counting-turns : {ws : List ℕ} {i n : ℕ} → Counting ws i n → 0 < i �
 counting-turns {ws} {i} {n} k h l =
     let w = getD ws (i - 1) 0 in
     let e : suc (n - takes w) ≡ n - takes w + 1 = omega arith in
-    counting ws (i - 1) (n - takes w + 1) (omega (arith, k .inside)) (rw (earlier ws i h (k .inside)) (complete-cons w (drop i ws) n (k .here) l ∙ ap some e))
+    counting ws (i - 1) (n - takes w + 1) (omega (arith, k .inside)) (rw (place-before ws i h (k .inside)) (complete-cons w (drop i ws) n (k .here) l ∙ ap some e))
 
 pub counting-stops : {ws : List ℕ} {i n : ℕ} → Counting ws i n → 0 < i → n < takes (getD ws (i - 1) 0) → trees.Broken ≡ count-answer (trees-in ws)
 unfolding count-answer
 counting-stops {ws} {i} {n} k h l =
-    rw (broken-end (i - 1) ws (rw (earlier ws i h (k .inside)) (broken-here (getD ws (i - 1) 0) (drop i ws) n (k .here) l)))
+    rw (broken-end (i - 1) ws (rw (place-before ws i h (k .inside)) (broken-here (getD ws (i - 1) 0) (drop i ws) n (k .here) l)))
 
 pub counting-ends : {ws : List ℕ} {i n : ℕ} → Counting ws i n → i ≤ 0 → trees.Count n ≡ count-answer (trees-in ws)
 unfolding count-answer

@@ -17,6 +17,7 @@ use Rattle.words.specs.declared.tokens.Trees.the-variants as trees
 use Rattle.words.specs.words.Words.{begins-with, some-trees, one-tree, sound}
 use Rattle.words.specs.words.Answers.{request-answer}
 use Rattle.words.specs.declared.words.Request.the-variants as request
+use Rattle.spec_tree.proofs.Logic.{not-true}
 
 pub counted : (n : ℕ) (o : Option ℕ) → trees.Count n ≡ count-answer o → o ≡ some n
 unfolding count-answer
@@ -89,20 +90,16 @@ test-true : (b : Bool) → T b → b ≡ true
 test-true true t = refl
 test-true false t = absurd t
 
-test-false : (b : Bool) → (T b → ⊥) → b ≡ false
-test-false true h = absurd (h tt)
-test-false false h = refl
-
 pub begins-short : (ws start : List ℕ) → length ws < length start → false ≡ begins-with ws start
 unfolding begins-with
 begins-short ws start h =
-    sym (test-false (eq-bytes (take (length start) ws) start)
+    sym (not-true (eq-bytes (take (length start) ws) start)
     (λ t. let e = ap length (eq-bytes-sound (take (length start) ws) start t) in omega (arith, e, length-take (length start) ws)))
 
 pub begins-differs : (ws start : List ℕ) (k : ℕ) → k < length start → (getD ws k 0 ≡ getD start k 0 → ⊥) → false ≡ begins-with ws start
 unfolding begins-with
 begins-differs ws start k h ne =
-    sym (test-false (eq-bytes (take (length start) ws) start)
+    sym (not-true (eq-bytes (take (length start) ws) start)
     (λ t. ne (sym (getD-take (length start) ws k 0 h) ∙ ap (λ (l : List ℕ). getD l k 0) (eq-bytes-sound (take (length start) ws) start t))))
 
 pub begins-all : (ws start : List ℕ) → length start ≤ length ws → ((k : ℕ) → k < length start → getD ws k 0 ≡ getD start k 0) → true ≡ begins-with ws start

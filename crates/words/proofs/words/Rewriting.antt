@@ -15,9 +15,10 @@ use Rattle.spec_tree.specs.Facts.{total, size}
 use Rattle.spec_tree.specs.Tokens.{word, tokens, all-tokens, kind-of, takes, tree-of-word, read, trees-in, words-of, numbered}
 use Rattle.spec_tree.proofs.FactLaws.{size-one}
 use Rattle.spec_tree.proofs.TreeLaws.{eq-bytes-sound, eq-bytes-refl, eq-tree-sound, eq-tree-refl}
-use Rattle.spec_tree.proofs.TokenLaws.{Word, a-symbol, a-constant, an-operation, word-is, leaf-takes, operation-takes, symbol-tree, operation-tree, operands-forest, map-append, sizes, made, read-cons, read-size, complete-tail, complete-length, complete-read, words-tail, words-complete, words-sizes}
+use Rattle.spec_tree.proofs.TokenLaws.{Word, a-symbol, a-constant, an-operation, word-is, leaf-takes, operation-takes, symbol-tree, operation-tree, operands-forest, map-append, sizes, made, read-cons, read-size, complete-tail, complete-length, complete-read, words-tail, words-complete, words-sizes, some-is}
 use Rattle.spec_tree.proofs.TokenCode.{tokens-length, all-tokens-append, all-tokens-cons, tokens-forest, writes-back}
 use Rattle.words.specs.words.Words.{number, rewritten-words, tree-of, name-of, begins-with}
+use Rattle.spec_tree.proofs.Lists.{one-alone}
 
 -- ---- a run of trees in front of others
 
@@ -75,14 +76,9 @@ name-written w h =
 
 -- ---- words that begin with a tree's
 
-only : (l : List Tree) → length l ≡ 1 → l ≡ getD l 0 (Op 0 nil) ∷ []
-only [] e = absurd (omega arith)
-only (t ∷ []) e = refl
-only (t ∷ (u ∷ l)) e = absurd (omega arith)
-
 pub one-written : (d : List ℕ) → trees-in d ≡ some 1 → all-tokens number (tree-of d ∷ []) ≡ d
 unfolding tree-of
-one-written d e = ap (all-tokens number) (sym (only (read numbered d) (complete-length numbered d 1 e))) ∙ writes-back d 1 e
+one-written d e = ap (all-tokens number) (sym (one-alone (read numbered d) (complete-length numbered d 1 e))) ∙ writes-back d 1 e
 
 pub one-long : (d : List ℕ) → trees-in d ≡ some 1 → 0 < length d
 unfolding trees-in
@@ -100,7 +96,7 @@ after-tree us d e t =
     let b = eq-bytes-sound (take (length d) us) d t in
     let r = complete-read numbered d (drop (length d) us) 1 e in
     let u : us ≡ d ++ drop (length d) us = sym (take-append-drop (length d) us) ∙ ap (λ (l : List ℕ). l ++ drop (length d) us) b in
-    ap (read numbered) u ∙ (r ∙ ap (λ (l : List Tree). l ++ read numbered (drop (length d) us)) (only (read numbered d) (complete-length numbered d 1 e)))
+    ap (read numbered) u ∙ (r ∙ ap (λ (l : List Tree). l ++ read numbered (drop (length d) us)) (one-alone (read numbered d) (complete-length numbered d 1 e)))
 
 first-is : (l : List Tree) (t : Tree) (m : List Tree) → l ≡ t ∷ m → getD l 0 (Op 0 nil) ≡ t
 first-is l t m e = ap (λ (q : List Tree). getD q 0 (Op 0 nil)) e
@@ -180,9 +176,6 @@ first-and-others zero l h k = absurd (omega arith)
 first-and-others (suc a) [] h k = absurd (omega arith)
 first-and-others (suc a) (t ∷ l) h k = omega (arith, many-words a l (omega arith))
 
-some-same : {n m : ℕ} → some n ≡ some m → n ≡ m
-some-same e = cc
-
 -- x words of the first operand, y of the node
 pub record Node (w : ℕ) (ws : List ℕ) (x y : ℕ) : Type 0 where
   pub inside : x + takes w ≤ y
@@ -204,8 +197,8 @@ node w ws n x y e h ex ey =
     let are : words-of ws (takes w) ≡ some (tail .words) = ap (words-of ws) (sym z) ∙ tail .are in
     let first = segment ws 1 x ex in
     let whole = segment (w ∷ ws) 1 y ey in
-    let sx : x ≡ sizes (take 1 rs) = some-same (sym ex ∙ words-sizes numbered ws (t .trees) 1 (t .are) (omega (arith, t .enough))) in
-    let sy : tail .words ≡ sizes (take (takes w) rs) = some-same (sym are ∙ words-sizes numbered ws (t .trees) (takes w) (t .are) (t .enough)) in
+    let sx : x ≡ sizes (take 1 rs) = some-is (sym ex ∙ words-sizes numbered ws (t .trees) 1 (t .are) (omega (arith, t .enough))) in
+    let sy : tail .words ≡ sizes (take (takes w) rs) = some-is (sym are ∙ words-sizes numbered ws (t .trees) (takes w) (t .are) (t .enough)) in
     let m = first-and-others (takes w) rs h (omega (arith, t .enough, l)) in
     let less : tail .words ≡ y - 1 = omega (arith, tail .one-more) in
     record {

@@ -5,11 +5,12 @@ use mathlib.Core.Path.{_≡_, refl, sym, _∙_, ap, ap₂, subst}
 use mathlib.Core.List.{List, [], _∷_, _++_, append-assoc, append-nil}
 use borrow.Rule.Slice.PartMut.{putMid}
 use lib.ListN.{length, take, drop, set, length-append, length-drop, drop-of-length-le}
-use lib.Seq.{take-all, take-at, drop-at, drop-drop, length-take-le, set-split}
+use lib.Seq.{take-at, drop-at, drop-drop, length-take-le, set-split}
 use Rattle.spec_tree.specs.Tree.{Tree}
 use Rattle.spec_tree.proofs.TokenLaws.{complete-end}
 use Rattle.words.specs.words.Words.{rewritten-words, Complete, Writes}
 use Rattle.words.proofs.words.Rewriting.{rewritten-none}
+use Rattle.spec_tree.proofs.Lists.{rest-is, rest-back}
 
 -- ---- words put at a place, everything else as it was
 
@@ -48,17 +49,6 @@ put-more old o a b out then-out p h e one two =
     ∙ (ap₂ (λ (x y : List ℕ). x ++ (b ++ y)) first past
     ∙ (append-assoc (take o old) a (b ++ drop (o + length (a ++ b)) old)
     ∙ ap (λ (x : List ℕ). take o old ++ x) (sym (append-assoc a b (drop (o + length (a ++ b)) old)))))
-
--- what is lent of a slice from a place on
-pub rest-is : (w : List ℕ) (u : ℕ) → take (length w - u) (drop u w) ≡ drop u w
-rest-is w u = take-all (length w - u) (drop u w) (omega (arith, length-drop u w))
-
--- and the whole when it comes back
-rest-back : (w x : List ℕ) (u : ℕ) → putMid u (length w - u) w x ≡ take u w ++ x
-rest-back w x u = ap (λ (l : List ℕ). take u w ++ (x ++ l)) (drop-of-length-le (drop u w) past) ∙ ap (λ (l : List ℕ). take u w ++ l) (append-nil x)
-  where
-    past : length (drop u w) ≤ length w - u
-    past = omega (arith, length-drop u w)
 
 pub put-lent :
     (old x new : List ℕ) (u : ℕ) → x ≡ new ++ drop (length new) (take (length old - u) (drop u old)) → Put old u new (putMid u (length old - u) old x)

@@ -2,9 +2,10 @@
 use native.Mathlib.Omega.{arith}
 use Prim.Native.Nat.{_-_}
 use lib.ListN.{length}
-use Rattle.reciprocals.proofs.final.Putting.{Putting, put-starts, put-turns, put-ends}
+use Rattle.reciprocals.proofs.final.Putting.{Putting, put-starts}
 use Rattle.cse_flat.proofs.ending.put.Statement.{statement}
 use Rattle.cse_flat.proofs.ending.put.Tie as tie
+use Rattle.rounds.proofs.Putting.{put-turns, put-ends}
 
 abbrev Inv-loop : tie.InvT-loop
 Inv-loop words at out₀ k₀ out k = Putting words out₀ at out k

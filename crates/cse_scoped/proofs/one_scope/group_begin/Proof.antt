@@ -1,14 +1,13 @@
 -- `cse_scoped::one_scope::group_begin` meets its contract. Assumes nothing.
 use native.Mathlib.Omega.{arith}
-use Rattle.cse_scoped.proofs.one_scope.Leaves.{begins-none, begins-at}
+use Rattle.cse_scoped.proofs.one_scope.Leaves.{begins-at}
 use borrow.Author.Needs.{needs}
 use Rattle.cse_scoped.proofs.one_scope.group_begin.Statement.{statement}
 use Rattle.cse_scoped.proofs.one_scope.group_begin.Tie as tie
-use Rattle.cse_scoped.proofs.one_scope.group_begin.Reads as reads
-use Rattle.cse_scoped.proofs.one_scope.group_begin.Lts as lts
+use Rattle.statements.proofs.Keys.{first-begins}
 
 returns : tie.Need-returns
-returns c = let a = c .before .args in begins-none (a .ends .now) (a .g) (c .if1 .taken)
+returns c = let a = c .before .args in first-begins (a .ends .now) (a .g) (c .if1 .taken)
 
 sub-result : tie.Need-sub-result
 sub-result c = search needs

@@ -1,10 +1,10 @@
 -- `load::one_record::operands_ok` meets its contract. Assumes nothing.
 use borrow.Author.Tests.{lt-leb, le-leb}
 use Rattle.node_rows.specs.kinds.Numbers.{kind-number}
-use Rattle.load.proofs.one_record.Pieces.{arity-by}
 use borrow.Author.Needs.{needs}
 use Rattle.load.proofs.one_record.operands_ok.Statement.{statement}
 use Rattle.load.proofs.one_record.operands_ok.Tie as tie
+use Rattle.spec_tree.proofs.KindLaws.{arity-by}
 
 pub operands-ok-spec : {M : Type 1} → statement M
 operands-ok-spec =

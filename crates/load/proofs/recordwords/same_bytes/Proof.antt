@@ -3,10 +3,11 @@ use Prim.Native.Nat.{_≤_, _-_}
 use mathlib.Core.Path.{_≡_, refl}
 use lib.ListN.{length, drop}
 use Rattle.spec_tree.specs.Bytes.{eq-bytes}
-use Rattle.load.proofs.recordwords.RecordWords.{other-lengths, same-next, same-stop, same-end}
+use Rattle.load.proofs.recordwords.RecordWords.{same-next, same-stop, same-end}
 use borrow.Author.Needs.{needs}
 use Rattle.load.proofs.recordwords.same_bytes.Statement.{statement}
 use Rattle.load.proofs.recordwords.same_bytes.Tie as tie
+use Rattle.spec_tree.proofs.TreeLaws.{other-lengths}
 
 abbrev Inv-loop : tie.InvT-loop
 Inv-loop a b i₀ i = (i ≤ length a) × (eq-bytes a b ≡ eq-bytes (drop i a) (drop i b))

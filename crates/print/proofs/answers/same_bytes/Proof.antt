@@ -4,10 +4,11 @@ use mathlib.Core.Path.{_≡_, refl}
 use lib.ListN.{length, drop}
 use native.Mathlib.Omega.{arith}
 use Rattle.spec_tree.specs.Bytes.{eq-bytes}
-use Rattle.laws.proofs.answer.RowFirst.{other-lengths, same-next, same-stop, same-end}
+use Rattle.laws.proofs.answer.RowFirst.{same-next, same-stop, same-end}
 use borrow.Author.Needs.{needs}
 use Rattle.print.proofs.answers.same_bytes.Statement.{statement}
 use Rattle.print.proofs.answers.same_bytes.Tie as tie
+use Rattle.spec_tree.proofs.TreeLaws.{other-lengths}
 
 abbrev Inv-loop : tie.InvT-loop
 Inv-loop a b k₀ k = (k ≤ length a) × (eq-bytes a b ≡ eq-bytes (drop k a) (drop k b))

@@ -1,11 +1,11 @@
 -- `replace::matching::stands_at` meets its contract. Assumes nothing.
 use mathlib.Core.Path.{_∙_, sym, ap}
 use Rattle.words.specs.words.Words.{begins-with}
-use Rattle.words.proofs.words.Scanning.{rest-is}
 use Rattle.replace.proofs.matching.Runs.{stands-within, stands-past}
 use borrow.Author.Needs.{needs}
 use Rattle.replace.proofs.matching.stands_at.Statement.{statement}
 use Rattle.replace.proofs.matching.stands_at.Tie as tie
+use Rattle.spec_tree.proofs.Lists.{rest-is}
 
 mul-starts-with : tie.Need-mul-starts-with
 mul-starts-with c = search needs

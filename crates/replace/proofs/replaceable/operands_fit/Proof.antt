@@ -1,10 +1,10 @@
 -- `replace::replaceable::operands_fit` meets its contract. Assumes nothing.
 use borrow.Author.Tests.{lt-leb, le-leb}
 use Rattle.node_rows.specs.kinds.Numbers.{kind-number}
-use Rattle.replace.proofs.replaceable.Tests.{arity-by}
 use borrow.Author.Needs.{needs}
 use Rattle.replace.proofs.replaceable.operands_fit.Statement.{statement}
 use Rattle.replace.proofs.replaceable.operands_fit.Tie as tie
+use Rattle.spec_tree.proofs.KindLaws.{arity-by}
 
 operand-counts-requires : tie.Need-operand-counts-requires
 operand-counts-requires c κs = search needs
