@@ -18,6 +18,10 @@ use topo_sort::Ordered;
 use topo_sort::order;
 use topo_sort::reads::mark_needs;
 use topo_sort::treelist::list_trees;
+use words::copying::put;
+use words::layout::FIRST_LET;
+use words::layout::NEXT_NAME;
+use words::layout::RESULT;
 use words::tokens::Run;
 use words::tokens::Trees;
 use words::tokens::count_trees;
@@ -39,13 +43,6 @@ const FEW_BITS: usize = 2048;
 // The most words of a tree: a reciprocal has two besides its divisor's.
 const TREE: usize = 1026;
 
-// The row of a let of `__xN` is FIRST_LET + NEXT_NAME * N.
-const FIRST_LET: u64 = 93;
-
-const NEXT_NAME: u64 = 192;
-
-const RESULT: u64 = 36;
-
 // Bindings that need each other, and an answer of more rows than lent.
 const RING: u64 = 11;
 
@@ -60,18 +57,6 @@ pub enum Finished {
     Broken,
     // More than 1,024 words, or bindings with the reciprocals.
     NoRoom,
-}
-
-// Writes words from a place on.
-fn put(words: &[u64], at: usize, out: &mut [u64])
-    requires { ⌜ at + length (now words) ≤ length (now out) ⌝ }
-    ensures { λ _. ⌜ now (out .exit) ≡ take at (now (out .entry)) ++ (now (words .entry) ++ drop (at + length (now (words .entry))) (now (out .entry))) ⌝ }
-{
-    let mut k = 0;
-    while k < words.len() {
-        out[at + k] = words[k];
-        k += 1;
-    }
 }
 
 // A tree from before, settled. That it lacks words never comes up.

@@ -19,6 +19,7 @@ use cse_flat::workarea::is_short;
 use fusion::tables::put;
 use node_rows::unfolded::Unfolded;
 use node_rows::unfolded::unfold;
+use words::layout::RESULT;
 
 // The words of the work area, which the open scopes share.
 const AREA: usize = 65536;
@@ -28,9 +29,6 @@ const SCOPES: usize = 9;
 
 // How many rows are kept of the first time. Few answers have more; each is a word of the stack.
 const KEPT: usize = 4096;
-
-// The kind of a result's row.
-const RESULT: u64 = 36;
 
 const SHORT_WORK: u64 = 8;
 

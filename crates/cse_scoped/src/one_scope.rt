@@ -4,8 +4,7 @@
 // are written, if the table has room for them.
 ghost use mathlib.Core.Path.{_≡_};
 ghost use mathlib.Core.Option.{some};
-ghost use mathlib.Core.List.{[], _∷_, _++_};
-ghost use Prim.Native.Nat.{suc, _+_, _-_, _*_, _≤_, _<_};
+ghost use Prim.Native.Nat.{_+_, _-_, _*_, _≤_, _<_};
 ghost use lib.ListN.{length, getD, take, drop};
 ghost use lib.Dec.{T};
 ghost use Rattle.spec_tree.specs.Tokens.{trees-in};
@@ -18,11 +17,11 @@ ghost use Rattle.laws.specs.switches.Switches.{arm-count, switch-places};
 ghost use Rattle.laws.specs.switches.Columns.{column-words};
 ghost use Rattle.fusion.specs.Words.{numbers-from};
 ghost use Rattle.fusion.specs.place.Overlay.{overlay};
-ghost use Rattle.fusion.specs.place.Parts.{place-groups, group-start, match-run, let-run, reciprocals-first, lets-count, words-held, held-words};
-ghost use Rattle.fusion.specs.place.Whole.{arms-told, group-told, stmts-count, tree-run, stmt-run, stmts-runs, values-runs, stmts-order, scope-told};
+ghost use Rattle.fusion.specs.place.Parts.{place-groups, group-start, match-run, reciprocals-first, words-held, held-words};
+ghost use Rattle.fusion.specs.place.Whole.{arms-told, group-told, stmts-count, stmt-run, stmts-runs, scope-told};
 ghost use Rattle.cse_scoped.specs.one_scope.Answers.{scope-answer, Laid, Scope-laid, told-rows, Lists, inner, arm-told, arms-answer, Arms-wrote, walk-answer, Walk-wrote, words-of, Holding-so, walk-refusal, refusal-number, Copied-so, Switches-so};
 ghost use Rattle.cse_scoped.specs.one_scope.Frame.{most-rows, Lent, Holds, Is-group, Arm-fits, Arms-fit, Members, groups-told, Ready, grouped-scope, Sized, Numbered, group-again, Group-sized, scope-arms, Positions, Left, left-scope, Grouping-so, Found-so};
-ghost use Rattle.statements.specs.Prepared.{Prepared, Readied, Grouped, begin-of, order-told, head-run};
+ghost use Rattle.statements.specs.Prepared.{Prepared, Grouped, begin-of};
 use fusion::columns::Column;
 use fusion::columns::copy_column;
 use fusion::grouping::Grouping;
@@ -43,6 +42,9 @@ use statements::write_match_head;
 use statements::write_values;
 use topo_sort::Ordered;
 use topo_sort::treelist::list_trees;
+use words::layout::ARM;
+use words::layout::KINDS;
+use words::layout::VALUE;
 use words::tokens::Trees;
 use words::tokens::count_trees;
 use words::tokens::operand_count;
@@ -64,13 +66,6 @@ const KEPT: usize = 2048;
 
 // The largest number that a scope may start with.
 const MOST_NUMBER: u64 = 2147483648;
-
-// An arm's row is ARM + KINDS * the count of its statements and values; a value's is of the kind VALUE.
-const ARM: u64 = 34;
-
-const KINDS: u64 = 64;
-
-const VALUE: u64 = 35;
 
 const BAD_COEFFICIENT: u64 = 10;
 

@@ -1,5 +1,4 @@
 // A sheet's scoped answer as text: load, extract and print, one after another. What is lent may be too short for any of them, and is then refused by its number.
-ghost use mathlib.Core.Path.{_≡_};
 ghost use Prim.Native.Nat.{_≤_};
 ghost use lib.ListN.{length, take};
 ghost use Rattle.spec_program.specs.Print.{print-call};
@@ -10,9 +9,7 @@ use load::Loaded;
 use load::load;
 use print::Printed;
 use print::print;
-
-// Words of a node row.
-const WIDTH: usize = 35;
+use words::layout::ROW_WIDTH;
 
 pub enum Said {
     // How many bytes the text is.
@@ -72,6 +69,6 @@ pub fn scoped_sheet(
     let loaded = load(sheet, rows, roots);
     match loaded {
         Loaded::Refused(number, record) => Said::Refused(number, record),
-        Loaded::Table(n, m) => extracted(rows, WIDTH * n, roots, m, work, text, table, out),
+        Loaded::Table(n, m) => extracted(rows, ROW_WIDTH * n, roots, m, work, text, table, out),
     }
 }

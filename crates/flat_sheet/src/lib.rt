@@ -9,9 +9,7 @@ ghost use Rattle.flat_sheet.specs.FlatSheet.{from-extract, extracted-fro
 use cse_flat::Extraction;
 use load::Loaded;
 use load::load;
-
-// Words of a node row.
-const WIDTH: usize = 35;
+use words::layout::ROW_WIDTH;
 
 pub enum Flat {
     // How many words the node rows are, and how many the answer's rows.
@@ -58,6 +56,6 @@ pub fn flat_sheet(
     let loaded = load(sheet, rows, roots);
     match loaded {
         Loaded::Refused(number, record) => Flat::Refused(number, record),
-        Loaded::Table(n, m) => extracted(rows, WIDTH * n, roots, m, work, text, table),
+        Loaded::Table(n, m) => extracted(rows, ROW_WIDTH * n, roots, m, work, text, table),
     }
 }

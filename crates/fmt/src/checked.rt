@@ -10,31 +10,19 @@ ghost use Rattle.fmt.specs.checked.Check.{rows-in, tree-in, word-ok, che
 use node_rows::kinds::Counts;
 use node_rows::kinds::operand_counts;
 use node_rows::names::is_name;
+use words::layout::CLASSES;
+use words::layout::CONST;
+use words::layout::KINDS;
+use words::layout::NEG;
+use words::layout::ROW_WIDTH;
+use words::layout::SELECT;
+use words::layout::SELECT_OR;
+use words::layout::SYM;
 use words::tokens::Run;
 use words::tokens::end_of;
 
-// A word is kind + KINDS * below.
-const KINDS: u64 = 64;
-
-// The kinds that the code names, by their numbers. A Select with a default has a number of its own.
-const SYM: u64 = 0;
-
-const CONST: u64 = 1;
-
-const NEG: u64 = 2;
-
-const SELECT: u64 = 27;
-
-const SELECT_OR: u64 = 28;
-
-// A symbol's code is class + CLASSES * number; class 0 is a symbol of the list, the others are names that an answer makes.
-const CLASSES: u64 = 3;
-
 // 0, -1, 1, -2, .. have the codes 0, 1, 2, 3, ..: this is the code of 10^15 - 1, and the one before it is its negative's.
 const LARGEST: u64 = 1999999999999998;
-
-// A row is 35 words: kind, default flag, how many fields, and the fields.
-const ROW_WIDTH: usize = 35;
 
 const MOST_FIELDS: u64 = 32;
 

@@ -1,5 +1,4 @@
 // The name of a kind's function as text. A writer that never fails, as those of `emit`.
-ghost use mathlib.Core.Path.{_≡_};
 ghost use mathlib.Core.List.{_++_};
 ghost use Rattle.spec_tree.specs.Bytes.{bytes};
 ghost use Rattle.spec_tree.specs.Kinds.{printed-name};

@@ -7,9 +7,7 @@ use crate::emit::place;
 use crate::emit::put;
 use crate::emit::put_bytes;
 use crate::emit::put_decimal;
-
-// Words of a node row: its kind, whether a Select has a default, its number of fields, and 32 fields.
-const WIDTH: usize = 35;
+use words::layout::ROW_WIDTH;
 
 const FIELDS: usize = 32;
 
@@ -37,11 +35,11 @@ fn field_count(n: u64) -> usize
 fn put_row_name(rows: &[u64], out: &mut [u8], dry: bool, to: usize, n: u64) -> usize
     ensures { λ r. ⌜ Writes dry (now (out .entry)) to (low-bytes (row-name (now (rows .entry)) n)) (now (out .exit)) r ⌝ }
 {
-    let count = rows.len() / WIDTH;
+    let count = rows.len() / ROW_WIDTH;
     if n >= count as u64 {
         return place(out, to);
     }
-    let at = n as usize * WIDTH;
+    let at = n as usize * ROW_WIDTH;
     if rows[at] != 0 {
         return place(out, to);
     }

@@ -7,25 +7,15 @@ ghost use Rattle.fmt.specs.shapes.Places.{tree-here, Stands, Passes};
 ghost use Rattle.fmt.specs.shapes.Operands.{opening, sign, between, closing, left-test, right-test, brackets};
 ghost use Rattle.fmt.specs.writer.Answers.{write-answer};
 use crate::checked::Checked;
-
-// A word is kind + KINDS * below; the kinds are numbered as 01 lists them.
-const KINDS: u64 = 64;
-
-const SYM: u64 = 0;
-
-const CONST: u64 = 1;
-
-const NEG: u64 = 2;
-
-const ADD: u64 = 3;
-
-const SUB: u64 = 4;
-
-const MUL: u64 = 5;
-
-const DIV: u64 = 6;
-
-const POW: u64 = 7;
+use words::layout::ADD;
+use words::layout::CONST;
+use words::layout::DIV;
+use words::layout::KINDS;
+use words::layout::MUL;
+use words::layout::NEG;
+use words::layout::POW;
+use words::layout::SUB;
+use words::layout::SYM;
 
 // The precedences of the source: sums, products, Neg, Pow, and everything else.
 const SUMS: u64 = 1;

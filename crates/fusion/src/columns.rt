@@ -12,16 +12,13 @@ ghost use Rattle.laws.specs.switches.Switches.{arm-place};
 ghost use Rattle.laws.specs.switches.Columns.{column-words};
 ghost use Rattle.fusion.specs.columns.Copying.{armed-at, all-armed, copying};
 use crate::tables::put;
+use words::layout::BRANCH;
+use words::layout::KINDS;
 use words::tokens::Run;
 use words::tokens::Trees;
 use words::tokens::count_trees;
 use words::tokens::end_of;
 use words::tokens::operand_count;
-
-// A word is kind + KINDS * below; the switches are the kinds from this one on.
-const KINDS: u64 = 64;
-
-const BRANCH: u64 = 26;
 
 // A switch with an arm has a key too.
 const OPERANDS: u64 = 2;

@@ -2,15 +2,16 @@
 // stand in the words in which the switches were found, so a member is sought as it was when collected.
 ghost use mathlib.Core.Path.{_≡_};
 ghost use mathlib.Core.Bool.{true};
-ghost use mathlib.Core.Option.{some};
-ghost use mathlib.Core.List.{_++_};
 ghost use Prim.Native.Nat.{_≤_};
-ghost use lib.ListN.{length, take, drop};
+ghost use lib.ListN.{length, take};
 ghost use Rattle.spec_tree.specs.Tokens.{kind-of};
 ghost use Rattle.words.specs.words.Words.{name-of, Complete};
 ghost use Rattle.fusion.specs.Words.{fuse-step, fused-words};
 ghost use Rattle.fusion.specs.fuse.Answers.{stepped-answer, Front, all-small, fusing};
 use replace::outside::replace_outside_arms;
+use words::copying::copy;
+use words::layout::MATCH_NAME;
+use words::layout::NEXT_NAME;
 use words::tokens::Run;
 use words::tokens::Trees;
 use words::tokens::count_trees;
@@ -19,11 +20,6 @@ use words::words::Rewritten;
 
 // The most words that can be fused.
 const AREA: usize = 1929;
-
-// The word of `__mN` is FIRST_NAME + NEXT_NAME * N.
-const FIRST_NAME: u64 = 128;
-
-const NEXT_NAME: u64 = 192;
 
 // The largest number of a member.
 const NUMBERS: u64 = 549755813888;
@@ -42,18 +38,6 @@ enum Stepped {
     Words(usize),
     // No member is there.
     Broken,
-}
-
-// Copies s to the front of out.
-fn copy(s: &[u64], out: &mut [u64])
-    requires { ⌜ length (now s) ≤ length (now out) ⌝ }
-    ensures { λ _. ⌜ now (out .exit) ≡ now (s .entry) ++ drop (length (now (s .entry))) (now (out .entry)) ⌝ }
-{
-    let mut i = 0;
-    while i < s.len() {
-        out[i] = s[i];
-        i += 1;
-    }
 }
 
 // Whether each number has a word.
@@ -116,7 +100,7 @@ fn steps(
     let mut k = 0;
     let mut n = len;
     while k < places.len() {
-        let name = FIRST_NAME + NEXT_NAME * numbers[k];
+        let name = MATCH_NAME + NEXT_NAME * numbers[k];
         let Stepped::Words(m) = step(base, places[k] as usize, name, work, n, spare) else {
             return Stepped::Broken;
         };

@@ -9,25 +9,18 @@ ghost use Rattle.laws.specs.switches.Switches.{switch-at};
 ghost use Rattle.fusion.specs.place.Reads.{place-of, group-of, with-read, with-reads, arms-run};
 ghost use Rattle.fusion.specs.scopeneeds.Marked.{with-let, with-match, switch-inside, all-switches, arms-there, arms-marked};
 use words::bits::set;
+use words::layout::BRANCH;
+use words::layout::KINDS;
+use words::layout::LET_NAME;
+use words::layout::MATCH_NAME;
+use words::layout::NEXT_NAME;
 use words::tokens::Run;
 use words::tokens::Trees;
 use words::tokens::count_trees;
 use words::tokens::end_of;
 
-// The word of `__xN` is LET_NAME + NAMES * N, that of `__mN` is MATCH_NAME + NAMES * N.
-const LET_NAME: u64 = 64;
-
-const MATCH_NAME: u64 = 128;
-
-const NAMES: u64 = 192;
-
 // The places in a row of the table.
 const COLUMNS: usize = 2048;
-
-// A word is kind + KINDS * operands; the least kind with arms is a Branch.
-const KINDS: u64 = 64;
-
-const BRANCH: u64 = 26;
 
 // Where a number first stands among some; past them where it doesn't.
 fn find_number(n: u64, numbers: &[u64]) -> usize
@@ -97,12 +90,12 @@ fn mark_read(
 )
     ensures { λ _. ⌜ now (table .exit) ≡ with-read first lets (now (numbers .entry)) (now (ends .entry)) w row (now (table .entry)) ⌝ }
 {
-    if w % NAMES == LET_NAME {
-        mark_let(w / NAMES, first, lets, row, table);
+    if w % NEXT_NAME == LET_NAME {
+        mark_let(w / NEXT_NAME, first, lets, row, table);
         return;
     }
-    if w % NAMES == MATCH_NAME {
-        mark_match(w / NAMES, lets, numbers, ends, row, table);
+    if w % NEXT_NAME == MATCH_NAME {
+        mark_match(w / NEXT_NAME, lets, numbers, ends, row, table);
     }
 }
 

@@ -8,16 +8,12 @@ ghost use Rattle.laws.specs.positions.Places.{numbered-at, among-places};
 ghost use Rattle.laws.specs.switches.Switches.{switch-places, new-switch};
 ghost use Rattle.fusion.specs.switches.Listing.{switch-word, Inside, Outsides, put-front, listing};
 use rounds::uses::mark_outside;
+use words::layout::BRANCH;
+use words::layout::KINDS;
 use words::tokens::Equality;
 use words::tokens::Trees;
 use words::tokens::count_trees;
 use words::tokens::same;
-
-// A word is kind + KINDS * operands.
-const KINDS: u64 = 64;
-
-// The least kind with arms: Branch, Select and Select with a default come last.
-const BRANCH: u64 = 26;
 
 pub enum SwitchList {
     // How many places were written.

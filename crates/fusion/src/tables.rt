@@ -5,11 +5,8 @@ ghost use mathlib.Core.Bool.{true};
 ghost use mathlib.Core.List.{[], _∷_};
 ghost use Rattle.fusion.specs.place.Overlay.{overlay};
 ghost use Rattle.fusion.specs.tables.Names.{names-fit, names-put, rows-of-names};
-
-// The row of `__mN` is FIRST_ROW + NEXT_ROW * N.
-const FIRST_ROW: u64 = 161;
-
-const NEXT_ROW: u64 = 192;
+use words::layout::MATCH_NAME_ROW;
+use words::layout::NEXT_NAME;
 
 // The largest number of a name.
 const NUMBERS: u64 = 549755813888;
@@ -69,7 +66,7 @@ fn write_names(numbers: &[u64], at: usize, table: &mut [u64])
         if i >= room {
             return;
         }
-        table[at + i] = FIRST_ROW + NEXT_ROW * numbers[i];
+        table[at + i] = MATCH_NAME_ROW + NEXT_NAME * numbers[i];
         i += 1;
     }
 }

@@ -9,33 +9,21 @@ mod recordlist;
 mod recordwords;
 
 ghost use mathlib.Core.Path.{_≡_};
-ghost use mathlib.Core.List.{List, _++_};
-ghost use Prim.Native.Nat.{_+_, _*_, _/_, _≤_, _<_};
-ghost use lib.ListN.{length, drop};
+ghost use Prim.Native.Nat.{_*_, _/_, _≤_, _<_};
+ghost use lib.ListN.{length};
 ghost use Rattle.spec_sheet.specs.Call.{load-call};
 ghost use Rattle.load.specs.Loads.{Loads, Finished};
 use crate::recordlist::Records;
 use crate::recordlist::read_records;
 use node_rows::rows::Checked;
 use node_rows::rows::check_domain;
+use words::copying::copy;
 
 pub enum Loaded {
     // How many rows and roots.
     Table(usize, usize),
     // 01's number and the record.
     Refused(u64, u64),
-}
-
-// Copies s to the front of out.
-fn copy(s: &[u64], out: &mut [u64])
-    requires { ⌜ length (now s) ≤ length (now out) ⌝ }
-    ensures { λ _. ⌜ now (out .exit) ≡ now (s .entry) ++ drop (length (now (s .entry))) (now (out .entry)) ⌝ }
-{
-    let mut i = 0;
-    while i < s.len() {
-        out[i] = s[i];
-        i += 1;
-    }
 }
 
 // The limits on all roots together, and the copy into what is lent.

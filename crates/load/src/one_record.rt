@@ -14,22 +14,15 @@ use crate::commas::Split;
 use crate::numerals::Constant;
 use crate::numerals::Number;
 use crate::recordwords::Word;
+use words::layout::CONST;
+use words::layout::ROW_WIDTH;
+use words::layout::SELECT;
+use words::layout::SELECT_OR;
+use words::layout::SYM;
 
 const COMMA: u8 = 44;
 
-// The kinds that the code names, by their numbers. A Select with a default is a word of its own in a sheet, and a Select in a row.
-const SYM: u64 = 0;
-
-const CONST: u64 = 1;
-
-const SELECT: u64 = 27;
-
-const SELECT_OR: u64 = 28;
-
 const ROOT: u64 = 29;
-
-// The words of a row.
-const WIDTH: usize = 35;
 
 // The most rows and the most roots of a table.
 const ROWS: u64 = 1024;
@@ -101,7 +94,7 @@ fn clear(row: &mut [u64])
     ensures { λ r. ⌜ now (row .exit) ≡ replicate 35 0 ++ drop 35 (now (row .entry)) ⌝ }
 {
     let mut i = 0;
-    while i < WIDTH {
+    while i < ROW_WIDTH {
         row[i] = 0;
         i += 1;
     }
@@ -246,7 +239,7 @@ fn read_fields(kind: u64, s: &[u8], rows: u64, roots: u64, row: &mut [u64]) -> R
 pub fn read_record(record: &[u8], rows: u64, roots: u64, row: &mut [u64]) -> Read
     ensures { λ r. ⌜ Reads rows roots (now («record» .entry)) (now (row .entry)) r (now (row .exit)) ⌝ }
 {
-    if row.len() < WIDTH {
+    if row.len() < ROW_WIDTH {
         return Read::NoRoom;
     }
     if rows > MANY_ROWS {

@@ -1,6 +1,5 @@
 // All records of a sheet, one after another, into a table of rows and a list of roots, up to the first that is refused. A sheet of more than 65,535 bytes, or a table
 // or list too short for the most that a sheet may have, is not read at all.
-ghost use mathlib.Core.Path.{_≡_};
 ghost use Prim.Native.Nat.{_≤_};
 ghost use lib.ListN.{length};
 ghost use Rattle.load.specs.one_record.Item.{record-item};

@@ -5,13 +5,9 @@ use crate::bounds::all_below;
 use crate::constants::constant_ok;
 use crate::kinds::operand_counts;
 use crate::names::is_name;
-
-// The kinds that the code names, by their numbers.
-const SYM: u64 = 0;
-
-const CONST: u64 = 1;
-
-const SELECT: u64 = 27;
+use words::layout::CONST;
+use words::layout::SELECT;
+use words::layout::SYM;
 
 fn operation_ok(kind: u64, default: bool, operands: &[u64], i: u64) -> bool
     ensures { λ r. ⌜ r ≡ operation-test kind default (now (operands .entry)) i ⌝ }

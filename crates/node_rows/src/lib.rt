@@ -5,6 +5,6 @@ mod fields;
 pub mod kinds;
 mod layout;
 pub mod names;
-mod records;
+pub mod records;
 pub mod rows;
 pub mod unfolded;

@@ -1,9 +1,8 @@
 // How many bytes the sheet has that gives a table. Load takes at most 65,535, so rows whose sheet is longer are none that it lays out.
 ghost use mathlib.Core.Path.{_≡_};
 ghost use mathlib.Core.Bool.{_&&_};
-ghost use mathlib.Core.List.{List};
-ghost use Prim.Native.Nat.{ℕ, _+_, _*_, _/_, _≤_, _<_};
-ghost use lib.ListN.{length, take, drop};
+ghost use Prim.Native.Nat.{_+_, _*_, _/_, _≤_, _<_};
+ghost use lib.ListN.{length};
 ghost use Rattle.spec_tree.specs.Bytes.{decimal, integer};
 ghost use Rattle.spec_tree.specs.Kinds.{kind-at};
 ghost use Rattle.spec_tree.specs.Records.{numbers-text, row-record, row-records, root-records, terminated};

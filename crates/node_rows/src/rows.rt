@@ -9,14 +9,9 @@ ghost use Rattle.node_rows.specs.rows.Check.{checked, check-domain, row-
 ghost use Rattle.node_rows.specs.rows.Measure.{pick, capped-size, capped-level, level-by, row-operands, Filled};
 use crate::bounds::all_below;
 use crate::fields::fields_ok;
-
-// The kinds that the code names, by their numbers.
-const NEG: u64 = 2;
-
-const BRANCH: u64 = 26;
-
-// The words of a row.
-const ROW_WIDTH: usize = 35;
+use words::layout::BRANCH;
+use words::layout::NEG;
+use words::layout::ROW_WIDTH;
 
 // How many occurrences the roots have, or that the rows are past a limit.
 pub enum Checked {

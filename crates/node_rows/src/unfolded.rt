@@ -1,17 +1,17 @@
 // Node rows unfolded into the words of their roots' trees: one word for each occurrence, a node before its operands, left to right. `unfold` is
 // for callers. The functions before it ask that the rows are laid out as load lays them out, which `check_rows` decides before they are called.
 ghost use mathlib.Core.Path.{_≡_};
-ghost use mathlib.Core.List.{List};
 ghost use Prim.Native.Nat.{_+_, _*_, _≤_, _<_, _^_};
 ghost use lib.Dec.{T, ltb};
-ghost use lib.ListN.{length, getD, take, drop};
+ghost use lib.ListN.{length, getD};
 ghost use Rattle.spec_tree.specs.Bytes.{eq-bytes, every};
 ghost use Rattle.spec_tree.specs.Rows.{trees};
 ghost use Rattle.spec_tree.specs.Layout.{row-fields, signed, laid-out, table-of};
 ghost use Rattle.spec_tree.specs.Tokens.{number-in, constant-code, all-tokens};
 ghost use Rattle.node_rows.specs.unfolded.Write.{Wrote};
-ghost use Rattle.node_rows.specs.unfolded.Unfold.{row-count, rows-in, row-at, words-at, row-number, operand-rows, run, runs, Rows-laid, unfolded, Answers};
+ghost use Rattle.node_rows.specs.unfolded.Unfold.{row-count, rows-in, row-at, row-number, operand-rows, run, runs, Rows-laid, unfolded, Answers};
 use crate::rows::Checked;
+use words::layout::ROW_WIDTH;
 
 pub enum Unfolded {
     // How many words the trees are.
@@ -19,9 +19,6 @@ pub enum Unfolded {
     // 8 or 9.
     Refused(u64),
 }
-
-// Words of a row: its kind, whether a Select has a default, its number of fields, and 32 fields.
-const WIDTH: usize = 35;
 
 // Whether two runs of one length are the same words.
 fn same_words(a: &[u64], b: &[u64]) -> bool
@@ -44,7 +41,7 @@ fn kind_of(rows: &[u64], r: usize) -> u64
     requires { ⌜ r < row-count (now rows) ⌝ }
     ensures { λ k. ⌜ (k ≡ row-number (row-at (now (rows .entry)) r)) × (k ≤ 28) ⌝ }
 {
-    let at = r * WIDTH;
+    let at = r * ROW_WIDTH;
     let default = rows[at + 1];
     rows[at] + default
 }
@@ -57,11 +54,11 @@ fn first_named(rows: &[u64], r: usize) -> usize
     requires { ⌜ row-number (row-at (now rows) r) ≡ 0 ⌝ }
     ensures { λ e. ⌜ (e ≡ number-in (rows-in (now (rows .entry))) (row-fields (row-at (now (rows .entry)) r))) × (e ≤ r) ⌝ }
 {
-    let own = r * WIDTH;
+    let own = r * ROW_WIDTH;
     let mut i = 0;
     while i < r {
-        let at = i * WIDTH;
-        if same_words(&rows[at..at + WIDTH], &rows[own..own + WIDTH]) {
+        let at = i * ROW_WIDTH;
+        if same_words(&rows[at..at + ROW_WIDTH], &rows[own..own + ROW_WIDTH]) {
             return i;
         }
         i += 1;
@@ -83,7 +80,7 @@ fn node_word(rows: &[u64], r: usize) -> u64
     requires { ⌜ r < row-count (now rows) ⌝ }
     ensures { λ w. ⌜ w ≡ getD (run (now (rows .entry)) r) 0 0 ⌝ }
 {
-    let at = r * WIDTH;
+    let at = r * ROW_WIDTH;
     let kind = kind_of(rows, r);
     if kind == 0 {
         return 192 * (first_named(rows, r) as u64);
@@ -103,7 +100,7 @@ fn operand_count(rows: &[u64], r: usize) -> usize
     if kind_of(rows, r) < 2 {
         return 0;
     }
-    let at = r * WIDTH;
+    let at = r * ROW_WIDTH;
     rows[at + 2] as usize
 }
 
@@ -115,7 +112,7 @@ fn unfold_row(rows: &[u64], r: usize, out: &mut [u64], at: usize) -> usize
     ensures { λ e. ⌜ Wrote (now (out .entry)) at (run (now (rows .entry)) r) e (now (out .exit)) ⌝ }
 {
     out[at] = node_word(rows, r);
-    let first = r * WIDTH + 3;
+    let first = r * ROW_WIDTH + 3;
     let end = first + operand_count(rows, r);
     unfold_each(rows, &rows[first..end], out, at + 1)
 }

@@ -15,36 +15,19 @@ ghost use Rattle.laws.specs.answer.Fronts.{statement-row, TreeFront, ValuesFron
 ghost use Rattle.print.specs.answers.Said.{row-at, Says, Counts, Names, Heads, Tells, Spans, Ways, laid-answer};
 use fmt::checked::Checked;
 use fmt::checked::tree_ok;
-
-// A word is kind + KINDS * below.
-const KINDS: u64 = 64;
-
-// The kinds of rows that are no expressions'. A match's is 30 for Branch, 31 for Select, 32 for a Select with a default.
-const LET: u64 = 29;
-
-const BRANCH: u64 = 30;
-
-const SELECT: u64 = 31;
-
-const SELECT_OR: u64 = 32;
-
-const NAME: u64 = 33;
-
-const ARM: u64 = 34;
-
-const VALUE: u64 = 35;
-
-const RESULT: u64 = 36;
-
-// A symbol's code is class + CLASSES * number: of a symbol of the list, of a name that a let binds, or of one that a match binds.
-const CLASSES: u64 = 3;
-
-const LET_NAME: u64 = 1;
-
-const MATCH_NAME: u64 = 2;
-
-// A row of the list is 35 words: kind, default flag, how many fields, and 32 fields.
-const ROW_WIDTH: usize = 35;
+use words::layout::ARM;
+use words::layout::BRANCH_ROW;
+use words::layout::CLASSES;
+use words::layout::KINDS;
+use words::layout::LET;
+use words::layout::LET_CLASS;
+use words::layout::MATCH_CLASS;
+use words::layout::NAME;
+use words::layout::RESULT;
+use words::layout::ROW_WIDTH;
+use words::layout::SELECT_OR_ROW;
+use words::layout::SELECT_ROW;
+use words::layout::VALUE;
 
 const MOST_FIELDS: u64 = 32;
 
@@ -249,7 +232,7 @@ fn names(words: &[u64], at: usize) -> usize
         if w % KINDS != NAME {
             return i;
         }
-        if w / KINDS % CLASSES != MATCH_NAME {
+        if w / KINDS % CLASSES != MATCH_CLASS {
             return i;
         }
         i += 1;
@@ -271,10 +254,10 @@ fn arms_fit(row: u64, arms: usize) -> bool
     requires { ⌜ (30 ≤ row) × (row ≤ 32) ⌝ }
     ensures { λ r. ⌜ r ≡ (is-switch (row - 4) && arity-ok (row - 4) (1 + arms)) ⌝ }
 {
-    if row == BRANCH {
+    if row == BRANCH_ROW {
         return arms == 2;
     }
-    if row == SELECT {
+    if row == SELECT_ROW {
         return between(arms, 1, 16);
     }
     between(arms, 2, 17)
@@ -287,10 +270,10 @@ fn head(rows: &[u64], words: &[u64], at: usize) -> Opening
 {
     let w = words[at];
     let row = w % KINDS;
-    if row < BRANCH {
+    if row < BRANCH_ROW {
         return Opening::Broken;
     }
-    if row > SELECT_OR {
+    if row > SELECT_OR_ROW {
         return Opening::Broken;
     }
     let Part::Ends(start) = tree(rows, words, at + 1) else {
@@ -319,7 +302,7 @@ fn binding(rows: &[u64], words: &[u64], at: usize) -> Part
     requires { ⌜ getD (now words) at 0 % 64 ≡ 29 ⌝ }
     ensures { λ r. ⌜ Says (StmtFront (rows-in (now (rows .entry)))) (now (words .entry)) at r ⌝ }
 {
-    if words[at] / KINDS % CLASSES != LET_NAME {
+    if words[at] / KINDS % CLASSES != LET_CLASS {
         return Part::Broken;
     }
     tree(rows, words, at + 1)
@@ -485,10 +468,10 @@ fn binds(words: &[u64], at: usize, code: u64) -> bool
     if row == LET {
         return w / KINDS == code;
     }
-    if row < BRANCH {
+    if row < BRANCH_ROW {
         return false;
     }
-    if row > SELECT_OR {
+    if row > SELECT_OR_ROW {
         return false;
     }
     let Part::Ends(end) = span_end(words, at + 1, words.len()) else {
@@ -505,7 +488,7 @@ fn is_entered(w: u64) -> bool
     if row == ARM {
         return true;
     }
-    if row < BRANCH {
+    if row < BRANCH_ROW {
         return false;
     }
     row < NAME
@@ -601,10 +584,10 @@ fn is_binding(w: u64) -> bool
 {
     let row = w % KINDS;
     if row == LET {
-        return w / KINDS % CLASSES == LET_NAME;
+        return w / KINDS % CLASSES == LET_CLASS;
     }
     if row == NAME {
-        return w / KINDS % CLASSES == MATCH_NAME;
+        return w / KINDS % CLASSES == MATCH_CLASS;
     }
     false
 }

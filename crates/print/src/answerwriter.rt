@@ -3,7 +3,7 @@
 // call each other down the nesting, each further on in the words.
 ghost use mathlib.Core.Path.{_≡_};
 ghost use mathlib.Core.List.{List, _++_};
-ghost use Prim.Native.Nat.{ℕ, _+_, _<_, _≤_};
+ghost use Prim.Native.Nat.{_+_, _<_, _≤_};
 ghost use lib.ListN.{length, drop};
 ghost use Rattle.spec_tree.specs.Bytes.{bytes, decimal};
 ghost use Rattle.spec_tree.specs.Rows.{Row};
@@ -17,22 +17,13 @@ ghost use Rattle.print.specs.told.Pieces.{tuple-opening, comma, tuple-cl
 ghost use Rattle.print.specs.told.Writers.{TreeWritten, ValuesWritten, NamesWritten, LetWritten, HeadWritten, StmtWritten, ArmWritten, ArmsWritten, ResultsWritten, BindingsWritten, AnswerWritten, statement-ahead, SomeTree, SomeValues, SomeNames, SomeStmt, SomeArm, SomeArms, SomeResults, SomeAnswer};
 ghost use Rattle.print.specs.answerwriter.Bindings.{is-sign, key-of, binding-of, Readable};
 use fmt::writer::Text;
+use words::layout::BRANCH_ROW;
+use words::layout::KINDS;
+use words::layout::LET;
+use words::layout::NAME;
+use words::layout::RESULT;
+use words::layout::SELECT_OR_ROW;
 use words::tokens::Run;
-
-// A word is kind + KINDS * below.
-const KINDS: u64 = 64;
-
-// The kinds of rows that are no expressions'. A match's is 30 for a sign switch, 31 for an index switch, 32 for one with a default.
-const LET: u64 = 29;
-
-const SIGN: u64 = 30;
-
-const WITH_DEFAULT: u64 = 32;
-
-const NAME: u64 = 33;
-
-// A result's row, whole: nothing is said in it but its kind.
-const RESULT: u64 = 36;
 
 const LINE_FEED: u8 = 10;
 
@@ -288,7 +279,7 @@ fn read_binding(words: &[u64], at: usize) -> Binding
     };
     let bound = names_end(words, first) - first;
     let count = (w / KINDS) as usize - 1 - bound;
-    if kind == SIGN {
+    if kind == BRANCH_ROW {
         return Binding::Match(Switch::Sign(key), first, bound, count, false);
     }
     Binding::Match(
@@ -296,7 +287,7 @@ fn read_binding(words: &[u64], at: usize) -> Binding
         first,
         bound,
         count,
-        kind == WITH_DEFAULT,
+        kind == SELECT_OR_ROW,
     )
 }
 

@@ -8,19 +8,11 @@ ghost use Rattle.fmt.specs.emit.Writing.{Writes};
 ghost use Rattle.print.specs.lines.Refusal.{refusal-text};
 ghost use Rattle.print.specs.lines.Line.{starts-line, line-of, line-answer, bytes-left, opening, closing, Wrote};
 use fmt::writer::Text;
-
-// A word is kind + KINDS * below.
-const KINDS: u64 = 64;
-
-const LET: u64 = 29;
-
-// A result's row, whole: nothing is said in it but its kind.
-const RESULT: u64 = 36;
-
-// A name's code is 3 * number + 1 for `__xN`.
-const CLASSES: u64 = 3;
-
-const MADE: u64 = 1;
+use words::layout::CLASSES;
+use words::layout::KINDS;
+use words::layout::LET;
+use words::layout::LET_CLASS;
+use words::layout::RESULT;
 
 pub enum Line {
     // How many bytes the line has, and the place of the row after it.
@@ -43,7 +35,7 @@ fn begins(answer: &[u64], at: usize) -> bool
     if w % KINDS != LET {
         return false;
     }
-    w / KINDS % CLASSES == MADE
+    w / KINDS % CLASSES == LET_CLASS
 }
 
 fn put_opening(out: &mut [u8], dry: bool, w: u64) -> usize

@@ -2,7 +2,6 @@ pub mod Flat
 pub mod Entering
 pub mod Trees
 pub mod Ending
-pub mod Putting
 pub mod Rows
 pub mod Taking
 pub mod Marking

@@ -5,15 +5,12 @@ ghost use Prim.Native.Nat.{_≤_, _<_};
 ghost use lib.ListN.{length, drop};
 ghost use Rattle.words.specs.words.Words.{Complete};
 ghost use Rattle.reciprocals.specs.divisors.Listing.{second-answer, all-places, listing};
+use words::layout::DIV;
+use words::layout::KINDS;
 use words::tokens::Run;
 use words::tokens::Trees;
 use words::tokens::count_trees;
 use words::tokens::end_of;
-
-// A word is kind + KINDS * operands.
-const KINDS: u64 = 64;
-
-const DIV: u64 = 6;
 
 pub enum Divisors {
     // How many places were written.

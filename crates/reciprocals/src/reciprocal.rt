@@ -7,6 +7,8 @@ ghost use lib.ListN.{length, drop};
 ghost use Rattle.reciprocals.specs.reciprocal.Bindings.{all-there, one-over, reciprocal-answer};
 use crate::settle::Settled;
 use crate::settle::settle;
+use words::copying::copy;
+use words::layout::QUOTIENT;
 use words::tokens::Run;
 use words::tokens::end_of;
 
@@ -15,9 +17,6 @@ const AREA: usize = 9362;
 
 // How many words `1 / d` is besides those of d.
 const BESIDES: usize = 2;
-
-// The word of a Div of two operands.
-const QUOTIENT: u64 = 134;
 
 // The word of the constant 1.
 const ONE: u64 = 129;
@@ -43,18 +42,6 @@ pub fn all_there(base: &[u64], places: &[u64]) -> bool
         k += 1;
     }
     true
-}
-
-// Copies s to the front of out.
-fn copy(s: &[u64], out: &mut [u64])
-    requires { ⌜ length (now s) ≤ length (now out) ⌝ }
-    ensures { λ _. ⌜ now (out .exit) ≡ now (s .entry) ++ drop (length (now (s .entry))) (now (out .entry)) ⌝ }
-{
-    let mut i = 0;
-    while i < s.len() {
-        out[i] = s[i];
-        i += 1;
-    }
 }
 
 // Writes `1 / d` to the front of work, for the tree d between two places.

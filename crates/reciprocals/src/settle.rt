@@ -2,8 +2,6 @@
 // reciprocal. The divisors stand in the words from before the first was bound, so a reciprocal needs no tree of its own: it is made from its divisor when it is
 // needed.
 ghost use mathlib.Core.Path.{_≡_};
-ghost use mathlib.Core.Option.{some};
-ghost use mathlib.Core.List.{_++_};
 ghost use Prim.Native.Nat.{_+_, _≤_};
 ghost use lib.ListN.{length, take, drop};
 ghost use Rattle.spec_tree.specs.Tokens.{kind-of};
@@ -11,6 +9,9 @@ ghost use Rattle.words.specs.words.Words.{name-of, Complete};
 ghost use Rattle.reciprocals.specs.settle.Steps.{step-words, settled-words};
 ghost use Rattle.reciprocals.specs.settle.Answers.{stepped-answer, Front, settling};
 use replace::divisor::replace_divisor;
+use words::copying::copy;
+use words::layout::LET_NAME;
+use words::layout::NEXT_NAME;
 use words::tokens::Run;
 use words::tokens::Trees;
 use words::tokens::count_trees;
@@ -19,11 +20,6 @@ use words::words::Rewritten;
 
 // The most words that can be settled.
 const AREA: usize = 9362;
-
-// The word of `__xN` is FIRST_NAME + NEXT_NAME * N.
-const FIRST_NAME: u64 = 64;
-
-const NEXT_NAME: u64 = 192;
 
 // Where the first number and the number of places are at most this, every name has a word.
 const NUMBERS: u64 = 4294967296;
@@ -42,18 +38,6 @@ enum Stepped {
     Words(usize),
     // No divisor is there.
     Broken,
-}
-
-// Copies s to the front of out.
-fn copy(s: &[u64], out: &mut [u64])
-    requires { ⌜ length (now s) ≤ length (now out) ⌝ }
-    ensures { λ _. ⌜ now (out .exit) ≡ now (s .entry) ++ drop (length (now (s .entry))) (now (out .entry)) ⌝ }
-{
-    let mut i = 0;
-    while i < s.len() {
-        out[i] = s[i];
-        i += 1;
-    }
 }
 
 // Replaces one divisor in the first `len` words of `work`.
@@ -103,7 +87,7 @@ fn steps(
     let mut k = from;
     let mut n = len;
     while k < places.len() {
-        let name = FIRST_NAME + NEXT_NAME * (first + k as u64);
+        let name = LET_NAME + NEXT_NAME * (first + k as u64);
         let Stepped::Words(m) = step(base, places[k] as usize, name, work, n, spare) else {
             return Stepped::Broken;
         };

@@ -21,17 +21,14 @@ use fmt::checked::tree_ok;
 use fmt::textorder::TextOrder;
 use fmt::textorder::before_at;
 use rounds::uses::mark_outside;
+use words::layout::DIV;
+use words::layout::KINDS;
 use words::tokens::Equality;
 use words::tokens::Run;
 use words::tokens::Trees;
 use words::tokens::count_trees;
 use words::tokens::end_of;
 use words::tokens::same;
-
-// A word is kind + KINDS * operands.
-const KINDS: u64 = 64;
-
-const DIV: u64 = 6;
 
 // So many words at most, which the arrays hold; and bytes for two texts.
 const MOST_WORDS: usize = 1927;

@@ -9,20 +9,15 @@ ghost use Rattle.spec_rewrite.specs.Rewrite.{replace-divisor};
 ghost use Rattle.words.specs.words.Words.{tree-of, name-of, Complete, Writes};
 ghost use Rattle.words.specs.words.Answers.{rewriting};
 ghost use Rattle.replace.specs.divisor.Division.{division-of};
+use words::layout::DIV;
+use words::layout::KINDS;
+use words::layout::PRODUCT;
 use words::tokens::Run;
 use words::tokens::end_of;
 use words::words::Request;
 use words::words::Rewritten;
 use words::words::check;
 use words::words::starts_with;
-
-// A word is kind + KINDS * operands.
-const KINDS: u64 = 64;
-
-const DIV: u64 = 6;
-
-// The word of a Mul of two operands.
-const PRODUCT: u64 = 133;
 
 // Whether the first tree of some words is a division by a given tree.
 enum Division {

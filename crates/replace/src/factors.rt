@@ -8,16 +8,11 @@ ghost use lib.ListN.{length, getD};
 ghost use Rattle.spec_tree.specs.Facts.{total, size};
 ghost use Rattle.replace.specs.factors.Places.{tree, trees-from, Stands, passes-through, Tree-flat, Each-flat};
 ghost use Rattle.replace.specs.factors.Answers.{flatten-answer};
+use words::layout::CONST;
+use words::layout::KINDS;
+use words::layout::MUL;
+use words::layout::NEG;
 use words::tokens::Run;
-
-// A word is kind + KINDS * below.
-const KINDS: u64 = 64;
-
-const CONST: u64 = 1;
-
-const NEG: u64 = 2;
-
-const MUL: u64 = 5;
 
 // A product's coefficient and how many factors it has.
 pub struct Product {

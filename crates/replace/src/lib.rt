@@ -33,23 +33,19 @@ use crate::matching::names_at_end;
 use crate::matching::take_out;
 use crate::replaceable::are_formed;
 use crate::unit::is_one;
+use words::copying::copy;
+use words::layout::CONST;
+use words::layout::KINDS;
+use words::layout::MUL;
+use words::layout::PRODUCT;
 use words::tokens::Run;
 use words::tokens::end_of;
 use words::words::Request;
 use words::words::check;
 use words::words::starts_with;
 
-// A word is kind + KINDS * below.
-const KINDS: u64 = 64;
-
-const CONST: u64 = 1;
-
-const MUL: u64 = 5;
-
 // The words of a Neg and of a Mul.
 const MINUS: u64 = 66;
-
-const PRODUCT: u64 = 133;
 
 // The codes of the constants 1 and -1.
 const ONE: u64 = 2;
@@ -333,18 +329,6 @@ fn rewrite(
     Step::Wrote(o)
 }
 
-// Writes the trees as they were.
-fn put_back(tokens: &[u64], out: &mut [u64])
-    requires { ⌜ length (now tokens) ≤ length (now out) ⌝ }
-    ensures { λ _. ⌜ now (out .exit) ≡ now (tokens .entry) ++ drop (length (now (tokens .entry))) (now (out .entry)) ⌝ }
-{
-    let mut k = 0;
-    while k < tokens.len() {
-        out[k] = tokens[k];
-        k += 1;
-    }
-}
-
 // Rewrites trees, where there is room for them, or leaves them as they were.
 fn replace_sought(
     tokens: &[u64],
@@ -362,7 +346,7 @@ fn replace_sought(
     match step {
         Step::Wrote(n) => Replaced::Words(n),
         Step::Refused => {
-            put_back(tokens, out);
+            copy(tokens, out);
             Replaced::Refused
         }
     }

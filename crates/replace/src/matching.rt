@@ -4,22 +4,17 @@ ghost use mathlib.Core.Path.{_≡_};
 ghost use Prim.Native.Nat.{_+_, _-_, _≤_, _<_};
 ghost use mathlib.Core.List.{_++_};
 ghost use mathlib.Core.Logic.{_⊎_};
-ghost use lib.ListN.{length, getD, take, drop};
+ghost use lib.ListN.{length, take, drop};
 ghost use Rattle.words.specs.words.Words.{begins-with};
 ghost use Rattle.replace.specs.matching.Matching.{is-passed, factor-runs, run-end, words-at, remove-runs, names-after};
 ghost use Rattle.replace.specs.matching.Answers.{Seeks, Removes, Takes};
+use words::layout::CONST;
+use words::layout::KINDS;
+use words::layout::MUL;
+use words::layout::NEG;
 use words::tokens::Run;
 use words::tokens::end_of;
 use words::words::starts_with;
-
-// A word is kind + KINDS * below.
-const KINDS: u64 = 64;
-
-const CONST: u64 = 1;
-
-const NEG: u64 = 2;
-
-const MUL: u64 = 5;
 
 // What is left of some places.
 enum Removed {

@@ -1,27 +1,23 @@
 // `replace_outside_arms` of the source (01, "Scoped fusion"), on words of trees: each equal tree outside the arms of switches becomes a symbol, from one slice
 // to another.
 ghost use mathlib.Core.Path.{_≡_};
-ghost use mathlib.Core.List.{_++_};
 ghost use mathlib.Core.Option.{some};
 ghost use Prim.Native.Nat.{_≤_, _<_};
-ghost use lib.ListN.{length, drop};
+ghost use lib.ListN.{length};
 ghost use Rattle.spec_tree.specs.Tokens.{kind-of, trees-in};
 ghost use Rattle.spec_rewrite.specs.Rewrite.{replace-outside-arms};
 ghost use Rattle.words.specs.words.Words.{tree-of, name-of, Complete, Writes};
 ghost use Rattle.words.specs.words.Answers.{rewriting};
 ghost use Rattle.replace.specs.outside.Part.{part-of};
+use words::copying::copy;
+use words::layout::BRANCH;
+use words::layout::KINDS;
 use words::tokens::Run;
 use words::tokens::end_of;
 use words::words::Request;
 use words::words::Rewritten;
 use words::words::check;
 use words::words::starts_with;
-
-// A word is kind + KINDS * operands.
-const KINDS: u64 = 64;
-
-// The least kind with arms: Branch, Select and Select with a default come last.
-const BRANCH: u64 = 26;
 
 // What stands first in some words.
 enum Part {
@@ -55,18 +51,6 @@ fn first_part(tokens: &[u64], target: &[u64]) -> Part
         return Part::Node;
     };
     Part::Switch(arms, end)
-}
-
-// Copies s to the front of out.
-fn copy(s: &[u64], out: &mut [u64])
-    requires { ⌜ length (now s) ≤ length (now out) ⌝ }
-    ensures { λ _. ⌜ now (out .exit) ≡ now (s .entry) ++ drop (length (now (s .entry))) (now (out .entry)) ⌝ }
-{
-    let mut i = 0;
-    while i < s.len() {
-        out[i] = s[i];
-        i += 1;
-    }
 }
 
 // Rewrites the words from the left and returns how many were written. The key of a switch is rewritten by a call of its own, and its arms are copied.

@@ -4,15 +4,10 @@ ghost use Rattle.spec_tree.specs.Bytes.{every};
 ghost use Rattle.spec_tree.specs.Kinds.{arity-ok};
 ghost use Rattle.node_rows.specs.kinds.Numbers.{kind-number};
 ghost use Rattle.replace.specs.replacing.Replacing.{formed-word};
-
-// A word is kind + KINDS * below.
-const KINDS: u64 = 64;
-
-const CONST: u64 = 1;
-
-const SELECT: u64 = 27;
-
-const SELECT_OR: u64 = 28;
+use words::layout::CONST;
+use words::layout::KINDS;
+use words::layout::SELECT;
+use words::layout::SELECT_OR;
 
 // Whether a kind may have n operands.
 fn operands_fit(kind: u64, default: bool, n: u64) -> bool

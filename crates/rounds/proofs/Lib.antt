@@ -1,4 +1,3 @@
-pub mod Putting
 pub mod Testing
 pub mod Extracting
 pub mod Rounding

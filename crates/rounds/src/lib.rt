@@ -6,13 +6,9 @@ pub mod uses;
 mod value_numbers;
 
 ghost use mathlib.Core.Path.{_≡_};
-ghost use mathlib.Core.Bool.{Bool};
-ghost use mathlib.Core.List.{_++_};
-ghost use mathlib.Core.Option.{some};
 ghost use Prim.Native.Nat.{_+_, _≤_};
-ghost use lib.ListN.{length, take, drop};
+ghost use lib.ListN.{length, take};
 ghost use Rattle.spec_tree.specs.Bytes.{every};
-ghost use Rattle.spec_tree.specs.Tokens.{name-in};
 ghost use Rattle.fmt.specs.checked.Check.{rows-in};
 ghost use Rattle.rounds.specs.kept.Sound.{numbered-below};
 ghost use Rattle.rounds.specs.Answers.{Finds, Chosen, Extracts, Turns, round-answer};
@@ -21,17 +17,13 @@ use crate::choice::Best;
 use crate::choice::best_place;
 use replace::Replaced;
 use replace::replace;
+use words::copying::put;
+use words::layout::CLASSES;
+use words::layout::KINDS;
+use words::layout::LET_CLASS;
+use words::layout::SYM;
 use words::tokens::Run;
 use words::tokens::end_of;
-
-// A word is kind + KINDS * below; a symbol's below is class + CLASSES * number, and the class of `__xN` is MADE.
-const KINDS: u64 = 64;
-
-const SYM: u64 = 0;
-
-const CLASSES: u64 = 3;
-
-const MADE: u64 = 1;
 
 // The most words, five words of facts for each, and two places for each.
 const MOST_WORDS: usize = 1927;
@@ -74,18 +66,6 @@ pub enum Rounds {
     NoRoom,
 }
 
-// Writes words from a place on.
-fn put(words: &[u64], at: usize, out: &mut [u64])
-    requires { ⌜ at + length (now words) ≤ length (now out) ⌝ }
-    ensures { λ _. ⌜ now (out .exit) ≡ take at (now (out .entry)) ++ (now (words .entry) ++ drop (at + length (now (words .entry))) (now (out .entry))) ⌝ }
-{
-    let mut k = 0;
-    while k < words.len() {
-        out[at + k] = words[k];
-        k += 1;
-    }
-}
-
 // Whether a word's number, if it is that of a name made by extraction, is below the next.
 fn is_below(w: u64, name: u64) -> bool
     ensures { λ r. ⌜ r ≡ numbered-below name w ⌝ }
@@ -93,7 +73,7 @@ fn is_below(w: u64, name: u64) -> bool
     if w % KINDS != SYM {
         return true;
     }
-    if w / KINDS % CLASSES != MADE {
+    if w / KINDS % CLASSES != LET_CLASS {
         return true;
     }
     w / KINDS / CLASSES < name
@@ -194,7 +174,7 @@ fn extract(
     let Run::Ends(end) = end_of(tokens, at) else {
         return Replaced::Broken;
     };
-    let word = KINDS * (MADE + CLASSES * name);
+    let word = KINDS * (LET_CLASS + CLASSES * name);
     let replaced = replace(tokens, &tokens[at..end], word, &mut places, out);
     match replaced {
         Replaced::Words(n) => {

@@ -5,16 +5,11 @@ ghost use lib.ListN.{length, getD};
 ghost use Rattle.spec_tree.specs.Facts.{total, greatest};
 ghost use Rattle.spec_tree.specs.Tokens.{takes};
 ghost use Rattle.rounds.specs.measure.Columns.{column, Inside, Ready, own-operation, own-symbol, operand-costs, WordFacts};
+use words::layout::CONST;
+use words::layout::KINDS;
+use words::layout::SELECT;
+use words::layout::SYM;
 use words::tokens::operand_count;
-
-// A word is kind + KINDS * below; the kinds are numbered as 01 lists them, with 28 for a Select with a default.
-const KINDS: u64 = 64;
-
-const SYM: u64 = 0;
-
-const CONST: u64 = 1;
-
-const SELECT: u64 = 27;
 
 // Each place has PER_PLACE words of facts, in this order.
 const PER_PLACE: usize = 5;

@@ -4,15 +4,12 @@ ghost use Prim.Native.Nat.{_≤_, _<_};
 ghost use lib.ListN.{length};
 ghost use Rattle.rounds.specs.uses.Marks.{Complete, Cleared, Ones, Arms, Marking, not-in-arms};
 ghost use Rattle.rounds.specs.uses.Answers.{mark-answer};
+use words::layout::BRANCH;
+use words::layout::KINDS;
 use words::tokens::Run;
 use words::tokens::Trees;
 use words::tokens::count_trees;
 use words::tokens::end_of;
-
-// A word is kind + KINDS * below; from BRANCH on the kinds have arms.
-const KINDS: u64 = 64;
-
-const BRANCH: u64 = 26;
 
 pub enum Marked {
     Done,

@@ -16,6 +16,8 @@ use reciprocals::reciprocal::all_there;
 use reciprocals::reciprocal::reciprocal;
 use reciprocals::settle::Settled;
 use reciprocals::settle::settle;
+use words::layout::BRANCH;
+use words::layout::KINDS;
 use words::tokens::Trees;
 use words::tokens::count_trees;
 
@@ -27,11 +29,6 @@ const ROOM: usize = 1929;
 
 // Where the first number and the number of places are at most this, every name has a word.
 const NUMBERS: u64 = 4294967296;
-
-// A word is kind + KINDS * below; the switches are the kinds from this one on.
-const KINDS: u64 = 64;
-
-const BRANCH: u64 = 26;
 
 pub enum Held {
     // How many words are held.

@@ -27,6 +27,9 @@ use reciprocals::reciprocal::Bound;
 use reciprocals::reciprocal::reciprocal;
 use topo_sort::Ordered;
 use topo_sort::order;
+use words::layout::FIRST_LET;
+use words::layout::KINDS;
+use words::layout::NEXT_NAME;
 use words::tokens::Run;
 use words::tokens::end_of;
 
@@ -44,14 +47,7 @@ const FEW_BITS: usize = 2048;
 // The most words of a tree: a reciprocal has two besides its divisor's.
 const TREE: usize = 1929;
 
-// The row of a let of `__xN` is FIRST_LET + NEXT_NAME * N.
-const FIRST_LET: u64 = 93;
-
-const NEXT_NAME: u64 = 192;
-
-// A word is kind + KINDS * operands; a match's row has the kind of its switches and MATCH more.
-const KINDS: u64 = 64;
-
+// A match's row has the kind of its switches and MATCH more.
 const MATCH: u64 = 4;
 
 // The tree of number i among some words, at the front of `tree`. That it lacks words never comes up.

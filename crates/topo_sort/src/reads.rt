@@ -3,17 +3,14 @@ ghost use mathlib.Core.Path.{_≡_};
 ghost use lib.ListN.{length};
 ghost use Rattle.topo_sort.specs.reads.Marks.{place-inside, with-need, all-inside, with-needs};
 use words::bits::set;
-
-// The word of `__xN` is FIRST_NAME + NEXT_NAME * N.
-const FIRST_NAME: u64 = 64;
-
-const NEXT_NAME: u64 = 192;
+use words::layout::LET_NAME;
+use words::layout::NEXT_NAME;
 
 // Makes the place of one word's name yes, if the word is that of a `__xN`. False where that place is outside the table.
 fn mark_need(w: u64, row: usize, table: &mut [u64]) -> bool
     ensures { λ r. ⌜ (r ≡ place-inside w row (length (now (table .entry)))) × (now (table .exit) ≡ with-need w row (now (table .entry))) ⌝ }
 {
-    if w % NEXT_NAME != FIRST_NAME {
+    if w % NEXT_NAME != LET_NAME {
         return true;
     }
     set(table, row, (w / NEXT_NAME) as usize)

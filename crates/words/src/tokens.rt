@@ -6,11 +6,8 @@ ghost use lib.ListN.{length, take, drop};
 ghost use Rattle.spec_tree.specs.Bytes.{eq-bytes};
 ghost use Rattle.spec_tree.specs.Tokens.{takes, trees-in, run-at, same-at};
 ghost use Rattle.words.specs.tokens.Answers.{count-answer, end-answer, same-answer};
-
-// A word is kind + KINDS * below; the kinds are numbered as 01 lists them, with 28 for a Select with a default.
-const KINDS: u64 = 64;
-
-const CONST: u64 = 1;
+use crate::layout::CONST;
+use crate::layout::KINDS;
 
 pub enum Trees {
     Count(usize),

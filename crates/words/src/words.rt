@@ -5,13 +5,10 @@ ghost use lib.ListN.{length};
 ghost use lib.Dec.{ltb};
 ghost use Rattle.words.specs.words.Words.{begins-with, sound};
 ghost use Rattle.words.specs.words.Answers.{request-answer};
+use crate::layout::KINDS;
+use crate::layout::SYM;
 use crate::tokens::Trees;
 use crate::tokens::count_trees;
-
-// A word is kind + KINDS * below.
-const KINDS: u64 = 64;
-
-const SYM: u64 = 0;
 
 // What a rewriting answers.
 pub enum Rewritten {

@@ -14,8 +14,8 @@ enum-known-step c = search needs
 enum-told : tie.Need-enum-told
 enum-told c = search needs
 
-put-back-requires : tie.Need-put-back-requires
-put-back-requires c κs = omega (arith, c .before .before .before .before .before .before .before .before .before .before .before .before .before .before .pre .1 .1, c .before .before .before .before .before .before .before .rewrite .kept .1 .1 .1 .1 .1 .0)
+copy-requires : tie.Need-copy-requires
+copy-requires c κs = omega (arith, c .before .before .before .before .before .before .before .before .before .before .before .before .before .before .pre .1 .1, c .before .before .before .before .before .before .before .rewrite .kept .1 .1 .1 .1 .1 .0)
 
 same-length : tie.Need-same-length
 same-length c = search needs
@@ -33,7 +33,7 @@ same-length-4 : tie.Need-same-length-4
 same-length-4 c = search needs
 
 returns-2 : tie.Need-returns-2
-returns-2 c = let a = c .before .before .before .before .before .before .before .before .before .before .before .before .before .before .before .before .before .args in refused-there (a .tokens .now) (a .target .now) (a .name) (a .out .now) (c .before .before .before .before .before .before .before .before .before .before .rewrite .result) (c .before .before .before .before .before .before .before .before .before .before .rewrite .last .1 .1 .1 .1 .1 .0) (c .before .before .put-back .last .1 .0) (c .before .before .before .before .enum-told .given .1) (c .before .before .before .before .before .before .before .before .before .before .rewrite .ensures) (c .before .before .put-back .ensures)
+returns-2 c = let a = c .before .before .before .before .before .before .before .before .before .before .before .before .before .before .before .before .before .args in refused-there (a .tokens .now) (a .target .now) (a .name) (a .out .now) (c .before .before .before .before .before .before .before .before .before .before .rewrite .result) (c .before .before .before .before .before .before .before .before .before .before .rewrite .last .1 .1 .1 .1 .1 .0) (c .before .before .copy .last .1 .0) (c .before .before .before .before .enum-told .given .1) (c .before .before .before .before .before .before .before .before .before .before .rewrite .ensures) (c .before .before .copy .ensures)
 
 pub replace-sought-spec : {M : Type 1} → statement M
 replace-sought-spec =
@@ -42,7 +42,7 @@ replace-sought-spec =
     rewrite-requires
     enum-known-step
     enum-told
-    put-back-requires
+    copy-requires
     same-length
     same-length-2
     returns

@@ -1,13 +1,13 @@
--- `fusion::fuse::copy` meets its contract: the first i words are copied. Assumes nothing.
+-- `words::copying::copy` meets its contract: the first i words are copied. Assumes nothing.
 use Prim.Native.Nat.{_≤_, _-_}
 use mathlib.Core.Path.{_≡_, refl}
 use mathlib.Core.List.{_++_}
 use native.Mathlib.Omega.{arith}
 use lib.ListN.{length, take, drop}
+use Rattle.words.proofs.copying.Copying.{copy-long, copy-turn, copy-ends}
 use borrow.Author.Needs.{needs}
-use Rattle.fusion.proofs.fuse.copy.Statement.{statement}
-use Rattle.fusion.proofs.fuse.copy.Tie as tie
-use Rattle.replace.proofs.outside.Copying.{copy-long, copy-turn, copy-ends}
+use Rattle.words.proofs.copying.copy.Statement.{statement}
+use Rattle.words.proofs.copying.copy.Tie as tie
 
 abbrev Inv-loop : tie.InvT-loop
 Inv-loop s out₀ i₀ out i = (i ≤ length s) × (out ≡ take i s ++ drop i out₀)

@@ -1,11 +1,11 @@
--- `rounds::put` meets its contract. Assumes nothing.
+-- `words::copying::put` meets its contract. Assumes nothing.
 use native.Mathlib.Omega.{arith}
 use Prim.Native.Nat.{_-_}
 use lib.ListN.{length}
-use Rattle.rounds.proofs.Putting.{Putting, put-starts, put-turns, put-ends}
+use Rattle.words.proofs.copying.Putting.{Putting, put-starts, put-turns, put-ends}
 use borrow.Author.Needs.{needs}
-use Rattle.rounds.proofs.put.Statement.{statement}
-use Rattle.rounds.proofs.put.Tie as tie
+use Rattle.words.proofs.copying.put.Statement.{statement}
+use Rattle.words.proofs.copying.put.Tie as tie
 
 abbrev Inv-loop : tie.InvT-loop
 Inv-loop words at out₀ k₀ out k = Putting words out₀ at out k

@@ -1,1 +1,0 @@
--- The first i words copied, the rest as it was: how the copy starts, goes on and ends. Assumes nothing.
