@@ -21,12 +21,10 @@ use Rattle.fmt.specs.symbols.Symbols.{row-name, symbol-text}
 use Rattle.fmt.proofs.emit.WriteLaws.{writes-none, writes-then, writes-as}
 use Rattle.fmt.proofs.emit.TextLaws.{low-none}
 use Rattle.spec_tree.proofs.LayoutLaws.{rows-long}
+use Rattle.node_rows.specs.unfolded.Unfold.{words-at}
 use Rattle.node_rows.proofs.unfolded.RowLaws.{rows-of-at}
 
 -- ---- a row's words
-
-abbrev words-at : List ℕ → ℕ → List ℕ
-words-at ws i = take row-width (drop (i * row-width) ws)
 
 take-min : (n m : ℕ) (l : List ℕ) → take n (take m l) ≡ take (min n m) l
 take-min zero m l = ap (λ (k : ℕ). take k l) (let e : 0 ≡ min 0 m = omega arith in e)
@@ -67,7 +65,7 @@ module _ (ws : List ℕ) (n : ℕ) where
   fields = take (min (getD ws (n * 35 + 2) 0) 32) (drop (n * 35 + 3) ws)
 
   name-is : n < length ws / 35 → row-name ws n ≡ name-of-row (row-by number fields)
-  unfolding row-name name-in row-of
+  unfolding row-name name-in row-of words-at
   name-is h =
       ap name-of-row (rows-of-at (length ws / 35) ws n (row-const (pos 0)) h)
       ∙ ap name-of-row (ap₂ row-by (ap₂ _+_ (word 0 (omega arith) ∙ ap (λ (i : ℕ). getD ws i 0) (let e : n * 35 + 0 ≡ n * 35 = omega arith in e)) (word 1 (omega arith))) (ap₂ take (word 2 (omega arith)) (drop-take (drop (n * 35) ws) long ∙ ap (take 32) (drop-drop 3 (n * 35) ws)) ∙ take-min (getD ws (n * 35 + 2) 0) 32 (drop (n * 35 + 3) ws)))
