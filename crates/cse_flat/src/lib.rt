@@ -22,8 +22,8 @@ use crate::ending::finish;
 use crate::workarea::is_short;
 use node_rows::unfolded::Unfolded;
 use node_rows::unfolded::unfold;
-use reciprocals::tobind::ToBind;
-use reciprocals::tobind::divisors_to_bind;
+use reciprocals::divisors::ToBind;
+use reciprocals::divisors::divisors_to_bind;
 use rounds::Rounds;
 use rounds::extract_all;
 

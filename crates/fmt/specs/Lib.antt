@@ -4,4 +4,4 @@ pub mod shapes
 pub mod checked
 pub mod writer
 pub mod lengths
-pub mod textorder
+pub mod order

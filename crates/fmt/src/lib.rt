@@ -2,8 +2,6 @@
 pub mod checked;
 pub mod emit;
 mod kindnames;
-mod latest;
+pub mod order;
 pub mod symbols;
-pub mod textorder;
-mod texts;
 pub mod writer;

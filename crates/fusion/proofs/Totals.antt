@@ -19,18 +19,12 @@ use Rattle.fusion.specs.Settled.{member-steps, Numbered, Walked, numbere
 use Rattle.fusion.specs.Whole.{settled-roots, scope-groups}
 use Rattle.fusion.proofs.Members.{steps-count}
 use Rattle.fusion.proofs.Groups.{group-of, groups-kept}
-use Rattle.laws.proofs.cse.NumbersMost.{from-members}
+use Rattle.laws.proofs.cse.NumbersMost.{members-total, from-members}
 
--- ---- members of groups
-
-abbrev pub members-total : List Group → ℕ
-members-total [] = 0
-members-total (g ∷ l) = length (members g) + members-total l
-
--- ---- their steps
+-- ---- the steps of groups
 
 steps-total : (l : List Numbered) → length (all-steps l) ≡ members-total (map group-of l)
-unfolding all-steps group-steps
+unfolding all-steps group-steps members-total
 steps-total [] = refl
 steps-total (g ∷ l) =
     let s = members (g .group) in
@@ -47,7 +41,9 @@ scope-steps scope next ds n ts =
     (λ l e. steps-total (l .groups) ∙ (ap members-total e ∙ whole))
   where
     whole : members-total (scope-groups ds n ts) ≡ length (collect-switches (settled-roots ds n ts))
-    whole = (unfold scope-groups in omega (arith, from-members [] (collect-switches (settled-roots ds n ts))))
+    whole =
+        let none : members-total [] ≡ 0 = (unfold members-total in refl) in
+        (unfold scope-groups in omega (arith, none, from-members [] (collect-switches (settled-roots ds n ts))))
 
     weaker : {A : Type 0} (P Q : A → Type 0) (o : Outcome A) → Good P o → ((a : A) → P a → Q a) → Good Q o
     weaker P Q (ok a) h f = (unfold Good in f a (unfold Good in h))

@@ -6,7 +6,6 @@ pub mod Words
 pub mod fuse
 pub mod switches
 pub mod place
-pub mod grouping
+pub mod groups
 pub mod tables
-pub mod columns
 pub mod scopeneeds

@@ -1,7 +1,5 @@
 pub mod Loads
-pub mod commas
-pub mod recordend
-pub mod namebytes
+pub mod fields
 pub mod numerals
 pub mod recordwords
 pub mod one_record

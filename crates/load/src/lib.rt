@@ -1,10 +1,7 @@
 // Load: a sheet's bytes become node rows and roots, or a refusal by its number and record, for any bytes. A refusal changes nothing that is lent.
-mod commas;
-mod namebytes;
+mod fields;
 mod numerals;
 mod one_record;
-mod plain;
-mod recordend;
 mod recordlist;
 mod recordwords;
 

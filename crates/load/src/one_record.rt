@@ -10,7 +10,7 @@ ghost use Rattle.node_rows.specs.kinds.Numbers.{kind-number};
 ghost use Rattle.spec_sheet.specs.Sheet.{fields-from, fields-ok, numbers};
 ghost use Rattle.load.specs.one_record.Item.{fields-item};
 ghost use Rattle.load.specs.one_record.Reading.{Follows, Reads, Writes};
-use crate::commas::Split;
+use crate::fields::Split;
 use crate::numerals::Constant;
 use crate::numerals::Number;
 use crate::recordwords::Word;
@@ -140,7 +140,7 @@ fn write_numbers(s: &[u8], out: &mut [u64]) -> Fields
     requires { ⌜ length (fields-from [] (now s)) ≤ length (now out) ⌝ }
     ensures { λ r. ⌜ Writes (numbers (fields-from [] (now (s .entry)))) (now (out .entry)) r (now (out .exit)) ⌝ }
 {
-    let Split::At(comma) = crate::commas::first_comma(s) else {
+    let Split::At(comma) = crate::fields::first_comma(s) else {
         return write_last(s, out);
     };
     let Number::Value(v) = crate::numerals::node_number(&s[..comma]) else {
@@ -161,7 +161,7 @@ fn read_symbol(s: &[u8], rows: u64, row: &mut [u64]) -> Read
     ensures { λ r. ⌜ Follows (fields-item 0 rows 0 0 (now (s .entry) ∷ [])) (now (row .entry)) r (now (row .exit)) ⌝ }
 {
     clear(row);
-    if !crate::namebytes::copy_bytes(s, &mut row[3..]) {
+    if !crate::fields::copy_bytes(s, &mut row[3..]) {
         return Read::Refused(3);
     }
     let n = s.len();
@@ -203,7 +203,7 @@ fn read_numbers(kind: u64, s: &[u8], rows: u64, roots: u64, row: &mut [u64]) -> 
         return Read::Refused(2);
     };
     let end = n + 3;
-    if !node_rows::bounds::all_below(&row[3..end], rows) {
+    if !node_rows::fields::all_below(&row[3..end], rows) {
         return Read::Refused(5);
     }
     if kind == ROOT {
@@ -245,10 +245,10 @@ pub fn read_record(record: &[u8], rows: u64, roots: u64, row: &mut [u64]) -> Rea
     if rows > MANY_ROWS {
         return Read::NoRoom;
     }
-    if !crate::plain::all_plain(record) {
+    if !crate::fields::all_plain(record) {
         return Read::Refused(2);
     }
-    let Split::At(comma) = crate::commas::first_comma(record) else {
+    let Split::At(comma) = crate::fields::first_comma(record) else {
         return Read::Refused(2);
     };
     let Word::Kind(kind) = crate::recordwords::record_word(&record[..comma]) else {

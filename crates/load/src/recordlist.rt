@@ -5,9 +5,9 @@ ghost use lib.ListN.{length};
 ghost use Rattle.load.specs.one_record.Item.{record-item};
 ghost use Rattle.load.specs.recordlist.Steps.{Stepped, All-read};
 ghost use Rattle.load.specs.recordlist.Room.{Reads};
+use crate::fields::record_end;
 use crate::one_record::Read;
 use crate::one_record::read_record;
-use crate::recordend::record_end;
 
 // A row more than a list may have, so that there is always room to read one.
 const TABLE: usize = 35875;

@@ -3,3 +3,5 @@ pub mod RowTrees
 pub mod Filling
 pub mod RowLaws
 pub mod TableLaws
+pub mod Shaped
+pub mod Accepted

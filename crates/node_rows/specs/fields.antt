@@ -1,1 +1,3 @@
+pub mod Constant
+pub mod Below
 pub mod Tests

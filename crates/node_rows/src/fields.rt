@@ -1,13 +1,49 @@
+// The fields of a constant (01, "Expressions and facts"): a sign, 1 for minus, and a size. Any words will do.
+// Numbers below a bound (01, "Expressions and facts"): operands and roots. Any words will do.
 // The fields of a node row, by its kind. Any words will do.
 ghost use mathlib.Core.Path.{_≡_};
+ghost use Rattle.node_rows.specs.fields.Constant.{constant-test};
+ghost use Rattle.node_rows.specs.fields.Below.{below};
 ghost use Rattle.node_rows.specs.fields.Tests.{operation-test, plain-test, fields-test};
-use crate::bounds::all_below;
-use crate::constants::constant_ok;
 use crate::kinds::operand_counts;
 use crate::names::is_name;
 use words::layout::CONST;
 use words::layout::SELECT;
 use words::layout::SYM;
+
+pub fn constant_ok(fields: &[u64]) -> bool
+    ensures { λ r. ⌜ r ≡ constant-test (now (fields .entry)) ⌝ }
+{
+    if fields.len() != 2 {
+        return false;
+    }
+    let sign = fields[0];
+    let size = fields[1];
+    if size >= 1000000000000000 {
+        return false;
+    }
+    if sign == 0 {
+        return true;
+    }
+    if sign != 1 {
+        return false;
+    }
+    size > 0
+}
+
+// Operands and roots name earlier rows: each number is below a bound. Words that are all below 1 are 0.
+pub fn all_below(numbers: &[u64], bound: u64) -> bool
+    ensures { λ r. ⌜ r ≡ below bound (now (numbers .entry)) ⌝ }
+{
+    let mut i = 0;
+    while i < numbers.len() {
+        if numbers[i] >= bound {
+            return false;
+        }
+        i += 1;
+    }
+    true
+}
 
 fn operation_ok(kind: u64, default: bool, operands: &[u64], i: u64) -> bool
     ensures { λ r. ⌜ r ≡ operation-test kind default (now (operands .entry)) i ⌝ }

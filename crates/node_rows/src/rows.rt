@@ -1,14 +1,17 @@
 // Node rows lent as words: whether they are within every limit of 01's first section.
+// The test for refusal 9: whether rows and roots are ones that load lays out for some sheet.
 ghost use mathlib.Core.Path.{_≡_};
 ghost use Prim.Native.Nat.{suc, _+_, _*_, _≤_, _<_, max};
 ghost use lib.Dec.{T};
 ghost use lib.ListN.{length, getD};
 ghost use Rattle.spec_tree.specs.Facts.{total, greatest};
-ghost use Rattle.node_rows.specs.bounds.Below.{below};
+ghost use Rattle.node_rows.specs.fields.Below.{below};
 ghost use Rattle.node_rows.specs.rows.Check.{checked, check-domain, row-test};
 ghost use Rattle.node_rows.specs.rows.Measure.{pick, capped-size, capped-level, level-by, row-operands, Filled};
-use crate::bounds::all_below;
+ghost use Rattle.node_rows.specs.rows.Nine.{check-rows};
+use crate::fields::all_below;
 use crate::fields::fields_ok;
+use crate::records::fits_a_sheet;
 use words::layout::BRANCH;
 use words::layout::NEG;
 use words::layout::ROW_WIDTH;
@@ -180,4 +183,17 @@ pub fn check_domain(rows: &[u64], roots: &[u64]) -> Checked
         return Checked::Refused;
     }
     Checked::Laid(occurrences as usize)
+}
+
+// The occurrences under all roots, or refusal 9.
+pub fn check_rows(rows: &[u64], roots: &[u64]) -> Checked
+    ensures { λ r. ⌜ checked r ≡ check-rows (now (rows .entry)) (now (roots .entry)) ⌝ }
+{
+    let Checked::Laid(occurrences) = check_domain(rows, roots) else {
+        return Checked::Refused;
+    };
+    if !fits_a_sheet(rows, roots) {
+        return Checked::Refused;
+    }
+    Checked::Laid(occurrences)
 }

@@ -152,7 +152,7 @@ pub fn unfold(rows: &[u64], roots: &[u64], out: &mut [u64]) -> Unfolded
     if out.len() < 1024 {
         return Unfolded::Refused(8);
     }
-    let Checked::Laid(_) = crate::layout::check_rows(rows, roots) else {
+    let Checked::Laid(_) = crate::rows::check_rows(rows, roots) else {
         return Unfolded::Refused(9);
     };
     Unfolded::Tokens(unfold_roots(rows, roots, out))

@@ -1,1 +1,8 @@
 pub mod Places
+pub mod Within
+pub mod Marked
+pub mod Counting
+pub mod Choosing
+pub mod Sorting
+pub mod Giving
+pub mod Definition

@@ -1,5 +1,4 @@
 pub mod divisors
-pub mod tobind
 pub mod settle
 pub mod reciprocal
 pub mod final

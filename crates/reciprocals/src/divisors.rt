@@ -1,16 +1,39 @@
 // Where the divisors stand among words of trees (01, "Reciprocals"), in the order of their divisions.
+// The divisors to bind (01, "Reciprocals"), as places among words of trees: each divisor that is there twice and once outside arms, where its tree stands first, in
+// text order, equal texts by the first division by each. Local arrays hold the places of all divisors, of those outside arms, and the marks.
 ghost use mathlib.Core.Path.{_≡_};
 ghost use mathlib.Core.List.{_++_};
 ghost use Prim.Native.Nat.{_≤_, _<_};
-ghost use lib.ListN.{length, drop};
+ghost use lib.ListN.{length, drop, getD};
 ghost use Rattle.words.specs.words.Words.{Complete};
 ghost use Rattle.reciprocals.specs.divisors.Listing.{second-answer, all-places, listing};
+ghost use Rattle.spec_tree.specs.Bytes.{every};
+ghost use Rattle.spec_tree.specs.Tree.{eq-tree};
+ghost use Rattle.spec_tree.specs.Tokens.{name-in};
+ghost use Rattle.spec_tree.specs.text.Text.{before};
+ghost use Rattle.fmt.specs.checked.Check.{rows-in, word-ok};
+ghost use Rattle.laws.specs.positions.Places.{numbered-at, count-places, text-at, insert-place, sort-places};
+ghost use Rattle.rounds.specs.choice.Leading.{HasMarks, Writable};
+ghost use Rattle.reciprocals.specs.divisors.Places.{Inside, Listed, marked-second, outside-places, chosen-at, chosen-places};
+ghost use Rattle.reciprocals.specs.divisors.Answers.{to-bind-answer};
+use fmt::checked::Checked;
+use fmt::checked::tree_ok;
+use fmt::order::TextOrder;
+use fmt::order::before_at;
+use rounds::uses::mark_outside;
 use words::layout::DIV;
 use words::layout::KINDS;
+use words::tokens::Equality;
 use words::tokens::Run;
 use words::tokens::Trees;
 use words::tokens::count_trees;
 use words::tokens::end_of;
+use words::tokens::same;
+
+// So many words at most, which the arrays hold; and bytes for two texts.
+const MOST_WORDS: usize = 1927;
+
+const TEXT_BYTES: usize = 131072;
 
 pub enum Divisors {
     // How many places were written.
@@ -74,4 +97,240 @@ pub fn list_divisors(tokens: &[u64], places: &mut [u64]) -> Divisors
     }
     let n = list(tokens, places);
     Divisors::Count(n)
+}
+
+pub enum ToBind {
+    // How many places were written.
+    Count(usize),
+    // A word lacks operands, or isn't one of a tree of an answer.
+    Broken,
+    // Too many words, or too little lent for them.
+    NoRoom,
+}
+
+// Whether every word is one of a tree that print takes.
+fn words_pass(rows: &[u64], tokens: &[u64]) -> bool
+    requires { ⌜ Complete (now tokens) ⌝ }
+    ensures { λ r. ⌜ r ≡ every (word-ok (rows-in (now (rows .entry)))) (now (tokens .entry)) ⌝ }
+{
+    let mut at = 0;
+    while at < tokens.len() {
+        let Checked::Ends(end) = tree_ok(rows, tokens, at) else {
+            return false;
+        };
+        at = end;
+    }
+    true
+}
+
+// The same for a division at a marked place, and else 0.
+fn marked_divisor(tokens: &[u64], marks: &[u64], p: usize) -> usize
+    requires { ⌜ Complete (now tokens) × (p < length (now tokens)) × (length (now tokens) ≤ length (now marks)) ⌝ }
+    ensures { λ r. ⌜ r ≡ marked-second (now (tokens .entry)) (now (marks .entry)) p ⌝ }
+{
+    if marks[p] == 0 {
+        return 0;
+    }
+    second_operand(tokens, p)
+}
+
+// Lists the divisors of the divisions at marked places and returns how many there are.
+fn list_marked(tokens: &[u64], scoped: bool, marks: &[u64], places: &mut [u64]) -> usize
+    requires { ⌜ Complete (now tokens) × (length (now tokens) ≤ length (now places)) ⌝ }
+    requires { ⌜ HasMarks (now tokens) scoped (now marks) ⌝ }
+    ensures { λ r. ⌜ Listed (outside-places (now (tokens .entry)) scoped) (now (places .entry)) r (now (places .exit)) ⌝ }
+{
+    let mut n = 0;
+    let mut p = 0;
+    while p < tokens.len() {
+        let second = marked_divisor(tokens, marks, p);
+        if second > 0 {
+            places[n] = second as u64;
+            n += 1;
+            p += 1;
+        } else {
+            p += 1;
+        }
+    }
+    n
+}
+
+// Lists the divisors of the divisions outside arms and returns how many there are.
+fn list_outside(tokens: &[u64], scoped: bool, places: &mut [u64]) -> usize
+    requires { ⌜ Complete (now tokens) ⌝ }
+    requires { ⌜ (length (now tokens) ≤ 1927) × (length (now tokens) ≤ length (now places)) ⌝ }
+    ensures { λ r. ⌜ Listed (outside-places (now (tokens .entry)) scoped) (now (places .entry)) r (now (places .exit)) ⌝ }
+{
+    let mut marks = [0u64; MOST_WORDS];
+    mark_outside(tokens, scoped, &mut marks);
+    list_marked(tokens, scoped, &marks, places)
+}
+
+// Whether the trees at two places are equal.
+fn equal_trees(tokens: &[u64], i: usize, j: usize) -> bool
+    requires { ⌜ Complete (now tokens) ⌝ }
+    requires { ⌜ (i < length (now tokens)) × (j < length (now tokens)) ⌝ }
+    ensures { λ r. ⌜ r ≡ eq-tree (numbered-at (now (tokens .entry)) i) (numbered-at (now (tokens .entry)) j) ⌝ }
+{
+    let equality = same(tokens, i, j);
+    match equality {
+        Equality::Equal => true,
+        Equality::Different => false,
+        Equality::Broken => false,
+    }
+}
+
+// How many of the places have the tree at q.
+fn count_equal(tokens: &[u64], list: &[u64], q: usize) -> usize
+    requires { ⌜ Complete (now tokens) × (q < length (now tokens)) ⌝ }
+    requires { ⌜ Inside (length (now tokens)) (now list) ⌝ }
+    ensures { λ r. ⌜ r ≡ count-places (now (tokens .entry)) q (now (list .entry)) ⌝ }
+{
+    let mut count = 0;
+    let mut k = 0;
+    while k < list.len() {
+        if equal_trees(tokens, list[k] as usize, q) {
+            count += 1;
+            k += 1;
+        } else {
+            k += 1;
+        }
+    }
+    count
+}
+
+// Whether the divisor at i of all is to be bound: its tree stands first there, twice among all, and once among those outside arms.
+fn is_chosen(tokens: &[u64], all: &[u64], outside: &[u64], i: usize) -> bool
+    requires { ⌜ Complete (now tokens) × (i < length (now all)) ⌝ }
+    requires { ⌜ Inside (length (now tokens)) (now all) × Inside (length (now tokens)) (now outside) ⌝ }
+    ensures { λ r. ⌜ r ≡ chosen-at (now (tokens .entry)) (now (all .entry)) (now (outside .entry)) i ⌝ }
+{
+    let q = all[i] as usize;
+    if count_equal(tokens, &all[..i], q) > 0 {
+        return false;
+    }
+    if count_equal(tokens, all, q) < 2 {
+        return false;
+    }
+    count_equal(tokens, outside, q) >= 1
+}
+
+// Lists those to be bound, in the order of their first divisions.
+fn choose(tokens: &[u64], all: &[u64], outside: &[u64], places: &mut [u64]) -> usize
+    requires { ⌜ Complete (now tokens) × (length (now all) ≤ length (now places)) ⌝ }
+    requires { ⌜ Inside (length (now tokens)) (now all) × Inside (length (now tokens)) (now outside) ⌝ }
+    ensures { λ r. ⌜ Listed (chosen-places (now (tokens .entry)) (now (all .entry)) (now (outside .entry))) (now (places .entry)) r (now (places .exit)) ⌝ }
+{
+    let mut n = 0;
+    let mut i = 0;
+    while i < all.len() {
+        if is_chosen(tokens, all, outside, i) {
+            places[n] = all[i];
+            n += 1;
+            i += 1;
+        } else {
+            i += 1;
+        }
+    }
+    n
+}
+
+// The same from the words.
+fn gather(tokens: &[u64], scoped: bool, places: &mut [u64]) -> usize
+    requires { ⌜ Complete (now tokens) ⌝ }
+    requires { ⌜ (length (now tokens) ≤ 1927) × (length (now tokens) ≤ length (now places)) ⌝ }
+    ensures { λ r. ⌜ Listed (chosen-places (now (tokens .entry)) (all-places (now (tokens .entry))) (outside-places (now (tokens .entry)) scoped)) (now (places .entry)) r (now (places .exit)) ⌝ }
+{
+    let mut all = [0u64; MOST_WORDS];
+    let mut outside = [0u64; MOST_WORDS];
+    let listed = list_divisors(tokens, &mut all);
+    match listed {
+        Divisors::Count(n) => {
+            let m = list_outside(tokens, scoped, &mut outside);
+            choose(tokens, &all[..n], &outside[..m], places)
+        }
+        Divisors::Broken => 0,
+        Divisors::NoRoom => 0,
+    }
+}
+
+// Whether the text at a place comes before that at another.
+fn comes_before(rows: &[u64], tokens: &[u64], a: usize, b: usize, text: &mut [u8]) -> bool
+    requires { ⌜ Complete (now tokens) ⌝ }
+    requires { ⌜ (a < length (now tokens)) × (b < length (now tokens)) ⌝ }
+    requires { ⌜ Writable (now rows) (now tokens) (length (now text)) ⌝ }
+    ensures { λ r. ⌜ r ≡ before (text-at (now (tokens .entry)) (name-in (rows-in (now (rows .entry)))) a) (text-at (now (tokens .entry)) (name-in (rows-in (now (rows .entry)))) b) ⌝ }
+{
+    let order = before_at(rows, tokens, a, b, text);
+    match order {
+        TextOrder::Before => true,
+        TextOrder::NotBefore => false,
+        TextOrder::Broken => false,
+        TextOrder::NoRoom => false,
+    }
+}
+
+// Moves the first place past those after it, which are in text order, whose texts come before its own.
+fn insert_first(rows: &[u64], tokens: &[u64], text: &mut [u8], places: &mut [u64])
+    requires { ⌜ Complete (now tokens) × (0 < length (now places)) ⌝ }
+    requires { ⌜ Inside (length (now tokens)) (now places) ⌝ }
+    requires { ⌜ Writable (now rows) (now tokens) (length (now text)) ⌝ }
+    ensures { λ _. ⌜ now (places .exit) ≡ insert-place (now (tokens .entry)) (name-in (rows-in (now (rows .entry)))) (getD (now (places .entry)) 0 0) (drop 1 (now (places .entry))) ⌝ }
+{
+    let mut j = 0;
+    while j + 1 < places.len() {
+        let q = places[j];
+        let next = places[j + 1];
+        if !comes_before(rows, tokens, next as usize, q as usize, text) {
+            return;
+        }
+        places[j] = next;
+        places[j + 1] = q;
+        j += 1;
+    }
+}
+
+// In text order, equal texts as they stood: from the last on, each is put among those after it.
+fn sort(rows: &[u64], tokens: &[u64], text: &mut [u8], places: &mut [u64])
+    requires { ⌜ Complete (now tokens) ⌝ }
+    requires { ⌜ Inside (length (now tokens)) (now places) ⌝ }
+    requires { ⌜ Writable (now rows) (now tokens) (length (now text)) ⌝ }
+    ensures { λ _. ⌜ now (places .exit) ≡ sort-places (now (tokens .entry)) (name-in (rows-in (now (rows .entry)))) (now (places .entry)) ⌝ }
+{
+    let mut i = places.len();
+    while i > 0 {
+        i -= 1;
+        insert_first(rows, tokens, text, &mut places[i..]);
+    }
+}
+
+// The places of the divisors to bind, in front of what stood after as many. The text is worked in; what is left there is free.
+pub fn divisors_to_bind(
+    rows: &[u64],
+    tokens: &[u64],
+    scoped: bool,
+    text: &mut [u8],
+    places: &mut [u64],
+) -> ToBind
+    ensures { λ r. ⌜ (r ≡ to-bind-answer (rows-in (now (rows .entry))) (now (tokens .entry)) scoped (length (now (text .entry))) (now (places .entry)) .answer)
+        × (now (places .exit) ≡ to-bind-answer (rows-in (now (rows .entry))) (now (tokens .entry)) scoped (length (now (text .entry))) (now (places .entry)) .places) ⌝ }
+{
+    if tokens.len() > MOST_WORDS {
+        return ToBind::NoRoom;
+    }
+    if places.len() < tokens.len() {
+        return ToBind::NoRoom;
+    }
+    if text.len() < TEXT_BYTES {
+        return ToBind::NoRoom;
+    }
+    let Trees::Count(_) = count_trees(tokens) else {
+        return ToBind::Broken;
+    };
+    if !words_pass(rows, tokens) {
+        return ToBind::Broken;
+    }
+    let n = gather(tokens, scoped, places);
+    sort(rows, tokens, text, &mut places[..n]);
+    ToBind::Count(n)
 }

@@ -1,3 +1,5 @@
 pub mod Whole
 pub mod Exactness
 pub mod Wholeness
+pub mod Codes
+pub mod Constants

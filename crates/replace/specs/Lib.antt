@@ -1,6 +1,5 @@
 pub mod Answers
 pub mod coefficient
-pub mod integers
 pub mod factors
 pub mod closed
 pub mod matching

@@ -56,7 +56,7 @@ fn flatten_other(tokens: &[u64], at: usize, places: &mut [u64], used: usize) -> 
     if w % KINDS == CONST {
         return Passed {
             product: Product {
-                coefficient: crate::floats::float_of(w / KINDS),
+                coefficient: crate::coefficient::float_of(w / KINDS),
                 count: 0,
             },
             next: at + 1,

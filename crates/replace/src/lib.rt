@@ -4,12 +4,9 @@
 mod coefficient;
 pub mod divisor;
 mod factors;
-mod floats;
-mod integers;
 mod matching;
 pub mod outside;
 mod replaceable;
-mod unit;
 
 ghost use mathlib.Core.Path.{_≡_};
 ghost use mathlib.Core.List.{_++_};
@@ -25,14 +22,14 @@ ghost use Rattle.replace.specs.replacing.Replacing.{replaceable, repeate
 ghost use Rattle.replace.specs.replacing.Deciding.{Trees, Target, Match, ProductFirst, rewritten-words, product-out};
 ghost use Rattle.replace.specs.Answers.{FlatFirst, Decides, Writes, sought-as, replaced-by, replacement, Leaves, scratch-short, short-of-room};
 use crate::coefficient::Constant;
+use crate::coefficient::constant_of;
+use crate::coefficient::is_one;
 use crate::factors::Flattened;
 use crate::factors::flatten_mul_factors;
-use crate::integers::constant_of;
 use crate::matching::Taken;
 use crate::matching::names_at_end;
 use crate::matching::take_out;
 use crate::replaceable::are_formed;
-use crate::unit::is_one;
 use words::copying::copy;
 use words::layout::CONST;
 use words::layout::KINDS;

@@ -14,8 +14,8 @@ use crate::uses::mark_outside;
 use crate::value_numbers::class_tables;
 use fmt::checked::Checked;
 use fmt::checked::tree_ok;
-use fmt::textorder::TextOrder;
-use fmt::textorder::before_at;
+use fmt::order::TextOrder;
+use fmt::order::before_at;
 use words::tokens::Trees;
 use words::tokens::count_trees;
 

@@ -33,7 +33,7 @@ use Rattle.statements.proofs.Held.{held-complete, held-places-small, re
 use Rattle.statements.proofs.Groups.{end-is, begin-is, group-long, group-inside, group-part, opener-is, group-switches, opener-switch, members-there}
 use Rattle.statements.proofs.Taking.{put-front, stands-as}
 use Rattle.node_rows.proofs.names.Leaves.{rest}
-use Rattle.fusion.proofs.grouping.Groups.{ends-length}
+use Rattle.fusion.proofs.groups.Groups.{ends-length}
 
 pub first-begins : (ends : List ℕ) (g : ℕ) → g ≡ 0 → 0 ≡ begin-of ends g
 unfolding begin-of

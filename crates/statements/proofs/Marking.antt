@@ -26,7 +26,7 @@ use Rattle.statements.proofs.Held.{lets-are, count-is}
 use Rattle.statements.proofs.Groups.{group-switches}
 use Rattle.statements.proofs.Keys.{group-there, members-part}
 use Rattle.topo_sort.proofs.Left.{table-length}
-use Rattle.fusion.proofs.grouping.Groups.{ends-length}
+use Rattle.fusion.proofs.groups.Groups.{ends-length}
 
 -- ---- one let
 

@@ -26,10 +26,10 @@ use Rattle.rounds.specs.Rounds.{all-rounds, rounds-answer, Leaves-words}
 use Rattle.rounds.specs.declared.Rounds.{Rounds}
 use Rattle.rounds.specs.declared.Rounds.the-variants as rounds
 use Rattle.rounds.proofs.Rounds as rounds-enum
-use Rattle.reciprocals.specs.tobind.Answers.{to-bind-short, to-bind-by, to-bind-answer}
-use Rattle.reciprocals.specs.declared.tobind.ToBind.{ToBind}
-use Rattle.reciprocals.specs.declared.tobind.ToBind.the-variants as tobind
-use Rattle.reciprocals.proofs.tobind.ToBind as tobind-enum
+use Rattle.reciprocals.specs.divisors.Answers.{to-bind-short, to-bind-by, to-bind-answer}
+use Rattle.reciprocals.specs.declared.divisors.ToBind.{ToBind}
+use Rattle.reciprocals.specs.declared.divisors.ToBind.the-variants as tobind
+use Rattle.reciprocals.proofs.divisors.ToBind as tobind-enum
 use Rattle.cse_flat.proofs.refined.Rounding.{Rounded, rounded}
 use Rattle.cse_flat.proofs.refined.Leaving.{Left, rounds-leave, left-complete, left-words, left-short}
 use Rattle.cse_flat.specs.refined.Parts.{Rounds-listed, Rounds-refused}

@@ -46,7 +46,7 @@ use Rattle.fusion.specs.Switchless.{with-switches}
 use Rattle.cse_scoped.proofs.one_scope.Statements.{by-test, by-no-test}
 use Rattle.cse_scoped.proofs.one_scope.Ending.{Scope-done, scope-refused}
 use Rattle.spec_tree.proofs.Logic.{and-false}
-use Rattle.fusion.proofs.grouping.Groups.{ends-length}
+use Rattle.fusion.proofs.groups.Groups.{ends-length}
 
 -- ---- from the groups on
 

@@ -32,7 +32,7 @@ use Rattle.cse_scoped.specs.declared.one_scope.Scoped.{Scoped}
 use Rattle.cse_scoped.specs.declared.one_scope.Scoped.the-variants as scoped
 use Rattle.cse_scoped.proofs.one_scope.Statements.{arms-are, by-test, by-no-test}
 use Rattle.topo_sort.proofs.Left.{table-length}
-use Rattle.fusion.proofs.grouping.Groups.{ends-length}
+use Rattle.fusion.proofs.groups.Groups.{ends-length}
 
 -- ---- what a scope answers, from its outcome
 

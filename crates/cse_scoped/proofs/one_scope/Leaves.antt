@@ -29,15 +29,15 @@ use Rattle.words.specs.declared.tokens.Trees.the-variants as trees
 use Rattle.fusion.specs.Words.{numbers-from}
 use Rattle.fusion.proofs.Members.{numbers-count}
 use Rattle.fusion.specs.switches.Listing.{Listed}
-use Rattle.fusion.specs.grouping.Answers.{groups-at, all-stand, Groups-written}
-use Rattle.fusion.proofs.grouping.Told.{are-place-groups, places-stand}
+use Rattle.fusion.specs.groups.Answers.{groups-at, all-stand, Groups-written}
+use Rattle.fusion.proofs.groups.Told.{are-place-groups, places-stand}
 use Rattle.fusion.specs.place.Overlay.{overlay}
 use Rattle.fusion.proofs.tables.Laws.{overlay-none, overlay-word, overlay-append, overlay-fits}
 use Rattle.statements.specs.Prepared.{begin-of}
-use Rattle.fusion.specs.columns.Copying.{armed-at, all-armed, Copying, copying-by, column-there, copying}
-use Rattle.fusion.specs.declared.columns.Column.{Column}
-use Rattle.fusion.specs.declared.columns.Column.the-variants as column-enum
-use Rattle.fusion.proofs.columns.Column as column-type
+use Rattle.fusion.specs.groups.Copying.{armed-at, all-armed, Copying, copying-by, column-there, copying}
+use Rattle.fusion.specs.declared.groups.Column.{Column}
+use Rattle.fusion.specs.declared.groups.Column.the-variants as column-enum
+use Rattle.fusion.proofs.groups.Column as column-type
 use Rattle.statements.specs.holding.Holding.{whole-there, room-to-hold, Holding as Held-so, holding-by, holding}
 use Rattle.statements.specs.declared.holding.Held.{Held}
 use Rattle.statements.proofs.holding.Front.{held-front, held-length}
@@ -50,7 +50,7 @@ use Rattle.cse_scoped.specs.declared.one_scope.Copied.the-variants as co
 use Rattle.cse_scoped.specs.declared.one_scope.Holding.the-variants as holding-enum
 use Rattle.cse_scoped.specs.declared.one_scope.Switches.{Switches}
 use Rattle.cse_scoped.specs.declared.one_scope.Switches.the-variants as switches-enum
-use Rattle.fusion.proofs.grouping.Groups.{ends-length}
+use Rattle.fusion.proofs.groups.Groups.{ends-length}
 
 pub complete-so : (ws : List ℕ) → T (some-trees (trees-in ws)) → Complete ws
 unfolding some-trees

@@ -30,7 +30,7 @@ use Rattle.cse_scoped.proofs.one_scope.Sound.{words-ok, holds-later}
 use Rattle.cse_scoped.proofs.one_scope.Walking.{joined-low}
 use Rattle.cse_scoped.proofs.one_scope.WalkLaws.{joined-first, Walked-at, walked-at, starts-grow}
 use Rattle.cse_scoped.proofs.one_scope.Laying.{laid-none, laid-exact, laid-append, laid-as}
-use Rattle.fusion.proofs.grouping.Groups.{ends-length}
+use Rattle.fusion.proofs.groups.Groups.{ends-length}
 
 pub by-test : {A : Type 0} (b : Bool) (x y : A) → b ≡ true → cond b x y ≡ x
 by-test true x y e = refl

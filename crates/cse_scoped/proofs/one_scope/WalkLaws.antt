@@ -23,7 +23,7 @@ use Rattle.cse_scoped.proofs.one_scope.Laying.{front-less}
 use Rattle.cse_scoped.proofs.one_scope.ArmLaws.{never-ok, Or, first, second, lt-or-eq}
 use Rattle.scope_laws.proofs.sound.Bounds.{start-next}
 use Rattle.spec_tree.proofs.Outcomes.{got}
-use Rattle.fusion.proofs.grouping.Groups.{joined-last, ends-length}
+use Rattle.fusion.proofs.groups.Groups.{joined-last, ends-length}
 
 -- ---- words in front grow
 

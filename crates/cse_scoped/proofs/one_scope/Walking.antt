@@ -18,7 +18,7 @@ use Rattle.cse_scoped.specs.declared.one_scope.Armed.{Armed}
 use Rattle.statements.proofs.Groups.{end-is, group-long, group-inside, group-part}
 use Rattle.cse_scoped.proofs.one_scope.Sound.{words-ok, holds-later}
 use Rattle.cse_scoped.proofs.one_scope.WalkLaws.{Walk-so}
-use Rattle.fusion.proofs.grouping.Groups.{ends-length}
+use Rattle.fusion.proofs.groups.Groups.{ends-length}
 
 -- all rows of arms are paid for
 pub joined-low : (l : List (List ℕ)) → length (joined-groups l) ≤ sum-each (λ (run : List ℕ). per-match + length run) l

@@ -19,7 +19,7 @@ use Rattle.cse_scoped.proofs.one_scope.Laying.{laid-exact, laid-append,
 use Rattle.cse_scoped.proofs.one_scope.ArmLaws.{arms-within}
 use Rattle.statements.proofs.Groups.{end-is, begin-is, group-long, group-inside, group-part}
 use Rattle.cse_scoped.proofs.one_scope.Sound.{fused, all-few, holds-later}
-use Rattle.fusion.proofs.grouping.Groups.{ends-length}
+use Rattle.fusion.proofs.groups.Groups.{ends-length}
 
 -- a match's rows are those before its arms, and its arms'
 pub match-is : (hs : List ℕ) (gs : List (List ℕ)) (numbers arms : List ℕ) (g : ℕ) → match-run hs gs numbers arms g ≡ head-run hs gs numbers g ++ arms

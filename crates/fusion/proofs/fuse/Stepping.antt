@@ -10,6 +10,8 @@ use lib.Seq.{take-at}
 use Rattle.spec_tree.specs.Tree.{Name, Tree}
 use Rattle.spec_tree.specs.Tokens.{kind-of, run-at}
 use Rattle.spec_rewrite.specs.Rewrite.{replace-outside-arms}
+use Rattle.words.specs.tokens.Answers.{end-answer}
+use Rattle.words.specs.declared.tokens.Run.the-variants as run
 use Rattle.words.specs.words.Words.{rewritten-words, tree-of, name-of, Complete}
 use Rattle.words.specs.words.Answers.{Rewriting, rewriting-by, rewriting}
 use Rattle.words.specs.declared.words.Request.{Request}
@@ -34,6 +36,14 @@ step-on :
 unfolding fuse-step
 step-on base place name ws o e =
     ap (λ (q : Option ℕ). elim q as (λ _. Option (List ℕ)) [ none ↦ none | some n ↦ some (rewritten-words (replace-outside-arms (tree-of (drop place base)) name) ws) ]) e
+
+pub no-member : (base : List ℕ) (place name : ℕ) (ws out : List ℕ) → run.Broken ≡ end-answer place (run-at base place) → Ends base place name ws stepped.Broken out
+unfolding end-answer stepped-answer Front
+no-member base place name ws out e = go (run-at base place) refl e
+  where
+    go : (o : Option ℕ) → run-at base place ≡ o → run.Broken ≡ end-answer place o → Ends base place name ws stepped.Broken out
+    go none s q = subst (λ (w : Option (List ℕ)). (stepped.Broken ≡ stepped-answer w) × Front w out) (sym (step-on base place (name-of name) ws none s)) (refl, tt)
+    go (some m) s q = let z : _≡_ {A = ℕ} 0 1 = cc in absurd (omega arith)
 
 module _ (base : List ℕ) (place end name : ℕ) (ws spare : List ℕ) (there : Divisor base place end) (complete : Complete ws) (symbol : kind-of name ≡ 0) (fits : length ws ≤ length spare) where
   abbrev part : List ℕ

@@ -15,7 +15,7 @@ use Rattle.words.proofs.tokens.Complete.{same-is}
 use Rattle.words.specs.words.Words.{Complete}
 use Rattle.laws.specs.positions.Places.{numbered-at, among-places}
 use Rattle.fusion.specs.switches.Listing.{Inside}
-use Rattle.reciprocals.proofs.tobind.Counting.{told-equal, told-different, never-broken}
+use Rattle.reciprocals.proofs.divisors.Counting.{told-equal, told-different, never-broken}
 
 -- ---- whether two trees are equal
 

@@ -1,11 +1,12 @@
 -- What `list_switches` tells those who ask for trees with a mark for each word. Assumes nothing.
 use Prim.Native.Nat.{ℕ, _≤_, _<_}
 use native.Mathlib.Omega.{arith}
-use mathlib.Core.Path.{_≡_, refl, _∙_, ap}
+use mathlib.Core.Path.{_≡_, refl, sym, _∙_, ap}
 use mathlib.Core.Bool.{Bool, true, false}
 use mathlib.Core.List.{List}
 use borrow.Author.Tests.{leb-true, leb-false}
-use lib.ListN.{length}
+use lib.ListN.{length, take, drop}
+use lib.Seq.{take-at}
 use lib.Dec.{leb}
 use Rattle.words.specs.words.Words.{Complete}
 use Rattle.laws.specs.switches.Switches.{switch-places}
@@ -67,3 +68,7 @@ module _ (ws : List ℕ) (marks : ℕ) (old : List ℕ) (complete : Complete ws)
   pub not-full : switch-list.NoRoom ≡ listing ws marks old .answer → ⊥
   unfolding put-front
   not-full e = never-full (leb (length (switch-places ws)) (length old)) (answered switch-list.NoRoom e)
+
+-- the first places are the switches
+pub front-is : {new old : List ℕ} {n : ℕ} {out : List ℕ} → Listed new old n out → take n out ≡ new
+front-is {new} {old} {n} {out} k = ap (take n) (k .places) ∙ take-at new (drop (length new) old) n (sym (k .count))

@@ -18,7 +18,7 @@ use Rattle.spec_tree.specs.Symbol.{is-letter, is-digit, is-name}
 use Rattle.spec_tree.specs.Rows.{Row, row-sym, row-const, row-op}
 use Rattle.spec_tree.specs.Layout.{row-kind, row-default, row-fields, row-words}
 use Rattle.spec_sheet.specs.Sheet.{Root, constant, numbers}
-use Rattle.load.specs.namebytes.Copy.{has-room, copied}
+use Rattle.load.specs.fields.Copy.{has-room, copied}
 use Rattle.load.specs.numerals.Values.{constant-answer}
 use Rattle.load.specs.declared.numerals.Constant.the-variants as signed
 use Rattle.node_rows.proofs.names.Leaves.{name-by}

@@ -13,12 +13,12 @@ use Rattle.spec_tree.specs.Outcome.{Outcome, refused, _at-record_}
 use Rattle.spec_tree.specs.Bytes.{every}
 use Rattle.spec_sheet.specs.Sheet.{plain, fields-from, find, words, fields-ok}
 use Rattle.spec_sheet.proofs.Splitting.{glued, Split, record-split}
-use Rattle.load.specs.commas.Comma.{comma-at}
-use Rattle.load.specs.commas.Answers.{split-answer}
+use Rattle.load.specs.fields.Comma.{comma-at}
+use Rattle.load.specs.fields.Answers.{split-answer}
 use Rattle.load.specs.recordwords.Answers.{word-answer}
-use Rattle.load.specs.declared.commas.Split.the-variants as split
+use Rattle.load.specs.declared.fields.Split.the-variants as split
 use Rattle.load.specs.declared.recordwords.Word.the-variants as word
-use Rattle.load.proofs.commas.Commas.{fields-whole, fields-cut}
+use Rattle.load.proofs.fields.Commas.{fields-whole, fields-cut}
 use Rattle.load.specs.one_record.Item.{Item, row-item, fields-item, split-item, record-item}
 use Rattle.load.specs.one_record.Reading.{Follows, Reads, room}
 use Rattle.load.specs.declared.one_record.Read.{Read}

@@ -9,12 +9,12 @@ use lib.ListN.{length, take, drop, set, length-drop}
 use lib.Seq.{length-take-le, drop-drop}
 use borrow.Rule.Slice.PartMut.{putMid}
 use Rattle.spec_sheet.specs.Sheet.{number, numbers, fields-from}
-use Rattle.load.specs.commas.Comma.{comma-at}
-use Rattle.load.specs.commas.Answers.{split-answer}
+use Rattle.load.specs.fields.Comma.{comma-at}
+use Rattle.load.specs.fields.Answers.{split-answer}
 use Rattle.load.specs.numerals.Values.{capped, number-answer}
-use Rattle.load.specs.declared.commas.Split.the-variants as split
+use Rattle.load.specs.declared.fields.Split.the-variants as split
 use Rattle.load.specs.declared.numerals.Number.the-variants as numbered
-use Rattle.load.proofs.commas.Commas.{fields-whole, fields-cut}
+use Rattle.load.proofs.fields.Commas.{fields-whole, fields-cut}
 use Rattle.load.specs.one_record.Reading.{capped-all, Writes}
 use Rattle.load.specs.declared.one_record.Fields.{Fields}
 use Rattle.load.specs.declared.one_record.Fields.the-variants as fields

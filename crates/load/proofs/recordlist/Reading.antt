@@ -11,8 +11,8 @@ use Rattle.spec_tree.specs.Outcome.{Outcome, ok, refused, _at-record_, _>>=_}
 use Rattle.spec_tree.specs.Rows.{Row, Table}
 use Rattle.spec_tree.specs.Layout.{row-words, table-words}
 use Rattle.spec_sheet.specs.Sheet.{records-from, load-records}
-use Rattle.load.specs.recordend.End.{record-end}
-use Rattle.load.proofs.recordend.Ends.{Record, records-cut}
+use Rattle.load.specs.fields.End.{record-end}
+use Rattle.load.proofs.fields.Ends.{Record, records-cut}
 use Rattle.load.specs.one_record.Item.{Item, a-row, a-root, record-item, with-item}
 use Rattle.load.proofs.one_record.Items.{records-step}
 use Rattle.load.specs.declared.recordlist.Step.{Step}

@@ -14,7 +14,7 @@ use Rattle.spec_tree.specs.Tree.{Tree, Op, nil}
 use Rattle.spec_tree.specs.Facts.{total, size, nesting}
 use Rattle.spec_tree.specs.Rows.{Row, at, tree-of-row, trees-from, occurrences}
 use Rattle.spec_tree.specs.Layout.{row-of, rows-of}
-use Rattle.node_rows.specs.bounds.Below.{below}
+use Rattle.node_rows.specs.fields.Below.{below}
 use Rattle.node_rows.specs.rows.Check.{row-test, rows-test}
 use Rattle.node_rows.specs.rows.Measure.{pick, capped-size, capped-level, level-by, row-operands, Row-measures, Filled}
 use Rattle.node_rows.proofs.names.Leaves.{back}

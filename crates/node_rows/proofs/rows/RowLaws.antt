@@ -21,8 +21,8 @@ use Rattle.spec_tree.proofs.Logic.{and-left, and-right, and-both, same-test}
 use Rattle.spec_tree.proofs.TreeLaws.{eq-bytes-sound, eq-bytes-refl}
 use Rattle.spec_tree.proofs.LayoutLaws.{row-number}
 use Rattle.node_rows.specs.kinds.Numbers.{kind-number}
-use Rattle.node_rows.specs.bounds.Below.{below}
-use Rattle.node_rows.specs.constants.Constant.{constant-test}
+use Rattle.node_rows.specs.fields.Below.{below}
+use Rattle.node_rows.specs.fields.Constant.{constant-test}
 use Rattle.node_rows.specs.fields.Tests.{operation-test, plain-test, fields-test}
 use Rattle.node_rows.specs.rows.Check.{row-test}
 use Rattle.node_rows.proofs.rows.RowTrees.{flag-cases}

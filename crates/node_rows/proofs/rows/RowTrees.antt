@@ -16,7 +16,7 @@ use Rattle.spec_tree.specs.Rows.{at, tree-of-row, occurrences}
 use Rattle.spec_tree.specs.Layout.{row-by, row-of}
 use Rattle.spec_tree.proofs.Logic.{and-left, and-right}
 use Rattle.node_rows.specs.kinds.Numbers.{kind-number}
-use Rattle.node_rows.specs.bounds.Below.{below}
+use Rattle.node_rows.specs.fields.Below.{below}
 use Rattle.node_rows.specs.fields.Tests.{plain-test, operation-test, fields-test}
 use Rattle.node_rows.specs.rows.Check.{row-test}
 use Rattle.node_rows.specs.rows.Measure.{pick, capped-size, capped-level, level-by, row-operands, Row-measures}

@@ -13,7 +13,7 @@ use Rattle.spec_tree.specs.Bytes.{every}
 use Rattle.spec_tree.specs.Kinds.{is-switch}
 use Rattle.spec_tree.specs.Facts.{total, greatest, first-or-deeper}
 use Rattle.spec_tree.proofs.Logic.{and-left, and-right, and-both}
-use Rattle.node_rows.specs.bounds.Below.{below}
+use Rattle.node_rows.specs.fields.Below.{below}
 use Rattle.node_rows.specs.rows.Measure.{pick, capped-size, capped-level, level-by, row-operands}
 use Rattle.node_rows.proofs.names.Leaves.{rest, back}
 

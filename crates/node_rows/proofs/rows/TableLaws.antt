@@ -17,7 +17,7 @@ use Rattle.spec_tree.proofs.Logic.{and-left, and-right, and-both, same-test}
 use Rattle.spec_tree.proofs.TreeLaws.{eq-bytes-sound}
 use Rattle.spec_tree.proofs.LayoutLaws.{words-long, rows-long}
 use lib.IntN.{ℤ, pos, negsuc}
-use Rattle.node_rows.specs.bounds.Below.{below}
+use Rattle.node_rows.specs.fields.Below.{below}
 use Rattle.node_rows.specs.rows.Check.{laid-in-domain, check-domain, rows-test}
 use Rattle.node_rows.specs.rows.Measure.{pick, capped-size, capped-level, Filled}
 use Rattle.node_rows.proofs.rows.RowTrees.{nestings, picked-sizes, picked-levels}

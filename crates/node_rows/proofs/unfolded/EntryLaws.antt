@@ -13,7 +13,7 @@ use Rattle.spec_tree.specs.Rows.{Table, trees, occurrences}
 use Rattle.spec_tree.specs.Layout.{laid-out, table-of, table-or-9}
 use Rattle.spec_tree.specs.Tokens.{all-tokens, number-in}
 use Rattle.node_rows.specs.rows.Check.{checked}
-use Rattle.node_rows.specs.layout.Nine.{check-rows}
+use Rattle.node_rows.specs.rows.Nine.{check-rows}
 use Rattle.node_rows.specs.declared.rows.Checked.the-variants as checks
 use Rattle.node_rows.specs.unfolded.Write.{wrote, Wrote}
 use Rattle.node_rows.specs.unfolded.Unfold.{unfolded, Answers}

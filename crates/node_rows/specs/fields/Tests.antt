@@ -8,8 +8,8 @@ use Rattle.spec_tree.specs.Bytes.{every}
 use Rattle.spec_tree.specs.Kinds.{kind-at, Select}
 use Rattle.spec_tree.specs.Symbol.{is-name}
 use Rattle.node_rows.specs.kinds.Numbers.{kind-number}
-use Rattle.node_rows.specs.bounds.Below.{below}
-use Rattle.node_rows.specs.constants.Constant.{constant-test}
+use Rattle.node_rows.specs.fields.Below.{below}
+use Rattle.node_rows.specs.fields.Constant.{constant-test}
 
 unfoldable pub operation-test : ℕ → Bool → List ℕ → ℕ → Bool
 unfolding kind-at every

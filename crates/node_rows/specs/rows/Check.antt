@@ -9,7 +9,7 @@ use Rattle.spec_tree.specs.Outcome.{Outcome, ok, refused, by, _>>=_}
 use Rattle.spec_tree.specs.Bytes.{eq-bytes, every}
 use Rattle.spec_tree.specs.Rows.{trees, occurrences}
 use Rattle.spec_tree.specs.Layout.{table-words, table-of, in-domain}
-use Rattle.node_rows.specs.bounds.Below.{below}
+use Rattle.node_rows.specs.fields.Below.{below}
 use Rattle.node_rows.specs.fields.Tests.{fields-test}
 use Rattle.node_rows.specs.declared.rows.Checked.{Checked}
 use Rattle.node_rows.specs.declared.rows.Checked.the-variants.{Laid, Refused}

@@ -1,4 +1,4 @@
--- The float of an integer, and what `replace::integers::constant_of` answers, from `constant-of` of Rewrite and the code of Tokens. Assumes nothing.
+-- The float of an integer, and what `replace::coefficient::constant_of` answers, from `constant-of` of Rewrite and the code of Tokens. Assumes nothing.
 use Prim.Native.Nat.{ℕ}
 use mathlib.Core.Bool.{Bool}
 use lib.IntN.{ℤ}

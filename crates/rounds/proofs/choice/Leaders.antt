@@ -20,8 +20,8 @@ use Rattle.laws.specs.positions.Places.{numbered-at, uses-at, savings-at, candi
 use Rattle.laws.proofs.positions.UsesAt.{uses-counted, candidate-counted}
 use Rattle.rounds.specs.uses.Marks.{Complete}
 use Rattle.rounds.proofs.uses.Runs.{ends-within}
-use Rattle.fmt.specs.textorder.Order.{ordered-by, order-answer}
-use Rattle.fmt.specs.declared.textorder.TextOrder.the-variants as order
+use Rattle.fmt.specs.order.Order.{ordered-by, order-answer}
+use Rattle.fmt.specs.declared.order.TextOrder.the-variants as order
 use Rattle.rounds.specs.choice.Leading.{Writable, leader-of, Lead, later-at, best-step, Leads}
 use Rattle.rounds.proofs.choice.Passing.{order-is}
 

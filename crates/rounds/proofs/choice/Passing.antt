@@ -24,8 +24,8 @@ use Rattle.fmt.specs.shapes.Places.{tree-here}
 use Rattle.rounds.specs.uses.Marks.{Complete}
 use Rattle.rounds.proofs.uses.Runs.{how-many}
 use Rattle.laws.specs.positions.Places.{text-at}
-use Rattle.fmt.specs.textorder.Order.{is-there, writable, ordered-by, text-here, order-answer}
-use Rattle.fmt.proofs.textorder.Lengths.{text-short}
+use Rattle.fmt.specs.order.Order.{is-there, writable, ordered-by, text-here, order-answer}
+use Rattle.fmt.proofs.order.Lengths.{text-short}
 use Rattle.rounds.specs.choice.Leading.{Writable}
 use Rattle.replace.proofs.replacing.Scanning.{every-drop, every-take}
 

@@ -19,7 +19,7 @@ use Rattle.statements.specs.holding.Holding.{whole-there, room-to-hold, 
 use Rattle.statements.specs.declared.holding.Held.{Held}
 use Rattle.statements.specs.declared.holding.Held.the-variants as held
 use Rattle.statements.proofs.holding.Front.{held-length}
-use Rattle.fusion.proofs.columns.Armed.{and-false}
+use Rattle.fusion.proofs.groups.Armed.{and-false}
 use Rattle.spec_tree.proofs.Logic.{both-true}
 
 -- ---- the tests

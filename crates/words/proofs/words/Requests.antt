@@ -14,7 +14,7 @@ use Rattle.spec_tree.specs.Tokens.{kind-of, trees-in}
 use Rattle.spec_tree.proofs.TreeLaws.{eq-bytes-sound, eq-bytes-refl}
 use Rattle.words.specs.tokens.Answers.{count-answer}
 use Rattle.words.specs.declared.tokens.Trees.the-variants as trees
-use Rattle.words.specs.words.Words.{begins-with, some-trees, one-tree, sound}
+use Rattle.words.specs.words.Words.{Complete, begins-with, some-trees, one-tree, sound}
 use Rattle.words.specs.words.Answers.{request-answer}
 use Rattle.words.specs.declared.words.Request.the-variants as request
 use Rattle.spec_tree.proofs.Logic.{not-true}
@@ -28,6 +28,9 @@ pub uncounted : (o : Option ℕ) → trees.Broken ≡ count-answer o → o ≡ n
 unfolding count-answer
 uncounted none e = refl
 uncounted (some m) e = absurd (let z : _≡_ {A = ℕ} 0 1 = cc in omega arith)
+
+pub complete-by : (ws : List ℕ) (n : ℕ) → trees.Count n ≡ count-answer (trees-in ws) → Complete ws
+complete-by ws n e = (n, counted n (trees-in ws) e)
 
 -- ---- the tests in their order
 

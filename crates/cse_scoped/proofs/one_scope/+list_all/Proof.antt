@@ -2,7 +2,7 @@
 use native.Mathlib.Omega.{arith}
 use mathlib.Core.Path.{sym, _∙_}
 use lib.ListN.{length, length-replicate}
-use Rattle.fusion.proofs.switches.Told.{listed-all, not-broken, not-full, more-than-lent}
+use Rattle.fusion.proofs.switches.Told.{front-is, listed-all, not-broken, not-full, more-than-lent}
 use Rattle.cse_scoped.proofs.one_scope.Leaves.{complete-so, listed-in}
 use borrow.Author.Needs.{needs}
 use Prim.Native.Nat.{ℕ, _<_, _-_}
@@ -14,7 +14,6 @@ use Rattle.cse_scoped.proofs.one_scope.+list_all.Lts-list_all as list-a
 use Rattle.fusion.proofs.switches.list_switches.Reads as list-switches-reads
 use Rattle.cse_scoped.proofs.one_scope.+list_all.{statement}
 use Rattle.cse_scoped.proofs.one_scope.+list_all.Tie.{close}
-use Rattle.reciprocals.proofs.tobind.Giving.{front-is}
 
 abbrev μ-list-all : Measures 3 list-all-kinds.ps ℕ
 μ-list-all κs a = 65536 - length (a .1 .0 .now)

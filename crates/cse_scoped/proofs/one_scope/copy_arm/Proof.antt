@@ -9,7 +9,7 @@ use Rattle.cse_scoped.proofs.one_scope.copy_arm.Statement.{statement}
 use Rattle.cse_scoped.proofs.one_scope.copy_arm.Tie as tie
 use Rattle.cse_scoped.proofs.one_scope.copy_arm.Reads as reads
 use Rattle.cse_scoped.proofs.one_scope.copy_arm.Lts as lts
-use Rattle.fusion.proofs.columns.copy_column.Reads as copy-column-reads
+use Rattle.fusion.proofs.groups.copy_column.Reads as copy-column-reads
 use Rattle.fusion.proofs.tables.put.Reads as put-reads
 
 slice-reshare-prefix-copy-column : tie.Need-slice-reshare-prefix-copy-column

@@ -9,7 +9,7 @@ use Rattle.cse_scoped.proofs.one_scope.extract_and_list.Tie as tie
 use Rattle.cse_scoped.proofs.one_scope.extract_and_list.Reads as reads
 use Rattle.cse_scoped.proofs.one_scope.extract_and_list.Lts as lts
 use Rattle.rounds.proofs.extract_all.Reads as extract-all-reads
-use Rattle.reciprocals.proofs.tobind.divisors_to_bind.Reads as divisors-to-bind-reads
+use Rattle.reciprocals.proofs.divisors.divisors_to_bind.Reads as divisors-to-bind-reads
 
 extract-all-requires : tie.Need-extract-all-requires
 extract-all-requires c κs = search needs

@@ -1,13 +1,13 @@
 -- `cse_scoped::one_scope::group_listed` meets its contract. Assumes nothing.
 use mathlib.Core.Path.{sym, _∙_}
-use Rattle.fusion.proofs.grouping.Told.{groups-all, not-broken, not-full}
+use Rattle.fusion.proofs.groups.Told.{groups-all, not-broken, not-full}
 use Rattle.cse_scoped.proofs.one_scope.Leaves.{complete-so, stand-so, grouping-so}
 use borrow.Author.Needs.{needs}
 use Rattle.cse_scoped.proofs.one_scope.group_listed.Statement.{statement}
 use Rattle.cse_scoped.proofs.one_scope.group_listed.Tie as tie
 use Rattle.cse_scoped.proofs.one_scope.group_listed.Reads as reads
 use Rattle.cse_scoped.proofs.one_scope.group_listed.Lts as lts
-use Rattle.fusion.proofs.grouping.group_switches.Reads as group-switches-reads
+use Rattle.fusion.proofs.groups.group_switches.Reads as group-switches-reads
 
 group-switches-requires : tie.Need-group-switches-requires
 group-switches-requires c κs = search needs

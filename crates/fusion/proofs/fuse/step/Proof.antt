@@ -3,8 +3,8 @@ use native.Mathlib.Omega.{arith}
 use mathlib.Core.Path.{sym, _∙_}
 use lib.ListN.{length, take}
 use lib.Seq.{length-take-le}
-use Rattle.reciprocals.proofs.settle.Stepping.{divisor-there, no-divisor}
-use Rattle.fusion.proofs.fuse.Stepping.{in-out, goes-back, not-broken, not-full, step-ends}
+use Rattle.reciprocals.proofs.settle.Stepping.{divisor-there}
+use Rattle.fusion.proofs.fuse.Stepping.{no-member, in-out, goes-back, not-broken, not-full, step-ends}
 use borrow.Author.Needs.{needs}
 use Rattle.fusion.proofs.fuse.step.Statement.{statement}
 use Rattle.fusion.proofs.fuse.step.Tie as tie
@@ -16,7 +16,7 @@ step-spec =
     (λ c κs. search needs)
     (λ c. search needs)
     (λ c. search needs)
-    (λ c. no-divisor (c .before .before .before .before .before .before .args .base .now) (c .before .before .before .before .before .before .args .place) (c .before .before .before .before .before .before .args .name) (take (c .before .before .before .before .before .before .args .len) (c .before .before .before .before .before .before .args .work .now)) _ (sym (c .enum-told .given .1) ∙ c .before .before .end-of .ensures))
+    (λ c. no-member (c .before .before .before .before .before .before .args .base .now) (c .before .before .before .before .before .before .args .place) (c .before .before .before .before .before .before .args .name) (take (c .before .before .before .before .before .before .args .len) (c .before .before .before .before .before .before .args .work .now)) _ (sym (c .enum-told .given .1) ∙ c .before .before .end-of .ensures))
     (λ c. search needs)
     (λ c. sym (length-take-le (c .before .before .before .before .before .before .before .before .args .len) (c .before .before .before .before .before .before .before .before .args .work .now) (c .before .before .before .before .before .before .before .before .pre .0 .0)))
     (λ c. let d = divisor-there (c .before .before .before .before .before .before .before .before .args .base .now) (c .before .before .before .before .before .before .before .before .args .place) _ (sym (c .before .before .end .given .1) ∙ c .before .before .before .before .end-of .ensures) in

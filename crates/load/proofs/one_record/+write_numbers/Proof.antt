@@ -10,7 +10,7 @@ use borrow.Fn.PlainCycle.{Measures, is, falls, and}
 use Rattle.load.proofs.one_record.write_numbers.Reads as write-numbers
 use Rattle.load.proofs.one_record.write_numbers.Kinds as write-numbers-kinds
 use Rattle.load.proofs.one_record.+write_numbers.Lts-write_numbers as write-numbers-lts
-use Rattle.load.proofs.commas.first_comma.Reads as first-comma-reads
+use Rattle.load.proofs.fields.first_comma.Reads as first-comma-reads
 use Rattle.load.proofs.numerals.node_number.Reads as node-number-reads
 use Rattle.load.proofs.one_record.write_last.Reads as write-last-reads
 use Rattle.load.proofs.one_record.+write_numbers.{statement}

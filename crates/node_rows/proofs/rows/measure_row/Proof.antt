@@ -4,7 +4,7 @@ use mathlib.Core.List.{List}
 use Prim.Native.Nat.{ℕ}
 use lib.Dec.{T}
 use lib.ListN.{length}
-use Rattle.node_rows.specs.bounds.Below.{below}
+use Rattle.node_rows.specs.fields.Below.{below}
 use Rattle.node_rows.proofs.rows.Sums.{operands-op, measure-leaf, measure-op}
 use borrow.Author.Needs.{needs}
 use Rattle.node_rows.proofs.rows.measure_row.Statement.{statement}

@@ -11,7 +11,7 @@ use borrow.Fn.PlainCycle.{Measures, is, falls, and}
 use Rattle.replace.proofs.outside.rewrite.Reads as rewrite
 use Rattle.replace.proofs.outside.rewrite.Kinds as rewrite-kinds
 use Rattle.replace.proofs.outside.+rewrite.Lts-rewrite as rewrite-lts
-use Rattle.replace.proofs.outside.copy.Reads as copy-reads
+use Rattle.words.proofs.copying.copy.Reads as copy-reads
 use Rattle.replace.proofs.outside.first_part.Reads as first-part-reads
 use Rattle.replace.proofs.outside.+rewrite.{statement}
 use Rattle.replace.proofs.outside.+rewrite.Tie.{close}

@@ -1,0 +1,5 @@
+pub mod Comparing
+pub mod OrderLaws
+pub mod Beginnings
+pub mod Ordering
+pub mod Lengths

@@ -1,2 +1,0 @@
-pub mod Ordering
-pub mod Lengths

@@ -1,3 +1,0 @@
-pub mod Armed
-pub mod Arms
-pub mod Ends

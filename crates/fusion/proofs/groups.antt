@@ -1,0 +1,10 @@
+pub mod Standing
+pub mod Joining
+pub mod Members
+pub mod Fewer
+pub mod Groups
+pub mod Giving
+pub mod Told
+pub mod Armed
+pub mod Arms
+pub mod Ends

@@ -1,0 +1,4 @@
+pub mod Plain
+pub mod Commas
+pub mod Ends
+pub mod Copies

@@ -1,2 +1,0 @@
-pub mod Comma
-pub mod Answers

@@ -1,0 +1,4 @@
+pub mod Comma
+pub mod Answers
+pub mod End
+pub mod Copy

@@ -1,2 +1,0 @@
-pub mod Shaped
-pub mod Accepted

@@ -1,7 +1,0 @@
-pub mod Within
-pub mod Marked
-pub mod Counting
-pub mod Choosing
-pub mod Sorting
-pub mod Giving
-pub mod Definition
