@@ -1,6 +1,5 @@
-// The order of texts (01, "Text"): by bytes, a proper prefix first.
-// The later of two texts (01, "Text"). A text may be the beginning of a longer slice: a length past the slice's end counts as the slice's own.
-// Which of two trees among words comes first by its text (01, "Text", "Extraction").
+// The order of texts (01, "Text", "Extraction"): by bytes, a proper prefix first; the later of two texts; and which of two trees among words comes first by its text.
+// A text may be the beginning of a longer slice: a length past the slice's end counts as the slice's own.
 ghost use mathlib.Core.Path.{_≡_};
 ghost use Rattle.spec_tree.specs.text.Text.{before, later};
 ghost use Prim.Native.Nat.{min, _-_, _≤_};

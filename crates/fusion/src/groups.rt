@@ -1,5 +1,5 @@
-// Which switches are fused in one match (01, "Scoped fusion"): those of equal kind, key, arm count and default, as places among words of trees.
-// The arms of one number of some switches, as words one after another: what an arm's scope works on (01, "Scoped fusion").
+// Which switches are fused in one match (01, "Scoped fusion"): those of equal kind, key, arm count and default, as places among words of trees; and the arms of one
+// number of a group, as words one after another, which an arm's scope works on.
 ghost use mathlib.Core.Path.{_≡_};
 ghost use Prim.Native.Nat.{_≤_, _<_, _+_};
 ghost use lib.ListN.{length, drop};

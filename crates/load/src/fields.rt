@@ -1,7 +1,5 @@
-// The bytes that a record may hold (01, "Sheet and printing"). Any bytes will do.
-// Where a record's first field ends (01, "Sheet and printing"). Any bytes will do.
-// Where a record of a sheet ends (01, "Sheet and printing"). Any bytes will do.
-// The bytes of a name as words (01, "Sheet and printing"). Any bytes will do.
+// The parts of a sheet (01, "Sheet and printing"), for any bytes: the bytes that a record may hold, where its first field and where the record itself ends, and the
+// bytes of a name as words.
 ghost use mathlib.Core.Path.{_≡_};
 ghost use Rattle.spec_tree.specs.Bytes.{every};
 ghost use Rattle.spec_sheet.specs.Sheet.{plain};

@@ -1,6 +1,4 @@
-// The fields of a constant (01, "Expressions and facts"): a sign, 1 for minus, and a size. Any words will do.
-// Numbers below a bound (01, "Expressions and facts"): operands and roots. Any words will do.
-// The fields of a node row, by its kind. Any words will do.
+// The fields of a node row (01, "Expressions and facts"), for any words: a constant's sign, 1 for minus, and size; numbers of earlier nodes; and all fields by the kind.
 ghost use mathlib.Core.Path.{_≡_};
 ghost use Rattle.node_rows.specs.fields.Constant.{constant-test};
 ghost use Rattle.node_rows.specs.fields.Below.{below};

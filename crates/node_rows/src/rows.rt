@@ -1,5 +1,5 @@
-// Node rows lent as words: whether they are within every limit of 01's first section.
-// The test for refusal 9: whether rows and roots are ones that load lays out for some sheet.
+// Node rows lent as words: whether they are within every limit of 01's first section, and the test for refusal 9, whether rows and roots are ones that load lays out
+// for some sheet.
 ghost use mathlib.Core.Path.{_≡_};
 ghost use Prim.Native.Nat.{suc, _+_, _*_, _≤_, _<_, max};
 ghost use lib.Dec.{T};

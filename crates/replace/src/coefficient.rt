@@ -1,8 +1,5 @@
-// The coefficient of a product as an f64 (01, "Rewriting"): what `constant_of` of the crate integers answers, and the laws of coefficients. A constant is given by
-// its code, the part of its word that is not the kind: 0, -1, 1, -2, 2, .. are 0, 1, 2, 3, 4, ..
-// The float of a constant (01, "Rewriting"). A constant is given by its code, the part of its word that is not the kind: 0, -1, 1, -2, 2, .. are 0, 1, 2, 3, 4, ..
-// Which floats are constants (01, "Rewriting"). A constant is given by its code, the part of its word that is not the kind: 0, -1, 1, -2, 2, .. are 0, 1, 2, 3, 4, ..
-// The coefficient 1 (01, "Rewriting").
+// The coefficient of a product as an f64 (01, "Rewriting"): the float of a constant, which floats are constants, and the coefficient 1. A constant is given by its code,
+// the part of its word that is not the kind: 0, -1, 1, -2, 2, .. are 0, 1, 2, 3, 4, ..
 ghost use mathlib.Core.Path.{_≡_};
 ghost use lib.Ieee.{binary64, ofInt, eq};
 ghost use Rattle.spec_tree.specs.Tokens.{constant-at};

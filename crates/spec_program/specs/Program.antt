@@ -1,6 +1,6 @@
 -- What the programs write (01, "Sheet and printing"): `csesheet` the flat answer, by `written`, in which no size of a table or buffer stands, and so no 7, 8, 12, 13 or
 -- 14: what it lends has to be long enough for every answer. Its twin `csescoped` writes the scoped one by the three calls with what it lends, 131,072 rows and 524,288
--- bytes, and so refuses by 12 or 14 an answer that is longer; where they are enough it is `written true` (passing/proofs/Enough). Assumes nothing.
+-- bytes, and so refuses by 12 or 14 an answer that is longer; where they are enough it is `written true` (guarantee/proofs/passing/Enough). Assumes nothing.
 use mathlib.Core.Bool.{Bool, true, false}
 use mathlib.Core.List.{List, _++_}
 use Prim.Native.Nat.{ℕ}

@@ -1,1 +1,1 @@
-// spec_program: .
+// Definitions: print, the three calls one after another, and what the programs write (01, "Sheet and printing"). No code.

@@ -1,1 +1,1 @@
-// spec_sheet: .
+// Definitions: what a sheet is, and load with its refusals (01, "Sheet and printing"). No code.

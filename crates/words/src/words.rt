@@ -1,5 +1,5 @@
 // Words of trees to be rewritten, from one slice to another: whether they may be, what that answers, and whether words begin with others. The rewritings
-// themselves stand in crates of their own.
+// themselves stand in the crate replace.
 ghost use mathlib.Core.Path.{_≡_};
 ghost use lib.ListN.{length};
 ghost use lib.Dec.{ltb};

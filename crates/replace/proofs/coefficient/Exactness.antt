@@ -1,5 +1,5 @@
 -- A coefficient worked out by f64 products in the source's order, where `constant_of` accepts it, is the exact product of the integers in the tree; and one that
--- `is_one` takes for 1 is exactly 1 (01, "Rewriting"). Both are `Coefficient` of the crate rewrite, on codes. Assumes nothing.
+-- `is_one` takes for 1 is exactly 1 (01, "Rewriting"). Both are spec_rewrite/proofs/Coefficient, on codes. Assumes nothing.
 use Prim.Native.Nat.{ℕ}
 use native.Mathlib.Omega.{arith}
 use mathlib.Core.Path.{_≡_, refl, sym, _∙_, ap, subst}
