@@ -4,9 +4,9 @@ ghost use mathlib.Core.Path.{_≡_};
 ghost use Rattle.spec_tree.specs.text.Text.{before, later};
 ghost use Prim.Native.Nat.{min, _-_, _≤_};
 ghost use lib.ListN.{take, length, drop};
-ghost use Rattle.fmt.specs.order.Order.{order-answer};
-use crate::writer::Text;
-use crate::writer::write_tree;
+ghost use Rattle.fmt.specs.shapes.Places.{Stands};
+ghost use Rattle.fmt.specs.order.Order.{text-here, both-long};
+use crate::writer::expression;
 
 // Whether s comes before t: at the first byte in which they differ, or where s ends and t goes on.
 pub fn before(s: &[u8], t: &[u8]) -> bool
@@ -53,15 +53,6 @@ pub fn later<'a>(a: &'a [u8], n: usize, b: &'a [u8], m: usize) -> &'a [u8]
     }
 }
 
-pub enum TextOrder {
-    Before,
-    NotBefore,
-    // A tree's words aren't all there, or it isn't a tree of an answer.
-    Broken,
-    // The two texts together are longer than the bytes lent.
-    NoRoom,
-}
-
 // Whether the text up to `middle` comes before the one from there to `end`.
 fn first_before(text: &[u8], middle: usize, end: usize) -> bool
     requires { ⌜ (middle ≤ end) × (end ≤ length (now text)) ⌝ }
@@ -70,22 +61,14 @@ fn first_before(text: &[u8], middle: usize, end: usize) -> bool
     crate::order::before(&text[..middle], &text[middle..end])
 }
 
-// Whether the text of the tree at i comes before that of the tree at j. The texts are written one after the other into `text`; what is left there is free.
-pub fn before_at(rows: &[u64], tokens: &[u64], i: usize, j: usize, text: &mut [u8]) -> TextOrder
-    ensures { λ r. ⌜ r ≡ order-answer (now (rows .entry)) (now (tokens .entry)) i j (length (now (text .entry))) ⌝ }
+// Whether the text of the tree at i comes before that of the tree at j: trees that an answer may hold, whose texts fit together. They are written one after the
+// other into `text`; what is left there is free.
+pub fn before_at(rows: &[u64], tokens: &[u64], i: usize, j: usize, text: &mut [u8]) -> bool
+    requires { ⌜ Stands (now rows) (now tokens) i × Stands (now rows) (now tokens) j ⌝ }
+    requires { ⌜ both-long (now rows) (now tokens) i j ≤ length (now text) ⌝ }
+    ensures { λ r. ⌜ r ≡ before (text-here (now (rows .entry)) (now (tokens .entry)) i) (text-here (now (rows .entry)) (now (tokens .entry)) j) ⌝ }
 {
-    let Text::Ends(_, middle) = write_tree(rows, tokens, i, text, false, 0) else {
-        return TextOrder::Broken;
-    };
-    let Text::Ends(_, end) = write_tree(rows, tokens, j, text, false, middle) else {
-        return TextOrder::Broken;
-    };
-    if end > text.len() {
-        return TextOrder::NoRoom;
-    }
-    if first_before(text, middle, end) {
-        TextOrder::Before
-    } else {
-        TextOrder::NotBefore
-    }
+    let first = expression(rows, tokens, i, text, false, 0);
+    let second = expression(rows, tokens, j, text, false, first.to);
+    first_before(text, first.to, second.to)
 }

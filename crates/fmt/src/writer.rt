@@ -35,9 +35,9 @@ pub enum Text {
 }
 
 // The place after the words that were read, and the place after the text that was written.
-struct Pos {
-    next: usize,
-    to: usize,
+pub(crate) struct Pos {
+    pub(crate) next: usize,
+    pub(crate) to: usize,
 }
 
 fn precedence(kind: u64) -> u64
@@ -166,7 +166,14 @@ fn put_closing(out: &mut [u8], dry: bool, to: usize, kind: u64) -> usize
 }
 
 // The expression writer.
-fn expression(rows: &[u64], tokens: &[u64], at: usize, out: &mut [u8], dry: bool, to: usize) -> Pos
+pub(crate) fn expression(
+    rows: &[u64],
+    tokens: &[u64],
+    at: usize,
+    out: &mut [u8],
+    dry: bool,
+    to: usize,
+) -> Pos
     requires { ⌜ Stands (now rows) (now tokens) at ⌝ }
     ensures { λ r. ⌜ Passes dry (now (out .entry)) at to (tree-here (now (rows .entry)) (now (tokens .entry)) at)
         (display (tree-here (now (rows .entry)) (now (tokens .entry)) at)) (now (out .exit)) (r .next) (r .to) ⌝ }

@@ -11,6 +11,6 @@ pub mod Rows
 pub mod Words
 pub mod Members
 pub mod Walking
-pub mod Groups
+pub mod Grouping
 pub mod Totals
 pub mod place

@@ -18,7 +18,7 @@ use Rattle.laws.proofs.cse.Outcomes.{Good}
 use Rattle.fusion.specs.Settled.{member-steps, Numbered, Walked, numbered-groups, group-steps, all-steps}
 use Rattle.fusion.specs.Whole.{settled-roots, scope-groups}
 use Rattle.fusion.proofs.Members.{steps-count}
-use Rattle.fusion.proofs.Groups.{group-of, groups-kept}
+use Rattle.fusion.proofs.Grouping.{group-of, groups-kept}
 use Rattle.laws.proofs.cse.NumbersMost.{members-total, from-members}
 
 -- ---- the steps of groups

@@ -18,7 +18,6 @@ ghost use Rattle.reciprocals.specs.divisors.Places.{Inside, Listed, mark
 ghost use Rattle.reciprocals.specs.divisors.Answers.{to-bind-answer};
 use fmt::checked::Checked;
 use fmt::checked::tree_ok;
-use fmt::order::TextOrder;
 use fmt::order::before_at;
 use rounds::uses::mark_outside;
 use words::layout::DIV;
@@ -261,13 +260,7 @@ fn comes_before(rows: &[u64], tokens: &[u64], a: usize, b: usize, text: &mut [u8
     requires { ⌜ Writable (now rows) (now tokens) (length (now text)) ⌝ }
     ensures { λ r. ⌜ r ≡ before (text-at (now (tokens .entry)) (name-in (rows-in (now (rows .entry)))) a) (text-at (now (tokens .entry)) (name-in (rows-in (now (rows .entry)))) b) ⌝ }
 {
-    let order = before_at(rows, tokens, a, b, text);
-    match order {
-        TextOrder::Before => true,
-        TextOrder::NotBefore => false,
-        TextOrder::Broken => false,
-        TextOrder::NoRoom => false,
-    }
+    before_at(rows, tokens, a, b, text)
 }
 
 // Moves the first place past those after it, which are in text order, whose texts come before its own.

@@ -14,7 +14,6 @@ use crate::uses::mark_outside;
 use crate::value_numbers::class_tables;
 use fmt::checked::Checked;
 use fmt::checked::tree_ok;
-use fmt::order::TextOrder;
 use fmt::order::before_at;
 use words::tokens::Trees;
 use words::tokens::count_trees;
@@ -120,13 +119,7 @@ fn later(
     if a != b {
         return a < b;
     }
-    let order = before_at(rows, tokens, place, i, text);
-    match order {
-        TextOrder::Before => true,
-        TextOrder::NotBefore => false,
-        TextOrder::Broken => false,
-        TextOrder::NoRoom => false,
-    }
+    before_at(rows, tokens, place, i, text)
 }
 
 // The leader after the place i was met.

@@ -10,15 +10,11 @@ use lib.Seq.{drop-cons, take-suc, take-all, take-at, drop-at, set-at, getD-at, t
 use Rattle.spec_tree.specs.Tokens.{name-in}
 use Rattle.spec_tree.specs.text.Text.{before}
 use Rattle.fmt.specs.checked.Check.{rows-in}
-use Rattle.fmt.specs.order.Order.{ordered-by, order-answer}
-use Rattle.fmt.specs.declared.order.TextOrder.the-variants as order
-use Rattle.rounds.specs.uses.Marks.{Complete}
-use Rattle.rounds.specs.choice.Leading.{Writable}
-use Rattle.rounds.proofs.choice.Passing.{order-is}
+use Rattle.fmt.specs.order.Order.{text-here}
+use Rattle.rounds.proofs.choice.Passing.{text-is}
 use Rattle.laws.specs.positions.Places.{text-at, insert-place, sort-places}
 use Rattle.reciprocals.specs.divisors.Places.{Inside}
 use Rattle.reciprocals.proofs.divisors.Within.{inside-at, inside-drop, sort-inside, sort-length}
-use Rattle.rounds.proofs.choice.Leaders.{told-before, told-not, never-broken, never-short}
 
 -- ---- two texts
 
@@ -26,21 +22,8 @@ use Rattle.rounds.proofs.choice.Leaders.{told-before, told-not, never-broken, n
 abbrev pub precedes : List ℕ → List ℕ → ℕ → ℕ → Bool
 precedes rows ws a b = before (text-at ws (name-in (rows-in rows)) a) (text-at ws (name-in (rows-in rows)) b)
 
-module _ (rows ws : List ℕ) (a b room : ℕ) (c : Complete ws) (k : Writable rows ws room) (bits : (j : ℕ) → getD ws j 0 < 18446744073709551616) (ha : a < length ws) (hb : b < length ws) where
-  is : order-answer rows ws a b room ≡ ordered-by true true (precedes rows ws a b)
-  is = order-is rows ws room c k bits a b ha hb
-
-  pub text-before : order.Before ≡ order-answer rows ws a b room → true ≡ precedes rows ws a b
-  text-before e = told-before (precedes rows ws a b) (e ∙ is)
-
-  pub text-not : order.NotBefore ≡ order-answer rows ws a b room → false ≡ precedes rows ws a b
-  text-not e = told-not (precedes rows ws a b) (e ∙ is)
-
-  pub no-broken : order.Broken ≡ order-answer rows ws a b room → ⊥
-  no-broken e = never-broken (precedes rows ws a b) (e ∙ is)
-
-  pub no-short : order.NoRoom ≡ order-answer rows ws a b room → ⊥
-  no-short e = never-short (precedes rows ws a b) (e ∙ is)
+pub by-text : (rows ws : List ℕ) (a b : ℕ) (r : Bool) → r ≡ before (text-here rows ws a) (text-here rows ws b) → r ≡ precedes rows ws a b
+by-text rows ws a b r e = e ∙ ap₂ before (text-is rows ws a) (text-is rows ws b)
 
 -- ---- the first put among those after it
 

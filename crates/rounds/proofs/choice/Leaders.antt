@@ -7,7 +7,7 @@ use mathlib.Core.Bool.{Bool, true, false, _&&_, _||_, cond}
 use mathlib.Core.Option.{Option, none, some}
 use mathlib.Core.List.{List}
 use borrow.Author.Tests.{lt-ltb, le-ltb, le-leb, lt-leb, eq-eqb, ne-eqb, eqb-true, eqb-false}
-use lib.ListN.{length, getD}
+use lib.ListN.{length}
 use lib.Dec.{T, eqb, leb, ltb, leb→le}
 use Rattle.spec_tree.specs.Tree.{eq-tree}
 use Rattle.spec_tree.specs.Facts.{cost, depth, has-symbol}
@@ -20,10 +20,9 @@ use Rattle.laws.specs.positions.Places.{numbered-at, uses-at, savings-at, candi
 use Rattle.laws.proofs.positions.UsesAt.{uses-counted, candidate-counted}
 use Rattle.rounds.specs.uses.Marks.{Complete}
 use Rattle.rounds.proofs.uses.Runs.{ends-within}
-use Rattle.fmt.specs.order.Order.{ordered-by, order-answer}
-use Rattle.fmt.specs.declared.order.TextOrder.the-variants as order
-use Rattle.rounds.specs.choice.Leading.{Writable, leader-of, Lead, later-at, best-step, Leads}
-use Rattle.rounds.proofs.choice.Passing.{order-is}
+use Rattle.fmt.specs.order.Order.{text-here}
+use Rattle.rounds.specs.choice.Leading.{leader-of, Lead, later-at, best-step, Leads}
+use Rattle.rounds.proofs.choice.Passing.{text-is}
 
 -- ---- counts of equal places
 
@@ -119,26 +118,6 @@ module _ (ws : List ℕ) (scoped : Bool) (i : ℕ) where
 
 -- ---- of two that save as much
 
-pub told-before : (b : Bool) → order.Before ≡ ordered-by true true b → true ≡ b
-unfolding ordered-by
-told-before true e = refl
-told-before false e = absurd (let z : _≡_ {A = ℕ} 0 1 = cc in omega arith)
-
-pub told-not : (b : Bool) → order.NotBefore ≡ ordered-by true true b → false ≡ b
-unfolding ordered-by
-told-not true e = absurd (let z : _≡_ {A = ℕ} 0 1 = cc in omega arith)
-told-not false e = refl
-
-pub never-broken : (b : Bool) → order.Broken ≡ ordered-by true true b → ⊥
-unfolding ordered-by
-never-broken true e = let z : _≡_ {A = ℕ} 0 1 = cc in omega arith
-never-broken false e = let z : _≡_ {A = ℕ} 0 1 = cc in omega arith
-
-pub never-short : (b : Bool) → order.NoRoom ≡ ordered-by true true b → ⊥
-unfolding ordered-by
-never-short true e = let z : _≡_ {A = ℕ} 0 1 = cc in omega arith
-never-short false e = let z : _≡_ {A = ℕ} 0 1 = cc in omega arith
-
 module _ (rows ws : List ℕ) (i j a b : ℕ) (ea : a ≡ depth (numbered-at ws i)) (eb : b ≡ depth (numbered-at ws j)) where
   pub depth-decides : (a ≡ b → ⊥) → ltb a b ≡ later-at rows ws i j
   unfolding later-at
@@ -157,21 +136,8 @@ module _ (rows ws : List ℕ) (i j a b : ℕ) (ea : a ≡ depth (numbered-at ws 
       let d : depth (numbered-at ws i) ≡ depth (numbered-at ws j) = sym ea ∙ (q ∙ eb) in
       rw (le-ltb (depth (numbered-at ws i)) (depth (numbered-at ws j)) (omega arith), eq-eqb (depth (numbered-at ws i)) (depth (numbered-at ws j)) d)
 
-  module _ (room : ℕ) (c : Complete ws) (k : Writable rows ws room) (bits : (j : ℕ) → getD ws j 0 < 18446744073709551616) (hi : i < length ws) (hj : j < length ws) (q : a ≡ b) where
-    is : order-answer rows ws i j room ≡ ordered-by true true (before (text-at ws (name-in (rows-in rows)) i) (text-at ws (name-in (rows-in rows)) j))
-    is = order-is rows ws room c k bits i j hi hj
-
-    pub is-later : order.Before ≡ order-answer rows ws i j room → true ≡ later-at rows ws i j
-    is-later e = told-before (before (text-at ws (name-in (rows-in rows)) i) (text-at ws (name-in (rows-in rows)) j)) (e ∙ is) ∙ sym (text-decides q)
-
-    pub not-later : order.NotBefore ≡ order-answer rows ws i j room → false ≡ later-at rows ws i j
-    not-later e = told-not (before (text-at ws (name-in (rows-in rows)) i) (text-at ws (name-in (rows-in rows)) j)) (e ∙ is) ∙ sym (text-decides q)
-
-    pub no-broken : order.Broken ≡ order-answer rows ws i j room → ⊥
-    no-broken e = never-broken (before (text-at ws (name-in (rows-in rows)) i) (text-at ws (name-in (rows-in rows)) j)) (e ∙ is)
-
-    pub no-short : order.NoRoom ≡ order-answer rows ws i j room → ⊥
-    no-short e = never-short (before (text-at ws (name-in (rows-in rows)) i) (text-at ws (name-in (rows-in rows)) j)) (e ∙ is)
+  pub by-text : (r : Bool) → a ≡ b → r ≡ before (text-here rows ws i) (text-here rows ws j) → r ≡ later-at rows ws i j
+  by-text r q e = e ∙ (ap₂ before (text-is rows ws i) (text-is rows ws j) ∙ sym (text-decides q))
 
 -- ---- products of small numbers
 

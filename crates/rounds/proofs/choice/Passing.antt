@@ -5,7 +5,6 @@ use mathlib.Core.Path.{_≡_, refl, sym, subst}
 use mathlib.Core.Bool.{Bool, true, false}
 use mathlib.Core.Option.{Option, none, some}
 use mathlib.Core.List.{List}
-use borrow.Author.Tests.{le-leb}
 use lib.ListN.{length, getD, take, drop, length-drop}
 use lib.Seq.{take-add, take-all}
 use lib.Dec.{T}
@@ -16,7 +15,6 @@ use Rattle.spec_tree.specs.Tokens.{trees-in, run-at, name-in}
 use Rattle.spec_tree.proofs.Tests.{is-true, every-more}
 use Rattle.spec_tree.proofs.Logic.{false-is}
 use Rattle.spec_tree.proofs.TokenLaws.{run-size, words-complete}
-use Rattle.spec_tree.specs.text.Text.{before}
 use Rattle.fmt.specs.checked.Check.{rows-in, tree-in, word-ok, checked-answer}
 use Rattle.fmt.specs.declared.checked.Checked.the-variants as checked
 use Rattle.fmt.proofs.checked.RunLaws.{run-tested, ends-inside}
@@ -24,7 +22,8 @@ use Rattle.fmt.specs.shapes.Places.{tree-here}
 use Rattle.rounds.specs.uses.Marks.{Complete}
 use Rattle.rounds.proofs.uses.Runs.{how-many}
 use Rattle.laws.specs.positions.Places.{text-at}
-use Rattle.fmt.specs.order.Order.{is-there, writable, ordered-by, text-here, order-answer}
+use Rattle.fmt.specs.shapes.Places.{Stands}
+use Rattle.fmt.specs.order.Order.{text-here, both-long}
 use Rattle.fmt.proofs.order.Lengths.{text-short}
 use Rattle.rounds.specs.choice.Leading.{Writable}
 use Rattle.replace.proofs.replacing.Scanning.{every-drop, every-take}
@@ -94,18 +93,19 @@ module _ (rows ws : List ℕ) (room : ℕ) (c : Complete ws) (k : Writable rows 
       let n = size (tree-here rows ws i) in
       subst T (sym (run-tested (rows-in rows) ws i n (place-run i h))) (every-take (word-ok (rows-in rows)) n (drop i ws) (every-drop (word-ok (rows-in rows)) i ws (k .pass)))
 
-  place-writable : (i : ℕ) → i < length ws → writable rows ws i ≡ true
-  unfolding writable is-there
-  place-writable i h = rw (place-run i h) (is-true (tree-ok (tree-here rows ws i)) (place-ok i h))
+  pub place-stands : (i : ℕ) → i < length ws → Stands rows ws i
+  place-stands i h = record { run = place-run i h; good = place-ok i h }
 
   place-short : (i : ℕ) → i < length ws → length (text-here rows ws i) ≤ 34 * length ws
   unfolding run-at
   place-short i h =
       omega (arith, text-short rows ws i bits (place-ok i h), words-complete (drop i ws) 1 (size (tree-here rows ws i)) (place-run i h) .0, length-drop i ws)
 
-  -- two texts are compared
-  pub order-is : (i j : ℕ) → i < length ws → j < length ws → order-answer rows ws i j room ≡ ordered-by true true (before (text-at ws (name-in (rows-in rows)) i) (text-at ws (name-in (rows-in rows)) j))
-  unfolding order-answer text-at text-here tree-here
-  order-is i j h g =
-      let fit : length (text-here rows ws i) + length (text-here rows ws j) ≤ room = omega (arith, place-short i h, place-short j g, k .fits) in
-      rw (place-writable i h, place-writable j g, le-leb (length (text-here rows ws i) + length (text-here rows ws j)) room fit)
+  -- two texts fit what is lent, and are those of the places
+  pub texts-fit : (i j : ℕ) → i < length ws → j < length ws → both-long rows ws i j ≤ room
+  unfolding both-long
+  texts-fit i j h g = omega (arith, place-short i h, place-short j g, k .fits)
+
+pub text-is : (rows ws : List ℕ) (i : ℕ) → text-here rows ws i ≡ text-at ws (name-in (rows-in rows)) i
+unfolding text-at text-here tree-here
+text-is rows ws i = refl

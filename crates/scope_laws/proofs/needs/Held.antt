@@ -36,7 +36,7 @@ use Rattle.fusion.specs.Whole.{settled-roots, scope-groups}
 use Rattle.fusion.specs.Switchless.{switchless, with-switches}
 use Rattle.fusion.specs.Words.{numbers-from, all-numbers, steps-at}
 use Rattle.fusion.proofs.Held.{groups-held}
-use Rattle.fusion.proofs.Groups.{group-of}
+use Rattle.fusion.proofs.Grouping.{group-of}
 use Rattle.fusion.proofs.Members.{Stand-at, all-places, members-before, tree-of-switch, numbers-count, all-steps-at, steps-after}
 use Rattle.fusion.specs.place.Parts.{place-groups, joined-groups, group-start, group-end, trees-held, words-held, steps-from}
 use Rattle.scope_laws.proofs.needs.Positions.{Ascending, Counted}

@@ -37,7 +37,7 @@ use Rattle.laws.proofs.outernames.Ordering.{read-before}
 use Rattle.fusion.specs.Settled.{fused-tree, Numbered, Walked, numbered-groups, all-steps, group-matches}
 use Rattle.fusion.specs.Whole.{lets-from, settled-roots, scope-groups, scope-stmts}
 use Rattle.fusion.specs.Words.{all-numbers}
-use Rattle.fusion.proofs.Groups.{group-of, groups-kept}
+use Rattle.fusion.proofs.Grouping.{group-of, groups-kept}
 use Rattle.fusion.proofs.Places.{lets-count as lets-many, let-at, matches-count}
 use Rattle.fusion.specs.place.Parts.{place-groups, ends-from, group-at, reciprocals-first, lets-count, words-held, trees-held, held-words, settled-trees, steps-from, fused-run, key-run}
 use Rattle.fusion.specs.place.Reads.{all-arms-run}

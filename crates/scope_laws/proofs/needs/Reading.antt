@@ -32,7 +32,7 @@ use Rattle.laws.proofs.outernames.Ordering.{needs-of, read-before, meets-same}
 use Rattle.fusion.specs.Settled.{fused-tree, Numbered, all-steps, group-match, group-matches}
 use Rattle.fusion.specs.Whole.{lets-from}
 use Rattle.fusion.specs.Words.{all-numbers}
-use Rattle.fusion.proofs.Groups.{group-of}
+use Rattle.fusion.proofs.Grouping.{group-of}
 use Rattle.fusion.specs.place.Parts.{group-at, group-end, opener, key-run, steps-from}
 use Rattle.fusion.specs.place.Reads.{all-arms-run}
 use Rattle.scope_laws.proofs.needs.Marks.{any, any-append}

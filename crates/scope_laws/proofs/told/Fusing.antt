@@ -28,7 +28,7 @@ use Rattle.laws.specs.switches.Columns.{column-words}
 use Rattle.fusion.specs.Settled.{Walked, numbered-groups}
 use Rattle.fusion.specs.Words.{all-numbers}
 use Rattle.fusion.specs.Whole.{settled-roots, scope-groups, scope-stmts, scope-work, settled-scope}
-use Rattle.fusion.proofs.Groups.{groups-kept}
+use Rattle.fusion.proofs.Grouping.{groups-kept}
 use Rattle.fusion.proofs.Whole.{scope-is, statements-are}
 use Rattle.fusion.specs.place.Parts.{place-groups, trees-held, words-held, reciprocals-first, lets-count, held-words}
 use Rattle.fusion.specs.place.Whole.{Told, Walk, walked, stmts-order, ordered-scope, room-for, fused-scope}

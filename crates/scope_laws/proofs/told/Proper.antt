@@ -18,7 +18,7 @@ use Rattle.laws.specs.positions.Rounds.{next-number, state-of, bind-each-on, ro
 use Rattle.laws.proofs.positions.RoundsOn.{rounds-on-length}
 use Rattle.fusion.specs.Settled.{Walked, numbered-groups, all-steps}
 use Rattle.fusion.specs.Whole.{divisors-of, settled-fused, scope-groups, scope-stmts, scope-work, settled-scope}
-use Rattle.fusion.proofs.Groups.{groups-forth}
+use Rattle.fusion.proofs.Grouping.{groups-forth}
 use Rattle.fusion.proofs.Whole.{scope-is, rounds-then}
 use Rattle.scope_laws.proofs.told.Walking.{Proper, forth}
 

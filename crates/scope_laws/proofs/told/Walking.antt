@@ -21,7 +21,7 @@ use Rattle.laws.specs.switches.Columns.{column-words}
 use Rattle.fusion.specs.Settled.{Numbered, group-columns, Walked, numbered-groups}
 use Rattle.fusion.specs.Words.{numbers-from, all-numbers}
 use Rattle.fusion.proofs.Walking.{join-arms, one-arm-more}
-use Rattle.fusion.proofs.Groups.{one-group-more, arms-forth, groups-forth}
+use Rattle.fusion.proofs.Grouping.{one-group-more, arms-forth, groups-forth}
 use Rattle.fusion.specs.place.Parts.{place-groups}
 use Rattle.fusion.specs.place.Whole.{Told, Arms-told, Walk, arms-told, group-told, walked}
 use Rattle.scope_laws.specs.told.Told.{told}
