@@ -23,6 +23,10 @@ use Rattle.laws.proofs.cse.NumbersMost.{members-total, from-members}
 
 -- ---- the steps of groups
 
+pub none-total : members-total [] ≡ 0
+unfolding members-total
+none-total = refl
+
 steps-total : (l : List Numbered) → length (all-steps l) ≡ members-total (map group-of l)
 unfolding all-steps group-steps members-total
 steps-total [] = refl
@@ -41,9 +45,7 @@ scope-steps scope next ds n ts =
     (λ l e. steps-total (l .groups) ∙ (ap members-total e ∙ whole))
   where
     whole : members-total (scope-groups ds n ts) ≡ length (collect-switches (settled-roots ds n ts))
-    whole =
-        let none : members-total [] ≡ 0 = (unfold members-total in refl) in
-        (unfold scope-groups in omega (arith, none, from-members [] (collect-switches (settled-roots ds n ts))))
+    whole = (unfold scope-groups in omega (arith, none-total, from-members [] (collect-switches (settled-roots ds n ts))))
 
     weaker : {A : Type 0} (P Q : A → Type 0) (o : Outcome A) → Good P o → ((a : A) → P a → Q a) → Good Q o
     weaker P Q (ok a) h f = (unfold Good in f a (unfold Good in h))

@@ -1,17 +1,17 @@
 -- The ends of `finish` and of `load`. Assumes nothing.
-use Prim.Native.Nat.{ℕ, zero, suc, _+_, _-_, _*_, _/_, _≤_, _<_}
+use Prim.Native.Nat.{ℕ, _+_, _-_, _*_, _/_, _≤_, _<_}
 use mathlib.Core.Path.{_≡_, refl, sym, ap, ap₂, _∙_, subst}
-use mathlib.Core.Bool.{Bool, true, false, _&&_, _||_, cond}
-use mathlib.Core.List.{List, [], _∷_, _++_}
+use mathlib.Core.Bool.{Bool, true, false, _&&_, cond}
+use mathlib.Core.List.{List, [], _++_}
 use native.Mathlib.Omega.{arith}
 use native.Mathlib.Nat.{mul-div-cancel}
-use borrow.Author.Tests.{le-leb, lt-leb, le-ltb, lt-ltb, eq-eqb, ne-eqb}
-use lib.Dec.{T, eqb, leb, ltb}
+use borrow.Author.Tests.{le-leb, le-ltb, lt-ltb, eq-eqb, ne-eqb}
+use lib.Dec.{ltb}
 use lib.ListN.{length, take, drop}
 use Rattle.spec_tree.specs.Outcome.{Outcome, ok, refused, by, _at-record_, _>>=_}
 use Rattle.spec_tree.specs.Bytes.{eq-bytes, every}
 use Rattle.spec_tree.specs.Rows.{Row, Table, trees, within-limits, occurrences}
-use Rattle.spec_tree.specs.Layout.{row-width, table-words, rows-of, table-of, rows-ok, in-domain}
+use Rattle.spec_tree.specs.Layout.{table-words, rows-of, table-of, rows-ok, in-domain}
 use Rattle.spec_tree.proofs.Tests.{is-true}
 use Rattle.spec_tree.proofs.TreeLaws.{eq-bytes-refl}
 use Rattle.spec_tree.proofs.LayoutLaws.{table-long, rows-back}
@@ -20,12 +20,12 @@ use Rattle.spec_sheet.specs.Call.{load-call, rows-after, roots-after}
 use Rattle.spec_sheet.proofs.Loaded.{Good, records-good}
 use Rattle.node_rows.specs.declared.rows.Checked.the-variants as checks
 use Rattle.node_rows.specs.rows.Check.{laid-in-domain, check-domain, checked}
-use Rattle.load.specs.recordlist.Steps.{Holds, empty, Outcomes, All-read}
+use Rattle.load.specs.recordlist.Steps.{empty, Outcomes, All-read}
 use Rattle.load.specs.declared.recordlist.Records.{Records}
 use Rattle.load.specs.declared.recordlist.Records.the-variants as records
 use Rattle.load.specs.declared.Loaded.{Loaded}
 use Rattle.load.specs.declared.Loaded.the-variants as loaded
-use Rattle.load.specs.Loads.{answered, Loads, Finished, Finished-by}
+use Rattle.load.specs.Loads.{Loads, Finished, Finished-by}
 
 -- ---- finish
 
@@ -149,9 +149,3 @@ read-bounds s r n m i words list e R = go (load-records 0 (records-from [] s) em
     go (ok t) z = let H = z .0 in (H .rows-few, H .roots-few, H .words-long, H .list-long)
 
 -- the answers of reading are those two alone
-pub never-full : (s : List ℕ) (r : Records) (words list : List ℕ) → r ≡ records.NoRoom → All-read s r words list → ⊥
-never-full s r words list e R = go (load-records 0 (records-from [] s) empty) (subst (λ (q : Records). All-read s q words list) e R)
-  where
-    go : (o : Outcome Table) → Outcomes s o records.NoRoom words list → ⊥
-    go (refused x) z = z
-    go (ok t) z = z

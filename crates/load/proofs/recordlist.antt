@@ -1,4 +1,3 @@
 pub mod Limits
 pub mod Stepping
 pub mod Reading
-pub mod Rooms

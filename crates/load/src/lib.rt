@@ -54,8 +54,6 @@ fn load_into(
             finish(&table[..end], &list[..m], count, rows, roots)
         }
         Records::Refused(q, i) => Loaded::Refused(q, i as u64),
-        // Not met: the table and the list are our own.
-        Records::NoRoom => Loaded::Refused(7, 0),
     }
 }
 

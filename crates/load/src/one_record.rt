@@ -8,8 +8,8 @@ ghost use lib.ListN.{length, drop, replicate};
 ghost use Rattle.spec_tree.specs.Kinds.{arity-ok};
 ghost use Rattle.node_rows.specs.kinds.Numbers.{kind-number};
 ghost use Rattle.spec_sheet.specs.Sheet.{fields-from, fields-ok, numbers};
-ghost use Rattle.load.specs.one_record.Item.{fields-item};
-ghost use Rattle.load.specs.one_record.Reading.{Follows, Reads, Writes};
+ghost use Rattle.load.specs.one_record.Item.{fields-item, record-item};
+ghost use Rattle.load.specs.one_record.Reading.{Follows, Writes};
 use crate::fields::Split;
 use crate::numerals::Constant;
 use crate::numerals::Number;
@@ -36,7 +36,6 @@ pub enum Read {
     Row,
     Root(u64),
     Refused(u64),
-    NoRoom,
 }
 
 // The fields as numbers: how many were written.
@@ -234,17 +233,11 @@ fn read_fields(kind: u64, s: &[u8], rows: u64, roots: u64, row: &mut [u64]) -> R
 
 // ---- a record
 
-// What a record gives after so many rows and roots: a row, whose words are written, the node of a root, or the number of a refusal. With less than a row's
-// words lent, or with more rows before it than any table has, nothing is read.
+// What a record gives after so many rows and roots: a row, whose words are written, the node of a root, or the number of a refusal.
 pub fn read_record(record: &[u8], rows: u64, roots: u64, row: &mut [u64]) -> Read
-    ensures { λ r. ⌜ Reads rows roots (now («record» .entry)) (now (row .entry)) r (now (row .exit)) ⌝ }
+    requires { ⌜ (35 ≤ length (now row)) × (rows ≤ 1000000) ⌝ }
+    ensures { λ r. ⌜ Follows (record-item 0 rows roots (now («record» .entry))) (now (row .entry)) r (now (row .exit)) ⌝ }
 {
-    if row.len() < ROW_WIDTH {
-        return Read::NoRoom;
-    }
-    if rows > MANY_ROWS {
-        return Read::NoRoom;
-    }
     if !crate::fields::all_plain(record) {
         return Read::Refused(2);
     }

@@ -1,22 +1,12 @@
-// All records of a sheet, one after another, into a table of rows and a list of roots, up to the first that is refused. A sheet of more than 65,535 bytes, or a table
-// or list too short for the most that a sheet may have, is not read at all.
+// All records of a sheet, one after another, into a table of rows and a list of roots, up to the first that is refused. The table and the list have room for the most
+// that a sheet may have.
 ghost use Prim.Native.Nat.{_≤_};
 ghost use lib.ListN.{length};
 ghost use Rattle.load.specs.one_record.Item.{record-item};
 ghost use Rattle.load.specs.recordlist.Steps.{Stepped, All-read};
-ghost use Rattle.load.specs.recordlist.Room.{Reads};
 use crate::fields::record_end;
 use crate::one_record::Read;
 use crate::one_record::read_record;
-
-// A row more than a list may have, so that there is always room to read one.
-const TABLE: usize = 35875;
-
-// The most roots that a list may have.
-const LIST: usize = 64;
-
-// The most bytes that a sheet may have.
-const SHEET: usize = 65535;
 
 // How many rows and roots there are after a record, or the number of its refusal.
 enum Step {
@@ -24,11 +14,10 @@ enum Step {
     Refused(u64),
 }
 
-// How many rows, roots and records a sheet has, or the number and the record of its first refusal; NoRoom where nothing was read.
+// How many rows, roots and records a sheet has, or the number and the record of its first refusal.
 pub enum Records {
     All(usize, usize, usize),
     Refused(u64, usize),
-    NoRoom,
 }
 
 // One record more. The table has a row more than a list may have, so that there is always room to read one.
@@ -45,12 +34,11 @@ fn read_one(s: &[u8], n: usize, m: usize, table: &mut [u64], list: &mut [u64]) -
             Step::Next(n, m + 1)
         }
         Read::Refused(q) => Step::Refused(q),
-        Read::NoRoom => Step::Refused(0),
     }
 }
 
-// All records, where there is room for them.
-fn read_all(sheet: &[u8], table: &mut [u64], list: &mut [u64]) -> Records
+// All records: how many rows, roots and records the sheet has, or its first refusal.
+pub fn read_records(sheet: &[u8], table: &mut [u64], list: &mut [u64]) -> Records
     requires { ⌜ (35875 ≤ length (now table)) × (64 ≤ length (now list)) × (length (now sheet) ≤ 65535) ⌝ }
     ensures { λ r. ⌜ All-read (now (sheet .entry)) r (now (table .exit)) (now (list .exit)) ⌝ }
 {
@@ -73,19 +61,4 @@ fn read_all(sheet: &[u8], table: &mut [u64], list: &mut [u64]) -> Records
         }
     }
     Records::All(n, m, i)
-}
-
-pub fn read_records(sheet: &[u8], table: &mut [u64], list: &mut [u64]) -> Records
-    ensures { λ r. ⌜ Reads (now (sheet .entry)) (now (table .entry)) (now (list .entry)) r (now (table .exit)) (now (list .exit)) ⌝ }
-{
-    if table.len() < TABLE {
-        return Records::NoRoom;
-    }
-    if list.len() < LIST {
-        return Records::NoRoom;
-    }
-    if sheet.len() > SHEET {
-        return Records::NoRoom;
-    }
-    read_all(sheet, table, list)
 }

@@ -1,5 +1,4 @@
 -- `load::load` meets its contract. Assumes nothing.
-use native.Mathlib.Omega.{arith}
 use Rattle.load.proofs.Finishing.{few-rows, few-roots, no-bytes, many-bytes}
 use borrow.Author.Needs.{needs}
 use Rattle.load.proofs.load.Statement.{statement}

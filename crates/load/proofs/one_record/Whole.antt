@@ -1,4 +1,4 @@
--- A record from its first test on: room, plain bytes, the first comma, the record word, the count of fields, and the fields by kind. Assumes nothing.
+-- A record from its first test on: plain bytes, the first comma, the record word, the count of fields, and the fields by kind. Assumes nothing.
 use Prim.Native.Nat.{ℕ, _+_, _-_, _≤_, _<_}
 use mathlib.Core.Path.{_≡_, refl, sym, _∙_, ap, subst}
 use mathlib.Core.Bool.{Bool, true, false}
@@ -6,7 +6,6 @@ use mathlib.Core.Option.{Option, none, some}
 use mathlib.Core.List.{List, [], _∷_, append-nil}
 use native.Mathlib.Omega.{arith}
 use native.Mathlib.Numerals.{add-one}
-use borrow.Author.Tests.{lt-leb, le-leb}
 use lib.Dec.{T, eqb→eq}
 use lib.ListN.{length, take, drop}
 use Rattle.spec_tree.specs.Outcome.{Outcome, refused, _at-record_}
@@ -20,7 +19,7 @@ use Rattle.load.specs.declared.fields.Split.the-variants as split
 use Rattle.load.specs.declared.recordwords.Word.the-variants as word
 use Rattle.load.proofs.fields.Commas.{fields-whole, fields-cut}
 use Rattle.load.specs.one_record.Item.{Item, row-item, fields-item, split-item, record-item}
-use Rattle.load.specs.one_record.Reading.{Follows, Reads, room}
+use Rattle.load.specs.one_record.Reading.{Follows}
 use Rattle.load.specs.declared.one_record.Read.{Read}
 use Rattle.load.specs.declared.one_record.Read.the-variants as read
 use Rattle.load.proofs.one_record.Pieces.{ok-leaf, right-count}
@@ -54,27 +53,15 @@ module _ (k : ℕ) (s : List ℕ) (right : fields-ok k (length (fields-from [] s
     pub as-constant : k ≡ 1 → Follows (fields-item 0 rows 0 1 (s ∷ [])) old r new → Follows (fields-item 0 rows roots k (fields-from [] s)) old r new
     as-constant e f = rw (leaf-field (omega arith), e) (unfold fields-item row-item in f)
 
--- ---- room
+-- ---- what follows
 
 module _ (rows roots : ℕ) (t old : List ℕ) where
-  pub no-words : length old < 35 → Reads rows roots t old read.NoRoom old
-  unfolding room
-  no-words h = rw (lt-leb 35 (length old) h) (refl, refl)
+  module _ (r : Read) (new : List ℕ) where
+    pub refused-two : record-item 0 rows roots t ≡ refused (2 at-record 0) → r ≡ read.Refused 2 → length new ≡ length old → Follows (record-item 0 rows roots t) old r new
+    refused-two e f same = rw e (f, same)
 
-  pub many-rows : 35 ≤ length old → 1000000 < rows → Reads rows roots t old read.NoRoom old
-  unfolding room
-  many-rows h g = rw (le-leb 35 (length old) h, lt-leb rows 1000000 g) (refl, refl)
-
-  module _ (h : 35 ≤ length old) (g : rows ≤ 1000000) (r : Read) (new : List ℕ) where
-    reads : (o : Outcome Item) → record-item 0 rows roots t ≡ o → Follows o old r new → Reads rows roots t old r new
-    unfolding room
-    reads o e f = rw (le-leb 35 (length old) h, le-leb rows 1000000 g, e) f
-
-    pub refused-two : record-item 0 rows roots t ≡ refused (2 at-record 0) → r ≡ read.Refused 2 → length new ≡ length old → Reads rows roots t old r new
-    refused-two e f same = reads (refused (2 at-record 0)) e (f, same)
-
-    pub reads-fields : (k : ℕ) (fs : List (List ℕ)) → record-item 0 rows roots t ≡ fields-item 0 rows roots k fs → Follows (fields-item 0 rows roots k fs) old r new → Reads rows roots t old r new
-    reads-fields k fs e f = reads (fields-item 0 rows roots k fs) e f
+    pub reads-fields : (k : ℕ) (fs : List (List ℕ)) → record-item 0 rows roots t ≡ fields-item 0 rows roots k fs → Follows (fields-item 0 rows roots k fs) old r new → Follows (record-item 0 rows roots t) old r new
+    reads-fields k fs e f = rw e f
 
 -- ---- the tests before the fields
 

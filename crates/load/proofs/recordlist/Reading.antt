@@ -1,13 +1,13 @@
 -- The loop over a sheet's records: what has been read is in the table and the list, and the outcome of what is left is that of the whole. Assumes nothing.
-use Prim.Native.Nat.{ℕ, zero, suc, _+_, _-_, _*_, _≤_, _<_}
+use Prim.Native.Nat.{ℕ, suc, _+_, _-_, _≤_, _<_}
 use mathlib.Core.Path.{_≡_, refl, sym, ap, ap₂, _∙_, subst}
 use mathlib.Core.Logic.{⊎-elim}
 use mathlib.Core.List.{List, [], _∷_, _++_, append-assoc, append-nil}
 use native.Mathlib.Omega.{arith}
 use native.Mathlib.Numerals.{add-one}
-use lib.ListN.{length, take, drop, set, length-append, length-set, drop-of-length-le}
+use lib.ListN.{length, take, drop, length-append, length-set, drop-of-length-le}
 use lib.Seq.{take-suc-set}
-use Rattle.spec_tree.specs.Outcome.{Outcome, ok, refused, _at-record_, _>>=_}
+use Rattle.spec_tree.specs.Outcome.{Outcome, ok, refused, _>>=_}
 use Rattle.spec_tree.specs.Rows.{Row, Table}
 use Rattle.spec_tree.specs.Layout.{row-words, table-words}
 use Rattle.spec_sheet.specs.Sheet.{records-from, load-records}

@@ -1,10 +1,8 @@
 -- One record read into the rest of the table: what each answer of `read_record` makes of table and list. Assumes nothing.
 use Prim.Native.Nat.{ℕ, suc, _+_, _-_, _*_, _≤_}
-use mathlib.Core.Path.{_≡_, refl, sym, ap, _∙_, subst}
-use mathlib.Core.Bool.{Bool, true}
+use mathlib.Core.Path.{_≡_, refl, sym, ap, _∙_}
 use mathlib.Core.List.{List, _++_, append-assoc}
 use native.Mathlib.Omega.{arith}
-use borrow.Author.Tests.{le-leb}
 use borrow.Rule.Slice.PartMut.{putMid}
 use lib.ListN.{length, take, drop, set, length-append, length-take, length-drop}
 use lib.Seq.{take-at, length-take-le}
@@ -13,7 +11,7 @@ use Rattle.spec_tree.specs.Layout.{row-words}
 use Rattle.load.specs.one_record.Item.{Item, a-row, a-root, record-item}
 use Rattle.load.specs.declared.one_record.Read.{Read}
 use Rattle.load.specs.declared.one_record.Read.the-variants as read
-use Rattle.load.specs.one_record.Reading.{Follows, Reads, Reads-in, room}
+use Rattle.load.specs.one_record.Reading.{Follows}
 use Rattle.load.specs.declared.recordlist.Step.the-variants as step
 use Rattle.load.specs.recordlist.Steps.{Stepped}
 use Rattle.load.proofs.recordlist.Limits.{Limits, record-limit}
@@ -27,17 +25,10 @@ module _ (s : List ℕ) (n m : ℕ) (table list : List ℕ) (new : List ℕ) (an
   abbrev after : List ℕ
   after = putMid (35 * n) (length table - 35 * n) table new
 
-  lent-long : length lent ≡ length table - 35 * n
+  pub lent-long : length lent ≡ length table - 35 * n
   lent-long = rw (length-take, length-drop) (omega arith)
 
-  module _ (R : Reads n m s lent answer new) (same : length new ≡ length lent) where
-    has-room : room n lent ≡ true
-    unfolding room
-    has-room = let a : 35 ≤ length lent = omega (arith, lent-long) in let b : n ≤ 1000000 = omega arith in rw (le-leb 35 (length lent) a, le-leb n 1000000 b)
-
-    follows : Follows (record-item 0 n m s) lent answer new
-    follows = subst (λ (b : Bool). Reads-in b (record-item 0 n m s) lent answer new) has-room R
-
+  module _ (follows : Follows (record-item 0 n m s) lent answer new) (same : length new ≡ length lent) where
     kept : length (take (35 * n) table) ≡ 35 * n
     kept = length-take-le (35 * n) table (omega arith)
 
@@ -89,11 +80,3 @@ module _ (s : List ℕ) (n m : ℕ) (table list : List ℕ) (new : List ℕ) (an
         go (ok (a-row x)) f = absurd (let z : _≡_ {A = ℕ} 0 1 = cc in omega arith)
         go (ok (a-root j)) f = absurd (let z : _≡_ {A = ℕ} 0 1 = cc in omega arith)
         go (refused r) f = cc
-
-    pub always-room : answer ≡ read.NoRoom → ⊥
-    always-room e = go (record-item 0 n m s) follows
-      where
-        go : (o : Outcome Item) → Follows o lent answer new → ⊥
-        go (ok (a-row x)) f = (let z : _≡_ {A = ℕ} 0 1 = cc in omega arith)
-        go (ok (a-root j)) f = (let z : _≡_ {A = ℕ} 0 1 = cc in omega arith)
-        go (refused r) f = (let z : _≡_ {A = ℕ} 0 1 = cc in omega arith)

@@ -1,8 +1,8 @@
 -- Load one record at a time: what a record gives, given how many rows and roots stand before it (01, "Turned down": Load). `Items` in proofs/ says that load is
 -- these steps one after another. Assumes nothing.
 use Prim.Native.Nat.{ℕ}
-use mathlib.Core.Bool.{Bool, true, false, cond}
-use mathlib.Core.Option.{Option, none, some}
+use mathlib.Core.Bool.{true, false, cond}
+use mathlib.Core.Option.{none, some}
 use mathlib.Core.List.{List, [], _∷_, _++_}
 use lib.ListN.{length, getD}
 use lib.Dec.{eqb, ltb}

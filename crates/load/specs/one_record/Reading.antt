@@ -1,14 +1,12 @@
 -- What reading a record answers and leaves in the lent row (01, "Turned down": Load). Assumes nothing.
 use Prim.Native.Nat.{ℕ, min}
 use mathlib.Core.Path.{_≡_}
-use mathlib.Core.Bool.{Bool, true, false, _&&_}
 use mathlib.Core.Option.{Option, none, some}
 use mathlib.Core.List.{List, [], _∷_, _++_}
 use lib.ListN.{length, drop}
-use lib.Dec.{leb}
 use Rattle.spec_tree.specs.Outcome.{Outcome, ok, refused}
 use Rattle.spec_tree.specs.Layout.{row-width, row-words}
-use Rattle.load.specs.one_record.Item.{Item, a-row, a-root, record-item}
+use Rattle.load.specs.one_record.Item.{Item, a-row, a-root}
 use Rattle.load.specs.declared.one_record.Read.{Read}
 use Rattle.load.specs.declared.one_record.Read.the-variants as read
 use Rattle.load.specs.declared.one_record.Fields.{Fields}
@@ -19,18 +17,6 @@ abbrev pub Follows : Outcome Item → List ℕ → Read → List ℕ → Type 0
 Follows (ok (a-row x)) old answer new = (answer ≡ read.Row) × (new ≡ row-words x ++ drop row-width old)
 Follows (ok (a-root k)) old answer new = (answer ≡ read.Root k) × (length new ≡ length old)
 Follows (refused q) old answer new = (answer ≡ read.Refused (q .number)) × (length new ≡ length old)
-
--- where there is no room, nothing is written
-abbrev pub Reads-in : Bool → Outcome Item → List ℕ → Read → List ℕ → Type 0
-Reads-in false o old answer new = (answer ≡ read.NoRoom) × (new ≡ old)
-Reads-in true o old answer new = Follows o old answer new
-
--- a row has 35 words, and more rows than numbers are read up to do not come before a record
-unfoldable pub room : ℕ → List ℕ → Bool
-room rows old = leb row-width (length old) && leb rows 1000000
-
-abbrev pub Reads : ℕ → ℕ → List ℕ → List ℕ → Read → List ℕ → Type 0
-Reads rows roots r old answer new = Reads-in (room rows old) (record-item 0 rows roots r) old answer new
 
 -- numbers as they are read: no larger than a million
 unfoldable pub capped-all : List ℕ → List ℕ

@@ -51,10 +51,8 @@ empty = record { rows = []; roots = [] }
 abbrev pub Outcomes : List ℕ → Outcome Table → Records → List ℕ → List ℕ → Type 0
 Outcomes s (ok t) (records.All n m i) words list = Holds t n m words list × (i ≡ length (records-from [] s))
 Outcomes s (ok t) (records.Refused q i) words list = ⊥
-Outcomes s (ok t) records.NoRoom words list = ⊥
 Outcomes s (refused r) (records.All n m i) words list = ⊥
 Outcomes s (refused r) (records.Refused q i) words list = (q ≡ r .number) × (i ≡ r .place)
-Outcomes s (refused r) records.NoRoom words list = ⊥
 
 abbrev pub All-read : List ℕ → Records → List ℕ → List ℕ → Type 0
 All-read s answer words list = Outcomes s (load-records 0 (records-from [] s) empty) answer words list

@@ -28,6 +28,7 @@ use Rattle.laws.proofs.switches.Turned.{Armed}
 use Rattle.laws.proofs.switches.Words.{words-are, arm-within}
 use Rattle.laws.proofs.switches.Grouped.{every-so, Opens, opener-first, numbers-open, collected-groups}
 use Rattle.laws.proofs.switches.GroupColumns.{every-at, members-armed, members-by-place, group-column-short}
+use Rattle.fusion.proofs.Totals.{none-total}
 use Rattle.fusion.specs.place.Parts.{place-groups, joined-groups, group-at}
 use Rattle.scope_laws.proofs.sound.Held.{Fine, all-in-code, fine-ready, fine-pass, place-fine}
 use Rattle.laws.proofs.cse.NumbersMost.{members-total, groups-members, from-members}
@@ -146,12 +147,11 @@ module _ (hs : List ℕ) (m : ℕ) (complete : trees-in hs ≡ some m) where
 
   total-there : members-total (map (group-there hs ps) numbers) ≡ length ps
   total-there =
-      let none : members-total [] ≡ 0 = (unfold members-total in refl) in
       let e = ap members-total (sym (collected-groups hs m complete)) in
       let f = from-members [] (collect-switches (read numbered hs)) in
       let g = ap length (collected-are hs m complete) in
       let h = length-map ps (switch-there hs) in
-      omega (arith, none, e, f, g, h)
+      omega (arith, none-total, e, f, g, h)
 
   pub members-count : length (joined-groups (place-groups hs)) ≡ length (switch-places hs)
   unfolding place-groups

@@ -13,7 +13,7 @@ use Rattle.fusion.proofs.fuse.fuse.Statement.{statement}
 use Rattle.fusion.proofs.fuse.fuse.Tie as tie
 use Rattle.fusion.proofs.fuse.fuse.Reads as reads
 use Rattle.fusion.proofs.fuse.fuse.Lts as lts
-use Rattle.fusion.proofs.fuse.copy.Reads as copy-reads
+use Rattle.words.proofs.copying.copy.Reads as copy-reads
 use Rattle.fusion.proofs.fuse.small.Reads as small-reads
 use Rattle.fusion.proofs.fuse.steps.Reads as steps-reads
 use Rattle.words.proofs.tokens.count_trees.Reads as count-trees-reads

@@ -1,7 +1,7 @@
 -- `load::recordlist::read_one` meets its contract. Assumes nothing.
-use mathlib.Core.Path.{_≡_, sym, _∙_}
 use native.Mathlib.Omega.{arith}
-use Rattle.load.proofs.recordlist.Stepping.{row-end, root-inside, root-end, refused-end, always-room}
+use Rattle.load.proofs.recordlist.Stepping.{row-end, root-inside, root-end, refused-end, lent-long}
+use Rattle.load.specs.declared.one_record.Read.the-variants as read
 use borrow.Author.Needs.{needs}
 use Rattle.load.proofs.recordlist.read_one.Statement.{statement}
 use Rattle.load.proofs.recordlist.read_one.Tie as tie
@@ -22,7 +22,10 @@ part-read-record-end : tie.Need-part-read-record-end
 part-read-record-end c = search needs
 
 read-record-requires : tie.Need-read-record-requires
-read-record-requires c κs = search needs
+read-record-requires c κs =
+    let s = c .before .before .before .before in
+    let l = lent-long (s .args .s .now) (s .args .n) (s .args .m) (s .args .table .now) (s .args .list .now) (s .args .list .now) read.Row (s .pre .0) (s .pre .2) in
+    (omega (arith, l, s .pre .0, s .pre .2), omega (arith, s .pre .2))
 
 enum-told : tie.Need-enum-told
 enum-told c = search needs
@@ -45,9 +48,6 @@ add-t19 c = search needs
 enum-known-read-2 : tie.Need-enum-known-read-2
 enum-known-read-2 c = search needs
 
-enum-told-2 : tie.Need-enum-told-2
-enum-told-2 c = search needs
-
 same-length : tie.Need-same-length
 same-length c = search needs
 
@@ -69,12 +69,6 @@ same-length-4 c = search needs
 returns-3 : tie.Need-returns-3
 returns-3 c = refused-end (c .before .before .before .before .before .before .before .before .before .before .args .s .now) (c .before .before .before .before .before .before .before .before .before .before .args .n) (c .before .before .before .before .before .before .before .before .before .before .args .m) (c .before .before .before .before .before .before .before .before .before .before .args .table .now) (c .before .before .before .before .before .before .before .before .before .before .args .list .now) _ (c .before .before .before .before .before .read-record .result) (c .before .before .before .before .before .before .before .before .before .before .pre .0) (c .before .before .before .before .before .before .before .before .before .before .pre .2) (c .before .before .before .before .before .read-record .ensures) (c .before .before .before .before .before .read-record .kept .1 .1 .1 .0) _ (c .before .read2 .given .1)
 
-same-length-5 : tie.Need-same-length-5
-same-length-5 c = search needs
-
-returns-4 : tie.Need-returns-4
-returns-4 c = absurd (always-room (c .before .before .before .before .before .before .before .before .before .args .s .now) (c .before .before .before .before .before .before .before .before .before .args .n) (c .before .before .before .before .before .before .before .before .before .args .m) (c .before .before .before .before .before .before .before .before .before .args .table .now) (c .before .before .before .before .before .before .before .before .before .args .list .now) _ (c .before .before .before .before .read-record .result) (c .before .before .before .before .before .before .before .before .before .pre .0) (c .before .before .before .before .before .before .before .before .before .pre .2) (c .before .before .before .before .read-record .ensures) (c .before .before .before .before .read-record .kept .1 .1 .1 .0) (c .enum-told2 .given .1))
-
 pub read-one-spec : {M : Type 1} → statement M
 read-one-spec =
     tie.close
@@ -92,13 +86,10 @@ read-one-spec =
     slice-write-list
     add-t19
     enum-known-read-2
-    enum-told-2
     same-length
     returns
     same-length-2
     same-length-3
     returns-2
     same-length-4
-    returns-3
-    same-length-5
-    returns-4)
+    returns-3)
