@@ -46,7 +46,7 @@ pub enum Extraction {
     Refused(u64),
 }
 
-enum Listed {
+pub enum Listed {
     // How many words there are after the rounds, how many bindings were made, and how many divisors are to be bound.
     Words(usize, usize, usize),
     // A rebuilt coefficient is no constant: 10.
@@ -54,7 +54,7 @@ enum Listed {
 }
 
 // The rounds on the first `len` words, and then the places of the divisors to bind. That these can't be listed never comes up: rounds keep words that print takes.
-fn extract_and_list(
+pub fn extract_and_list(
     rows: &[u64],
     tokens: &mut [u64],
     len: usize,

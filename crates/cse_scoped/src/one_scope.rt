@@ -19,9 +19,11 @@ ghost use Rattle.fusion.specs.Words.{numbers-from};
 ghost use Rattle.fusion.specs.place.Overlay.{overlay};
 ghost use Rattle.fusion.specs.place.Parts.{place-groups, group-start, match-run, reciprocals-first, words-held, held-words};
 ghost use Rattle.fusion.specs.place.Whole.{arms-told, group-told, stmts-count, stmt-run, stmts-runs, scope-told};
-ghost use Rattle.cse_scoped.specs.one_scope.Answers.{scope-answer, Laid, Scope-laid, told-rows, Lists, inner, arm-told, arms-answer, Arms-wrote, walk-answer, Walk-wrote, words-of, Holding-so, walk-refusal, refusal-number, Copied-so, Switches-so};
+ghost use Rattle.cse_scoped.specs.one_scope.Answers.{scope-answer, Laid, Scope-laid, told-rows, inner, arm-told, arms-answer, Arms-wrote, walk-answer, Walk-wrote, words-of, Holding-so, walk-refusal, refusal-number, Copied-so, Switches-so};
 ghost use Rattle.cse_scoped.specs.one_scope.Frame.{most-rows, Lent, Holds, Is-group, Arm-fits, Arms-fit, Members, groups-told, Ready, grouped-scope, Sized, Numbered, group-again, Group-sized, scope-arms, Positions, Left, left-scope, Grouping-so, Found-so};
 ghost use Rattle.statements.specs.Prepared.{Prepared, Grouped, begin-of};
+use cse_flat::Listed;
+use cse_flat::extract_and_list;
 use fusion::groups::Column;
 use fusion::groups::Grouping;
 use fusion::groups::copy_column;
@@ -30,10 +32,6 @@ use fusion::switches::SwitchList;
 use fusion::switches::list_switches;
 use fusion::tables::put;
 use fusion::tables::put_word;
-use reciprocals::divisors::ToBind;
-use reciprocals::divisors::divisors_to_bind;
-use rounds::Rounds;
-use rounds::extract_all;
 use statements::holding::Held;
 use statements::holding::hold;
 use statements::order_stmts;
@@ -122,13 +120,6 @@ enum Found {
     Groups(usize, usize),
     // More members than there are places for.
     TooMany,
-}
-
-enum Listed {
-    // How many words there are after the rounds, and how many divisors are to be bound.
-    Words(usize, usize),
-    // A rebuilt coefficient is no constant: 10.
-    Refused,
 }
 
 // The words of one arm of each member, after what is held in the work area.
@@ -220,31 +211,6 @@ fn group_all(held: &[u64], switches: &mut [u64], members: &mut [u64], ends: &mut
     };
     let groups = group_listed(held, &switches[..count], members, ends);
     Found::Groups(count, groups)
-}
-
-// The rounds on the first `len` words, and then the places of the divisors to bind. That these can't be listed never comes up: rounds keep words that print takes.
-fn extract_and_list(
-    rows: &[u64],
-    tokens: &mut [u64],
-    len: usize,
-    first: u64,
-    text: &mut [u8],
-    places: &mut [u64],
-) -> Listed
-    requires { ⌜ T (extractable (rows-in (now rows)) first (take len (now tokens))) × T (symbols-pass (is-number (rows-in (now rows))) (take len (now tokens))) ⌝ }
-    requires { ⌜ (len ≤ 1927) × (len ≤ length (now tokens)) × (first ≤ 549755813888) ⌝ }
-    requires { ⌜ (131072 ≤ length (now text)) × (len ≤ length (now places)) ⌝ }
-    ensures { λ r. ⌜ Lists (rows-in (now (rows .entry))) first (take len (now (tokens .entry))) r (now (tokens .exit)) (now (places .exit)) ⌝ }
-{
-    let rounds = extract_all(rows, tokens, len, true, first, text);
-    let Rounds::Done(words, _) = rounds else {
-        return Listed::Refused;
-    };
-    let listed = divisors_to_bind(rows, &tokens[..words], true, text, places);
-    let ToBind::Count(divisors) = listed else {
-        return Listed::Refused;
-    };
-    Listed::Words(words, divisors)
 }
 
 // Where group g begins among the members.
@@ -887,7 +853,7 @@ fn scope_listed(
     )
 }
 
-// The scope of the first `len` words of the work area, with numbers from `next` on and values in rows of the kind `row`: its rows are laid over the table from `at`
+// `cse_scope` of the source: the scope of the first `len` words of the work area, with numbers from `next` on and values in rows of the kind `row`: its rows are laid over the table from `at`
 // on; where they have no room, what is left there is free. A refusal writes nothing. `fuel` is how many scopes may be open at once from here on, and the work area is what is left for them.
 pub fn scope(
     rows: &[u64],
@@ -917,8 +883,8 @@ pub fn scope(
     }
     let mut places = [0u64; MOST];
     let results = tree_count(&work[..len]);
-    let listed = extract_and_list(rows, work, len, next, text, &mut places);
-    let Listed::Words(used, divisors) = listed else {
+    let listed = extract_and_list(rows, work, len, true, next, text, &mut places);
+    let Listed::Words(used, _, divisors) = listed else {
         return Scoped::Refused(BAD_COEFFICIENT);
     };
     scope_listed(

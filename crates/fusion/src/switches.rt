@@ -1,4 +1,4 @@
-// The switches outside arms (01, "Scoped fusion") as places among words of trees, each tree once, where it stands first.
+// `collect_switches` of the source: the switches outside arms (01, "Scoped fusion") as places among words of trees, each tree once, where it stands first.
 ghost use mathlib.Core.Path.{_≡_};
 ghost use Prim.Native.Nat.{_<_};
 ghost use lib.ListN.{length};

@@ -1,5 +1,4 @@
-// Where the divisors stand among words of trees (01, "Reciprocals"), in the order of their divisions.
-// The divisors to bind (01, "Reciprocals"), as places among words of trees: each divisor that is there twice and once outside arms, where its tree stands first, in
+// `count_divisors` of the source (01, "Reciprocals"): where the divisors stand among words of trees, in the order of their divisions, and those to bind: each divisor that is there twice and once outside arms, where its tree stands first, in
 // text order, equal texts by the first division by each. Local arrays hold the places of all divisors, of those outside arms, and the marks.
 ghost use mathlib.Core.Path.{_≡_};
 ghost use mathlib.Core.List.{_++_};

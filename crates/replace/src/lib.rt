@@ -210,7 +210,7 @@ fn put_repeated(w: u64, n: usize, at: usize, out: &mut [u64])
     }
 }
 
-// Writes what stands before the factors of a product: its coefficient and its signs.
+// Writes what stands before the factors of a product, its coefficient and its signs: the first part of `build_mul_from_factors`.
 fn write_head(code: u64, signs: usize, out: &mut [u64]) -> usize
     requires { ⌜ (code < 2 ^ 51) × (length (head-words code signs) ≤ length (now out)) ⌝ }
     ensures { λ r. ⌜ (r ≡ length (head-words code signs)) × (now (out .exit) ≡ head-words code signs ++ drop (length (head-words code signs)) (now (out .entry))) ⌝ }

@@ -1,5 +1,5 @@
-// The classes of equal trees among words of trees, and how often each tree is there (01, "Uses"), in time near the number of words. From the right, a place
-// looks for its tree among those that stand for their class, in a chain found by its word and the classes of its operands.
+// `path_counts` and `count_subexprs` of the source (01, "Uses"): the facts of every place, the classes of equal trees among words of trees, and how often each tree is
+// there, in one pass and in time near the number of words. From the right, a place looks for its tree among those that stand for their class, in a chain found by its word and the classes of its operands.
 ghost use mathlib.Core.Path.{_≡_};
 ghost use mathlib.Core.Bool.{true, cond};
 ghost use Prim.Native.Nat.{ℕ, _+_, _*_, _≤_, _<_, min};

@@ -20,14 +20,15 @@ use Rattle.spec_cse.specs.Scope.{most-number}
 use Rattle.fusion.specs.place.Whole.{scope-told}
 use Rattle.scope_laws.proofs.sound.Rounds.{rounds-sound, rounds-short, rounds-pass, rounds-results, rounds-ten}
 use Rattle.laws.specs.switches.Columns.{column-words}
-use Rattle.cse_scoped.specs.one_scope.Answers.{inner, arm-told, Lists, Copied-so}
+use Rattle.cse_scoped.specs.one_scope.Answers.{inner, arm-told, Copied-so}
+use Rattle.cse_flat.specs.Answers.{Lists}
 use Rattle.cse_scoped.specs.one_scope.Frame.{Left, left-scope}
 use Rattle.cse_scoped.specs.declared.one_scope.Scoped.the-variants as scoped
 use Rattle.cse_scoped.specs.declared.one_scope.Armed.the-variants as armed
 use Rattle.cse_scoped.specs.declared.one_scope.Copied.{Copied}
 use Rattle.cse_scoped.specs.declared.one_scope.Copied.the-variants as copied
-use Rattle.cse_scoped.specs.declared.one_scope.Listed.{Listed}
-use Rattle.cse_scoped.specs.declared.one_scope.Listed.the-variants as listed
+use Rattle.cse_flat.specs.declared.Listed.{Listed}
+use Rattle.cse_flat.specs.declared.Listed.the-variants as listed
 use Rattle.cse_scoped.proofs.one_scope.Areas.{copied-none}
 use Rattle.cse_scoped.proofs.one_scope.ArmLaws.{Arm-done, done-refused, arm-refused}
 use Rattle.cse_scoped.proofs.one_scope.Statements.{by-test, by-no-test}
@@ -76,23 +77,23 @@ module _ (rows : List Row) (left row next : ℕ) (ws : List ℕ) (at : ℕ) (old
           ∙ tested (fuel - 1)
           (ap₂ (λ (a b : Bool). a && b) (le-leb (length ws) left there) (ap₂ (λ (a b : Bool). a && b) (le-leb (length ws) 1927 few) (le-leb next most-number low)))
 
-      module _ (r : Listed) (tokens places : List ℕ) (given : Lists rows next ws r tokens places) where
+      module _ (r : Listed) (tokens places : List ℕ) (given : Lists rows true next ws r tokens places) where
         pub ten : r ≡ listed.Refused → Scope-done (scope-told rows fuel left row next ws) at old (scoped.Refused 10) old
         ten e =
-            let g = subst (λ (q : Listed). Lists rows next ws q tokens places) e given in
+            let g = subst (λ (q : Listed). Lists rows true next ws q tokens places) e given in
             let i : g .0 ≡ by 10 = rounds-ten rows true next ws sound pass (g .0) (g .1) in
             scope-refused (scope-told rows fuel left row next ws) (by 10)
             (from-rounds ∙ ap (λ (o : Outcome (List ℕ)). o >>= λ vs. left-scope rows (fuel - 1) left row vs (length (read numbered ws)) next (divisors-to-bind vs (name-in rows) true)) (g .1 ∙ ap refused i)) at old
 
-        module _ (n d : ℕ) (e : r ≡ listed.Words n d) where
-          so : Lists rows next ws (listed.Words n d) tokens places
-          so = subst (λ (q : Listed). Lists rows next ws q tokens places) e given
+        module _ (n m d : ℕ) (e : r ≡ listed.Words n m d) where
+          so : Lists rows true next ws (listed.Words n m d) tokens places
+          so = subst (λ (q : Listed). Lists rows true next ws q tokens places) e given
 
           pub words-in : n ≤ length tokens
-          words-in = so .2
+          words-in = so .3
 
           pub places-in : d ≤ length places
-          places-in = so .3
+          places-in = so .4
 
           module _ (k : ℕ) (whole : trees-in ws ≡ some k) where
             results-are : length (read numbered ws) ≡ k
@@ -105,7 +106,7 @@ module _ (rows : List Row) (left row next : ℕ) (ws : List ℕ) (at : ℕ) (old
                   good = rounds-sound rows true (is-number rows) next ws sound pass (take n tokens) (so .0);
                   pass = rounds-pass rows true (is-number rows) next ws sound pass (take n tokens) (so .0);
                   enough = rounds-results rows true (is-number rows) next ws sound pass (take n tokens) (so .0);
-                  places-are = so .1;
+                  places-are = so .2;
                   few = omega (arith, rounds-short rows true (is-number rows) next ws sound pass (take n tokens) (so .0));
                   low = low;
                 })
@@ -114,7 +115,7 @@ module _ (rows : List Row) (left row next : ℕ) (ws : List ℕ) (at : ℕ) (old
             scope-is =
                 from-rounds
                 ∙ (ap (λ (o : Outcome (List ℕ)). o >>= λ vs. left-scope rows (fuel - 1) left row vs (length (read numbered ws)) next (divisors-to-bind vs (name-in rows) true)) (so .0)
-                ∙ ap₂ (λ (j : ℕ) (ps : List ℕ). left-scope rows (fuel - 1) left row (take n tokens) j next ps) results-are (sym (so .1)))
+                ∙ ap₂ (λ (j : ℕ) (ps : List ℕ). left-scope rows (fuel - 1) left row (take n tokens) j next ps) results-are (sym (so .2)))
 
 -- ---- an arm whose words are more than are left, or than can be worked on
 

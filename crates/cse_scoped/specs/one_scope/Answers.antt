@@ -1,17 +1,14 @@
 -- What a scope, an arm, the arms of a match and the groups of a scope answer, and what they leave in the table, by cases (01, "Scoped fusion"). Assumes nothing.
 use Prim.Native.Nat.{ℕ, _+_, _≤_, _<_}
 use mathlib.Core.Path.{_≡_}
-use mathlib.Core.Bool.{true}
 use mathlib.Core.List.{List, [], _∷_}
 use lib.ListN.{length, take}
-use Rattle.spec_tree.specs.Outcome.{Refusal, Outcome, ok, refused, _>>=_}
+use Rattle.spec_tree.specs.Outcome.{Outcome, ok, refused, _>>=_}
 use Rattle.spec_tree.specs.Rows.{Row}
-use Rattle.spec_tree.specs.Tokens.{word, name-in}
+use Rattle.spec_tree.specs.Tokens.{word}
 use Rattle.spec_cse.specs.AnswerRows.{arm-row, value-row}
 use Rattle.laws.specs.switches.Switches.{switch-places}
 use Rattle.laws.specs.switches.Columns.{column-words}
-use Rattle.laws.specs.positions.Places.{divisors-to-bind}
-use Rattle.rounds.specs.Rounds.{all-rounds}
 use Rattle.fusion.specs.place.Overlay.{overlay}
 use Rattle.fusion.specs.place.Parts.{joined-groups, ends-from}
 use Rattle.fusion.specs.place.Whole.{Told, Arms-told, Walk, scope-told}
@@ -27,8 +24,6 @@ use Rattle.cse_scoped.specs.declared.one_scope.Copied.{Copied}
 use Rattle.cse_scoped.specs.declared.one_scope.Copied.the-variants as copied
 use Rattle.cse_scoped.specs.declared.one_scope.Switches.{Switches}
 use Rattle.cse_scoped.specs.declared.one_scope.Switches.the-variants as switches
-use Rattle.cse_scoped.specs.declared.one_scope.Listed.{Listed}
-use Rattle.cse_scoped.specs.declared.one_scope.Listed.the-variants as listed
 
 -- ---- a scope
 
@@ -53,12 +48,6 @@ Scope-laid (refused i) at old new = new ≡ old
 unfoldable pub told-rows : Outcome Told → ℕ
 told-rows (ok t) = length (t .words)
 told-rows (refused i) = 0
-
--- the words after the rounds stand in front, and so do the places of their divisors to bind; or the rounds are refused
-abbrev pub Lists : List Row → ℕ → List ℕ → Listed → List ℕ → List ℕ → Type 0
-Lists rows first ws (listed.Words n d) tokens places =
-    (all-rounds rows true first ws ≡ ok (take n tokens)) × (take d places ≡ divisors-to-bind (take n tokens) (name-in rows) true) × (n ≤ length tokens) × (d ≤ length places)
-Lists rows first ws listed.Refused tokens places = (i : Refusal) × (all-rounds rows true first ws ≡ refused i)
 
 -- ---- arms
 

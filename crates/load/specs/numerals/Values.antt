@@ -1,4 +1,4 @@
--- Numbers that stop at a cap, and the answers of this crate by cases, each from a definition of load (01, "Sheet and printing"). Assumes nothing.
+-- Numbers that stop at a cap, and the answers of numerals by cases, each from a definition of load (01, "Sheet and printing"). Assumes nothing.
 use Prim.Native.Nat.{ℕ, suc, min}
 use mathlib.Core.Bool.{cond}
 use mathlib.Core.Option.{Option, none, some}

@@ -1,4 +1,4 @@
--- What the functions of this crate answer, by cases: where a part of an answer ends (Fronts), or that none stands there. Assumes nothing.
+-- What the functions of answers answer, by cases: where a part of an answer ends (Fronts), or that none stands there. Assumes nothing.
 use Prim.Native.Nat.{ℕ, _+_, _-_, _≤_, _<_}
 use mathlib.Core.Path.{_≡_}
 use mathlib.Core.Bool.{Bool, true, false}

@@ -1,4 +1,4 @@
--- What the functions of this crate answer and leave. Assumes nothing.
+-- What the functions of matching answer and leave. Assumes nothing.
 use Prim.Native.Nat.{ℕ, _*_, _≤_, _<_}
 use mathlib.Core.Path.{_≡_}
 use mathlib.Core.Bool.{false}

@@ -124,7 +124,7 @@ module _ (rows ws : List ℕ) (scoped : Bool) (f m t : ℕ) where
         ap (best-of true (some 0) true) (sym (ap (λ (b : Bool). mathlib.Core.Bool.cond b none (some p)) (ne-eqb s 0 z)) ∙ k .best)
         ∙ given (has-room (length ws) f m t) (trees-in ws) (every (word-ok (rows-in rows)) ws) (best-place ws (name-in (rows-in rows)) scoped) e c q
 
--- ---- what `count_trees`, `measure` and `mark_outside` tell and leave
+-- ---- what `count_trees`, `class_tables` and `mark_outside` tell and leave
 
 pub no-trees : (ws : List ℕ) → trees.Broken ≡ count-answer (trees-in ws) → trees-in ws ≡ none
 no-trees ws e = uncounted (trees-in ws) e

@@ -1,4 +1,4 @@
--- Where each fact stands after `measure`: for those who look it up. Assumes nothing.
+-- Where each fact stands among the facts of all places: for those who look it up. Assumes nothing.
 use Prim.Native.Nat.{ℕ, _+_, _*_, _<_}
 use native.Mathlib.Omega.{arith}
 use mathlib.Core.Path.{_≡_, _∙_}

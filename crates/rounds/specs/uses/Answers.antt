@@ -1,4 +1,4 @@
--- The answers of this crate by cases (01, "Uses"), for words none of which lacks an operand. Assumes nothing.
+-- The answers of `mark_outside` by cases (01, "Uses"), for words none of which lacks an operand. Assumes nothing.
 use Prim.Native.Nat.{ℕ}
 use mathlib.Core.Bool.{Bool, true, false}
 use mathlib.Core.Option.{Option, none, some}

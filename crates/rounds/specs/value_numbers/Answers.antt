@@ -46,7 +46,7 @@ unfolding is-among
 distinct [] = 0
 distinct (t ∷ l) = elim (is-among t l) [ true ↦ distinct l | false ↦ suc (distinct l) ]
 
--- the facts as `measure` writes them, the class of every place, and how many places, and how many that are marked, have a tree equal to the one at each;
+-- the facts of every place, the class of every place, and how many places, and how many that are marked, have a tree equal to the one at each;
 -- as many nodes were entered as there are distinct trees at least, and as there are places at most
 pub record Tables (ws marks old : List ℕ) (entered : ℕ) (facts classes uses outside : List ℕ) : Type 0 where
   pub facts-are : facts ≡ all-facts (trees-at numbered ws) ++ drop (5 * length ws) old

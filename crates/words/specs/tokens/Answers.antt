@@ -1,4 +1,4 @@
--- The answers of this crate by cases, each from a definition of Tokens. Assumes nothing.
+-- The answers of tokens by cases, each from a definition of Tokens. Assumes nothing.
 use Prim.Native.Nat.{ℕ, _+_}
 use mathlib.Core.Bool.{Bool, true, false}
 use mathlib.Core.Option.{Option, none, some}

@@ -66,7 +66,7 @@ use Rattle.cse_scoped.proofs.one_scope.write_stmts.Kinds as write-stmts
 use Rattle.cse_scoped.proofs.one_scope.+arm+arms+measure+scope+scope_grouped+scope_held+scope_listed+walk+write_match+write_scope+write_stmt+write_stmts.Lts-write_stmts as write-stmts-lts
 use Rattle.cse_scoped.proofs.one_scope.copy_arm.Reads as copy-arm-reads
 use Rattle.cse_scoped.proofs.one_scope.count_arms.Reads as count-arms-reads
-use Rattle.cse_scoped.proofs.one_scope.extract_and_list.Reads as extract-and-list-reads
+use Rattle.cse_flat.proofs.extract_and_list.Reads as extract-and-list-reads
 use Rattle.cse_scoped.proofs.one_scope.group_all.Reads as group-all-reads
 use Rattle.cse_scoped.proofs.one_scope.group_begin.Reads as group-begin-reads
 use Rattle.cse_scoped.proofs.one_scope.hold_all.Reads as hold-all-reads
@@ -430,16 +430,16 @@ scope-returns-4 : (t : ℕ) → scope-lts.Need-returns-4 (tree-count-reads.Asked
 scope-returns-4 t c = let s = c .before .before .before .before .before .before .before .before .before .before .before .before .before .before .before .before .before .before .before .before in let a = s .args in ten (rows-in (a .rows .now)) (length (a .work .now)) (a .row) (a .next) (take (a .len) (a .work .now)) (a .at) (a .table .now) (a .fuel) (omega (arith, c .before .before .before .before .before .before .before .before .before .before .before .before .before .before .before .if1 .left)) (omega (arith, length-take-le (a .len) (a .work .now) (s .pre .1 .1 .0 .inside), s .pre .1 .1 .0 .inside)) (omega (arith, length-take-le (a .len) (a .work .now) (s .pre .1 .1 .0 .inside), c .before .before .before .before .before .before .before .before .before .before .before .before .before .before .if2 .left)) (omega (arith, c .before .before .before .before .before .before .before .before .before .before .before .before .before .if3 .left)) (s .pre .1 .0 .0) (s .pre .1 .0 .1) (c .before .before .before .before .before .before .before .extract-and-list .result) _ _ (c .before .before .before .before .before .before .before .extract-and-list .ensures) (c .enum-told .given .1)
 
 scope-array-share-prefix-places : (t : ℕ) → scope-lts.Need-array-share-prefix-places (tree-count-reads.Asked, tree-count-reads.Learnt, extract-and-list-reads.Asked, extract-and-list-reads.Learnt, scope-listed-below t, scope-listed.Post) (scope-at t) scope.Post
-scope-array-share-prefix-places t c = let s = c .before .before .before .before .before .before .before .before .before .before .before .before .before .before .before .before .before .before .before .before .before .before in let a = s .args in places-in (rows-in (a .rows .now)) (length (a .work .now)) (a .row) (a .next) (take (a .len) (a .work .now)) (a .at) (a .table .now) (a .fuel) (omega (arith, c .before .before .before .before .before .before .before .before .before .before .before .before .before .before .before .before .before .if1 .left)) (omega (arith, length-take-le (a .len) (a .work .now) (s .pre .1 .1 .0 .inside), s .pre .1 .1 .0 .inside)) (omega (arith, length-take-le (a .len) (a .work .now) (s .pre .1 .1 .0 .inside), c .before .before .before .before .before .before .before .before .before .before .before .before .before .before .before .before .if2 .left)) (omega (arith, c .before .before .before .before .before .before .before .before .before .before .before .before .before .before .before .if3 .left)) (s .pre .1 .0 .0) (s .pre .1 .0 .1) (c .before .before .before .before .before .before .before .before .before .extract-and-list .result) _ _ (c .before .before .before .before .before .before .before .before .before .extract-and-list .ensures) _ _ (c .before .before .listed .given .1)
+scope-array-share-prefix-places t c = let s = c .before .before .before .before .before .before .before .before .before .before .before .before .before .before .before .before .before .before .before .before .before .before in let a = s .args in places-in (rows-in (a .rows .now)) (length (a .work .now)) (a .row) (a .next) (take (a .len) (a .work .now)) (a .at) (a .table .now) (a .fuel) (omega (arith, c .before .before .before .before .before .before .before .before .before .before .before .before .before .before .before .before .before .if1 .left)) (omega (arith, length-take-le (a .len) (a .work .now) (s .pre .1 .1 .0 .inside), s .pre .1 .1 .0 .inside)) (omega (arith, length-take-le (a .len) (a .work .now) (s .pre .1 .1 .0 .inside), c .before .before .before .before .before .before .before .before .before .before .before .before .before .before .before .before .if2 .left)) (omega (arith, c .before .before .before .before .before .before .before .before .before .before .before .before .before .before .before .if3 .left)) (s .pre .1 .0 .0) (s .pre .1 .0 .1) (c .before .before .before .before .before .before .before .before .before .extract-and-list .result) _ _ (c .before .before .before .before .before .before .before .before .before .extract-and-list .ensures) _ _ _ (c .before .before .listed .given .1)
 
 scope-slice-aggregate-scope-listed : (t : ℕ) → scope-lts.Need-slice-aggregate-scope-listed (tree-count-reads.Asked, tree-count-reads.Learnt, extract-and-list-reads.Asked, extract-and-list-reads.Learnt, scope-listed-below t, scope-listed.Post) (scope-at t) scope.Post
-scope-slice-aggregate-scope-listed t c = let s = c .before .before .before .before .before .before .before .before .before .before .before .before .before .before .before .before .before .before .before .before .before .before .before in let a = s .args in sym (length-take-le _ _ (places-in (rows-in (a .rows .now)) (length (a .work .now)) (a .row) (a .next) (take (a .len) (a .work .now)) (a .at) (a .table .now) (a .fuel) (omega (arith, c .before .before .before .before .before .before .before .before .before .before .before .before .before .before .before .before .before .before .if1 .left)) (omega (arith, length-take-le (a .len) (a .work .now) (s .pre .1 .1 .0 .inside), s .pre .1 .1 .0 .inside)) (omega (arith, length-take-le (a .len) (a .work .now) (s .pre .1 .1 .0 .inside), c .before .before .before .before .before .before .before .before .before .before .before .before .before .before .before .before .before .if2 .left)) (omega (arith, c .before .before .before .before .before .before .before .before .before .before .before .before .before .before .before .before .if3 .left)) (s .pre .1 .0 .0) (s .pre .1 .0 .1) (c .before .before .before .before .before .before .before .before .before .before .extract-and-list .result) _ _ (c .before .before .before .before .before .before .before .before .before .before .extract-and-list .ensures) _ _ (c .before .before .before .listed .given .1)))
+scope-slice-aggregate-scope-listed t c = let s = c .before .before .before .before .before .before .before .before .before .before .before .before .before .before .before .before .before .before .before .before .before .before .before in let a = s .args in sym (length-take-le _ _ (places-in (rows-in (a .rows .now)) (length (a .work .now)) (a .row) (a .next) (take (a .len) (a .work .now)) (a .at) (a .table .now) (a .fuel) (omega (arith, c .before .before .before .before .before .before .before .before .before .before .before .before .before .before .before .before .before .before .if1 .left)) (omega (arith, length-take-le (a .len) (a .work .now) (s .pre .1 .1 .0 .inside), s .pre .1 .1 .0 .inside)) (omega (arith, length-take-le (a .len) (a .work .now) (s .pre .1 .1 .0 .inside), c .before .before .before .before .before .before .before .before .before .before .before .before .before .before .before .before .before .if2 .left)) (omega (arith, c .before .before .before .before .before .before .before .before .before .before .before .before .before .before .before .before .if3 .left)) (s .pre .1 .0 .0) (s .pre .1 .0 .1) (c .before .before .before .before .before .before .before .before .before .before .extract-and-list .result) _ _ (c .before .before .before .before .before .before .before .before .before .before .extract-and-list .ensures) _ _ _ (c .before .before .before .listed .given .1)))
 
 scope-sub-scope-listed : (t : ℕ) → scope-lts.Need-sub-scope-listed (tree-count-reads.Asked, tree-count-reads.Learnt, extract-and-list-reads.Asked, extract-and-list-reads.Learnt, scope-listed-below t, scope-listed.Post) (scope-at t) scope.Post
 scope-sub-scope-listed t c = omega (arith, c .before .before .before .before .before .before .before .before .before .before .before .before .before .before .before .before .before .before .if1 .left)
 
 scope-scope-listed-requires : (t : ℕ) → scope-lts.Need-scope-listed-requires (tree-count-reads.Asked, tree-count-reads.Learnt, extract-and-list-reads.Asked, extract-and-list-reads.Learnt, scope-listed-below t, scope-listed.Post) (scope-at t) scope.Post
-scope-scope-listed-requires t c κs = let s = c .before .before .before .before .before .before .before .before .before .before .before .before .before .before .before .before .before .before .before .before .before .before .before .before .before in let a = s .args in (omega (arith, s .pre .0, c .before .before .before .before .before .before .before .before .before .before .before .before .before .before .before .before .before .before .before .before .if1 .left), ((record { words = omega (arith, s .pre .1 .1 .0 .words, (c .before .before .before .before .before .before .before .before .before .before .before .before .extract-and-list .kept .1 .0)); inside = words-in (rows-in (a .rows .now)) (length (a .work .now)) (a .row) (a .next) (take (a .len) (a .work .now)) (a .at) (a .table .now) (a .fuel) (omega (arith, c .before .before .before .before .before .before .before .before .before .before .before .before .before .before .before .before .before .before .before .before .if1 .left)) (omega (arith, length-take-le (a .len) (a .work .now) (s .pre .1 .1 .0 .inside), s .pre .1 .1 .0 .inside)) (omega (arith, length-take-le (a .len) (a .work .now) (s .pre .1 .1 .0 .inside), c .before .before .before .before .before .before .before .before .before .before .before .before .before .before .before .before .before .before .before .if2 .left)) (omega (arith, c .before .before .before .before .before .before .before .before .before .before .before .before .before .before .before .before .before .before .if3 .left)) (s .pre .1 .0 .0) (s .pre .1 .0 .1) (c .before .before .before .before .before .before .before .before .before .before .before .before .extract-and-list .result) _ _ (c .before .before .before .before .before .before .before .before .before .before .before .before .extract-and-list .ensures) _ _ (c .before .before .before .before .before .listed .given .1); bytes = omega (arith, s .pre .1 .1 .0 .bytes, (c .before .before .before .before .before .before .before .before .before .before .before .before .extract-and-list .kept .1 .1 .1 .1 .0)) }, left-so (rows-in (a .rows .now)) (length (a .work .now)) (a .row) (a .next) (take (a .len) (a .work .now)) (a .at) (a .table .now) (a .fuel) (omega (arith, c .before .before .before .before .before .before .before .before .before .before .before .before .before .before .before .before .before .before .before .before .if1 .left)) (omega (arith, length-take-le (a .len) (a .work .now) (s .pre .1 .1 .0 .inside), s .pre .1 .1 .0 .inside)) (omega (arith, length-take-le (a .len) (a .work .now) (s .pre .1 .1 .0 .inside), c .before .before .before .before .before .before .before .before .before .before .before .before .before .before .before .before .before .before .before .if2 .left)) (omega (arith, c .before .before .before .before .before .before .before .before .before .before .before .before .before .before .before .before .before .before .if3 .left)) (s .pre .1 .0 .0) (s .pre .1 .0 .1) (c .before .before .before .before .before .before .before .before .before .before .before .before .extract-and-list .result) _ _ (c .before .before .before .before .before .before .before .before .before .before .before .before .extract-and-list .ensures) _ _ (c .before .before .before .before .before .listed .given .1) (c .before .before .before .before .before .before .before .before .before .before .before .before .before .before .before .before .tree-count .result) (c .before .before .before .before .before .before .before .before .before .before .before .before .before .before .before .before .tree-count .ensures)), subst (λ o. a .at + told-rows o ≤ most-rows) (scope-is (rows-in (a .rows .now)) (length (a .work .now)) (a .row) (a .next) (take (a .len) (a .work .now)) (a .at) (a .table .now) (a .fuel) (omega (arith, c .before .before .before .before .before .before .before .before .before .before .before .before .before .before .before .before .before .before .before .before .if1 .left)) (omega (arith, length-take-le (a .len) (a .work .now) (s .pre .1 .1 .0 .inside), s .pre .1 .1 .0 .inside)) (omega (arith, length-take-le (a .len) (a .work .now) (s .pre .1 .1 .0 .inside), c .before .before .before .before .before .before .before .before .before .before .before .before .before .before .before .before .before .before .before .if2 .left)) (omega (arith, c .before .before .before .before .before .before .before .before .before .before .before .before .before .before .before .before .before .before .if3 .left)) (s .pre .1 .0 .0) (s .pre .1 .0 .1) (c .before .before .before .before .before .before .before .before .before .before .before .before .extract-and-list .result) _ _ (c .before .before .before .before .before .before .before .before .before .before .before .before .extract-and-list .ensures) _ _ (c .before .before .before .before .before .listed .given .1) (c .before .before .before .before .before .before .before .before .before .before .before .before .before .before .before .before .tree-count .result) (c .before .before .before .before .before .before .before .before .before .before .before .before .before .before .before .before .tree-count .ensures) ∙ (left-now (rows-in (a .rows .now)) (a .fuel - 1) (a .row) _ _ (a .next) _ _ _ (c .before .before .before .before .before .before .before .before .before .before .before .before .extract-and-list .kept .1 .0))) (s .pre .1 .1 .1)))
+scope-scope-listed-requires t c κs = let s = c .before .before .before .before .before .before .before .before .before .before .before .before .before .before .before .before .before .before .before .before .before .before .before .before .before in let a = s .args in (omega (arith, s .pre .0, c .before .before .before .before .before .before .before .before .before .before .before .before .before .before .before .before .before .before .before .before .if1 .left), ((record { words = omega (arith, s .pre .1 .1 .0 .words, (c .before .before .before .before .before .before .before .before .before .before .before .before .extract-and-list .kept .1 .0)); inside = words-in (rows-in (a .rows .now)) (length (a .work .now)) (a .row) (a .next) (take (a .len) (a .work .now)) (a .at) (a .table .now) (a .fuel) (omega (arith, c .before .before .before .before .before .before .before .before .before .before .before .before .before .before .before .before .before .before .before .before .if1 .left)) (omega (arith, length-take-le (a .len) (a .work .now) (s .pre .1 .1 .0 .inside), s .pre .1 .1 .0 .inside)) (omega (arith, length-take-le (a .len) (a .work .now) (s .pre .1 .1 .0 .inside), c .before .before .before .before .before .before .before .before .before .before .before .before .before .before .before .before .before .before .before .if2 .left)) (omega (arith, c .before .before .before .before .before .before .before .before .before .before .before .before .before .before .before .before .before .before .if3 .left)) (s .pre .1 .0 .0) (s .pre .1 .0 .1) (c .before .before .before .before .before .before .before .before .before .before .before .before .extract-and-list .result) _ _ (c .before .before .before .before .before .before .before .before .before .before .before .before .extract-and-list .ensures) _ _ _ (c .before .before .before .before .before .listed .given .1); bytes = omega (arith, s .pre .1 .1 .0 .bytes, (c .before .before .before .before .before .before .before .before .before .before .before .before .extract-and-list .kept .1 .1 .1 .1 .1 .0)) }, left-so (rows-in (a .rows .now)) (length (a .work .now)) (a .row) (a .next) (take (a .len) (a .work .now)) (a .at) (a .table .now) (a .fuel) (omega (arith, c .before .before .before .before .before .before .before .before .before .before .before .before .before .before .before .before .before .before .before .before .if1 .left)) (omega (arith, length-take-le (a .len) (a .work .now) (s .pre .1 .1 .0 .inside), s .pre .1 .1 .0 .inside)) (omega (arith, length-take-le (a .len) (a .work .now) (s .pre .1 .1 .0 .inside), c .before .before .before .before .before .before .before .before .before .before .before .before .before .before .before .before .before .before .before .if2 .left)) (omega (arith, c .before .before .before .before .before .before .before .before .before .before .before .before .before .before .before .before .before .before .if3 .left)) (s .pre .1 .0 .0) (s .pre .1 .0 .1) (c .before .before .before .before .before .before .before .before .before .before .before .before .extract-and-list .result) _ _ (c .before .before .before .before .before .before .before .before .before .before .before .before .extract-and-list .ensures) _ _ _ (c .before .before .before .before .before .listed .given .1) (c .before .before .before .before .before .before .before .before .before .before .before .before .before .before .before .before .tree-count .result) (c .before .before .before .before .before .before .before .before .before .before .before .before .before .before .before .before .tree-count .ensures)), subst (λ o. a .at + told-rows o ≤ most-rows) (scope-is (rows-in (a .rows .now)) (length (a .work .now)) (a .row) (a .next) (take (a .len) (a .work .now)) (a .at) (a .table .now) (a .fuel) (omega (arith, c .before .before .before .before .before .before .before .before .before .before .before .before .before .before .before .before .before .before .before .before .if1 .left)) (omega (arith, length-take-le (a .len) (a .work .now) (s .pre .1 .1 .0 .inside), s .pre .1 .1 .0 .inside)) (omega (arith, length-take-le (a .len) (a .work .now) (s .pre .1 .1 .0 .inside), c .before .before .before .before .before .before .before .before .before .before .before .before .before .before .before .before .before .before .before .if2 .left)) (omega (arith, c .before .before .before .before .before .before .before .before .before .before .before .before .before .before .before .before .before .before .if3 .left)) (s .pre .1 .0 .0) (s .pre .1 .0 .1) (c .before .before .before .before .before .before .before .before .before .before .before .before .extract-and-list .result) _ _ (c .before .before .before .before .before .before .before .before .before .before .before .before .extract-and-list .ensures) _ _ _ (c .before .before .before .before .before .listed .given .1) (c .before .before .before .before .before .before .before .before .before .before .before .before .before .before .before .before .tree-count .result) (c .before .before .before .before .before .before .before .before .before .before .before .before .before .before .before .before .tree-count .ensures) ∙ (left-now (rows-in (a .rows .now)) (a .fuel - 1) (a .row) _ _ (a .next) _ _ _ (c .before .before .before .before .before .before .before .before .before .before .before .before .extract-and-list .kept .1 .0))) (s .pre .1 .1 .1)))
 
 scope-same-length-3 : (t : ℕ) → scope-lts.Need-same-length-3 (tree-count-reads.Asked, tree-count-reads.Learnt, extract-and-list-reads.Asked, extract-and-list-reads.Learnt, scope-listed-below t, scope-listed.Post) (scope-at t) scope.Post
 scope-same-length-3 t c = search needs
@@ -451,7 +451,7 @@ scope-same-length-5 : (t : ℕ) → scope-lts.Need-same-length-5 (tree-count-rea
 scope-same-length-5 t c = search needs
 
 scope-returns-5 : (t : ℕ) → scope-lts.Need-returns-5 (tree-count-reads.Asked, tree-count-reads.Learnt, extract-and-list-reads.Asked, extract-and-list-reads.Learnt, scope-listed-below t, scope-listed.Post) (scope-at t) scope.Post
-scope-returns-5 t c = let s = c .before .before .before .before .before .before .before .before .before .before .before .before .before .before .before .before .before .before .before .before .before .before .before .before .before .before .before .before .before .before .before .before in let a = s .args in done-as _ _ (scope-is (rows-in (a .rows .now)) (length (a .work .now)) (a .row) (a .next) (take (a .len) (a .work .now)) (a .at) (a .table .now) (a .fuel) (omega (arith, c .before .before .before .before .before .before .before .before .before .before .before .before .before .before .before .before .before .before .before .before .before .before .before .before .before .before .before .if1 .left)) (omega (arith, length-take-le (a .len) (a .work .now) (s .pre .1 .1 .0 .inside), s .pre .1 .1 .0 .inside)) (omega (arith, length-take-le (a .len) (a .work .now) (s .pre .1 .1 .0 .inside), c .before .before .before .before .before .before .before .before .before .before .before .before .before .before .before .before .before .before .before .before .before .before .before .before .before .before .if2 .left)) (omega (arith, c .before .before .before .before .before .before .before .before .before .before .before .before .before .before .before .before .before .before .before .before .before .before .before .before .before .if3 .left)) (s .pre .1 .0 .0) (s .pre .1 .0 .1) (c .before .before .before .before .before .before .before .before .before .before .before .before .before .before .before .before .before .before .before .extract-and-list .result) _ _ (c .before .before .before .before .before .before .before .before .before .before .before .before .before .before .before .before .before .before .before .extract-and-list .ensures) _ _ (c .before .before .before .before .before .before .before .before .before .before .before .before .listed .given .1) (c .before .before .before .before .before .before .before .before .before .before .before .before .before .before .before .before .before .before .before .before .before .before .before .tree-count .result) (c .before .before .before .before .before .before .before .before .before .before .before .before .before .before .before .before .before .before .before .before .before .before .before .tree-count .ensures) ∙ (left-now (rows-in (a .rows .now)) (a .fuel - 1) (a .row) _ _ (a .next) _ _ _ (c .before .before .before .before .before .before .before .before .before .before .before .before .before .before .before .before .before .before .before .extract-and-list .kept .1 .0))) (a .at) (a .table .now) _ _ (c .before .before .before .before .before .before .scope-listed .ensures)
+scope-returns-5 t c = let s = c .before .before .before .before .before .before .before .before .before .before .before .before .before .before .before .before .before .before .before .before .before .before .before .before .before .before .before .before .before .before .before .before in let a = s .args in done-as _ _ (scope-is (rows-in (a .rows .now)) (length (a .work .now)) (a .row) (a .next) (take (a .len) (a .work .now)) (a .at) (a .table .now) (a .fuel) (omega (arith, c .before .before .before .before .before .before .before .before .before .before .before .before .before .before .before .before .before .before .before .before .before .before .before .before .before .before .before .if1 .left)) (omega (arith, length-take-le (a .len) (a .work .now) (s .pre .1 .1 .0 .inside), s .pre .1 .1 .0 .inside)) (omega (arith, length-take-le (a .len) (a .work .now) (s .pre .1 .1 .0 .inside), c .before .before .before .before .before .before .before .before .before .before .before .before .before .before .before .before .before .before .before .before .before .before .before .before .before .before .if2 .left)) (omega (arith, c .before .before .before .before .before .before .before .before .before .before .before .before .before .before .before .before .before .before .before .before .before .before .before .before .before .if3 .left)) (s .pre .1 .0 .0) (s .pre .1 .0 .1) (c .before .before .before .before .before .before .before .before .before .before .before .before .before .before .before .before .before .before .before .extract-and-list .result) _ _ (c .before .before .before .before .before .before .before .before .before .before .before .before .before .before .before .before .before .before .before .extract-and-list .ensures) _ _ _ (c .before .before .before .before .before .before .before .before .before .before .before .before .listed .given .1) (c .before .before .before .before .before .before .before .before .before .before .before .before .before .before .before .before .before .before .before .before .before .before .before .tree-count .result) (c .before .before .before .before .before .before .before .before .before .before .before .before .before .before .before .before .before .before .before .before .before .before .before .tree-count .ensures) ∙ (left-now (rows-in (a .rows .now)) (a .fuel - 1) (a .row) _ _ (a .next) _ _ _ (c .before .before .before .before .before .before .before .before .before .before .before .before .before .before .before .before .before .before .before .extract-and-list .kept .1 .0))) (a .at) (a .table .now) _ _ (c .before .before .before .before .before .before .scope-listed .ensures)
 
 scope-grouped-sub-next : (t : ℕ) → scope-grouped-lts.Need-sub-next (walk-below t, walk.Post, walk-refusal-reads.Asked, walk-refusal-reads.Learnt, write-scope-below t, write-scope.Post) (scope-grouped-at t) scope-grouped.Post
 scope-grouped-sub-next t c = let s = c .before .before .before .before .before .before .before .before .before .before in s .pre .1 .1 .0 .0 .enough
