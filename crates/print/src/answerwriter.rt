@@ -13,7 +13,7 @@ ghost use Rattle.fmt.specs.emit.Writing.{Writes, low-bytes};
 ghost use Rattle.fmt.specs.symbols.Symbols.{symbol-text};
 ghost use Rattle.fmt.specs.checked.Check.{rows-in};
 ghost use Rattle.print.specs.told.Places.{StmtAt, names-ahead};
-ghost use Rattle.print.specs.told.Pieces.{tuple-opening, comma, tuple-closing, brace-opening, brace-closing, side-opening, arm-opening, arm-closing, arms-closing};
+ghost use Rattle.print.specs.told.Pieces.{let-opening, tuple-opening, comma, tuple-closing, brace-opening, brace-closing, side-opening, arm-opening, arm-closing, arms-closing};
 ghost use Rattle.print.specs.told.Writers.{TreeWritten, ValuesWritten, NamesWritten, LetWritten, HeadWritten, StmtWritten, ArmWritten, ArmsWritten, ResultsWritten, BindingsWritten, AnswerWritten, statement-ahead, SomeTree, SomeValues, SomeNames, SomeStmt, SomeArm, SomeArms, SomeResults, SomeAnswer};
 ghost use Rattle.print.specs.answerwriter.Bindings.{is-sign, key-of, binding-of, Readable};
 use fmt::writer::Text;
@@ -300,6 +300,15 @@ fn is_sign(switch: Switch) -> bool
     }
 }
 
+// What stands before the expression of a let of the name with that code.
+pub(crate) fn let_opening(rows: &[u64], out: &mut [u8], dry: bool, to: usize, code: u64) -> usize
+    ensures { λ r. ⌜ Writes dry (now (out .entry)) to (let-opening (low-bytes (symbol-text (now (rows .entry)) code))) (now (out .exit)) r ⌝ }
+{
+    let a = fmt::emit::put_bytes(out, dry, to, b"let ");
+    let b = fmt::symbols::put_name(rows, out, dry, a, code);
+    fmt::emit::put_bytes(out, dry, b, b" = ")
+}
+
 // A let of the name with that code; `at` is the place of its expression.
 fn let_statement(
     rows: &[u64],
@@ -314,9 +323,7 @@ fn let_statement(
     ensures { λ r. ⌜ LetWritten (rows-in (now (rows .entry))) (now (words .entry)) at dry (now (out .entry)) to (now (out .exit)) (r .next) (r .to)
         (low-bytes (symbol-text (now (rows .entry)) code)) ⌝ }
 {
-    let a = fmt::emit::put_bytes(out, dry, to, b"let ");
-    let b = fmt::symbols::put_name(rows, out, dry, a, code);
-    let c = fmt::emit::put_bytes(out, dry, b, b" = ");
+    let c = let_opening(rows, out, dry, to, code);
     let p = tree(rows, words, at, out, dry, c);
     let e = fmt::emit::put(out, dry, p.to, b';');
     Pos {

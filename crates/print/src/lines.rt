@@ -1,12 +1,13 @@
 // An answer's text line by line: the line of a let or of a result from its rows, and where the next begins. A flat answer can have more text than any array holds, and
 // each of its lines is short, so a program prints them one after another. And the line that a program prints for a refusal.
 ghost use mathlib.Core.Path.{_≡_};
-ghost use mathlib.Core.Bool.{false};
+ghost use mathlib.Core.Bool.{true, false};
 ghost use Prim.Native.Nat.{_+_, _<_};
 ghost use lib.ListN.{length, getD};
 ghost use Rattle.fmt.specs.emit.Writing.{Writes};
 ghost use Rattle.print.specs.lines.Refusal.{refusal-text};
 ghost use Rattle.print.specs.lines.Line.{starts-line, line-of, line-answer, bytes-left, opening, closing, Wrote};
+use crate::answerwriter::let_opening;
 use fmt::writer::Text;
 use words::layout::CLASSES;
 use words::layout::KINDS;
@@ -38,15 +39,13 @@ fn begins(answer: &[u64], at: usize) -> bool
     w / KINDS % CLASSES == LET_CLASS
 }
 
-fn put_opening(out: &mut [u8], dry: bool, w: u64) -> usize
-    ensures { λ r. ⌜ Writes dry (now (out .entry)) 0 (opening w) (now (out .exit)) r ⌝ }
+fn put_opening(rows: &[u64], out: &mut [u8], dry: bool, w: u64) -> usize
+    ensures { λ r. ⌜ Writes dry (now (out .entry)) 0 (opening (now (rows .entry)) w) (now (out .exit)) r ⌝ }
 {
     if w == RESULT {
         return fmt::emit::place(out, 0);
     }
-    let a = fmt::emit::put_bytes(out, dry, 0, b"let __x");
-    let b = fmt::emit::put_decimal(out, dry, a, w / KINDS / CLASSES);
-    fmt::emit::put_bytes(out, dry, b, b" = ")
+    let_opening(rows, out, dry, 0, w / KINDS)
 }
 
 fn put_closing(out: &mut [u8], dry: bool, to: usize, w: u64) -> usize
@@ -60,11 +59,11 @@ fn put_closing(out: &mut [u8], dry: bool, to: usize, w: u64) -> usize
 
 // The line of the row at `at`, from the start of `out`; where `dry` it is only measured.
 fn write_line(rows: &[u64], answer: &[u64], at: usize, out: &mut [u8], dry: bool) -> Text
-    requires { ⌜ at < length (now answer) ⌝ }
+    requires { ⌜ (at < length (now answer)) × (true ≡ starts-line (getD (now answer) at 0)) ⌝ }
     ensures { λ r. ⌜ Wrote (now (rows .entry)) (now (answer .entry)) at dry (now (out .entry)) (now (out .exit)) r ⌝ }
 {
     let w = answer[at];
-    let start = put_opening(out, dry, w);
+    let start = put_opening(rows, out, dry, w);
     let Text::Ends(next, to) = fmt::writer::write_tree(rows, answer, at + 1, out, dry, start) else {
         return Text::Broken;
     };

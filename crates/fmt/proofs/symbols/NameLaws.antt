@@ -124,7 +124,7 @@ module _ {dry : Bool} {old : List ℕ} {to : ℕ} (ws : List ℕ) (n : ℕ) wher
       (ap low-bytes (ap (λ (i : ℕ). take i (drop (n * 35 + 3) ws)) e ∙ sym (name-is ws n h ∙ own-name (number ws n) (fields ws n) k))) p
 
 -- a class is 0, 1 or 2
-made-text : (ws : List ℕ) (code : ℕ) → code % 3 ≡ 1 → symbol-text ws code ≡ 95 ∷ (95 ∷ (120 ∷ decimal (code / 3)))
+pub made-text : (ws : List ℕ) (code : ℕ) → code % 3 ≡ 1 → symbol-text ws code ≡ 95 ∷ (95 ∷ (120 ∷ decimal (code / 3)))
 unfolding symbol-text name-by name-text
 made-text ws code h = rw h
 

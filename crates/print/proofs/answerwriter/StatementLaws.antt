@@ -3,7 +3,7 @@ use Prim.Native.Nat.{ℕ, suc, _+_, _-_, _*_, _≤_, _<_}
 use native.Mathlib.Omega.{arith}
 use mathlib.Core.Path.{_≡_, refl, sym, ap, ap₂, _∙_, subst}
 use mathlib.Core.Bool.{Bool, true, false, _&&_}
-use mathlib.Core.List.{List, [], _∷_, _++_}
+use mathlib.Core.List.{List, [], _∷_, _++_, append-assoc}
 use lib.ListN.{length}
 use lib.Dec.{T, eqb}
 use Rattle.spec_tree.specs.Bytes.{bytes}
@@ -21,7 +21,7 @@ use Rattle.fmt.specs.symbols.Symbols.{symbol-text}
 use Rattle.fmt.proofs.emit.WriteLaws.{writes-then, writes-as}
 use Rattle.fmt.specs.checked.Check.{rows-in}
 use Rattle.print.specs.told.Places.{StmtAt, TreeAt, NamesAt, ArmsAt, Passed, Owes}
-use Rattle.print.specs.told.Pieces.{let-text, equals, arms-opening, head-text, arms-run}
+use Rattle.print.specs.told.Pieces.{let-opening, let-text, equals, arms-opening, head-text, arms-run}
 use Rattle.print.specs.told.Writers.{TreeWritten, NamesWritten, LetWritten, HeadWritten, ArmsWritten, SomeTree, SomeNames, SomeArms}
 use Rattle.print.proofs.told.PieceLaws.{branch-is, select-is, default-is, let-is}
 use Rattle.print.proofs.told.PlaceLaws.{at-room, let-code}
@@ -35,12 +35,23 @@ use Rattle.print.specs.declared.answerwriter.Binding.the-variants.{Let, 
 
 -- ---- a let
 
+pub opening-written :
+    {dry : Bool} {old m1 m2 new : List ℕ} {to p1 p2 end : ℕ} (name : List ℕ) → Writes dry old to (bytes "let ") m1 p1 → Writes dry m1 p1 name m2 p2
+    → Writes dry m2 p2 (bytes " = ") new end → Writes dry old to (let-opening name) new end
+unfolding let-opening
+opening-written name a b c = writes-then a (writes-then b c)
+
+pub opened-let : (name : List ℕ) (t : Tree) → let-opening name ++ (display t ++ bytes ";") ≡ let-text name t
+unfolding let-opening let-text
+opened-let name t =
+    append-assoc (bytes "let ") (name ++ bytes " = ") (display t ++ bytes ";")
+    ∙ ap (λ (r : List ℕ). bytes "let " ++ r) (append-assoc name (bytes " = ") (display t ++ bytes ";"))
+
 pub let-written :
-    {rows : List Row} {ws : List ℕ} {at : ℕ} {dry : Bool} {old m1 m2 m3 m4 new : List ℕ} {to p1 p2 p3 p4 next end : ℕ} (name : List ℕ)
-    → Writes dry old to (bytes "let ") m1 p1 → Writes dry m1 p1 name m2 p2 → Writes dry m2 p2 (bytes " = ") m3 p3
-    → TreeWritten rows ws at dry m3 p3 m4 next p4 → Writes dry m4 p4 (bytes ";") new end → LetWritten rows ws at dry old to new next end name
-unfolding let-text
-let-written name a b c t e = λ x h. record { token = t x h .token; written = writes-then a (writes-then b (writes-then c (writes-then (t x h .written) e))) }
+    {rows : List Row} {ws : List ℕ} {at : ℕ} {dry : Bool} {old m1 m2 new : List ℕ} {to p1 p2 next end : ℕ} (name : List ℕ)
+    → Writes dry old to (let-opening name) m1 p1 → TreeWritten rows ws at dry m1 p1 m2 next p2 → Writes dry m2 p2 (bytes ";") new end → LetWritten rows ws at dry old to new next end name
+let-written name a t e =
+    λ x h. record { token = t x h .token; written = writes-as (let-opening name ++ (display x ++ bytes ";")) (let-text name x) (opened-let name x) (writes-then a (writes-then (t x h .written) e)) }
 
 -- ---- a match up to its arms
 

@@ -128,15 +128,15 @@ module _ (rows ws : List ℕ) (at : ℕ) where
 
   -- ---- what `write_line` leaves
 
-  module _ (dry : Bool) (old mid : List ℕ) (to : ℕ) (O : Writes dry old 0 (opening (getD ws at 0)) mid to) (new : List ℕ) where
+  module _ (dry : Bool) (old mid : List ℕ) (to : ℕ) (O : Writes dry old 0 (opening rows (getD ws at 0)) mid to) (new : List ℕ) where
     pub told-broken : Broken ≡ write-answer rows ws (at + 1) dry mid to .answer → new ≡ write-answer rows ws (at + 1) dry mid to .bytes → Wrote rows ws at dry old new Broken
     told-broken e q =
         let p = broken-told rows ws (at + 1) dry mid to new e q in
         (p .0, λ d. p .1 ∙ (O .leaves ∙ (rw d)))
 
     pub told-ends :
-        (next place : ℕ) → Ends next place ≡ write-answer rows ws (at + 1) dry mid to .answer → new ≡ write-answer rows ws (at + 1) dry mid to .bytes
+        true ≡ starts-line (getD ws at 0) → (next place : ℕ) → Ends next place ≡ write-answer rows ws (at + 1) dry mid to .answer → new ≡ write-answer rows ws (at + 1) dry mid to .bytes
         → (last : List ℕ) (end : ℕ) → Writes dry new place (closing (getD ws at 0)) last end → Wrote rows ws at dry old last (Ends next end)
-    told-ends next place e q last end C =
+    told-ends b next place e q last end C =
         let p = ends-told rows ws (at + 1) dry mid to new next place e q in
-        (p .0, p .1 .token, writes-as (opening row ++ (display tree ++ closing row)) text (line-parts row tree) (writes-then O (writes-then (p .1 .written) C)))
+        (p .0, p .1 .token, writes-as (opening rows row ++ (display tree ++ closing row)) text (line-parts rows row tree b) (writes-then O (writes-then (p .1 .written) C)))

@@ -4,17 +4,21 @@ use native.Mathlib.Omega.{arith}
 use mathlib.Core.Path.{_≡_, refl, sym, ap, _∙_}
 use mathlib.Core.Bool.{Bool, true, false, cond}
 use mathlib.Core.List.{List, [], _∷_, _++_, append-assoc}
-use borrow.Author.Tests.{eq-eqb, ne-eqb}
+use borrow.Author.Tests.{eq-eqb, ne-eqb, eqb-true, eqb-false}
 use lib.ListN.{length, getD, List·getD-eq-default}
 use lib.Dec.{eqb}
 use Rattle.spec_tree.specs.Bytes.{bytes, decimal}
 use Rattle.spec_tree.specs.Tree.{xname, Tree}
 use Rattle.spec_tree.specs.text.Text.{name-text, display}
 use Rattle.spec_cse.specs.Answer.{Let, stmt-text}
-use Rattle.fmt.specs.emit.Writing.{Writes}
-use Rattle.fmt.proofs.emit.WriteLaws.{writes-none, writes-then}
-use Rattle.print.specs.told.Pieces.{let-text}
+use Rattle.fmt.specs.emit.Writing.{Writes, low-bytes}
+use Rattle.fmt.specs.symbols.Symbols.{symbol-text}
+use Rattle.fmt.proofs.symbols.NameLaws.{made-text, low-made}
+use Rattle.spec_tree.proofs.Logic.{both-true}
+use Rattle.fmt.proofs.emit.WriteLaws.{writes-none}
+use Rattle.print.specs.told.Pieces.{let-opening, let-text}
 use Rattle.print.proofs.told.PieceLaws.{let-is}
+use Rattle.print.proofs.answerwriter.StatementLaws.{opened-let}
 use Rattle.print.specs.lines.Line.{starts-line, row-line, opening, closing}
 
 -- ---- which rows begin a line
@@ -38,15 +42,13 @@ starts-past ws at h = starts-other 0 (λ e. omega arith) (λ e. omega arith) ∙
 -- ---- what is written before and after the expression
 
 module _ {dry : Bool} {old : List ℕ} {to : ℕ} (w : ℕ) where
-  pub opening-none : {e : ℕ} → w ≡ 36 → e ≡ min to (length old + 1) → Writes dry old to (opening w) old e
+  pub opening-none : {e : ℕ} (rows : List ℕ) → w ≡ 36 → e ≡ min to (length old + 1) → Writes dry old to (opening rows w) old e
   unfolding opening
-  opening-none e p = rw (eq-eqb w 36 e) (writes-none p)
+  opening-none rows e p = rw (eq-eqb w 36 e) (writes-none p)
 
-  pub opening-let :
-      {m1 m2 new : List ℕ} {p1 p2 e : ℕ} → (w ≡ 36 → ⊥) → Writes dry old to (bytes "let __x") m1 p1 → Writes dry m1 p1 (decimal (w / 64 / 3)) m2 p2 → Writes dry m2 p2 (bytes " = ") new e
-      → Writes dry old to (opening w) new e
+  pub opening-let : {new : List ℕ} {e : ℕ} (rows : List ℕ) → (w ≡ 36 → ⊥) → Writes dry old to (let-opening (low-bytes (symbol-text rows (w / 64)))) new e → Writes dry old to (opening rows w) new e
   unfolding opening
-  opening-let e a b c = rw (ne-eqb w 36 e) (writes-then a (writes-then b c))
+  opening-let rows e a = rw (ne-eqb w 36 e) a
 
   pub closing-result : {new : List ℕ} {e : ℕ} → w ≡ 36 → Writes dry old to (10 ∷ []) new e → Writes dry old to (closing w) new e
   unfolding closing
@@ -58,26 +60,33 @@ module _ {dry : Bool} {old : List ℕ} {to : ℕ} (w : ℕ) where
 
 -- ---- the three parts of a line
 
-made-text : (n : ℕ) (t : Tree) → stmt-text (Let (xname n) t) ≡ bytes "let __x" ++ (decimal n ++ (bytes " = " ++ (display t ++ bytes ";")))
-unfolding let-text name-text
-made-text n t = let-is (xname n) t
+-- the name of a made symbol
+made-name : (rows : List ℕ) (code : ℕ) → code % 3 ≡ 1 → low-bytes (symbol-text rows code) ≡ bytes "__x" ++ decimal (code / 3)
+made-name rows code h = ap low-bytes (made-text rows code h) ∙ low-made 95 95 120 (code / 3) (omega arith) (omega arith) (omega arith)
 
-let-line : (n : ℕ) (t : Tree) → (bytes "let __x" ++ (decimal n ++ bytes " = ")) ++ (display t ++ bytes ";\n") ≡ stmt-text (Let (xname n) t) ++ (10 ∷ [])
-let-line n t =
-    append-assoc (bytes "let __x") (decimal n ++ bytes " = ") (display t ++ bytes ";\n")
-    ∙ (ap (λ (r : List ℕ). bytes "let __x" ++ r)
-    (append-assoc (decimal n) (bytes " = ") (display t ++ bytes ";\n")
-    ∙ (ap (λ (r : List ℕ). decimal n ++ (bytes " = " ++ r)) (sym (append-assoc (display t) (bytes ";") (10 ∷ [])))
-    ∙ (ap (λ (r : List ℕ). decimal n ++ r) (sym (append-assoc (bytes " = ") (display t ++ bytes ";") (10 ∷ [])))
-    ∙ sym (append-assoc (decimal n) (bytes " = " ++ (display t ++ bytes ";")) (10 ∷ [])))))
-    ∙ (sym (append-assoc (bytes "let __x") (decimal n ++ (bytes " = " ++ (display t ++ bytes ";"))) (10 ∷ []))
-    ∙ ap (λ (r : List ℕ). r ++ (10 ∷ [])) (sym (made-text n t))))
+pub let-made : (n : ℕ) (t : Tree) → stmt-text (Let (xname n) t) ≡ let-text (bytes "__x" ++ decimal n) t
+unfolding name-text
+let-made n t = let-is (xname n) t
 
-pub line-parts : (w : ℕ) (t : Tree) → opening w ++ (display t ++ closing w) ≡ row-line w t
+let-line : (rows : List ℕ) (code : ℕ) (t : Tree) → code % 3 ≡ 1
+    → let-opening (low-bytes (symbol-text rows code)) ++ (display t ++ bytes ";\n") ≡ stmt-text (Let (xname (code / 3)) t) ++ (10 ∷ [])
+let-line rows code t h =
+    let name = low-bytes (symbol-text rows code) in
+    ap (λ (r : List ℕ). let-opening name ++ r) (sym (append-assoc (display t) (bytes ";") (10 ∷ [])))
+    ∙ (sym (append-assoc (let-opening name) (display t ++ bytes ";") (10 ∷ []))
+    ∙ ap (λ (r : List ℕ). r ++ (10 ∷ []))
+    (opened-let name t ∙ (ap (λ (n : List ℕ). let-text n t) (made-name rows code h) ∙ sym (let-made (code / 3) t))))
+
+-- a row that begins a line and is no result's is a let's of a made name
+pub let-class : (w : ℕ) → true ≡ starts-line w → (w ≡ 36 → ⊥) → w / 64 % 3 ≡ 1
+unfolding starts-line
+let-class w b n = eqb-true (w / 64 % 3) 1 (both-true (eqb (w % 64) 29) (eqb (w / 64 % 3) 1) (sym (b ∙ rw (ne-eqb w 36 n))) .1)
+
+pub line-parts : (rows : List ℕ) (w : ℕ) (t : Tree) → true ≡ starts-line w → opening rows w ++ (display t ++ closing w) ≡ row-line w t
 unfolding opening closing row-line
-line-parts w t = go (eqb w 36)
+line-parts rows w t b = go (eqb w 36) refl
   where
-    go : (b : Bool) → cond b [] (bytes "let __x" ++ (decimal (w / 64 / 3) ++ bytes " = ")) ++ (display t ++ cond b (10 ∷ []) (bytes ";\n"))
-        ≡ cond b (display t) (stmt-text (Let (xname (w / 64 / 3)) t)) ++ (10 ∷ [])
-    go true = refl
-    go false = let-line (w / 64 / 3) t
+    go : (c : Bool) → eqb w 36 ≡ c → cond c [] (let-opening (low-bytes (symbol-text rows (w / 64)))) ++ (display t ++ cond c (10 ∷ []) (bytes ";\n"))
+        ≡ cond c (display t) (stmt-text (Let (xname (w / 64 / 3)) t)) ++ (10 ∷ [])
+    go true e = refl
+    go false e = let-line rows (w / 64) t (let-class w b (eqb-false w 36 e))

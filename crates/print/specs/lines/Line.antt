@@ -7,7 +7,7 @@ use mathlib.Core.Option.{Option, none, some}
 use mathlib.Core.List.{List, [], _∷_, _++_}
 use lib.ListN.{length, getD, drop}
 use lib.Dec.{eqb, ltb}
-use Rattle.spec_tree.specs.Bytes.{bytes, decimal}
+use Rattle.spec_tree.specs.Bytes.{bytes}
 use Rattle.spec_tree.specs.Tree.{xname, Tree}
 use Rattle.spec_tree.specs.Facts.{size}
 use Rattle.spec_tree.specs.Passes.{tree-ok}
@@ -15,7 +15,9 @@ use Rattle.spec_tree.specs.Tokens.{kind-of, below-of, run-at}
 use Rattle.spec_tree.specs.text.Text.{display}
 use Rattle.spec_cse.specs.Answer.{Intermediates, Let, Match, end, step, stmt-text}
 use Rattle.spec_cse.specs.AnswerRows.{let-row, result-row}
-use Rattle.fmt.specs.emit.Writing.{Writes}
+use Rattle.fmt.specs.emit.Writing.{Writes, low-bytes}
+use Rattle.fmt.specs.symbols.Symbols.{symbol-text}
+use Rattle.print.specs.told.Pieces.{let-opening}
 use Rattle.fmt.specs.shapes.Places.{tree-here, Stands}
 use Rattle.fmt.specs.declared.writer.Text.{Text}
 use Rattle.fmt.specs.declared.writer.Text.the-variants as writer
@@ -60,9 +62,9 @@ bytes-left (some s) old = cond (ltb (length old) (length (s .text))) old (s .tex
 
 -- ---- what stands before and after the expression
 
-unfoldable pub opening : ℕ → List ℕ
-unfolding decimal
-opening w = cond (eqb w result-row) [] (bytes "let __x" ++ (decimal (below-of w / 3) ++ bytes " = "))
+unfoldable pub opening : List ℕ → ℕ → List ℕ
+unfolding let-opening low-bytes symbol-text
+opening rows w = cond (eqb w result-row) [] (let-opening (low-bytes (symbol-text rows (below-of w))))
 
 unfoldable pub closing : ℕ → List ℕ
 closing w = cond (eqb w result-row) (10 ∷ []) (bytes ";\n")

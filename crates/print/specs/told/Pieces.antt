@@ -78,6 +78,10 @@ arms-run bare or-default m i (s ∷ l) = arm-opening bare or-default m i ++ (s +
 
 -- ---- a let, and a match up to its arms
 
+-- what stands before the expression of a let
+unfoldable pub let-opening : List ℕ → List ℕ
+let-opening name = bytes "let " ++ (name ++ bytes " = ")
+
 unfoldable pub let-text : List ℕ → Tree → List ℕ
 unfolding display
 let-text name t = bytes "let " ++ (name ++ (bytes " = " ++ (display t ++ bytes ";")))

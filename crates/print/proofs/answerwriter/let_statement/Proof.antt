@@ -10,12 +10,12 @@ pub let-statement-spec : {M : Type 1} → statement M
 let-statement-spec =
     tie.close
     (tie.spec
-    (λ c. search needs)
-    (λ c κs. search needs)
-    (λ c κs. search needs)
-    (λ c. search needs)
     (λ c κs. search needs)
     (λ c κs. search needs)
     (λ c κs. search needs)
     (λ c. search needs)
-    (λ c. let-written (low-bytes (symbol-text (c .before .before .before .before .before .before .before .before .before .before .before .before .before .before .before .before .before .before .before .before .before .before .before .before .before .args .rows .now) (c .before .before .before .before .before .before .before .before .before .before .before .before .before .before .before .before .before .before .before .before .before .before .before .before .before .args .code))) (c .before .before .before .before .before .before .before .before .before .before .before .before .before .before .before .before .before .before .before .put-bytes .ensures) (c .before .before .before .before .before .before .before .before .before .before .before .before .before .before .before .put-name .ensures) (c .before .before .before .before .before .before .before .before .before .before .put-bytes2 .ensures) (c .before .before .before .before .before .before .tree .ensures) (c .before .before .put .ensures)))
+    (λ c.
+    let at-tree = c .before .before .before .before .before .before in
+    let opened = at-tree .before .before .before .before in
+    let a = opened .before .before .before .before .before .args in
+    let-written (low-bytes (symbol-text (a .rows .now) (a .code))) (opened .let-opening .ensures) (at-tree .tree .ensures) (c .before .before .put .ensures)))

@@ -10,11 +10,9 @@ put-opening-spec =
     (tie.spec
     (λ c κs. search needs)
     (λ c. search needs)
-    (λ c. opening-none (c .before .before .before .before .args .w) (c .before .before .if1 .taken) (c .place .ensures))
-    (λ c. search needs)
-    (λ c κs. search needs)
+    (λ c. let a = c .before .before .before .before .before .args in opening-none (a .w) (a .rows .now) (c .before .before .if1 .taken) (c .place .ensures))
     (λ c κs. search needs)
     (λ c. search needs)
-    (λ c κs. search needs)
-    (λ c. search needs)
-    (λ c. opening-let (c .before .before .before .before .before .before .before .before .before .before .before .before .before .before .before .before .args .w) (c .before .before .before .before .before .before .before .before .before .before .before .before .before .before .if1 .left) (c .before .before .before .before .before .before .before .before .before .before .before .put-bytes .ensures) (c .before .before .before .before .before .before .before .put-decimal .ensures) (c .before .before .put-bytes2 .ensures)))
+    (λ c.
+    let a = c .before .before .before .before .before .before .before .args in
+    opening-let (a .w) (a .rows .now) (c .before .before .before .before .if1 .left) (c .before .before .let-opening .ensures)))
