@@ -1,26 +1,25 @@
 -- The rows of a scope's answer (specs, Rows), and how many statements and results it has (01, "Turned down", refusal 12). Assumes nothing.
-use Prim.Native.Nat.{ℕ, zero, suc, _+_, _≤_}
+use Prim.Native.Nat.{ℕ, suc, _+_, _≤_}
 use native.Mathlib.Omega.{arith}
-use mathlib.Core.Path.{_≡_, refl, _∙_, ap, subst}
+use mathlib.Core.Path.{_≡_, refl, _∙_, subst}
 use mathlib.Core.List.{List, [], _∷_, _++_, map}
-use lib.ListN.{length, take, drop, length-map}
+use lib.ListN.{length, take, drop}
 use Rattle.spec_tree.specs.Outcome.{Outcome, ok, refused, _>>=_}
 use Rattle.spec_tree.specs.Tree.{Tree}
 use Rattle.spec_tree.specs.Facts.{size}
 use Rattle.spec_tree.specs.Rows.{occurrences}
-use Rattle.spec_cse.specs.Answer.{Intermediate, Arms, arm, block, value-rows, stmt-rows, arms-rows, rows}
+use Rattle.spec_cse.specs.Answer.{Intermediate, value-rows, stmt-rows, arms-rows, rows}
 use Rattle.spec_cse.specs.Order.{topo-sort-intermediates}
 use Rattle.spec_cse.specs.Scope.{members, Scoped, finish, as-answer}
 use Rattle.laws.specs.positions.Rounds.{next-number}
-use Rattle.reciprocals.proofs.bindings.Parts.{reciprocal, settled-reciprocals}
+use Rattle.reciprocals.proofs.bindings.Parts.{settled-reciprocals}
 use Rattle.fusion.specs.Settled.{Step, fused-tree, Numbered, Walked, numbered-groups, all-steps, group-match, group-matches}
 use Rattle.fusion.specs.Whole.{settled-fused, lets-from, scope-groups, scope-stmts, scope-work, settled-scope}
 use Rattle.fusion.specs.Rows.{scoped-rows, match-rows, rows-of, settled-rows}
 use Rattle.fusion.proofs.Places.{stmts-count}
-use Rattle.fusion.proofs.Sizes.{fused-size, fused-nodes, settled-fused-nodes}
+use Rattle.fusion.proofs.Sizes.{fused-size}
 use Rattle.fusion.proofs.Sorting.{rows-each, block-rows, rows-append, sorted-same}
 use Rattle.laws.proofs.cse.Widths.{member-names-long}
-use Rattle.reciprocals.proofs.reciprocal.Reading.{settle-size}
 
 -- ---- before they are ordered
 
@@ -122,11 +121,6 @@ pub answer-rows : (a : Scoped) → rows (as-answer a) ≡ scoped-rows a
 unfolding rows as-answer scoped-rows
 answer-rows a = refl
 
--- as an arm it takes one more
-pub arm-rows : (a : Scoped) (r : Arms) → arms-rows (arm (block (a .inters)) (a .results) r) ≡ suc (scoped-rows a) + arms-rows r
-unfolding arms-rows scoped-rows
-arm-rows a r = refl
-
 -- ---- at most
 
 -- with the keys as they were
@@ -138,32 +132,3 @@ pub match-rows-bound : (gs : List Numbered) → match-rows gs ≤ match-rows-mos
 unfolding match-rows
 match-rows-bound [] = omega arith
 match-rows-bound (g ∷ l) = omega (arith, fused-size (all-steps l) (g .group .first .key), match-rows-bound l)
-
-reciprocal-nodes : (ds : List Tree) (n : ℕ) → occurrences (settled-reciprocals ds n) ≤ occurrences (map reciprocal ds)
-unfolding occurrences
-reciprocal-nodes [] n = omega arith
-reciprocal-nodes (d ∷ l) n = omega (arith, settle-size l (suc n) (reciprocal d), reciprocal-nodes l (suc n))
-
-reciprocals-many : (ds : List Tree) (n : ℕ) → length (settled-reciprocals ds n) ≡ length (map reciprocal ds)
-reciprocals-many [] n = refl
-reciprocals-many (d ∷ l) n = ap suc (reciprocals-many l (suc n))
-
-both-parts : (k : ℕ) (l : List Tree) → rows-of (take k l) + rows-of (drop k l) ≡ rows-of l
-unfolding rows-of occurrences
-both-parts zero l = omega arith
-both-parts (suc k) [] = refl
-both-parts (suc k) (t ∷ l) = omega (arith, both-parts k l)
-
--- the rows of the trees from before anything was settled
-pub settled-rows-bound : (k first : ℕ) (ts ds : List Tree) (gs : List Numbered) → settled-rows k first ts ds gs ≤ rows-of ts + rows-of (map reciprocal ds) + match-rows-most gs
-unfolding settled-rows rows-of
-settled-rows-bound k first ts ds gs =
-    let m = next-number k first ts in
-    let f : Tree → Tree = settled-fused ds m (all-steps gs) in
-    let rs = settled-reciprocals ds m in
-    let g : Tree → Tree = fused-tree (all-steps gs) in
-    let p = both-parts k ts in
-    let a = settled-fused-nodes ds m (all-steps gs) (drop k ts) in
-    let b = settled-fused-nodes ds m (all-steps gs) (take k ts) in
-    let c = fused-nodes (all-steps gs) rs in
-    omega (arith, p, a, b, c, reciprocal-nodes ds m, reciprocals-many ds m, length-map (drop k ts) f, length-map (take k ts) f, length-map rs g, match-rows-bound gs)

@@ -1,19 +1,17 @@
 -- How many members and groups a scope has (01, "Scoped fusion"): each switch collected is a member of one group, and there are no more than nodes. Assumes nothing.
-use Prim.Native.Nat.{ℕ, suc, _+_, _≤_}
+use Prim.Native.Nat.{ℕ, _≤_}
 use native.Mathlib.Omega.{arith}
 use mathlib.Core.Path.{_≡_, refl, _∙_, ap}
 use mathlib.Core.Bool.{Bool, true, false}
 use mathlib.Core.List.{List, [], _∷_, map}
 use lib.ListN.{length, length-append}
 use Rattle.spec_tree.specs.Outcome.{Outcome, ok, refused}
-use Rattle.spec_tree.specs.Tree.{Tree, Forest, Sym, Const, Op, nil, _◂_, operands}
+use Rattle.spec_tree.specs.Tree.{Tree, Forest, Sym, Const, Op, nil, _◂_}
 use Rattle.spec_tree.specs.Kinds.{is-switch}
-use Rattle.spec_tree.specs.Facts.{size, outer, outer-of, outer-first, all-outer}
-use Rattle.spec_tree.specs.Rows.{occurrences}
+use Rattle.spec_tree.specs.Facts.{size, outer, outer-of, outer-first}
 use Rattle.spec_tree.proofs.FactLaws.{size-one}
 use Rattle.spec_rewrite.proofs.Measure.{sum-each, size-op}
-use Rattle.spec_cse.specs.Extract.{among, distinct}
-use Rattle.spec_cse.specs.Scope.{Switch, Group, switches, collect-switches, members, Scoped}
+use Rattle.spec_cse.specs.Scope.{collect-switches, members, Scoped}
 use Rattle.laws.proofs.cse.Outcomes.{Good}
 use Rattle.fusion.specs.Settled.{member-steps, Numbered, Walked, numbered-groups, group-steps, all-steps}
 use Rattle.fusion.specs.Whole.{settled-roots, scope-groups}
@@ -53,29 +51,6 @@ scope-steps scope next ds n ts =
 
 -- ---- no more switches than nodes
 
-switches-few : (l : List Tree) → length (switches l) ≤ length l
-unfolding switches
-switches-few [] = omega arith
-switches-few (Sym n ∷ l) = omega (arith, switches-few l)
-switches-few (Const c ∷ l) = omega (arith, switches-few l)
-switches-few (Op k nil ∷ l) = omega (arith, switches-few l)
-switches-few (Op k (q ◂ f) ∷ l) = go (is-switch k) (switches-few l)
-  where
-    go : (b : Bool) → length (switches l) ≤ length l
-        → length {A = Switch} (elim b as (λ _. List Switch) [ true ↦ record { tree = Op k (q ◂ f); kind = k; key = q; arms = operands f } ∷ switches l | false ↦ switches l ]) ≤ suc (length l)
-    go true h = omega (arith, h)
-    go false h = omega (arith, h)
-
-distinct-few : (seen l : List Tree) → length (distinct seen l) ≤ length l
-unfolding distinct
-distinct-few seen [] = omega arith
-distinct-few seen (t ∷ l) = go (among t seen) (distinct-few seen l) (distinct-few (t ∷ seen) l)
-  where
-    go : (b : Bool) → length (distinct seen l) ≤ length l → length (distinct (t ∷ seen) l) ≤ length l
-        → length {A = Tree} (elim b as (λ _. List Tree) [ true ↦ distinct seen l | false ↦ t ∷ distinct (t ∷ seen) l ]) ≤ suc (length l)
-    go true h g = omega (arith, h)
-    go false h g = omega (arith, g)
-
 outer-node : (k : ℕ) (f : Forest) (b : Bool) → length (outer-first f) ≤ sum-each size f → length (outer-of f) ≤ sum-each size f
     → length {A = Tree} (elim b as (λ _. List Tree) [ true ↦ outer-first f | false ↦ outer-of f ]) ≤ sum-each size f
 outer-node k f true p q = p
@@ -96,12 +71,3 @@ mutual
   outer-first-few : (f : Forest) → length (outer-first f) ≤ sum-each size f
   outer-first-few nil = omega arith
   outer-first-few (t ◂ f) = omega (arith, outer-few t)
-
-all-outer-few : (l : List Tree) → length (all-outer l) ≤ occurrences l
-unfolding all-outer occurrences
-all-outer-few [] = omega arith
-all-outer-few (t ∷ l) = omega (arith, length-append (outer t) (all-outer l), outer-few t, all-outer-few l)
-
-pub collected-few : (rs : List Tree) → length (collect-switches rs) ≤ occurrences rs
-unfolding collect-switches
-collected-few rs = omega (arith, switches-few (distinct [] (all-outer rs)), distinct-few [] (all-outer rs), all-outer-few rs)

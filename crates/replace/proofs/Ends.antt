@@ -1,16 +1,15 @@
 -- What `replace` answers and leaves, from what was tested and written. Assumes nothing.
-use Prim.Native.Nat.{ℕ, suc, _+_, _/_, _≤_, _<_}
+use Prim.Native.Nat.{ℕ, _+_, _/_, _≤_, _<_}
 use native.Mathlib.Omega.{arith}
 use mathlib.Core.Path.{_≡_, refl, sym, _∙_, ap, ap₂, subst}
 use mathlib.Core.Bool.{Bool, true, false, _&&_, _||_}
 use mathlib.Core.Option.{some}
-use mathlib.Core.List.{List, [], _∷_, _++_, append-assoc}
+use mathlib.Core.List.{List, _++_}
 use borrow.Author.Tests.{lt-ltb, le-ltb}
-use lib.ListN.{length, getD, take, drop, set, length-set}
-use lib.Seq.{take-suc, drop-cons, set-at, take-length, length-take-le}
+use lib.ListN.{length, take, drop}
 use lib.Dec.{T, ltb}
 use Rattle.spec_tree.specs.Bytes.{every}
-use Rattle.spec_tree.specs.Outcome.{Outcome, ok, refused}
+use Rattle.spec_tree.specs.Outcome.{Outcome}
 use Rattle.spec_tree.specs.Tokens.{kind-of, trees-in}
 use Rattle.spec_rewrite.specs.Rewrite.{flatten-mul-factors}
 use Rattle.words.specs.words.Words.{tree-of, name-of, sound}
@@ -35,28 +34,6 @@ pub record Back (ws old out : List ℕ) (k : ℕ) : Type 0 where
   pub most : k ≤ length ws
   pub long : length out ≡ length old
   pub words : out ≡ take k ws ++ drop k old
-
-pub back-starts : (ws old : List ℕ) → Back ws old old 0
-back-starts ws old = record { most = omega arith; long = refl; words = refl }
-
-pub back-turns : {ws old out : List ℕ} {k : ℕ} → length ws ≤ length old → Back ws old out k → k < length ws → Back ws old (set out k (getD ws k 0)) (k + 1)
-back-turns {ws} {old} {out} {k} f b h =
-    let z : suc k ≡ k + 1 = omega arith in
-    let l : length (take k ws) ≡ k = length-take-le k ws (omega arith) in
-    record {
-      most = omega arith;
-      long = length-set out k (getD ws k 0) ∙ b .long;
-      words =
-          ap (λ (x : List ℕ). set x k (getD ws k 0)) (b .words ∙ ap (λ (x : List ℕ). take k ws ++ x) (drop-cons old k 0 (omega arith)))
-          ∙ set-at (take k ws) (getD old k 0) (drop (suc k) old) (getD ws k 0) k l
-          ∙ sym (append-assoc (take k ws) (getD ws k 0 ∷ []) (drop (suc k) old)) ∙ ap (λ (x : List ℕ). x ++ drop (suc k) old) (sym (take-suc ws k 0 h))
-          ∙ ap (λ (j : ℕ). take j ws ++ drop j old) z;
-    }
-
-pub back-ends : {ws old out : List ℕ} {k : ℕ} → Back ws old out k → length ws ≤ k → out ≡ ws ++ drop (length ws) old
-back-ends {ws} {old} {out} {k} b h =
-    let z : k ≡ length ws = omega (arith, b .most) in
-    b .words ∙ ap (λ (j : ℕ). take j ws ++ drop j old) z ∙ ap (λ (x : List ℕ). x ++ drop (length ws) old) (take-length ws)
 
 -- ---- the answers
 

@@ -2,15 +2,13 @@
 -- Assumes nothing.
 use Prim.Native.Nat.{ℕ, suc, _≤_}
 use native.Mathlib.Omega.{arith}
-use mathlib.Core.Path.{_≡_, refl}
 use mathlib.Core.Bool.{Bool, true, false, cond}
-use mathlib.Core.List.{List, [], _∷_, map}
+use mathlib.Core.List.{List, [], _∷_}
 use lib.IntN.{ℤ}
 use Rattle.spec_tree.specs.Kinds.{is-select}
 use Rattle.spec_tree.specs.Tree.{Name, Tree, Forest, Sym, Const, Op, nil, _◂_, fold, folds}
-use Rattle.spec_tree.specs.Facts.{total, greatest, some-of, first-and-greatest, cost, depth, has-symbol, operations, size}
-use Rattle.spec_tree.specs.Tokens.{trees-at, flag, facts, all-facts}
-use Rattle.spec_tree.proofs.TokenLaws.{blind-trees}
+use Rattle.spec_tree.specs.Facts.{total, greatest, first-and-greatest, cost, depth, operations, size}
+use Rattle.spec_tree.specs.Tokens.{flag}
 
 -- ---- none is more than the size
 
@@ -69,28 +67,3 @@ size-one (Const c) = omega arith
 size-one (Op k f) = omega arith
 
 -- ---- however symbols are named, the facts at each place are the same
-
-all-facts-by :
-    (l r : List Tree) → map size l ≡ map size r → map cost l ≡ map cost r → map depth l ≡ map depth r → map operations l ≡ map operations r
-    → map has-symbol l ≡ map has-symbol r → all-facts l ≡ all-facts r
-unfolding all-facts facts
-all-facts-by [] [] s c d o h = refl
-all-facts-by [] (u ∷ r) s c d o h = absurd (let z : _≡_ {A = ℕ} 0 1 = cc in omega arith)
-all-facts-by (t ∷ l) [] s c d o h = absurd (let z : _≡_ {A = ℕ} 0 1 = cc in omega arith)
-all-facts-by (t ∷ l) (u ∷ r) s c d o h =
-    let below = all-facts-by l r (cc) (cc) (cc) (cc) (cc) in
-    let es : size t ≡ size u = cc in
-    let ec : cost t ≡ cost u = cc in
-    let ed : depth t ≡ depth u = cc in
-    let eo : operations t ≡ operations u = cc in
-    let eh : has-symbol t ≡ has-symbol u = cc in
-    cc
-
-pub facts-blind : (a b : ℕ → List ℕ) (ws : List ℕ) → all-facts (trees-at a ws) ≡ all-facts (trees-at b ws)
-unfolding size cost depth operations has-symbol
-facts-blind a b ws =
-    all-facts-by (trees-at a ws) (trees-at b ws) (blind-trees (λ n. 1) (λ c. 1) (λ k sizes. suc (total sizes)) (λ n m. refl) a b ws)
-    (blind-trees (λ n. 0) (λ c. 0) (λ k costs. suc (cond (is-select k) (first-and-greatest costs) (total costs))) (λ n m. refl) a b ws)
-    (blind-trees (λ n. 0) (λ c. 0) (λ k depths. suc (greatest depths)) (λ n m. refl) a b ws)
-    (blind-trees (λ n. 0) (λ c. 0) (λ k counts. suc (total counts)) (λ n m. refl) a b ws)
-    (blind-trees (λ n. true) (λ c. false) (λ k tests. some-of tests) (λ n m. refl) a b ws)

@@ -40,10 +40,6 @@ unfolding let-run
 let-written at x run old mid out tree n s e f =
     (omega (arith, s .many), row-written at (93 + 192 * x) run old mid out tree n s e f ∙ ap (λ (w : ℕ). overlay at (w ∷ run) old) (let-word x))
 
-pub value-long : (row : ℕ) (run : List ℕ) → length (value-run row run) ≡ suc (length run)
-unfolding value-run
-value-long row run = refl
-
 pub value-written :
     (at row : ℕ) (run old mid out tree : List ℕ) (n : ℕ) → Stands run tree n → mid ≡ overlay at (row ∷ []) old → out ≡ overlay (at + 1) (take n tree) mid
     → (at + 1 + n ≡ at + length (value-run row run)) × (out ≡ overlay at (value-run row run) old)

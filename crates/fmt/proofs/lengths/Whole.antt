@@ -63,10 +63,6 @@ text-fits t h g = omega (arith, text-short t h g)
 pub text-half : (t : Tree) → T (tree-ok t) → T (numbers-fit t) → size t ≤ 1927 → length (display t) ≤ 65536
 text-half t h g k = omega (arith, text-short t h g)
 
--- where there is room the text ends after its last byte
-pub text-ends : (t : Tree) (old : List ℕ) (to : ℕ) → T (tree-ok t) → T (numbers-fit t) → to + text-room t ≤ length old → place-after old to (display t) ≡ to + length (display t)
-text-ends t old to h g k = omega (arith, text-short t h g)
-
 -- two texts, one after the other
 pub two-texts :
     (t u : Tree) (old : List ℕ) → T (tree-ok t) → T (numbers-fit t) → size t ≤ 1927 → T (tree-ok u) → T (numbers-fit u) → size u ≤ 1927 → 131072 ≤ length old

@@ -123,9 +123,6 @@ module _ (s t : List ℕ) where
       go true e = rw (← later-second s t (sym e)) (not-before-itself t)
       go false e = rw (← later-first s t (sym e)) e
 
-pub later-itself : (s : List ℕ) → later s s ≡ s
-later-itself s = sym (later-first s s (sym (not-before-itself s)))
-
 -- however three are paired, the same one is handed on
 pub later-of-three : (s t u : List ℕ) → later (later s t) u ≡ later s (later t u)
 later-of-three s t u = go (before s t) refl (before t u) refl

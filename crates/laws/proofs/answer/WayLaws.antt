@@ -17,7 +17,7 @@ use Rattle.laws.specs.answer.Fitting.{numbered-in}
 use Rattle.laws.specs.answer.Fronts.{AnswerRows}
 use Rattle.laws.specs.answer.Seen.{span-words, entered, names-bind, match-binds, binds, ended, bound-by, use-ok, seen, a-binding, occurs, once, Ended, Unended, Left}
 use Rattle.laws.proofs.answer.CodeLaws.{past}
-use Rattle.laws.proofs.answer.BoundLaws.{none-first, row-below, ended-yes, ended-none, ended-later, pass-row, enter-row, stop-row, enters-match, enters-no, binds-let, binds-match, binds-low, binds-high}
+use Rattle.laws.proofs.answer.BoundLaws.{none-first, row-below, ended-yes, ended-none, ended-later, pass-row, enter-row, stop-row, enters-no, binds-let, binds-match, binds-low, binds-high}
 use Rattle.laws.proofs.answer.ListNames.{answer-fits}
 use Rattle.laws.proofs.answer.LaidOut.{laid-rows, rows-laid}
 use Rattle.laws.proofs.answer.ScopeLaws.{all-seen, stmts-bound-made}
@@ -240,9 +240,6 @@ way-begins ws c at = let z : at ≡ at - 0 = omega arith in ap (λ (n : ℕ). bo
 pub way-ends : (ws : List ℕ) (c i at : ℕ) → at ≤ i → bound-by c 0 (at - i) (drop i ws) ≡ false
 unfolding bound-by
 way-ends ws c i at h = let z : at - i ≡ 0 = omega arith in rw z
-
-pub entered-match : (w : ℕ) → 30 ≤ kind-of w → kind-of w ≤ 32 → entered w ≡ true
-entered-match w low high = enters-match w low (omega arith)
 
 pub entered-arm : (w : ℕ) → kind-of w ≡ 34 → true ≡ entered w
 entered-arm w e = rw e

@@ -1,17 +1,15 @@
 -- With `display` for the text of a tree the definitions of Shown are those of Extract and Scope. Assumes nothing.
 use Prim.Native.Nat.{ℕ, zero, suc, _-_}
-use mathlib.Core.Path.{_≡_, refl, _∙_, ap, ap₂, fun-ext}
+use mathlib.Core.Path.{_≡_, refl, _∙_, ap, ap₂}
 use mathlib.Core.Bool.{Bool, true, false, _&&_}
 use mathlib.Core.Option.{Option, none, some}
 use mathlib.Core.List.{List, [], _∷_}
-use lib.ListN.{length}
-use Rattle.spec_tree.specs.Outcome.{Outcome, ok, refused, by, _>>=_}
+use Rattle.spec_tree.specs.Outcome.{Outcome, ok, refused, _>>=_}
 use Rattle.spec_tree.specs.Tree.{Tree}
 use Rattle.spec_tree.specs.Facts.{all-operations, all-nodes}
 use Rattle.spec_tree.specs.text.Text.{display, before}
 use Rattle.spec_cse.specs.Extract.{State, roots, is-candidate, Candidate, candidate, beats, best-from, best, extract, rounds, extract-all, divisors, distinct, shared-divisors, insert-by-text, sort-by-text, bind-reciprocals, reciprocals}
-use Rattle.spec_cse.specs.Scope.{Scoped, unfused, finish, left-after, fuse-held, opens, area-rows, scopes-open, cse-scope, as-answer, answer}
-use Rattle.laws.specs.positions.Shown.{beats-by, best-from-by, best-by, rounds-by, extract-all-by, insert-by, sort-by, reciprocals-by, cse-scope-by, answer-by}
+use Rattle.laws.specs.positions.Shown.{beats-by, best-from-by, best-by, rounds-by, extract-all-by, insert-by, sort-by, reciprocals-by}
 
 beats-text : (a b : Candidate) → beats-by display a b ≡ beats a b
 unfolding beats beats-by
@@ -76,37 +74,3 @@ pub reciprocals-text : (scoped : Bool) (s : State) → reciprocals-by display sc
 unfolding reciprocals reciprocals-by
 reciprocals-text scoped s =
     ap (λ (l : List Tree). bind-reciprocals l s) (sort-text (shared-divisors scoped (roots s) (distinct [] (divisors (all-nodes (roots s))))))
-
--- both chains of a scope, from the extraction and the reciprocals
-flat-text : (next : ℕ) (es : List Tree)
-    → (extract-all-by display false next es >>= λ s. finish (unfused (length (s .lets)) (reciprocals-by display false s)))
-    ≡ (extract-all false next es >>= λ s. finish (unfused (length (s .lets)) (reciprocals false s)))
-flat-text next es =
-    ap₂ (λ (o : Outcome State) (f : State → State). o >>= λ s. finish (unfused (length (s .lets)) (f s))) (extract-all-text false next es)
-    (fun-ext (λ s. reciprocals-text false s))
-
-scoped-text : (left next : ℕ) (es : List Tree) (f g : ℕ → ℕ → List Tree → Outcome Scoped) → f ≡ g
-    → (extract-all-by display true next es >>= λ s.
-    fuse-held (f (left-after left (length (s .lets)) (reciprocals-by display true s))) left (length (s .lets)) (reciprocals-by display true s))
-    ≡ (extract-all true next es >>= λ s. fuse-held (g (left-after left (length (s .lets)) (reciprocals true s))) left (length (s .lets)) (reciprocals true s))
-scoped-text left next es f g e =
-    ap
-    (λ (k : ℕ → ℕ → List Tree → Outcome Scoped).
-    extract-all-by display true next es >>= λ s.
-    fuse-held (k (left-after left (length (s .lets)) (reciprocals-by display true s))) left (length (s .lets)) (reciprocals-by display true s)) e
-    ∙ ap₂ (λ (o : Outcome State) (f : State → State). o >>= λ s. fuse-held (g (left-after left (length (s .lets)) (f s))) left (length (s .lets)) (f s))
-    (extract-all-text true next es) (fun-ext (λ s. reciprocals-text true s))
-
-scope-text : (fuel left : ℕ) (scoped : Bool) (next : ℕ) (es : List Tree) → cse-scope-by display fuel left scoped next es ≡ cse-scope fuel left scoped next es
-unfolding cse-scope cse-scope-by
-scope-text zero left scoped next es = refl
-scope-text (suc fuel) left false next es = flat-text next es
-scope-text (suc fuel) left true next es =
-    let f : ℕ → ℕ → List Tree → Outcome Scoped = λ m n l. cse-scope-by display fuel m true n l in
-    let g : ℕ → ℕ → List Tree → Outcome Scoped = λ m n l. cse-scope fuel m true n l in
-    let e : f ≡ g = fun-ext (λ m. fun-ext (λ n. fun-ext (λ l. scope-text fuel m true n l))) in
-    ap (λ (o : Outcome Scoped). elim (opens left next es) as (λ _. Outcome Scoped) [ true ↦ o | false ↦ refused (by 23) ]) (scoped-text left next es f g e)
-
-pub answer-text-order : (scoped : Bool) (es : List Tree) → answer-by display scoped es ≡ answer scoped es
-unfolding answer answer-by
-answer-text-order scoped es = ap (λ (o : Outcome Scoped). o >>= λ a. ok (as-answer a)) (scope-text scopes-open area-rows scoped 0 es)

@@ -141,7 +141,3 @@ records-cut s at h = subst (λ (n : ℕ). Record s at n) (sym (end-begin s at h)
     go : (l : List ℕ) → drop at s ≡ l → Ended (records-from [] (getD s at 0 ∷ drop (suc at) s)) [] (getD s at 0 ∷ drop (suc at) s) at (end-from at (getD s at 0 ∷ drop (suc at) s))
         → Record s at (end-from at (drop at s))
     go l e r = whole (end-from at (drop at s)) (subst (λ (m : List ℕ). Ended (records-from [] m) [] m at (end-from at m)) (sym (drop-cons s at 0 h)) r)
-
-pub records-none : (s : List ℕ) (at : ℕ) → length s ≤ at → records-from [] (drop at s) ≡ []
-unfolding records-from
-records-none s at h = rw (drop-of-length-le s {i = at} h)

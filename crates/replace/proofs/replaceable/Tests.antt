@@ -77,12 +77,5 @@ other-formed w h n l b e = e ∙ ap (λ (j : ℕ). arity-ok j (below-of w)) (num
 
 -- ---- the tests together
 
-pub all-three : (a b c r : Bool) → true ≡ a → true ≡ b → r ≡ c → r ≡ (a && (b && c))
-all-three a b c r e f g = g ∙ ap₂ (λ (x y : Bool). x && (y && c)) e f
-
-pub not-second : (a b c : Bool) → false ≡ b → false ≡ (a && (b && c))
-not-second true b c f = ap (λ (y : Bool). y && c) f
-not-second false b c f = refl
-
 pub not-first : (a b c : Bool) → false ≡ a → false ≡ (a && (b && c))
 not-first a b c e = ap (λ (x : Bool). x && (b && c)) e

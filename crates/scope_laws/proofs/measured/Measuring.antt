@@ -1,11 +1,10 @@
 -- Rows that are measured by laying them over an empty table, and then laid over a table that has room for them; and 12 where it hasn't (01, "Turned down":
 -- Extract). Assumes nothing.
-use Prim.Native.Nat.{ℕ, suc, _+_, _-_, _≤_}
+use Prim.Native.Nat.{ℕ, suc, _-_, _≤_}
 use mathlib.Core.Path.{_≡_, sym, _∙_, ap}
 use mathlib.Core.Bool.{Bool, cond}
-use mathlib.Core.List.{List, []}
+use mathlib.Core.List.{List}
 use lib.ListN.{length}
-use lib.Seq.{drop-nil}
 use lib.Dec.{ltb, lt→ltb}
 use Rattle.spec_tree.specs.Outcome.{Outcome, ok, refused, by}
 use Rattle.spec_tree.proofs.Tests.{is-true}
@@ -15,11 +14,6 @@ use Rattle.fusion.specs.place.Whole.{Told}
 use Rattle.scope_laws.specs.measured.Roots.{told-or-12}
 use borrow.Author.Tests.{le-ltb}
 use Rattle.fusion.proofs.tables.Laws.{overlay-front}
-
--- an empty table stays empty
-pub measured-none : (new : List ℕ) → overlay 0 new [] ≡ []
-unfolding overlay
-measured-none new = drop-nil (0 + length new)
 
 module _ (lent : ℕ) (a : Told) where
   abbrev rows-told : Bool → Outcome Extracted

@@ -445,16 +445,6 @@ module _ (rows : List Row) (good : ℕ → Bool) where
 pub rows-most : (from : ℕ) (a : Told) → Scope-bound from a → length (a .words) ≤ 288230376151711744
 rows-most from a b = (let p = b .rows in let q = b .most in omega arith)
 
--- and those of some arms, 17 of them at most
-pub arms-rows-most : (from n : ℕ) (a : Arms-told) → Arms-bound from n a → n ≤ 17 → from ≤ most-number + 4096 → length (a .words) ≤ 288230376151711744
-arms-rows-most from n a b few low =
-    let p = b .rows in
-    let q = b .most (most-number + 4096) low (omega arith) in
-    omega arith
-
-pub arms-next-most : (from n : ℕ) (a : Arms-told) → Arms-bound from n a → from ≤ most-number + 4096 → a .next ≤ most-number + 4096
-arms-next-most from n a b low = b .most (most-number + 4096) low (omega arith)
-
 module _ (gs : List (List ℕ)) (from n : ℕ) (l : Walk) (b : Walk-bound gs from n l) where
   pub walk-next-most : from ≤ most-number + 2048 → l .next ≤ most-number + 2048
   walk-next-most low = b .most (most-number + 2048) low (omega arith)

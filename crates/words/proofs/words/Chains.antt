@@ -1,19 +1,19 @@
 -- Rewritten words are words of trees again: as many as before, and read back they are the rewritten trees, so that one rewriting can follow another.
 -- Assumes nothing.
-use Prim.Native.Nat.{ℕ, zero, suc, _<_, _/_, _%_}
+use Prim.Native.Nat.{ℕ, zero, suc, _/_, _%_}
 use native.Mathlib.Omega.{arith}
 use mathlib.Core.Path.{_≡_, refl, _∙_, ap}
 use mathlib.Core.Bool.{Bool}
 use mathlib.Core.Option.{some}
 use mathlib.Core.List.{List, [], _∷_, map}
-use lib.ListN.{length, getD, take, drop}
+use lib.ListN.{length, take, drop}
 use lib.Dec.{T, eqb, leb, ltb, eqb→eq, le→leb, lt→ltb}
-use Rattle.spec_tree.specs.Tree.{Tree, Sym, Op, nil, forest}
+use Rattle.spec_tree.specs.Tree.{Tree, Sym, forest}
 use Rattle.spec_tree.specs.Tokens.{kind-of, below-of, takes, name-by, tree-of-word, read, all-tokens, trees-in, numbered}
 use Rattle.spec_tree.proofs.Logic.{and-left, and-right, and-both}
 use Rattle.spec_tree.proofs.TokenLaws.{Word, a-symbol, a-constant, an-operation, word-is, symbol-tree, constant-tree, operation-tree, complete-length}
 use Rattle.spec_tree.proofs.TokenCode.{fits-word, known-name, coded, coded-each, all-coded, reads-back, tokens-complete}
-use Rattle.words.specs.words.Words.{number, rewritten-words, tree-of, name-of}
+use Rattle.words.specs.words.Words.{number, rewritten-words, name-of}
 
 -- a symbol that is named by its number alone
 abbrev pub named-by-number : List ℕ → Bool
@@ -81,14 +81,6 @@ read-readable (w ∷ ws) =
     let h = read-readable ws in
     and-both (readable (tree-of-word numbered w (take (takes w) rs))) (all-coded named-by-number (drop (takes w) rs))
     (made-readable w (take (takes w) rs) (all-take (takes w) rs h)) (all-drop (takes w) rs h)
-
-pub tree-readable : (ws : List ℕ) (n : ℕ) → trees-in ws ≡ some n → 0 < n → T (readable (tree-of ws))
-unfolding tree-of all-coded
-tree-readable ws n e h = first (read numbered ws) (read-readable ws) (complete-length numbered ws n e)
-  where
-    first : (l : List Tree) → T (all-coded named-by-number l) → length l ≡ n → T (readable (getD l 0 (Op 0 nil)))
-    first [] a q = absurd (omega arith)
-    first (t ∷ l) a q = and-left (readable t) (all-coded named-by-number l) a
 
 -- ---- a rewriting that keeps trees readable
 
