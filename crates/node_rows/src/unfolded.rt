@@ -16,7 +16,7 @@ use words::layout::ROW_WIDTH;
 pub enum Unfolded {
     // How many words the trees are.
     Tokens(usize),
-    // 8 or 9.
+    // 9.
     Refused(u64),
 }
 
@@ -144,14 +144,12 @@ fn unfold_roots(rows: &[u64], roots: &[u64], out: &mut [u64]) -> usize
     unfold_each(rows, roots, out, 0)
 }
 
-// The words of the roots' trees, first in `out`: 8 where `out` has fewer than 1,024 words, then 9 where load could lay out no such rows. What stands in `out`
-// past the words stays, and all of it where the call is refused.
+// The words of the roots' trees, first in `out`, which every list fits; or 9, where load could lay out no such rows. What stands in `out` past the words stays, and all
+// of it where the call is refused.
 pub fn unfold(rows: &[u64], roots: &[u64], out: &mut [u64]) -> Unfolded
-    ensures { λ a. ⌜ Answers (unfolded (length (now (out .entry))) (now (rows .entry)) (now (roots .entry))) (now (out .entry)) a (now (out .exit)) ⌝ }
+    requires { ⌜ 1024 ≤ length (now out) ⌝ }
+    ensures { λ a. ⌜ Answers (unfolded (now (rows .entry)) (now (roots .entry))) (now (out .entry)) a (now (out .exit)) ⌝ }
 {
-    if out.len() < 1024 {
-        return Unfolded::Refused(8);
-    }
     let Checked::Laid(_) = crate::rows::check_rows(rows, roots) else {
         return Unfolded::Refused(9);
     };

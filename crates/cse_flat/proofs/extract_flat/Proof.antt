@@ -1,6 +1,5 @@
 -- `cse_flat::extract_flat` meets its contract. Assumes nothing.
 use native.Mathlib.Omega.{arith}
-use lib.ListN.{length}
 use Rattle.cse_flat.proofs.refined.Starting.{start-short}
 use Rattle.cse_flat.proofs.refined.Unfolding.{unfold-tokens, unfold-refused}
 use Rattle.cse_flat.proofs.refined.Flat.{flat-extractable, flat-symbols}
@@ -17,20 +16,20 @@ extract-flat-spec =
     (λ c. search needs)
     (λ c. search needs)
     (λ c. search needs)
-    (λ c. let s = c .before .before .before .before .before .before .before .before .before .before .before in let a = s .args in let x = c .before .before .before .before .«unfold» in is-nine (a .rows .now) (a .roots .now) (a .table .now) (unfold-refused (length (a .tokens .now)) (a .rows .now) (a .roots .now) (s .pre .0) (a .tokens .now) (x .result) _ (x .ensures) _ (c .enum-told .given .1)))
+    (λ c. let s = c .before .before .before .before .before .before .before .before .before .before .before in let a = s .args in let x = c .before .before .before .before .«unfold» in is-nine (a .rows .now) (a .roots .now) (a .table .now) (unfold-refused (a .rows .now) (a .roots .now) (a .tokens .now) (x .result) _ (x .ensures) _ (c .enum-told .given .1)))
     (λ c. search needs)
-    (λ c κs. let s = c .before .before .before .before .before .before .before .before .before .before .before .before .before .before .before in let a = s .args in let x = c .before .before .before .before .before .before .before .before .«unfold» in let t = c .before .before .before .before .unfolded .given in let u = unfold-tokens (length (a .tokens .now)) (a .rows .now) (a .roots .now) (s .pre .0) (a .tokens .now) (x .result) _ (x .ensures) (t .0 .0) (t .1) in let f = start-short (a .rows .now) (a .roots .now) (u .0) in ((flat-extractable (a .rows .now) (a .roots .now) 0 (u .0) _ (u .2), flat-symbols (a .rows .now) (a .roots .now) 0 (u .0) _ (u .2)), ((omega (arith, u .1, f), omega (arith, u .1, f, s .pre .0, x .kept .1 .1 .0), omega arith), (omega (arith, s .pre .1), omega arith))))
-    (λ c. search needs)
-    (λ c. search needs)
-    (λ c. search needs)
-    (λ c. search needs)
-    (λ c. let s = c .before .before .before .before .before .before .before .before .before .before .before .before .before .before .before .before .before .before .before .before .before .before .before in let a = s .args in let x = c .before .before .before .before .before .before .before .before .before .before .before .before .before .before .before .before .«unfold» in let t = c .before .before .before .before .before .before .before .before .before .before .before .before .unfolded .given in let u = unfold-tokens (length (a .tokens .now)) (a .rows .now) (a .roots .now) (s .pre .0) (a .tokens .now) (x .result) _ (x .ensures) (t .0 .0) (t .1) in let y = c .before .before .before .before .before .before .before .extract-and-list in stops-at-10 (a .rows .now) (a .roots .now) (a .table .now) (u .0) _ (u .2) (y .result) _ _ (y .ensures) (c .enum-told2 .given .1))
-    (λ c. let s = c .before .before .before .before .before .before .before .before .before .before .before .before .before .before .before .before .before .before .before .before .before .before .before .before in let a = s .args in let x = c .before .before .before .before .before .before .before .before .before .before .before .before .before .before .before .before .before .«unfold» in let t = c .before .before .before .before .before .before .before .before .before .before .before .before .before .unfolded .given in let u = unfold-tokens (length (a .tokens .now)) (a .rows .now) (a .roots .now) (s .pre .0) (a .tokens .now) (x .result) _ (x .ensures) (t .0 .0) (t .1) in let y = c .before .before .before .before .before .before .before .before .extract-and-list in let l = c .before .listed .given in words-there (a .rows .now) (a .roots .now) (a .table .now) (u .0) _ (u .2) (y .result) _ _ (y .ensures) (l .0 .0) (l .0 .1 .0) (l .0 .1 .1 .0) (l .1))
-    (λ c. let s = c .before .before .before .before .before .before .before .before .before .before .before .before .before .before .before .before .before .before .before .before .before .before .before .before .before in let a = s .args in let x = c .before .before .before .before .before .before .before .before .before .before .before .before .before .before .before .before .before .before .«unfold» in let t = c .before .before .before .before .before .before .before .before .before .before .before .before .before .before .unfolded .given in let u = unfold-tokens (length (a .tokens .now)) (a .rows .now) (a .roots .now) (s .pre .0) (a .tokens .now) (x .result) _ (x .ensures) (t .0 .0) (t .1) in let y = c .before .before .before .before .before .before .before .before .before .extract-and-list in let l = c .before .before .listed .given in words-long (a .rows .now) (a .roots .now) (a .table .now) (u .0) _ (u .2) (y .result) _ _ (y .ensures) (l .0 .0) (l .0 .1 .0) (l .0 .1 .1 .0) (l .1))
-    (λ c. let s = c .before .before .before .before .before .before .before .before .before .before .before .before .before .before .before .before .before .before .before .before .before .before .before .before .before in let a = s .args in let x = c .before .before .before .before .before .before .before .before .before .before .before .before .before .before .before .before .before .before .«unfold» in let t = c .before .before .before .before .before .before .before .before .before .before .before .before .before .before .unfolded .given in let u = unfold-tokens (length (a .tokens .now)) (a .rows .now) (a .roots .now) (s .pre .0) (a .tokens .now) (x .result) _ (x .ensures) (t .0 .0) (t .1) in let y = c .before .before .before .before .before .before .before .before .before .extract-and-list in let l = c .before .before .listed .given in places-there (a .rows .now) (a .roots .now) (a .table .now) (u .0) _ (u .2) (y .result) _ _ (y .ensures) (l .0 .0) (l .0 .1 .0) (l .0 .1 .1 .0) (l .1))
-    (λ c. let s = c .before .before .before .before .before .before .before .before .before .before .before .before .before .before .before .before .before .before .before .before .before .before .before .before .before .before in let a = s .args in let x = c .before .before .before .before .before .before .before .before .before .before .before .before .before .before .before .before .before .before .before .«unfold» in let t = c .before .before .before .before .before .before .before .before .before .before .before .before .before .before .before .unfolded .given in let u = unfold-tokens (length (a .tokens .now)) (a .rows .now) (a .roots .now) (s .pre .0) (a .tokens .now) (x .result) _ (x .ensures) (t .0 .0) (t .1) in let y = c .before .before .before .before .before .before .before .before .before .before .extract-and-list in let l = c .before .before .before .listed .given in places-long (a .rows .now) (a .roots .now) (a .table .now) (u .0) _ (u .2) (y .result) _ _ (y .ensures) (l .0 .0) (l .0 .1 .0) (l .0 .1 .1 .0) (l .1))
-    (λ c κs. let s = c .before .before .before .before .before .before .before .before .before .before .before .before .before .before .before .before .before .before .before .before .before .before .before .before .before .before .before in let a = s .args in let x = c .before .before .before .before .before .before .before .before .before .before .before .before .before .before .before .before .before .before .before .before .«unfold» in let t = c .before .before .before .before .before .before .before .before .before .before .before .before .before .before .before .before .unfolded .given in let u = unfold-tokens (length (a .tokens .now)) (a .rows .now) (a .roots .now) (s .pre .0) (a .tokens .now) (x .result) _ (x .ensures) (t .0 .0) (t .1) in let y = c .before .before .before .before .before .before .before .before .before .before .before .extract-and-list in let l = c .before .before .before .before .listed .given in (finish-there (a .rows .now) (a .roots .now) (a .table .now) (u .0) _ (u .2) (y .result) _ _ (y .ensures) (l .0 .0) (l .0 .1 .0) (l .0 .1 .1 .0) (l .1), finish-counts (a .rows .now) (a .roots .now) (a .table .now) (u .0) _ (u .2) (y .result) _ _ (y .ensures) (l .0 .0) (l .0 .1 .0) (l .0 .1 .1 .0) (l .1)))
+    (λ c κs. let s = c .before .before .before .before .before .before .before .before .before .before .before .before .before .before .before in let a = s .args in let x = c .before .before .before .before .before .before .before .before .«unfold» in let t = c .before .before .before .before .unfolded .given in let u = unfold-tokens (a .rows .now) (a .roots .now) (a .tokens .now) (x .result) _ (x .ensures) (t .0 .0) (t .1) in let f = start-short (a .rows .now) (a .roots .now) (u .0) in ((flat-extractable (a .rows .now) (a .roots .now) 0 (u .0) _ (u .2), flat-symbols (a .rows .now) (a .roots .now) 0 (u .0) _ (u .2)), ((omega (arith, u .1, f), omega (arith, u .1, f, s .pre .0, x .kept .1 .1 .0), omega arith), (omega (arith, s .pre .1), omega arith))))
     (λ c. search needs)
     (λ c. search needs)
     (λ c. search needs)
-    (λ c. let s = c .before .before .before .before .before .before .before .before .before .before .before .before .before .before .before .before .before .before .before .before .before .before .before .before .before .before .before .before .before .before in let a = s .args in let x = c .before .before .before .before .before .before .before .before .before .before .before .before .before .before .before .before .before .before .before .before .before .before .before .«unfold» in let t = c .before .before .before .before .before .before .before .before .before .before .before .before .before .before .before .before .before .before .before .unfolded .given in let u = unfold-tokens (length (a .tokens .now)) (a .rows .now) (a .roots .now) (s .pre .0) (a .tokens .now) (x .result) _ (x .ensures) (t .0 .0) (t .1) in let y = c .before .before .before .before .before .before .before .before .before .before .before .before .before .before .extract-and-list in let l = c .before .before .before .before .before .before .before .listed .given in ends-so (a .rows .now) (a .roots .now) (a .table .now) (u .0) _ (u .2) (y .result) _ _ (y .ensures) (l .0 .0) (l .0 .1 .0) (l .0 .1 .1 .0) (l .1) _ _ (c .before .before .finish-flat .ensures)))
+    (λ c. search needs)
+    (λ c. let s = c .before .before .before .before .before .before .before .before .before .before .before .before .before .before .before .before .before .before .before .before .before .before .before in let a = s .args in let x = c .before .before .before .before .before .before .before .before .before .before .before .before .before .before .before .before .«unfold» in let t = c .before .before .before .before .before .before .before .before .before .before .before .before .unfolded .given in let u = unfold-tokens (a .rows .now) (a .roots .now) (a .tokens .now) (x .result) _ (x .ensures) (t .0 .0) (t .1) in let y = c .before .before .before .before .before .before .before .extract-and-list in stops-at-10 (a .rows .now) (a .roots .now) (a .table .now) (u .0) _ (u .2) (y .result) _ _ (y .ensures) (c .enum-told2 .given .1))
+    (λ c. let s = c .before .before .before .before .before .before .before .before .before .before .before .before .before .before .before .before .before .before .before .before .before .before .before .before in let a = s .args in let x = c .before .before .before .before .before .before .before .before .before .before .before .before .before .before .before .before .before .«unfold» in let t = c .before .before .before .before .before .before .before .before .before .before .before .before .before .unfolded .given in let u = unfold-tokens (a .rows .now) (a .roots .now) (a .tokens .now) (x .result) _ (x .ensures) (t .0 .0) (t .1) in let y = c .before .before .before .before .before .before .before .before .extract-and-list in let l = c .before .listed .given in words-there (a .rows .now) (a .roots .now) (a .table .now) (u .0) _ (u .2) (y .result) _ _ (y .ensures) (l .0 .0) (l .0 .1 .0) (l .0 .1 .1 .0) (l .1))
+    (λ c. let s = c .before .before .before .before .before .before .before .before .before .before .before .before .before .before .before .before .before .before .before .before .before .before .before .before .before in let a = s .args in let x = c .before .before .before .before .before .before .before .before .before .before .before .before .before .before .before .before .before .before .«unfold» in let t = c .before .before .before .before .before .before .before .before .before .before .before .before .before .before .unfolded .given in let u = unfold-tokens (a .rows .now) (a .roots .now) (a .tokens .now) (x .result) _ (x .ensures) (t .0 .0) (t .1) in let y = c .before .before .before .before .before .before .before .before .before .extract-and-list in let l = c .before .before .listed .given in words-long (a .rows .now) (a .roots .now) (a .table .now) (u .0) _ (u .2) (y .result) _ _ (y .ensures) (l .0 .0) (l .0 .1 .0) (l .0 .1 .1 .0) (l .1))
+    (λ c. let s = c .before .before .before .before .before .before .before .before .before .before .before .before .before .before .before .before .before .before .before .before .before .before .before .before .before in let a = s .args in let x = c .before .before .before .before .before .before .before .before .before .before .before .before .before .before .before .before .before .before .«unfold» in let t = c .before .before .before .before .before .before .before .before .before .before .before .before .before .before .unfolded .given in let u = unfold-tokens (a .rows .now) (a .roots .now) (a .tokens .now) (x .result) _ (x .ensures) (t .0 .0) (t .1) in let y = c .before .before .before .before .before .before .before .before .before .extract-and-list in let l = c .before .before .listed .given in places-there (a .rows .now) (a .roots .now) (a .table .now) (u .0) _ (u .2) (y .result) _ _ (y .ensures) (l .0 .0) (l .0 .1 .0) (l .0 .1 .1 .0) (l .1))
+    (λ c. let s = c .before .before .before .before .before .before .before .before .before .before .before .before .before .before .before .before .before .before .before .before .before .before .before .before .before .before in let a = s .args in let x = c .before .before .before .before .before .before .before .before .before .before .before .before .before .before .before .before .before .before .before .«unfold» in let t = c .before .before .before .before .before .before .before .before .before .before .before .before .before .before .before .unfolded .given in let u = unfold-tokens (a .rows .now) (a .roots .now) (a .tokens .now) (x .result) _ (x .ensures) (t .0 .0) (t .1) in let y = c .before .before .before .before .before .before .before .before .before .before .extract-and-list in let l = c .before .before .before .listed .given in places-long (a .rows .now) (a .roots .now) (a .table .now) (u .0) _ (u .2) (y .result) _ _ (y .ensures) (l .0 .0) (l .0 .1 .0) (l .0 .1 .1 .0) (l .1))
+    (λ c κs. let s = c .before .before .before .before .before .before .before .before .before .before .before .before .before .before .before .before .before .before .before .before .before .before .before .before .before .before .before in let a = s .args in let x = c .before .before .before .before .before .before .before .before .before .before .before .before .before .before .before .before .before .before .before .before .«unfold» in let t = c .before .before .before .before .before .before .before .before .before .before .before .before .before .before .before .before .unfolded .given in let u = unfold-tokens (a .rows .now) (a .roots .now) (a .tokens .now) (x .result) _ (x .ensures) (t .0 .0) (t .1) in let y = c .before .before .before .before .before .before .before .before .before .before .before .extract-and-list in let l = c .before .before .before .before .listed .given in (finish-there (a .rows .now) (a .roots .now) (a .table .now) (u .0) _ (u .2) (y .result) _ _ (y .ensures) (l .0 .0) (l .0 .1 .0) (l .0 .1 .1 .0) (l .1), finish-counts (a .rows .now) (a .roots .now) (a .table .now) (u .0) _ (u .2) (y .result) _ _ (y .ensures) (l .0 .0) (l .0 .1 .0) (l .0 .1 .1 .0) (l .1)))
+    (λ c. search needs)
+    (λ c. search needs)
+    (λ c. search needs)
+    (λ c. let s = c .before .before .before .before .before .before .before .before .before .before .before .before .before .before .before .before .before .before .before .before .before .before .before .before .before .before .before .before .before .before in let a = s .args in let x = c .before .before .before .before .before .before .before .before .before .before .before .before .before .before .before .before .before .before .before .before .before .before .before .«unfold» in let t = c .before .before .before .before .before .before .before .before .before .before .before .before .before .before .before .before .before .before .before .unfolded .given in let u = unfold-tokens (a .rows .now) (a .roots .now) (a .tokens .now) (x .result) _ (x .ensures) (t .0 .0) (t .1) in let y = c .before .before .before .before .before .before .before .before .before .before .before .before .before .before .extract-and-list in let l = c .before .before .before .before .before .before .before .listed .given in ends-so (a .rows .now) (a .roots .now) (a .table .now) (u .0) _ (u .2) (y .result) _ _ (y .ensures) (l .0 .0) (l .0 .1 .0) (l .0 .1 .1 .0) (l .1) _ _ (c .before .before .finish-flat .ensures)))

@@ -1,5 +1,5 @@
 -- What unfolding gives to a caller who lends 1,024 words (01, "Turned down": Extract, 9): the words of the roots' trees in front, or 9. Assumes nothing.
-use Prim.Native.Nat.{ℕ, _≤_}
+use Prim.Native.Nat.{ℕ}
 use native.Mathlib.Omega.{arith}
 use mathlib.Core.Path.{_≡_, refl, sym, _∙_, ap, subst}
 use mathlib.Core.Bool.{Bool, true, false, cond}
@@ -15,14 +15,13 @@ use Rattle.laws.proofs.positions.RowNames.{tree-words}
 use Rattle.node_rows.specs.unfolded.Unfold.{unfolded, Answers}
 use Rattle.node_rows.specs.declared.unfolded.Unfolded.{Unfolded}
 use Rattle.node_rows.specs.declared.unfolded.Unfolded.the-variants as unfolding-answer
-use borrow.Author.Tests.{le-ltb}
 use Rattle.spec_tree.proofs.DomainPasses.{length-at}
 
 pub roots-are : (rows roots : List ℕ) → length (trees (table-of rows roots)) ≡ length roots
 unfolding trees table-of
 roots-are rows roots = length-at (trees-from [] (table-of rows roots .rows)) roots
 
-module _ (room : ℕ) (rows roots : List ℕ) (enough : 1024 ≤ room) where
+module _ (rows roots : List ℕ) where
   abbrev start : List ℕ
   start = tree-words (table-of rows roots)
 
@@ -33,13 +32,11 @@ module _ (room : ℕ) (rows roots : List ℕ) (enough : 1024 ≤ room) where
   after-nine true = refl
   after-nine false = refl
 
-  unfolded-is : unfolded room rows roots ≡ nine (laid-out rows roots)
+  unfolded-is : unfolded rows roots ≡ nine (laid-out rows roots)
   unfolding unfolded table-or-9
-  unfolded-is =
-      ap (λ (b : Bool). cond b (refused (by 8)) ((cond (laid-out rows roots) (ok (table-of rows roots)) (refused (by 9))) >>= λ t. ok (all-tokens (number-in (t .rows)) (trees t)))) (le-ltb room 1024 enough)
-      ∙ after-nine (laid-out rows roots)
+  unfolded-is = after-nine (laid-out rows roots)
 
-  module _ (old : List ℕ) (a : Unfolded) (new : List ℕ) (given : Answers (unfolded room rows roots) old a new) where
+  module _ (old : List ℕ) (a : Unfolded) (new : List ℕ) (given : Answers (unfolded rows roots) old a new) where
     here : (b : Bool) → laid-out rows roots ≡ b → Answers (nine b) old a new
     here b e = subst (λ (o : Outcome (List ℕ)). Answers o old a new) (unfolded-is ∙ ap nine e) given
 

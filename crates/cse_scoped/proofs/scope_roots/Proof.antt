@@ -1,7 +1,6 @@
 -- `cse_scoped::scope_roots` meets its contract. Assumes nothing.
 use native.Mathlib.Omega.{arith}
 use mathlib.Core.Path.{_∙_}
-use lib.ListN.{length}
 use Rattle.cse_flat.proofs.refined.Starting.{start-short}
 use Rattle.cse_flat.proofs.refined.Unfolding.{unfold-tokens, unfold-refused}
 use Rattle.cse_flat.proofs.refined.Flat.{flat-extractable, flat-symbols}
@@ -19,9 +18,9 @@ scope-roots-spec =
     (λ c. search needs)
     (λ c. search needs)
     (λ c. search needs)
-    (λ c. let s = c .before .before .before .before .before .before .before .before .before .before .before in let a = s .args in let x = c .before .before .before .before .«unfold» in scope-nine (a .rows .now) (a .roots .now) (unfold-refused (length (a .work .now)) (a .rows .now) (a .roots .now) (omega (arith, s .pre .0 .0)) (a .work .now) (x .result) _ (x .ensures) _ (c .enum-told .given .1)) (a .table .now))
-    (λ c κs. let s = c .before .before .before .before .before .before .before .before .before .before .before .before .before .before .before in let a = s .args in let x = c .before .before .before .before .before .before .before .before .«unfold» in let t = c .before .before .before .before .unfolded .given in let u = unfold-tokens (length (a .work .now)) (a .rows .now) (a .roots .now) (omega (arith, s .pre .0 .0)) (a .work .now) (x .result) _ (x .ensures) (t .0 .0) (t .1) in let f = start-short (a .rows .now) (a .roots .now) (u .0) in ((flat-extractable (a .rows .now) (a .roots .now) 0 (u .0) _ (u .2), flat-symbols (a .rows .now) (a .roots .now) 0 (u .0) _ (u .2)), (record { words = omega (arith, s .pre .0 .0, x .kept .1 .1 .0); inside = omega (arith, u .1, f, s .pre .0 .0, x .kept .1 .1 .0); bytes = s .pre .0 .1 }, scope-within (a .rows .now) (a .roots .now) (u .0) _ (u .2) _ (x .kept .1 .1 .0 ∙ s .pre .0 .0) most-rows (s .pre .1))))
+    (λ c. let s = c .before .before .before .before .before .before .before .before .before .before .before in let a = s .args in let x = c .before .before .before .before .«unfold» in scope-nine (a .rows .now) (a .roots .now) (unfold-refused (a .rows .now) (a .roots .now) (a .work .now) (x .result) _ (x .ensures) _ (c .enum-told .given .1)) (a .table .now))
+    (λ c κs. let s = c .before .before .before .before .before .before .before .before .before .before .before .before .before .before .before in let a = s .args in let x = c .before .before .before .before .before .before .before .before .«unfold» in let t = c .before .before .before .before .unfolded .given in let u = unfold-tokens (a .rows .now) (a .roots .now) (a .work .now) (x .result) _ (x .ensures) (t .0 .0) (t .1) in let f = start-short (a .rows .now) (a .roots .now) (u .0) in ((flat-extractable (a .rows .now) (a .roots .now) 0 (u .0) _ (u .2), flat-symbols (a .rows .now) (a .roots .now) 0 (u .0) _ (u .2)), (record { words = omega (arith, s .pre .0 .0, x .kept .1 .1 .0); inside = omega (arith, u .1, f, s .pre .0 .0, x .kept .1 .1 .0); bytes = s .pre .0 .1 }, scope-within (a .rows .now) (a .roots .now) (u .0) _ (u .2) _ (x .kept .1 .1 .0 ∙ s .pre .0 .0) most-rows (s .pre .1))))
     (λ c. search needs)
     (λ c. search needs)
     (λ c. search needs)
-    (λ c. let s = c .before .before .before .before .before .before .before .before .before .before .before .before .before .before .before .before .before .before .before .before .before .before in let a = s .args in let x = c .before .before .before .before .before .before .before .before .before .before .before .before .before .before .before .«unfold» in let t = c .before .before .before .before .before .before .before .before .before .before .before .unfolded .given in let u = unfold-tokens (length (a .work .now)) (a .rows .now) (a .roots .now) (omega (arith, s .pre .0 .0)) (a .work .now) (x .result) _ (x .ensures) (t .0 .0) (t .1) in scope-there (a .rows .now) (a .roots .now) (u .0) _ (u .2) _ (x .kept .1 .1 .0 ∙ s .pre .0 .0) (a .table .now) _ _ (c .before .before .before .before .before .before .scope .ensures)))
+    (λ c. let s = c .before .before .before .before .before .before .before .before .before .before .before .before .before .before .before .before .before .before .before .before .before .before in let a = s .args in let x = c .before .before .before .before .before .before .before .before .before .before .before .before .before .before .before .«unfold» in let t = c .before .before .before .before .before .before .before .before .before .before .before .unfolded .given in let u = unfold-tokens (a .rows .now) (a .roots .now) (a .work .now) (x .result) _ (x .ensures) (t .0 .0) (t .1) in scope-there (a .rows .now) (a .roots .now) (u .0) _ (u .2) _ (x .kept .1 .1 .0 ∙ s .pre .0 .0) (a .table .now) _ _ (c .before .before .before .before .before .before .scope .ensures)))

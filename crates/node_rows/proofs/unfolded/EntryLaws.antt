@@ -1,5 +1,5 @@
--- The ends of `unfold`: refused for want of room, refused because the rows are none of load's, and written. Assumes nothing.
-use Prim.Native.Nat.{ℕ, _+_, _≤_, _<_}
+-- The ends of `unfold`: refused because the rows are none of load's, and written. Assumes nothing.
+use Prim.Native.Nat.{ℕ, _+_}
 use mathlib.Core.Path.{_≡_, refl, ap, _∙_}
 use mathlib.Core.Bool.{Bool, true, false, cond}
 use mathlib.Core.List.{List, _++_}
@@ -7,7 +7,6 @@ use native.Mathlib.Omega.{arith}
 use native.Mathlib.Nat.{zero-add}
 use lib.ListN.{length, drop}
 use lib.Dec.{T}
-use borrow.Author.Tests.{lt-ltb, le-ltb}
 use Rattle.spec_tree.specs.Outcome.{Outcome, ok, refused, by, _>>=_}
 use Rattle.spec_tree.specs.Rows.{Table, trees, occurrences}
 use Rattle.spec_tree.specs.Layout.{laid-out, table-of, table-or-9}
@@ -43,23 +42,19 @@ module _ (ws roots : List ℕ) where
   laid-so n e = then-ok (laid-out ws roots) (table-of ws roots) (λ (t : Table). occurrences (trees t)) n e
 
   module _ (old : List ℕ) where
-    pub no-room : length old < 1024 → Answers (unfolded (length old) ws roots) old (Refused 8) old
-    unfolding unfolded
-    no-room h = rw (lt-ltb (length old) 1024 h) (refl, refl)
-
-    pub not-laid : 1024 ≤ length old → checked checks.Refused ≡ check-rows ws roots → Answers (unfolded (length old) ws roots) old (Refused 9) old
+    pub not-laid : checked checks.Refused ≡ check-rows ws roots → Answers (unfolded ws roots) old (Refused 9) old
     unfolding unfolded check-rows table-or-9
-    not-laid room e =
+    not-laid e =
         let f = then-refused (laid-out ws roots) (table-of ws roots) (λ (t : Table). occurrences (trees t)) e in
-        rw (le-ltb (length old) 1024 room, f) (refl, refl)
+        rw f (refl, refl)
 
     pub written :
-        1024 ≤ length old → T (laid-out ws roots) → (new : List ℕ) (n : ℕ)
+        T (laid-out ws roots) → (new : List ℕ) (n : ℕ)
         → Wrote old 0 (all-tokens (number-in (table-of ws roots .rows)) (trees (table-of ws roots))) n new
-        → Answers (unfolded (length old) ws roots) old (Tokens n) new
+        → Answers (unfolded ws roots) old (Tokens n) new
     unfolding unfolded table-or-9 wrote
-    written room t new n w =
+    written t new n w =
         let ts = all-tokens (number-in (table-of ws roots .rows)) (trees (table-of ws roots)) in
         let z : 0 + length ts ≡ length ts = zero-add (length ts) in
-        rw (le-ltb (length old) 1024 room, true-is (laid-out ws roots) t)
+        rw (true-is (laid-out ws roots) t)
         (ap Tokens (w .end-is ∙ z), w .now-is ∙ ap (λ (m : ℕ). ts ++ drop m old) z)

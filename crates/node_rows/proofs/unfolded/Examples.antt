@@ -1,4 +1,4 @@
--- The definition of `unfold` at work: the order of its refusals, a shared node, the first of two rows with one name, constants of both signs, and a Select
+-- The definition of `unfold` at work: its refusal, a shared node, the first of two rows with one name, constants of both signs, and a Select
 -- with a default. Assumes nothing.
 use mathlib.Core.Path.{_≡_, refl}
 use mathlib.Core.List.{List, [], _∷_}
@@ -19,16 +19,15 @@ abbrev constants : List Row
 constants = row-const (pos 0) ∷ row-const (negsuc 0) ∷ row-const (pos 1) ∷ row-const (negsuc 1) ∷ row-op SelectOr (0 ∷ 1 ∷ 2 ∷ 3 ∷ []) ∷ []
 
 pub record Examples : Type 0 where
-  a-shared-node : unfolded 1024 (table-words shared) (5 ∷ []) ≡ ok (132 ∷ 72 ∷ 131 ∷ 192 ∷ 0 ∷ 131 ∷ 192 ∷ 0 ∷ [])
-  a-default : unfolded 2000 (table-words constants) (4 ∷ []) ≡ ok (284 ∷ 1 ∷ 65 ∷ 129 ∷ 193 ∷ [])
-  two-roots : unfolded 1024 (table-words constants) (3 ∷ 0 ∷ []) ≡ ok (193 ∷ 1 ∷ [])
-  no-roots : unfolded 1024 (table-words constants) [] ≡ ok []
-  no-rows : unfolded 1024 [] [] ≡ refused (by 9)
-  no-room : unfolded 1023 (1 ∷ []) [] ≡ refused (by 8)
-  no-rows-of-load : unfolded 1024 (1 ∷ []) [] ≡ refused (by 9)
-  no-such-root : unfolded 1024 (table-words shared) (6 ∷ []) ≡ refused (by 9)
+  a-shared-node : unfolded (table-words shared) (5 ∷ []) ≡ ok (132 ∷ 72 ∷ 131 ∷ 192 ∷ 0 ∷ 131 ∷ 192 ∷ 0 ∷ [])
+  a-default : unfolded (table-words constants) (4 ∷ []) ≡ ok (284 ∷ 1 ∷ 65 ∷ 129 ∷ 193 ∷ [])
+  two-roots : unfolded (table-words constants) (3 ∷ 0 ∷ []) ≡ ok (193 ∷ 1 ∷ [])
+  no-roots : unfolded (table-words constants) [] ≡ ok []
+  no-rows : unfolded [] [] ≡ refused (by 9)
+  no-rows-of-load : unfolded (1 ∷ []) [] ≡ refused (by 9)
+  no-such-root : unfolded (table-words shared) (6 ∷ []) ≡ refused (by 9)
 
 pub examples : Examples
 unfolding unfolded table-words
 examples =
-    record { a-shared-node = refl; a-default = refl; two-roots = refl; no-roots = refl; no-rows = refl; no-room = refl; no-rows-of-load = refl; no-such-root = refl }
+    record { a-shared-node = refl; a-default = refl; two-roots = refl; no-roots = refl; no-rows = refl; no-rows-of-load = refl; no-such-root = refl }

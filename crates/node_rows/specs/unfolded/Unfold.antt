@@ -1,11 +1,10 @@
--- Node rows unfolded into the words of their roots' trees (01, "Extraction", reading order; "Turned down", refusals 8 and 9). Assumes nothing.
+-- Node rows unfolded into the words of their roots' trees (01, "Extraction", reading order; "Turned down", refusal 9). Assumes nothing.
 use Prim.Native.Nat.{ℕ, _*_, _/_, _≤_}
 use mathlib.Core.Path.{_≡_}
-use mathlib.Core.Bool.{cond}
 use mathlib.Core.List.{List, [], _++_}
 use lib.ListN.{length, getD, take, drop}
-use lib.Dec.{T, ltb}
-use Rattle.spec_tree.specs.Outcome.{Outcome, ok, refused, by, _>>=_}
+use lib.Dec.{T}
+use Rattle.spec_tree.specs.Outcome.{Outcome, ok, refused, _>>=_}
 use Rattle.spec_tree.specs.Tree.{Tree, Op, nil}
 use Rattle.spec_tree.specs.Rows.{Row, row-sym, row-const, row-op, at, trees-from, trees}
 use Rattle.spec_tree.specs.Layout.{row-width, rows-of, rows-ok, table-words, table-or-9}
@@ -64,11 +63,10 @@ pub record Rows-laid (ws : List ℕ) : Type 0 where
 
 -- ---- the whole
 
--- 8 where there is room for fewer than 1,024 words, then 9 where the rows are none that load could lay out
-unfoldable pub unfolded : ℕ → List ℕ → List ℕ → Outcome (List ℕ)
+-- the words of the roots' trees, or 9 where the rows are none that load could lay out
+unfoldable pub unfolded : List ℕ → List ℕ → Outcome (List ℕ)
 unfolding table-or-9 all-tokens number-in trees
-unfolded room ws roots =
-    cond (ltb room 1024) (refused (by 8)) (table-or-9 ws roots >>= λ t. ok (all-tokens (number-in (t .rows)) (trees t)))
+unfolded ws roots = table-or-9 ws roots >>= λ t. ok (all-tokens (number-in (t .rows)) (trees t))
 
 -- the answer has the length or the number; the words come first and what stood past them stays; refused, nothing is changed
 abbrev pub Answers : Outcome (List ℕ) → List ℕ → Unfolded → List ℕ → Type 0
