@@ -424,7 +424,7 @@ impl Answer<'_> {
         self.extracted
     }
 
-    /// The answer's rows, as crates/cse/specs/AnswerRows.antt lays them out.
+    /// The answer's rows, as crates/spec_cse/specs/AnswerRows.antt lays them out.
     pub fn rows(&self) -> &[u64] {
         &self.words
     }

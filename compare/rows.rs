@@ -1,4 +1,4 @@
-//! Node rows and answer rows as words (Rows.antt in crates/tree/specs, AnswerRows.antt in crates/cse/specs), and random names.
+//! Node rows and answer rows as words (Rows.antt in crates/spec_tree/specs, AnswerRows.antt in crates/spec_cse/specs), and random names.
 use crate::arael::E;
 use crate::asked::Answer;
 use crate::cse::{Arm, Intermediate, Switch};

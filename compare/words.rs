@@ -1,4 +1,4 @@
-//! The source's expressions as words of trees (crates/tree/specs/Tokens.antt): one word for each
+//! The source's expressions as words of trees (crates/spec_tree/specs/Tokens.antt): one word for each
 //! node, before its operands, its kind and what is below it.
 use crate::arael::{E, Expr};
 use crate::cse::children;

@@ -1,5 +1,5 @@
 //! The source's own answers to random lists, laid out as answer rows (AnswerRows.antt in
-//! crates/cse/specs) and printed by the port: the text is that of `Display` for `Intermediate` and
+//! crates/spec_cse/specs) and printed by the port: the text is that of `Display` for `Intermediate` and
 //! `Expr`, a line feed after each binding and each result.
 use crate::arael::E;
 use crate::asked::{Answer, asked, text};
