@@ -54,7 +54,7 @@ pub fn put_decimal(out: &mut [u8], dry: bool, to: usize, n: u64) -> usize
 }
 
 // A constant by its code; the codes 0, 1, 2, 3 are those of 0, -1, 1, -2.
-pub fn put_integer(out: &mut [u8], dry: bool, to: usize, code: u64) -> usize
+pub(crate) fn put_integer(out: &mut [u8], dry: bool, to: usize, code: u64) -> usize
     ensures { λ r. ⌜ Writes dry (now (out .entry)) to (integer (constant-at code)) (now (out .exit)) r ⌝ }
 {
     if code % 2 == 0 {

@@ -9,7 +9,7 @@ use words::layout::CONST;
 use words::layout::SELECT;
 use words::layout::SYM;
 
-pub fn constant_ok(fields: &[u64]) -> bool
+pub(crate) fn constant_ok(fields: &[u64]) -> bool
     ensures { λ r. ⌜ r ≡ constant-test (now (fields .entry)) ⌝ }
 {
     if fields.len() != 2 {
@@ -70,7 +70,7 @@ fn plain_ok(kind: u64, fields: &[u64], i: u64) -> bool
 }
 
 // Only a Select has a default.
-pub fn fields_ok(kind: u64, default: u64, fields: &[u64], i: u64) -> bool
+pub(crate) fn fields_ok(kind: u64, default: u64, fields: &[u64], i: u64) -> bool
     ensures { λ r. ⌜ r ≡ fields-test kind default (now (fields .entry)) i ⌝ }
 {
     if default == 0 {

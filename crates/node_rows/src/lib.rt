@@ -5,6 +5,6 @@
 pub mod fields;
 pub mod kinds;
 pub mod names;
-pub mod records;
+mod records;
 pub mod rows;
 pub mod unfolded;

@@ -175,7 +175,7 @@ fn rows_shaped(rows: &[u64]) -> bool
 
 // Whether the table's sheet has at least one record, and at most 65,535 bytes without the last CRLF, which is all that load asks of its length. It counts bytes of words that have the shape of
 // rows, and is false for any others; whether the rows are good is another test's business.
-pub fn fits_a_sheet(rows: &[u64], roots: &[u64]) -> bool
+pub(crate) fn fits_a_sheet(rows: &[u64], roots: &[u64]) -> bool
     ensures { λ r. ⌜ r ≡ (shaped (now (rows .entry)) (now (roots .entry)) && sheet-fits (table-of (now (rows .entry)) (now (roots .entry)))) ⌝ }
 {
     let n = rows.len() / 35;

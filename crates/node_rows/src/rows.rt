@@ -186,7 +186,7 @@ pub fn check_domain(rows: &[u64], roots: &[u64]) -> Checked
 }
 
 // The occurrences under all roots, or refusal 9.
-pub fn check_rows(rows: &[u64], roots: &[u64]) -> Checked
+pub(crate) fn check_rows(rows: &[u64], roots: &[u64]) -> Checked
     ensures { λ r. ⌜ checked r ≡ check-rows (now (rows .entry)) (now (roots .entry)) ⌝ }
 {
     let Checked::Laid(occurrences) = check_domain(rows, roots) else {

@@ -14,3 +14,4 @@ pub mod LayoutLaws
 pub mod text
 pub mod Lists
 pub mod Outcomes
+pub mod Digits

@@ -13,7 +13,7 @@ use Rattle.spec_tree.specs.Tokens.{constant-at}
 use Rattle.spec_tree.proofs.TokenLaws.{map-append}
 use Rattle.fmt.specs.emit.Writing.{Writes, low-bytes}
 use Rattle.fmt.proofs.emit.WriteLaws.{writes-none, writes-then, writes-as}
-use Rattle.node_rows.proofs.records.Digits.{same-digits, by-test}
+use Rattle.spec_tree.proofs.Digits.{same-digits, by-test}
 
 -- ---- a slice's bytes, i of them written
 

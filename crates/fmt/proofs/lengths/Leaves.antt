@@ -9,7 +9,7 @@ use Rattle.spec_tree.specs.Tree.{Name, input, xname, mname}
 use Rattle.spec_tree.specs.Passes.{symbol-ok, of-paper}
 use Rattle.spec_tree.specs.text.Text.{name-text}
 use Rattle.fmt.specs.lengths.Room.{number-fits}
-use Rattle.node_rows.proofs.records.Digits.{digits-20}
+use Rattle.spec_tree.proofs.Digits.{digits-20}
 use Rattle.spec_tree.proofs.LayoutLaws.{name-short}
 
 pub symbol-short : (n : Name) → T (symbol-ok n) → T (number-fits n) → length (name-text n) ≤ 32

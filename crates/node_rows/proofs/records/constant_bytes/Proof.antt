@@ -1,7 +1,7 @@
 -- `node_rows::records::constant_bytes` meets its contract. Assumes nothing.
 use native.Mathlib.Omega.{arith}
 use borrow.Author.Needs.{needs}
-use Rattle.node_rows.proofs.records.Digits.{plain-bytes, zero-bytes, minus-bytes}
+use Rattle.spec_tree.proofs.Digits.{plain-bytes, zero-bytes, minus-bytes}
 use Rattle.node_rows.proofs.records.constant_bytes.Statement.{statement}
 use Rattle.node_rows.proofs.records.constant_bytes.Tie as tie
 

@@ -4,7 +4,7 @@ use Prim.Native.Nat.{_+_, _≤_}
 use native.Mathlib.Omega.{arith}
 use lib.ListN.{length}
 use Rattle.spec_tree.specs.Bytes.{decimal}
-use Rattle.node_rows.proofs.records.Digits.{one-digit, more-digits, digits-pos, digits-20}
+use Rattle.spec_tree.proofs.Digits.{one-digit, more-digits, digits-pos, digits-20}
 use Rattle.node_rows.proofs.records.digit_count.Statement.{statement}
 use Rattle.node_rows.proofs.records.digit_count.Tie as tie
 

@@ -8,7 +8,7 @@ use borrow.Author.Needs.{needs}
 use lib.ListN.{length, take}
 use lib.Seq.{take-all}
 use Rattle.spec_tree.specs.Records.{numbers-text}
-use Rattle.node_rows.proofs.records.Digits.{numbers-step, numbers-none}
+use Rattle.spec_tree.proofs.Digits.{numbers-step, numbers-none}
 use Rattle.node_rows.proofs.records.numbers_bytes.Statement.{statement}
 use Rattle.node_rows.proofs.records.numbers_bytes.Tie as tie
 
