@@ -12,18 +12,19 @@ use Rattle.spec_tree.specs.Tree.{xname, Tree, Op, nil, _◂_}
 use Rattle.spec_tree.specs.Rows.{row-sym, row-op, occurrences}
 use Rattle.spec_tree.specs.Layout.{table-words}
 use Rattle.spec_tree.specs.Tokens.{word}
+use Rattle.spec_tree.proofs.Notation.{v, num, _⊕_, _⊗_, _⊘_, sin, cos}
 use Rattle.spec_cse.specs.Answer.{rows}
 use Rattle.spec_cse.specs.AnswerRows.{result-row, let-row}
 use Rattle.spec_cse.specs.Extract.{Binding, State, extract-all, reciprocals}
 use Rattle.spec_cse.specs.Scope.{area-rows, held, left-after, has-room, fuse-held, cse-scope, answer}
 use Rattle.spec_cse.specs.Demand.{well-scoped}
 use Rattle.spec_cse.specs.Call.{extract-call}
+use Rattle.spec_cse.proofs.RowsRefused.{Rows-refused}
 use Rattle.laws.proofs.cse.BoundSwitches.{no-switch-bound}
 use Rattle.spec_program.specs.Print.{print-call}
 use Rattle.spec_program.specs.Program.{csesheet, csescoped}
 use Rattle.spec_program.specs.Calls.{by-calls}
 use Rattle.guarantee.proofs.MostSwitches.{selecting, switches-enough, one-switch-too-many}
-use Rattle.guarantee.proofs.Marked.{v, num, _⊕_, _⊗_, _⊘_, sin, cos}
 
 -- two selects on one index and a branch, with work shared inside an arm
 abbrev mixed : List Tree
@@ -187,11 +188,48 @@ pub record Examples : Type 0 where
   bound-twice : print-call few (word let-row 1 ∷ 0 ∷ word let-row 1 ∷ 0 ∷ []) 40 ≡ refused (by 13)
   bound-then-read : print-call few (word let-row 1 ∷ 0 ∷ word result-row 0 ∷ word 0 1 ∷ []) 40 ≡ ok (bytes "let __x0 = a;\n__x0\n")
   a-let-of-the-list : print-call few (word let-row 0 ∷ 0 ∷ []) 20 ≡ refused (by 13)
+  more-rows : Rows-refused (λ ws. print-call few ws 99)
   no-bytes : csesheet [] ≡ bytes "refused 1 0\n"
   leading-zero : csesheet (bytes "Sym,a\r\nAdd,0,01") ≡ bytes "refused 2 1\n"
   made-name : csesheet (bytes "Sym,__x12\r\n") ≡ bytes "refused 3 0\n"
   minus-zero : csesheet (bytes "Const,-0") ≡ bytes "refused 4 0\n"
   no-earlier-node : csesheet (bytes "Sym,a\r\nRoot,1") ≡ bytes "refused 5 1\n"
+
+by-print : Rows-refused (λ ws. print-call few ws 99)
+unfolding print-call table-words
+by-print =
+    record {
+      a-let = refl;
+      a-match = refl;
+      a-default = refl;
+      a-branch = refl;
+      the-largest-constant = refl;
+      a-constant-too-large = refl;
+      a-negative-constant-too-large = refl;
+      a-let-of-a-symbol = refl;
+      a-let-of-an-m-name = refl;
+      a-second-let-of-an-m-name = refl;
+      a-let-of-a-constant-too-large = refl;
+      a-match-of-a-symbol = refl;
+      a-match-of-an-x-name = refl;
+      a-second-name-that-is-an-x-name = refl;
+      a-match-without-names = refl;
+      a-key-too-large = refl;
+      a-match-without-arms = refl;
+      a-default-alone = refl;
+      a-branch-with-one-side = refl;
+      no-value = refl;
+      two-values-for-one-name = refl;
+      no-value-in-a-second-arm = refl;
+      a-value-too-large = refl;
+      a-let-of-an-m-name-in-an-arm = refl;
+      a-name-twice = refl;
+      its-own-name-as-key = refl;
+      its-own-name-in-an-arm = refl;
+      a-name-of-an-arm-after-it = refl;
+      a-value-among-results = refl;
+      a-result-in-an-arm = refl;
+    }
 
 pub examples : Examples
 unfolding cse-scope left-after has-room fuse-held answer no-switch-bound well-scoped rows by-calls csesheet csescoped extract-call print-call
@@ -257,6 +295,7 @@ examples =
       bound-twice = refl;
       bound-then-read = refl;
       a-let-of-the-list = refl;
+      more-rows = by-print;
       no-bytes = refl;
       leading-zero = refl;
       made-name = refl;

@@ -1,6 +1,5 @@
 pub mod passing
 pub mod Marked
-pub mod Misreadings
 pub mod MostSwitches
 pub mod Examples
 pub mod Whole

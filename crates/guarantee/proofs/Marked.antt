@@ -1,14 +1,13 @@
 -- The marked lists M1 to M11 of 01 ("Marked lists"), as one theorem, proved by computing the definitions. Assumes nothing.
 use Prim.Native.Nat.{ℕ}
-use Prim.Native.String.{String}
 use mathlib.Core.Path.{_≡_, refl}
 use mathlib.Core.Bool.{Bool, true, false}
 use mathlib.Core.List.{List, [], _∷_}
-use lib.IntN.{pos}
 use Rattle.spec_tree.specs.Outcome.{Outcome, ok, refused, _>>=_, by}
-use Rattle.spec_tree.specs.Tree.{input, Tree, Sym, Const, Op, nil, _◂_}
-use Rattle.spec_tree.specs.Kinds.{Add, Mul, Div, Sin, Cos, Select}
+use Rattle.spec_tree.specs.Tree.{Tree, Op, nil, _◂_}
+use Rattle.spec_tree.specs.Kinds.{Select}
 use Rattle.spec_tree.specs.Bytes.{bytes}
+use Rattle.spec_tree.proofs.Notation.{v, num, _⊕_, _⊗_, _⊘_, sin, cos}
 use Rattle.spec_cse.specs.Answer.{end, answer-text}
 use Rattle.spec_cse.specs.Scope.{answer}
 use Rattle.spec_program.specs.Program.{csesheet}
@@ -21,30 +20,6 @@ prints scoped es = answer scoped es >>= λ a. ok (answer-text a)
 -- the same in both forms
 abbrev Prints : List Tree → Outcome (List ℕ) → Type 0
 Prints es o = (prints false es ≡ o) × (prints true es ≡ o)
-
-abbrev pub v : String → Tree
-v s = Sym (input (bytes s))
-
-abbrev pub num : ℕ → Tree
-num n = Const (pos n)
-
-infixl 75 _⊕_
-abbrev pub _⊕_ : Tree → Tree → Tree
-a ⊕ b = Op Add (a ◂ b ◂ nil)
-
-infixl 76 _⊗_
-abbrev pub _⊗_ : Tree → Tree → Tree
-a ⊗ b = Op Mul (a ◂ b ◂ nil)
-
-infixl 76 _⊘_
-abbrev pub _⊘_ : Tree → Tree → Tree
-a ⊘ b = Op Div (a ◂ b ◂ nil)
-
-abbrev pub sin : Tree → Tree
-sin a = Op Sin (a ◂ nil)
-
-abbrev pub cos : Tree → Tree
-cos a = Op Cos (a ◂ nil)
 
 -- the sheet of 01, and what `csesheet` writes for it
 abbrev sheet1 : List ℕ

@@ -10,9 +10,9 @@ use Rattle.spec_tree.specs.Kinds.{Select}
 use Rattle.spec_tree.specs.Tree.{Tree, Op, nil, _◂_}
 use Rattle.spec_tree.specs.Facts.{all-outer}
 use Rattle.spec_tree.specs.Rows.{occurrences}
+use Rattle.spec_tree.proofs.Notation.{num}
 use Rattle.spec_cse.specs.Extract.{State, roots, among, distinct}
 use Rattle.spec_cse.specs.Scope.{Switch, switches, collect-switches, groups-from, area-rows, held, most-switches, statements, most-stmts, has-room}
-use Rattle.guarantee.proofs.Marked.{num}
 
 -- select(1, n)
 abbrev select : ℕ → Tree

@@ -1,54 +1,26 @@
 -- Small wrong answers that demand 3 refuses: one theorem, a field for each, named by what is wrong and proved by computing its clause; and beside them right answers
 -- that the same clauses let through. An edit that weakens a clause by one sign is refused here, because a field is false under it. Assumes nothing.
 use Prim.Native.Nat.{ℕ}
-use Prim.Native.String.{String}
 use mathlib.Core.Path.{_≡_, refl, ap}
 use mathlib.Core.Bool.{true, not}
 use mathlib.Core.List.{List, [], _∷_}
 use native.Mathlib.Omega.{arith}
-use lib.IntN.{pos}
 use lib.ListN.{getD}
 use lib.Dec.{T}
-use Rattle.spec_tree.specs.Tree.{input, xname, mname, Tree, Sym, Const, Op, nil, _◂_}
-use Rattle.spec_tree.specs.Kinds.{Add, Mul, Div, Sin, Cos, Select}
+use Rattle.spec_tree.specs.Tree.{Name, input, xname, mname, Tree, Sym, Const, Op, nil, _◂_}
+use Rattle.spec_tree.specs.Kinds.{Select}
 use Rattle.spec_tree.specs.Bytes.{bytes}
 use Rattle.spec_tree.specs.Facts.{all-operations}
 use Rattle.spec_tree.specs.Value.{Reading, Env, values}
 use Rattle.spec_tree.specs.Outcome.{ok}
+use Rattle.spec_tree.proofs.Notation.{v, x, m, num, _⊕_, _⊗_, _⊘_, sin, cos}
 use Rattle.spec_cse.specs.Answer.{Intermediate, Intermediates, Arms, Answer, Let, Match, end, step, no-arm, arm}
 use Rattle.spec_cse.specs.Order.{topo-sort-intermediates}
 use Rattle.spec_cse.specs.Scope.{Switch, member-names}
 use Rattle.spec_cse.specs.Read.{set, answer-values}
 use Rattle.spec_cse.specs.Demand.{well-scoped, values-kept, flat-shaped, bound-exprs, depends, no-repeats, extracted-exprs, counted, count-bounded}
 
--- ---- trees and answers
-
-abbrev v : String → Tree
-v s = Sym (input (bytes s))
-
-abbrev x : ℕ → Tree
-x i = Sym (xname i)
-
-abbrev m : ℕ → Tree
-m i = Sym (mname i)
-
-infixl 75 _⊕_
-abbrev _⊕_ : Tree → Tree → Tree
-a ⊕ b = Op Add (a ◂ b ◂ nil)
-
-infixl 76 _⊗_
-abbrev _⊗_ : Tree → Tree → Tree
-a ⊗ b = Op Mul (a ◂ b ◂ nil)
-
-infixl 76 _⊘_
-abbrev _⊘_ : Tree → Tree → Tree
-a ⊘ b = Op Div (a ◂ b ◂ nil)
-
-abbrev sin : Tree → Tree
-sin a = Op Sin (a ◂ nil)
-
-abbrev cos : Tree → Tree
-cos a = Op Cos (a ◂ nil)
+-- ---- lists and answers
 
 -- an answer with its extraction count
 abbrev given : ℕ → Intermediates → List Tree → Answer
@@ -57,9 +29,13 @@ given n s l = record { inters = s; results = l; extracted = n }
 abbrev lets : ℕ → Tree → Intermediates → Intermediates
 lets i e l = step (Let (xname i) e) l
 
+-- a match on i of some names, and what follows it
+abbrev binding : List Name → Arms → Intermediates → Intermediates
+binding ns arms l = step (Match Select (v "i") ns arms) l
+
 -- one match on i of one name, `__m0`
 abbrev on-i : Arms → Intermediates
-on-i arms = step (Match Select (v "i") (mname 0 ∷ []) arms) end
+on-i arms = binding (mname 0 ∷ []) arms end
 
 -- an arm of one value
 abbrev gives : Tree → Arms → Arms
@@ -81,10 +57,10 @@ twice-a = v "a" ∷ v "a" ∷ []
 
 -- M5: a reciprocal, and no extraction
 abbrev list5 : List Tree
-list5 = v "p" ⊘ Const (pos 2) ∷ v "q" ⊘ Const (pos 2) ∷ []
+list5 = v "p" ⊘ num 2 ∷ v "q" ⊘ num 2 ∷ []
 
 abbrev right5 : Answer
-right5 = given 0 (lets 0 (Const (pos 1) ⊘ Const (pos 2)) end) (v "p" ⊗ x 0 ∷ v "q" ⊗ x 0 ∷ [])
+right5 = given 0 (lets 0 (num 1 ⊘ num 2) end) (v "p" ⊗ x 0 ∷ v "q" ⊗ x 0 ∷ [])
 
 -- two arms
 abbrev list-i : List Tree
@@ -137,12 +113,22 @@ pub record Wrong-answers : Type 0 where
   used-after-match : Unscoped list-i (given 0 (on-i (arm (lets 1 (v "a" ⊕ v "b") end) (x 1 ∷ []) no-arm)) (m 0 ∷ x 1 ∷ []))
   own-name-in-arm : Unscoped list-i (given 0 (on-i (gives (v "a") (gives (m 0) no-arm))) (m 0 ∷ []))
   own-name-in-key : Unscoped list-i (given 0 (step (Match Select (m 0) (mname 0 ∷ []) (gives (v "a") no-arm)) end) (m 0 ∷ []))
+  -- a match binds its names as a let does: each once, in its arms too, and for what follows it
+  one-match-binds-twice : Unscoped list-i (given 0 (binding (mname 0 ∷ mname 0 ∷ []) (arm end (v "a" ∷ v "b" ∷ []) no-arm) end) (m 0 ∷ []))
+  two-matches-bind-one-name : Unscoped list-i (given 0 (binding (mname 0 ∷ []) (gives (v "a") no-arm) (on-i (gives (v "b") no-arm))) (m 0 ∷ []))
+  match-binds-a-name-of-its-arm : Unscoped list-i (given 0 (on-i (arm (on-i (gives (v "a") no-arm)) (m 0 ∷ []) no-arm)) (m 0 ∷ []))
+  input-bound-by-match-and-used-before :
+      Unscoped list-i (given 1 (lets 0 (v "a") (binding (input (bytes "a") ∷ []) (gives (v "b") no-arm) end)) (x 0 ∷ []))
+  match-name-never-bound : Unscoped list-i (given 0 (on-i (gives (v "a") (gives (v "b") no-arm))) (m 1 ∷ []))
   -- values
   arms-swapped : values-kept list-i swapped-i → ⊥
   -- repeats: a copier that binds nothing, one that binds once and returns, and one that leaves sin(__x0), which depends by its name alone. Each cost is 1.
   copied : no-repeats list1 (given 0 end list1) → ⊥
   bound-once-only : no-repeats list2 (given 1 (lets 0 (v "c" ⊕ v "d") end) (sin (v "a" ⊕ v "b") ∷ cos (v "a" ⊕ v "b") ∷ sin (x 0) ∷ cos (x 0) ∷ [])) → ⊥
   repeated-by-name : no-repeats list1 (given 1 (lets 0 (v "a" ⊕ v "b") end) (sin (x 0) ⊗ v "c" ∷ sin (x 0) ∷ [])) → ⊥
+  -- a repeat is one wherever the two stand: one in a result and one in a binding, or both in bindings
+  repeated-in-result-and-binding : no-repeats list1 (given 1 (lets 0 (v "a" ⊕ v "b") end) (x 0 ⊗ v "c" ∷ sin (v "a" ⊕ v "b") ∷ [])) → ⊥
+  repeated-in-bindings : no-repeats list1 (given 2 (lets 0 ((v "a" ⊕ v "b") ⊗ v "c") (lets 1 (sin (v "a" ⊕ v "b")) end)) (x 0 ∷ x 1 ∷ [])) → ⊥
   -- repeats hidden in a match
   repeated-in-match : flat-shaped (given 0 (on-i (gives (v "a" ⊕ v "b") (gives (v "a" ⊕ v "b") no-arm))) (m 0 ∷ [])) → ⊥
   -- M1 answered rightly, but for the count
@@ -151,7 +137,7 @@ pub record Wrong-answers : Type 0 where
   -- a + b bound where it stands once: with no count in the sum it would be met
   bound-for-nothing : count-bounded (sin (v "a" ⊕ v "b") ∷ []) (given 1 (lets 0 (v "a" ⊕ v "b") end) (sin (x 0) ∷ [])) → ⊥
   -- one operation too many
-  one-too-many : count-bounded list1 (given 1 (lets 0 (v "a" ⊕ v "b") end) (x 0 ⊗ v "c" ∷ sin (Const (pos 1) ⊗ x 0) ∷ [])) → ⊥
+  one-too-many : count-bounded list1 (given 1 (lets 0 (v "a" ⊕ v "b") end) (x 0 ⊗ v "c" ∷ sin (num 1 ⊗ x 0) ∷ [])) → ⊥
 
 pub wrong-answers : Wrong-answers
 unfolding well-scoped answer-values values set no-repeats extracted-exprs all-operations
@@ -167,10 +153,17 @@ wrong-answers =
       used-after-match = tt;
       own-name-in-arm = tt;
       own-name-in-key = tt;
+      one-match-binds-twice = tt;
+      two-matches-bind-one-name = tt;
+      match-binds-a-name-of-its-arm = tt;
+      input-bound-by-match-and-used-before = tt;
+      match-name-never-bound = tt;
       arms-swapped = λ h. (let q : _≡_ {A = ℕ} 2 1 = ap (λ (l : List ℕ). getD l 0 0) (h by-5 (i-is 0)) in omega arith);
       copied = λ h. (let q = h (v "a" ⊕ v "b") tt tt in omega arith);
       bound-once-only = λ h. (let q = h (v "a" ⊕ v "b") tt tt in omega arith);
       repeated-by-name = λ h. (let q = h (sin (x 0)) tt tt in omega arith);
+      repeated-in-result-and-binding = λ h. (let q = h (v "a" ⊕ v "b") tt tt in omega arith);
+      repeated-in-bindings = λ h. (let q = h (v "a" ⊕ v "b") tt tt in omega arith);
       repeated-in-match = λ h. h .0;
       count-too-high = λ h. omega arith;
       count-too-low = λ h. (let q = ap kind-of (h .0 (omega arith) .1) in omega arith);
@@ -187,7 +180,7 @@ pub record Right-answers : Type 0 where
   no-arm-picked : answer-values by-5 (i-is 3) right-i ≡ values by-5 (i-is 3) list-i
   arm-with-let : answer-values by-5 (i-is 0) (given 0 (on-i (arm (lets 1 (v "a" ⊕ v "b") end) (x 1 ∷ []) no-arm)) (m 0 ∷ [])) ≡ values by-5 (i-is 0) (Op Select (v "i" ◂ (v "a" ⊕ v "b") ◂ nil) ∷ [])
   -- 1 + 2 may stand twice, as in M7
-  constants-alone : T (not (depends (λ n. true) (Const (pos 1) ⊕ Const (pos 2))))
+  constants-alone : T (not (depends (λ n. true) (num 1 ⊕ num 2)))
   -- and a symbol too, which is no operation
   leaves-alone : no-repeats twice-a (given 0 end twice-a)
   shapes : flat-shaped (right1 1) × flat-shaped right5
@@ -214,7 +207,7 @@ right-answers =
       arm-with-let = refl;
       constants-alone = tt;
       leaves-alone = leaf-twice;
-      shapes = (((λ h. absurd (omega arith)), tt), ((λ h. (Const (pos 2), refl)), tt));
+      shapes = (((λ h. absurd (omega arith)), tt), ((λ h. (num 2, refl)), tt));
       counts = (refl, refl);
       operations = ((omega arith), (omega arith));
       match-after-its-key = refl;

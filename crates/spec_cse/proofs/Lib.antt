@@ -1,1 +1,4 @@
 pub mod AnswersRefused
+pub mod RowsRefused
+pub mod Depths
+pub mod Misreadings

@@ -1,4 +1,6 @@
 pub mod Readings
+pub mod Notation
+pub mod Meanings
 pub mod TreeLaws
 pub mod Logic
 pub mod Tests

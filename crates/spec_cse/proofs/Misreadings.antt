@@ -1,4 +1,5 @@
--- Small lists that a likely misreading of 01 answers otherwise: one theorem, a field for each, named by what it shuts out. Assumes nothing.
+-- Small lists that a likely misreading of 01 answers otherwise: one theorem, a field for each, named by what it shuts out. They stand beside the definitions, so that
+-- a definition by such a misreading is refused here. Assumes nothing.
 use Prim.Native.Nat.{ℕ}
 use Prim.Native.String.{String}
 use mathlib.Core.Path.{_≡_, refl}
@@ -9,9 +10,9 @@ use Rattle.spec_tree.specs.Outcome.{Outcome, ok, refused, _>>=_, by}
 use Rattle.spec_tree.specs.Tree.{Tree, Const, Op, nil, _◂_}
 use Rattle.spec_tree.specs.Kinds.{Branch, Select, SelectOr}
 use Rattle.spec_tree.specs.Bytes.{bytes}
+use Rattle.spec_tree.proofs.Notation.{v, num, _⊕_, _⊗_, _⊘_, minus, sin, cos}
 use Rattle.spec_cse.specs.Answer.{answer-text, rows}
 use Rattle.spec_cse.specs.Scope.{answer}
-use Rattle.guarantee.proofs.Marked.{v, num, _⊕_, _⊗_, _⊘_, sin, cos}
 
 abbrev tan : Tree → Tree
 tan a = Op 10 (a ◂ nil)
@@ -25,6 +26,23 @@ square a = a ⊗ a
 
 abbrev huge : Tree
 huge = square (square (square (square (square (num 999999999999999)))))
+
+-- a * b twice, and another product
+abbrev beside-ab : Tree → List Tree
+beside-ab e = v "a" ⊗ v "b" ∷ sin (v "a" ⊗ v "b") ∷ e ∷ []
+
+-- trees of one text, of symbols and of numbers
+abbrev right-abc : Tree
+right-abc = v "a" ⊕ (v "b" ⊕ v "c")
+
+abbrev left-abc : Tree
+left-abc = v "a" ⊕ v "b" ⊕ v "c"
+
+abbrev right-123 : Tree
+right-123 = num 1 ⊕ (num 2 ⊕ num 3)
+
+abbrev left-123 : Tree
+left-123 = num 1 ⊕ num 2 ⊕ num 3
 
 -- an answer's rows, extraction count and text
 abbrev Summary : Type 0
@@ -68,10 +86,10 @@ pub record Misreadings : Type 0 where
       Same (v "p" ⊘ num 3 ∷ v "q" ⊘ num 3 ∷ v "p" ⊘ num 2 ∷ v "q" ⊘ num 2 ∷ [])
       (given 24 0 "let __x1 = 1 / 3;\nlet __x0 = 1 / 2;\np * __x1\nq * __x1\np * __x0\nq * __x0\n")
   divisors-of-equal-text-turned-round :
-      Same (v "p" ⊘ (num 1 ⊕ (num 2 ⊕ num 3)) ∷ v "q" ⊘ (num 1 ⊕ num 2 ⊕ num 3) ∷ v "q" ⊘ (num 1 ⊕ (num 2 ⊕ num 3)) ∷ v "p" ⊘ (num 1 ⊕ num 2 ⊕ num 3) ∷ [])
+      Same (v "p" ⊘ right-123 ∷ v "q" ⊘ left-123 ∷ v "q" ⊘ right-123 ∷ v "p" ⊘ left-123 ∷ [])
       (given 32 0 "let __x1 = 1 / (1 + 2 + 3);\nlet __x0 = 1 / (1 + 2 + 3);\np * __x0\nq * __x1\nq * __x0\np * __x1\n")
   divisors-of-equal-text-by-tree :
-      Same (v "p" ⊘ (num 1 ⊕ num 2 ⊕ num 3) ∷ v "q" ⊘ (num 1 ⊕ (num 2 ⊕ num 3)) ∷ v "q" ⊘ (num 1 ⊕ num 2 ⊕ num 3) ∷ v "p" ⊘ (num 1 ⊕ (num 2 ⊕ num 3)) ∷ [])
+      Same (v "p" ⊘ left-123 ∷ v "q" ⊘ right-123 ∷ v "q" ⊘ left-123 ∷ v "p" ⊘ right-123 ∷ [])
       (given 32 0 "let __x1 = 1 / (1 + 2 + 3);\nlet __x0 = 1 / (1 + 2 + 3);\np * __x0\nq * __x1\nq * __x0\np * __x1\n")
   a-divisor-of-one-arm-bound-outside :
       Both (Op Select (v "i" ◂ (v "p" ⊘ num 2 ⊕ v "q" ⊘ num 2) ◂ nil) ∷ [])
@@ -144,6 +162,39 @@ pub record Misreadings : Type 0 where
       Both (v "p" ⊘ (num 3 ⊘ Op Select (num 1 ◂ (num 7 ⊘ num 2) ◂ nil)) ∷ v "q" ⊘ (num 3 ⊘ Op Select (num 1 ◂ (num 7 ⊘ num 2) ◂ nil)) ∷ v "r" ⊘ num 2 ∷ [])
       (given 42 0 "let __x2 = 1 / select(1, 7 / 2);\nlet __x1 = 1 / (3 * __x2);\nlet __x0 = 1 / 2;\np / (3 / select(1, 7 * __x0))\nq / (3 / select(1, 7 * __x0))\nr * __x0\n")
       (given 43 0 "let __x0 = 1 / 2;\nlet (__m3, __m4) = match 1 { 0 => (7 * __x0, 7 / 2), _ => panic };\nlet __x2 = 1 / __m4;\nlet __x1 = 1 / (3 * __x2);\np / (3 / __m3)\nq / (3 / __m3)\nr * __x0\n")
+  -- ties: candidates that only the place where they are met tells apart
+  ties-by-the-last-met :
+      Same (sin right-abc ∷ cos right-abc ∷ sin left-abc ∷ cos left-abc ∷ [])
+      (given 24 2 "let __x1 = a + b + c;\nlet __x0 = a + b + c;\nsin(__x0)\ncos(__x0)\nsin(__x1)\ncos(__x1)\n")
+  ties-by-the-first-met-outside-arms :
+      Both (Op Select (v "i" ◂ right-abc ◂ nil) ∷ left-abc ∷ left-abc ∷ left-abc ∷ right-abc ∷ right-abc ∷ [])
+      (given 26 2 "let __x1 = a + b + c;\nlet __x0 = a + b + c;\nselect(i, __x0)\n__x1\n__x1\n__x1\n__x0\n__x0\n")
+      (given 30 2 "let __x1 = a + b + c;\nlet __x0 = a + b + c;\nlet __m2 = match i { 0 => __x0, _ => panic };\n__m2\n__x1\n__x1\n__x1\n__x0\n__x0\n")
+  -- divisors of one text: as they are first divided by, in the results before the bindings, and in arms too
+  divisors-of-equal-text-by-node :
+      Same (sin right-123 ∷ v "p" ⊘ left-123 ∷ v "q" ⊘ left-123 ∷ v "p" ⊘ right-123 ∷ v "q" ⊘ right-123 ∷ [])
+      (given 39 0 "let __x1 = 1 / (1 + 2 + 3);\nlet __x0 = 1 / (1 + 2 + 3);\nsin(1 + 2 + 3)\np * __x0\nq * __x0\np * __x1\nq * __x1\n")
+  divisors-of-equal-text-met-outside-arms :
+      Both (Op Select (v "i" ◂ (v "p" ⊘ right-123) ◂ nil) ∷ v "p" ⊘ left-123 ∷ v "q" ⊘ left-123 ∷ v "q" ⊘ right-123 ∷ [])
+      (given 34 0 "let __x1 = 1 / (1 + 2 + 3);\nlet __x0 = 1 / (1 + 2 + 3);\nselect(i, p * __x0)\np * __x1\nq * __x1\nq * __x0\n")
+      (given 38 0 "let __x1 = 1 / (1 + 2 + 3);\nlet __x0 = 1 / (1 + 2 + 3);\nlet __m2 = match i { 0 => p * __x0, _ => panic };\n__m2\np * __x1\nq * __x1\nq * __x0\n")
+  divisors-of-equal-text-met-in-bindings-first :
+      Same (v "q" ⊘ right-123 ∷ cos (v "p" ⊘ left-123) ∷ sin (cos (v "p" ⊘ left-123)) ∷ v "r" ⊘ left-123 ∷ v "r" ⊘ right-123 ∷ [])
+      (given 38 1 "let __x2 = 1 / (1 + 2 + 3);\nlet __x0 = cos(p * __x2);\nlet __x1 = 1 / (1 + 2 + 3);\nq * __x1\n__x0\nsin(__x0)\nr * __x2\nr * __x1\n")
+  -- factors, from the left: spec_rewrite/proofs/Examples has the same of `replace` alone
+  removing-the-last-equal-factor :
+      Same (beside-ab (v "a" ⊗ v "c" ⊗ v "a" ⊗ v "b"))
+      (given 15 1 "let __x0 = a * b;\n__x0\nsin(__x0)\nc * a * __x0\n")
+  factors-from-the-right :
+      Same (beside-ab ((v "c" ⊗ v "a") ⊗ (v "b" ⊗ v "d")))
+      (given 15 1 "let __x0 = a * b;\n__x0\nsin(__x0)\nc * d * __x0\n")
+  a-sign-lost-or-kept-as-a-constant :
+      Same (beside-ab (minus (v "a") ⊗ v "c" ⊗ v "b"))
+      (given 14 1 "let __x0 = a * b;\n__x0\nsin(__x0)\n-c * __x0\n")
+  fusing-switches-of-other-arm-counts :
+      Both (Op Select (v "i" ◂ v "a" ◂ nil) ∷ Op Select (v "i" ◂ v "a" ◂ v "b" ◂ nil) ∷ [])
+      (given 9 0 "select(i, a)\nselect(i, a, b)\n")
+      (given 19 0 "let __m1 = match i { 0 => a, 1 => b, _ => panic };\nlet __m0 = match i { 0 => a, _ => panic };\n__m0\n__m1\n")
 
 pub misreadings : Misreadings
 unfolding summary
@@ -177,4 +228,13 @@ misreadings =
       two-matches-to-a-product = (refl, refl);
       a-count-without-arms = (refl, refl);
       refusing-a-switch-in-a-bound-divisor = (refl, refl);
+      ties-by-the-last-met = (refl, refl);
+      ties-by-the-first-met-outside-arms = (refl, refl);
+      divisors-of-equal-text-by-node = (refl, refl);
+      divisors-of-equal-text-met-outside-arms = (refl, refl);
+      divisors-of-equal-text-met-in-bindings-first = (refl, refl);
+      removing-the-last-equal-factor = (refl, refl);
+      factors-from-the-right = (refl, refl);
+      a-sign-lost-or-kept-as-a-constant = (refl, refl);
+      fusing-switches-of-other-arm-counts = (refl, refl);
     }
