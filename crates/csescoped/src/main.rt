@@ -1,23 +1,20 @@
-// The program `csescoped`, the twin of `csesheet` for the scoped answer (01, "Sheet and printing"): a sheet on standard input, its answer on standard output, or one
-// line for a refusal. It lends 131,072 rows and 524,288 bytes, and an answer that is longer is refused by 12 or 14: spec_program/specs/Program `csescoped`.
+// The program `csescoped`, the twin of `csesheet` for the scoped answer (01, "Sheet and printing"): a sheet on standard
+// input, its answer on standard output, or one line for a refusal. A sheet that could not be read to its end has no
+// answer. It lends 131,072 rows and 524,288 bytes, and an answer that is longer is refused by 12 or 14:
+// spec_program/specs/Program `csescoped`.
 mod sheet;
 
 use crate::sheet::Said;
 use crate::sheet::scoped_sheet;
-use libc::STDIN_FILENO;
-use libc::STDOUT_FILENO;
 use print::lines::refusal_line;
-
-fn say(out: &[u8], n: usize) {
-    if n <= out.len() {
-        io::write_all(STDOUT_FILENO, &out[..n]);
-    }
-}
+use stdio::Moved;
+use stdio::read_sheet;
+use stdio::say;
 
 fn say_refused(number: u64, record: u64) {
     let mut out = [0u8; 128];
     let n = refusal_line(number, record, &mut out);
-    say(&out, n);
+    say(b"csescoped", &out, n);
 }
 
 // All that is printed for a sheet.
@@ -39,12 +36,15 @@ fn say_sheet(sheet: &[u8]) {
     );
     match said {
         Said::Refused(number, record) => say_refused(number, record),
-        Said::Bytes(n) => say(&out, n),
+        Said::Bytes(n) => {
+            say(b"csescoped", &out, n);
+        }
     }
 }
 
 fn main() {
     let mut sheet = [0u8; 65536];
-    let n = io::read_full(STDIN_FILENO, &mut sheet);
-    say_sheet(&sheet[..n]);
+    if let Moved::Bytes(n) = read_sheet(b"csescoped", &mut sheet) {
+        say_sheet(&sheet[..n]);
+    }
 }

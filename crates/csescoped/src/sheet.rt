@@ -1,8 +1,11 @@
 // A sheet's scoped answer as text: load, extract and print, one after another. What is lent may be too short for any of them, and is then refused by its number.
+ghost use mathlib.Core.Path.{_≡_};
+ghost use mathlib.Core.Bool.{true};
 ghost use Prim.Native.Nat.{_≤_};
 ghost use lib.ListN.{length, take};
+ghost use Rattle.spec_cse.specs.Call.{extract-call, table-after};
 ghost use Rattle.spec_program.specs.Print.{print-call};
-ghost use Rattle.csescoped.specs.sheet.ScopedSheet.{rows-text, sheet-text, Says};
+ghost use Rattle.csescoped.specs.sheet.ScopedSheet.{rows-text, Says, Scoped};
 use cse_flat::Extraction;
 use cse_scoped::cse_scoped;
 use load::Loaded;
@@ -42,8 +45,11 @@ fn extracted(
     out: &mut [u8],
 ) -> Said
     requires { ⌜ (end ≤ length (now rows)) × (count ≤ length (now roots)) ⌝ }
-    ensures { λ r. ⌜ Says (rows-text (length (now (work .entry))) (length (now (text .entry))) (length (now (table .entry))) (length (now (out .entry))) (take end (now (rows .entry))) (take count (now (roots .entry))))
-        (now (out .entry)) r (now (out .exit)) ⌝ }
+    ensures { λ r. ⌜ Says (rows-text (length (now (work .entry))) (length (now (text .entry))) (length (now (table .entry)))
+        (length (now (out .entry))) (take end (now (rows .entry))) (take count (now (roots .entry))))
+        (now (out .entry)) r (now (out .exit))
+        × (now (table .exit) ≡ table-after (extract-call true (length (now (work .entry))) (length (now (text .entry)))
+        (take end (now (rows .entry))) (take count (now (roots .entry))) (length (now (table .entry)))) (now (table .entry))) ⌝ }
 {
     let extraction = cse_scoped(&rows[..end], &roots[..count], work, text, table);
     match extraction {
@@ -52,8 +58,9 @@ fn extracted(
     }
 }
 
-// The text of the sheet's scoped answer stands in front of `out` then; refused, `out` is as it was. All else that is lent is scratch here, and what is left in it is
-// free.
+// The node rows and roots of the sheet stand in front of `rows` and `roots` then, the rows of its scoped answer in
+// front of `table`, and the answer's text in front of `out`. Refused by load, all is as it was; refused by extract, the
+// table and `out` are; refused by print, `out` is. What is left in the work area, `work` and `text`, is free.
 pub fn scoped_sheet(
     sheet: &[u8],
     rows: &mut [u64],
@@ -63,8 +70,9 @@ pub fn scoped_sheet(
     table: &mut [u64],
     out: &mut [u8],
 ) -> Said
-    ensures { λ r. ⌜ Says (sheet-text (length (now (rows .entry))) (length (now (roots .entry))) (length (now (work .entry))) (length (now (text .entry))) (length (now (table .entry))) (length (now (out .entry))) (now (sheet .entry)))
-        (now (out .entry)) r (now (out .exit)) ⌝ }
+    ensures { λ r. ⌜ Scoped (now (sheet .entry)) (length (now (work .entry))) (length (now (text .entry)))
+        (now (rows .entry)) (now (roots .entry)) (now (table .entry)) (now (out .entry)) r
+        (now (rows .exit)) (now (roots .exit)) (now (table .exit)) (now (out .exit)) ⌝ }
 {
     let loaded = load(sheet, rows, roots);
     match loaded {

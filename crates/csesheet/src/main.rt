@@ -1,28 +1,24 @@
-// The program `csesheet` (01, "Sheet and printing"): a sheet on standard input, its flat answer on standard output, or one line for a refusal. What is lent is long
-// enough for every sheet: the table for the rows of any flat answer, `out` for any line.
+// The program `csesheet` (01, "Sheet and printing"): a sheet on standard input, its flat answer on standard output, or
+// one line for a refusal. A sheet that could not be read to its end has no answer. What is lent is long enough for every
+// sheet: the table for the rows of any flat answer, `out` for any line.
 ghost use Prim.Native.Nat.{_≤_};
 ghost use lib.ListN.{length};
 use flat_sheet::Flat;
 use flat_sheet::flat_sheet;
-use libc::STDIN_FILENO;
-use libc::STDOUT_FILENO;
 use print::lines::Line;
 use print::lines::line_at;
 use print::lines::refusal_line;
-
-fn say(out: &[u8], n: usize) {
-    if n <= out.len() {
-        io::write_all(STDOUT_FILENO, &out[..n]);
-    }
-}
+use stdio::Moved;
+use stdio::read_sheet;
+use stdio::say;
 
 fn say_refused(number: u64, record: u64) {
     let mut out = [0u8; 128];
     let n = refusal_line(number, record, &mut out);
-    say(&out, n);
+    say(b"csesheet", &out, n);
 }
 
-// The lines of an answer, one after another.
+// The lines of an answer, one after another, as long as each can be written.
 fn say_lines(rows: &[u64], answer: &[u64]) {
     let mut out = [0u8; 65536];
     let mut at = 0;
@@ -30,7 +26,9 @@ fn say_lines(rows: &[u64], answer: &[u64]) {
         let Line::Text(n, next) = line_at(rows, answer, at, &mut out) else {
             return;
         };
-        say(&out, n);
+        if !say(b"csesheet", &out, n) {
+            return;
+        }
         at = next;
     }
 }
@@ -65,6 +63,7 @@ fn say_sheet(sheet: &[u8]) {
 
 fn main() {
     let mut sheet = [0u8; 65536];
-    let n = io::read_full(STDIN_FILENO, &mut sheet);
-    say_sheet(&sheet[..n]);
+    if let Moved::Bytes(n) = read_sheet(b"csesheet", &mut sheet) {
+        say_sheet(&sheet[..n]);
+    }
 }

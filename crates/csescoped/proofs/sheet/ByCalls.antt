@@ -10,7 +10,7 @@ use Rattle.spec_tree.specs.Outcome.{Outcome, ok, refused}
 use Rattle.spec_program.specs.Print.{buffer-after}
 use Rattle.spec_program.specs.Calls.{by-calls}
 use Rattle.spec_program.specs.Program.{reply, csescoped}
-use Rattle.csescoped.specs.sheet.ScopedSheet.{rows-text, sheet-text, said-of, Says}
+use Rattle.csescoped.specs.sheet.ScopedSheet.{rows-text, sheet-text, said-of, Says, Scoped}
 use Rattle.csescoped.specs.sheet.Prints.{prints}
 use Rattle.csescoped.specs.declared.sheet.Said.{Said}
 
@@ -28,7 +28,14 @@ says-reply o old new answer s = ap₂ prints (s .0) (s .1) ∙ go o
     go (ok text) = take-append-seam text (drop (length text) old)
     go (refused r) = refl
 
+-- by the contract of `scoped_sheet`, with what the program lends
 pub program-writes :
-    (sheet old new : List ℕ) (answer : Said) → Says (sheet-text 35840 64 65536 131072 131072 524288 sheet) old answer new → prints answer new ≡ csescoped sheet
-program-writes sheet old new answer s =
-    says-reply (sheet-text 35840 64 65536 131072 131072 524288 sheet) old new answer s ∙ (ap reply (program-text sheet) ∙ (unfold csescoped in refl))
+    (sheet old-rows old-roots old-table old-out new-rows new-roots new-table new-out : List ℕ) (answer : Said)
+    → length old-rows ≡ 35840 → length old-roots ≡ 64 → length old-table ≡ 131072 → length old-out ≡ 524288
+    → Scoped sheet 65536 131072 old-rows old-roots old-table old-out answer new-rows new-roots new-table new-out
+    → prints answer new-out ≡ csescoped sheet
+program-writes sheet old-rows old-roots old-table old-out new-rows new-roots new-table new-out answer a b c d s =
+    let f : ℕ → ℕ → ℕ → ℕ → Outcome (List ℕ) = λ words places rows bytes. sheet-text words places 65536 131072 rows bytes sheet in
+    let lent : f (length old-rows) (length old-roots) (length old-table) (length old-out) ≡ f 35840 64 131072 524288 = cc in
+    says-reply (f (length old-rows) (length old-roots) (length old-table) (length old-out)) old-out new-out answer (s .says)
+    ∙ (ap reply (lent ∙ program-text sheet) ∙ (unfold csescoped in refl))

@@ -27,7 +27,7 @@ use Rattle.load.specs.declared.Loaded.the-variants as loaded
 use Rattle.load.specs.Loads.{answered, Loads}
 use Rattle.print.specs.Printing.{printed}
 use Rattle.print.specs.declared.Printed.the-variants as printer
-use Rattle.csescoped.specs.sheet.ScopedSheet.{rows-text, sheet-text, said-of, Says}
+use Rattle.csescoped.specs.sheet.ScopedSheet.{rows-text, sheet-text, sheet-rows, said-of, Says, Scoped}
 use Rattle.csescoped.specs.declared.sheet.Said.{Said}
 use Rattle.csescoped.specs.declared.sheet.Said.the-variants as said
 use Rattle.spec_tree.proofs.Lists.{front}
@@ -127,11 +127,16 @@ module _ (work text : ℕ) (node-rows roots old-table : List ℕ) where
 
 -- ---- load's
 
-module _ (words places : ℕ) (sheet old-rows old-roots new-rows new-roots : List ℕ) (got : Loaded) (L : Loads (load-call words places sheet) old-rows old-roots got new-rows new-roots) where
+module _
+    (sheet old-rows old-roots new-rows new-roots : List ℕ) (got : Loaded)
+    (L : Loads (load-call (length old-rows) (length old-roots) sheet) old-rows old-roots got new-rows new-roots) where
+  abbrev load-of : Outcome Table
+  load-of = load-call (length old-rows) (length old-roots) sheet
+
   -- the table that was loaded, in front of what was lent
   record Read (n m : ℕ) : Type 0 where
     table : Table
-    loads : load-call words places sheet ≡ ok table
+    loads : load-of ≡ ok table
     words-are : take (35 * n) new-rows ≡ table-words (table .rows)
     roots-are : take m new-roots ≡ table .roots
     few : n ≤ 1024
@@ -140,12 +145,12 @@ module _ (words places : ℕ) (sheet old-rows old-roots new-rows new-roots : Lis
 
   read : (n m : ℕ) → got ≡ loaded.Table n m → Read n m
   unfolding rows-after roots-after
-  read n m e = go (load-call words places sheet) refl (sym e ∙ L .answer-is) (L .rows-are) (L .roots-are)
+  read n m e = go load-of refl (sym e ∙ L .answer-is) (L .rows-are) (L .roots-are)
     where
-      go : (o : Outcome Table) → load-call words places sheet ≡ o → loaded.Table n m ≡ answered o → new-rows ≡ rows-after o old-rows → new-roots ≡ roots-after o old-roots → Read n m
+      go : (o : Outcome Table) → load-of ≡ o → loaded.Table n m ≡ answered o → new-rows ≡ rows-after o old-rows → new-roots ≡ roots-after o old-roots → Read n m
       go (refused r) f g h k = absurd (let z : _≡_ {A = ℕ} 0 1 = cc in omega arith)
       go (ok t) f g h k =
-          let D = loaded-domain words places sheet t f in
+          let D = loaded-domain (length old-rows) (length old-roots) sheet t f in
           let a : n ≡ length (t .rows) = cc in
           let b : m ≡ length (t .roots) = cc in
           let c : 35 * n ≡ length (table-words (t .rows)) = omega (arith, table-long 0 (t .rows) (D .good-rows), a) in
@@ -165,24 +170,46 @@ module _ (words places : ℕ) (sheet old-rows old-roots new-rows new-roots : Lis
   pub read-few : (n m : ℕ) → got ≡ loaded.Table n m → n ≤ 1024
   read-few n m e = read n m e .few
 
-  module _ (work text rows-lent : ℕ) where
-    pub load-refused : (q i : ℕ) (old : List ℕ) → got ≡ loaded.Refused q i → Says (sheet-text words places work text rows-lent (length old) sheet) old (said.Refused q i) old
-    unfolding sheet-text buffer-after
-    load-refused q i old e = go (load-call words places sheet) (sym e ∙ L .answer-is)
+  module _ (work text : ℕ) (old-table old-out : List ℕ) where
+    pub load-refused :
+        (q i : ℕ) → got ≡ loaded.Refused q i
+        → Scoped sheet work text old-rows old-roots old-table old-out (said.Refused q i) new-rows new-roots old-table old-out
+    unfolding sheet-text sheet-rows buffer-after table-after
+    load-refused q i e = record {
+      says = go load-of (sym e ∙ L .answer-is);
+      rows-are = L .rows-are;
+      roots-are = L .roots-are;
+      table-is = same load-of (sym e ∙ L .answer-is);
+    }
       where
         go : (o : Outcome Table) → loaded.Refused q i ≡ answered o
-            → Says (o >>= λ t. rows-text work text rows-lent (length old) (table-words (t .rows)) (t .roots)) old (said.Refused q i) old
+            → Says (o >>= λ t. rows-text work text (length old-table) (length old-out) (table-words (t .rows)) (t .roots)) old-out (said.Refused q i) old-out
         go (ok t) g = absurd (let z : _≡_ {A = ℕ} 0 1 = cc in omega arith)
         go (refused r) g = (cc, refl)
 
+        same : (o : Outcome Table) → loaded.Refused q i ≡ answered o
+            → old-table ≡ table-after (o >>= λ t. extract-call true work text (table-words (t .rows)) (t .roots) (length old-table)) old-table
+        same (ok t) g = absurd (let z : _≡_ {A = ℕ} 0 1 = cc in omega arith)
+        same (refused r) g = refl
+
+    -- what extract and print told of the rows and roots in front of what was lent
     pub loaded-says :
-        (n m : ℕ) (old new : List ℕ) (r : Said) → got ≡ loaded.Table n m → Says (rows-text work text rows-lent (length old) (take (35 * n) new-rows) (take m new-roots)) old r new
-        → Says (sheet-text words places work text rows-lent (length old) sheet) old r new
-    unfolding sheet-text
-    loaded-says n m old new r e s =
+        (n m : ℕ) (new-table new-out : List ℕ) (r : Said) → got ≡ loaded.Table n m
+        → Says (rows-text work text (length old-table) (length old-out) (take (35 * n) new-rows) (take m new-roots)) old-out r new-out
+        × (new-table ≡ table-after (extract-call true work text (take (35 * n) new-rows) (take m new-roots) (length old-table)) old-table)
+        → Scoped sheet work text old-rows old-roots old-table old-out r new-rows new-roots new-table new-out
+    unfolding sheet-text sheet-rows
+    loaded-says n m new-table new-out r e s =
         let R = read n m e in
-        let f = rows-text work text rows-lent (length old) in
-        let a : f (take (35 * n) new-rows) (take m new-roots) ≡ f (table-words (R .table .rows)) (R .table .roots) = ap₂ f (R .words-are) (R .roots-are) in
-        let b : (load-call words places sheet >>= λ t. f (table-words (t .rows)) (t .roots)) ≡ f (table-words (R .table .rows)) (R .table .roots) =
-        ap (λ (o : Outcome Table). o >>= λ t. f (table-words (t .rows)) (t .roots)) (R .loads) in
-        subst (λ (o : Outcome (List ℕ)). Says o old r new) (a ∙ sym b) s
+        let f = rows-text work text (length old-table) (length old-out) in
+        let x : List ℕ → List ℕ → Outcome Extracted = λ ws ns. extract-call true work text ws ns (length old-table) in
+        let a : f (take (35 * n) new-rows) (take m new-roots) ≡ (load-of >>= λ t. f (table-words (t .rows)) (t .roots)) =
+        ap₂ f (R .words-are) (R .roots-are) ∙ sym (ap (λ (o : Outcome Table). o >>= λ t. f (table-words (t .rows)) (t .roots)) (R .loads)) in
+        let b : x (take (35 * n) new-rows) (take m new-roots) ≡ (load-of >>= λ t. x (table-words (t .rows)) (t .roots)) =
+        ap₂ x (R .words-are) (R .roots-are) ∙ sym (ap (λ (o : Outcome Table). o >>= λ t. x (table-words (t .rows)) (t .roots)) (R .loads)) in
+        record {
+          says = subst (λ (o : Outcome (List ℕ)). Says o old-out r new-out) a (s .0);
+          rows-are = L .rows-are;
+          roots-are = L .roots-are;
+          table-is = s .1 ∙ ap (λ (o : Outcome Extracted). table-after o old-table) b;
+        }

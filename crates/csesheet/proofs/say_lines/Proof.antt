@@ -9,10 +9,10 @@ use Rattle.csesheet.proofs.say_lines.Statement.{statement}
 use Rattle.csesheet.proofs.say_lines.Tie as tie
 
 abbrev Inv-loop : tie.InvT-loop
-Inv-loop rows answer out₀ at₀ out at = length out ≡ 65536
+Inv-loop rows answer out₀ at₀ t7 out at = length out ≡ 65536
 
 abbrev μ-loop : tie.MeasureT-loop
-μ-loop rows answer out₀ at₀ out at = length answer - at
+μ-loop rows answer out₀ at₀ t7 out at = length answer - at
 
 pub say-lines-spec : {M : Type 1} → statement M
 say-lines-spec =
@@ -26,7 +26,15 @@ say-lines-spec =
     (λ c. search needs)
     (λ c. search needs)
     (λ c. search needs)
+    (λ c. search needs)
     (λ c κs. search needs)
-    (λ c. omega (arith, goes-on (c .before .before .before .before .before .before .before .before .before .before .before .before .args .rows .now) (c .before .before .before .before .before .before .before .before .before .before .before .before .args .answer .now) (c .before .before .before .before .before .before .before .before .before .loop .at) _ _ _ _ (sym (c .before .before .before .n .given .1) ∙ c .before .before .before .before .before .before .line-at .ensures .0) (c .before .before .before .before .before .before .line-at .ensures .1) .0, c .before .before .before .before .before .before .before .before .loop-test .taken))
+    (λ c. search needs)
+    (λ c.
+    let start = c .before .before .before .before .before .before .before .before .before .before .before .before .before .before in
+    let at-loop = c .before .before .before .before .before .before .before .before .before .before .before in
+    let at-loop-test = c .before .before .before .before .before .before .before .before .before .before in
+    let at-line-at = c .before .before .before .before .before .before .before .before in
+    let at-n = c .before .before .before .before .before in
+    omega (arith, goes-on (start .args .rows .now) (start .args .answer .now) (at-loop .loop .at) _ _ _ _ (sym (at-n .n .given .1) ∙ at-line-at .line-at .ensures .0) (at-line-at .line-at .ensures .1) .0, at-loop-test .loop-test .taken))
     (λ c. search needs)
     (λ c. search needs))

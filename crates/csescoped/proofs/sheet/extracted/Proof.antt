@@ -11,18 +11,34 @@ pub extracted-spec : {M : Type 1} → statement M
 extracted-spec =
     tie.close
     (tie.spec
-    (λ c. sym (length-take-le (c .before .before .before .before .before .before .before .args .end) (c .before .before .before .before .before .before .before .args .rows .now) (c .before .before .before .before .before .before .before .pre .0)))
-    (λ c. sym (length-take-le (c .before .before .before .before .before .before .before .before .args .count) (c .before .before .before .before .before .before .before .before .args .roots .now) (c .before .before .before .before .before .before .before .before .pre .1)))
+    (λ c.
+    let start = c .before .before .before .before .before .before .before in
+    sym (length-take-le (start .args .end) (start .args .rows .now) (start .pre .0)))
+    (λ c.
+    let start = c .before .before .before .before .before .before .before .before in
+    sym (length-take-le (start .args .count) (start .args .roots .now) (start .pre .1)))
     (λ c κs. search needs)
     (λ c. search needs)
     (λ c. search needs)
-    (λ c κs. (c .before .before .before .before .before .before .before .before .before .before .before .before .before .before .before .before .before .before .before .before .before .before .before .pre .0, rows-inside (length (c .before .before .before .before .before .before .before .before .before .before .before .before .before .before .before .before .before .before .before .before .before .before .before .args .work .now)) (length (c .before .before .before .before .before .before .before .before .before .before .before .before .before .before .before .before .before .before .before .before .before .before .before .args .text .now)) (take (c .before .before .before .before .before .before .before .before .before .before .before .before .before .before .before .before .before .before .before .before .before .before .before .args .end) (c .before .before .before .before .before .before .before .before .before .before .before .before .before .before .before .before .before .before .before .before .before .before .before .args .rows .now)) (take (c .before .before .before .before .before .before .before .before .before .before .before .before .before .before .before .before .before .before .before .before .before .before .before .args .count) (c .before .before .before .before .before .before .before .before .before .before .before .before .before .before .before .before .before .before .before .before .before .before .before .args .roots .now)) (c .before .before .before .before .before .before .before .before .before .before .before .before .before .before .before .before .before .before .before .before .before .before .before .args .table .now) _ (c .before .before .before .before .before .before .before .before .before .before .before .cse-scoped .ensures .1) _ _ (sym (c .before .before .before .extraction2 .given .1) ∙ c .before .before .before .before .before .before .before .before .before .before .before .cse-scoped .ensures .0)))
+    (λ c κs.
+    let start = c .before .before .before .before .before .before .before .before .before .before .before .before .before .before .before .before .before .before .before .before .before .before .before in
+    let at-cse-scoped = c .before .before .before .before .before .before .before .before .before .before .before in
+    let at-extraction2 = c .before .before .before in
+    (start .pre .0, rows-inside (length (start .args .work .now)) (length (start .args .text .now)) (take (start .args .end) (start .args .rows .now)) (take (start .args .count) (start .args .roots .now)) (start .args .table .now) _ (at-cse-scoped .cse-scoped .ensures .1) _ _ (sym (at-extraction2 .extraction2 .given .1) ∙ at-cse-scoped .cse-scoped .ensures .0)))
     (λ c. search needs)
     (λ c. search needs)
     (λ c. search needs)
-    (λ c. extract-refused (length (c .before .before .before .before .before .before .before .before .before .before .before .before .before .before .before .before .before .before .before .before .before .args .work .now)) (length (c .before .before .before .before .before .before .before .before .before .before .before .before .before .before .before .before .before .before .before .before .before .args .text .now)) (take (c .before .before .before .before .before .before .before .before .before .before .before .before .before .before .before .before .before .before .before .before .before .args .end) (c .before .before .before .before .before .before .before .before .before .before .before .before .before .before .before .before .before .before .before .before .before .args .rows .now)) (take (c .before .before .before .before .before .before .before .before .before .before .before .before .before .before .before .before .before .before .before .before .before .args .count) (c .before .before .before .before .before .before .before .before .before .before .before .before .before .before .before .before .before .before .before .before .before .args .roots .now)) (c .before .before .before .before .before .before .before .before .before .before .before .before .before .before .before .before .before .before .before .before .before .args .table .now) _ (c .before .before .before .before .before .before .before .before .before .before .before .before .before .before .before .before .before .before .before .before .before .args .out .now) (sym (c .before .extraction .given .1) ∙ c .before .before .before .before .before .before .before .before .before .cse-scoped .ensures .0))
+    (λ c.
+    let start = c .before .before .before .before .before .before .before .before .before .before .before .before .before .before .before .before .before .before .before .before .before in
+    let at-cse-scoped = c .before .before .before .before .before .before .before .before .before in
+    (extract-refused (length (start .args .work .now)) (length (start .args .text .now)) (take (start .args .end) (start .args .rows .now)) (take (start .args .count) (start .args .roots .now)) (start .args .table .now) _ (start .args .out .now) (sym (c .before .extraction .given .1) ∙ at-cse-scoped .cse-scoped .ensures .0), at-cse-scoped .cse-scoped .ensures .1))
     (λ c. search needs)
     (λ c. search needs)
     (λ c. search needs)
     (λ c. search needs)
-    (λ c. rows-printed (length (c .before .before .before .before .before .before .before .before .before .before .before .before .before .before .before .before .before .before .before .before .before .before .before .before .before .before .args .work .now)) (length (c .before .before .before .before .before .before .before .before .before .before .before .before .before .before .before .before .before .before .before .before .before .before .before .before .before .before .args .text .now)) (take (c .before .before .before .before .before .before .before .before .before .before .before .before .before .before .before .before .before .before .before .before .before .before .before .before .before .before .args .end) (c .before .before .before .before .before .before .before .before .before .before .before .before .before .before .before .before .before .before .before .before .before .before .before .before .before .before .args .rows .now)) (take (c .before .before .before .before .before .before .before .before .before .before .before .before .before .before .before .before .before .before .before .before .before .before .before .before .before .before .args .count) (c .before .before .before .before .before .before .before .before .before .before .before .before .before .before .before .before .before .before .before .before .before .before .before .before .before .before .args .roots .now)) (c .before .before .before .before .before .before .before .before .before .before .before .before .before .before .before .before .before .before .before .before .before .before .before .before .before .before .args .table .now) _ (c .before .before .before .before .before .before .before .before .before .before .before .before .before .before .cse-scoped .ensures .1) _ _ (sym (c .before .before .before .before .before .before .extraction2 .given .1) ∙ c .before .before .before .before .before .before .before .before .before .before .before .before .before .before .cse-scoped .ensures .0) (c .before .before .before .before .before .before .before .before .before .before .before .before .before .before .before .before .before .before .before .before .before .before .before .before .before .before .args .out .now) _ _ (c .before .before .printed .ensures)))
+    (λ c.
+    let start = c .before .before .before .before .before .before .before .before .before .before .before .before .before .before .before .before .before .before .before .before .before .before .before .before .before .before in
+    let at-cse-scoped = c .before .before .before .before .before .before .before .before .before .before .before .before .before .before in
+    let at-extraction2 = c .before .before .before .before .before .before in
+    let at-printed = c .before .before in
+    (rows-printed (length (start .args .work .now)) (length (start .args .text .now)) (take (start .args .end) (start .args .rows .now)) (take (start .args .count) (start .args .roots .now)) (start .args .table .now) _ (at-cse-scoped .cse-scoped .ensures .1) _ _ (sym (at-extraction2 .extraction2 .given .1) ∙ at-cse-scoped .cse-scoped .ensures .0) (start .args .out .now) _ _ (at-printed .printed .ensures), at-cse-scoped .cse-scoped .ensures .1)))
