@@ -53,12 +53,13 @@ pub fn later<'a>(a: &'a [u8], n: usize, b: &'a [u8], m: usize) -> &'a [u8]
     }
 }
 
-// Whether the text up to `middle` comes before the one from there to `end`.
+// Whether the text up to `middle` comes before the one from there to `end`: then it comes before the later of the two.
 fn first_before(text: &[u8], middle: usize, end: usize) -> bool
     requires { ⌜ (middle ≤ end) × (end ≤ length (now text)) ⌝ }
     ensures { λ r. ⌜ r ≡ before (take middle (now (text .entry))) (take (end - middle) (drop middle (now (text .entry)))) ⌝ }
 {
-    crate::order::before(&text[..middle], &text[middle..end])
+    let last = later(text, middle, &text[middle..], end - middle);
+    before(&text[..middle], last)
 }
 
 // Whether the text of the tree at i comes before that of the tree at j: trees that an answer may hold, whose texts fit together. They are written one after the

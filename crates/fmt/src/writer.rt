@@ -1,5 +1,5 @@
-// The text of the tree at a place of some words: `Display` for `Expr`. `write_tree` is for callers. The expression writer and the child writer, which puts
-// brackets where the source does, call each other down the tree; they ask that the tree is there and is one that print takes, which `tree_ok` decides first.
+// The text of the tree at a place of some words: `Display` for `Expr`. The expression writer and the child writer, which puts brackets where
+// the source does, call each other down the tree; they ask that the tree is there and is one that print takes, which `tree_ok` decides. `write_tree` does both.
 ghost use mathlib.Core.Path.{_≡_};
 ghost use Rattle.spec_tree.specs.text.Text.{part, display, precedence, bracketed};
 ghost use Rattle.fmt.specs.emit.Writing.{Writes};
@@ -35,9 +35,9 @@ pub enum Text {
 }
 
 // The place after the words that were read, and the place after the text that was written.
-pub(crate) struct Pos {
-    pub(crate) next: usize,
-    pub(crate) to: usize,
+pub struct Pos {
+    pub next: usize,
+    pub to: usize,
 }
 
 fn precedence(kind: u64) -> u64
@@ -166,7 +166,7 @@ fn put_closing(out: &mut [u8], dry: bool, to: usize, kind: u64) -> usize
 }
 
 // The expression writer.
-pub(crate) fn expression(
+pub fn expression(
     rows: &[u64],
     tokens: &[u64],
     at: usize,

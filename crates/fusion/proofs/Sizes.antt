@@ -6,7 +6,7 @@ use Rattle.spec_tree.specs.Tree.{mname, Tree}
 use Rattle.spec_tree.specs.Facts.{size}
 use Rattle.spec_tree.specs.Rows.{occurrences}
 use Rattle.spec_rewrite.specs.Rewrite.{replace-outside-arms}
-use Rattle.replace.proofs.outside.Replacing.{outside-size}
+use Rattle.spec_rewrite.proofs.OutsideSize.{outside-size}
 use Rattle.fusion.specs.Settled.{Step, fused-tree}
 
 pub fused-size : (steps : List Step) (t : Tree) → size (fused-tree steps t) ≤ size t

@@ -5,6 +5,7 @@ pub mod FlatTrees
 pub mod Trees
 pub mod Steps
 pub mod Fusing
+pub mod Depth
 pub mod Passed
 pub mod FlatText
 pub mod Printed

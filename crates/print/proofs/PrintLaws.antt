@@ -12,8 +12,9 @@ use Rattle.spec_tree.specs.Outcome.{Outcome, ok, refused, by}
 use Rattle.spec_tree.specs.Rows.{Row}
 use Rattle.spec_tree.specs.Layout.{row-width, rows-of}
 use Rattle.spec_tree.specs.Tokens.{number-in, name-in}
+use Rattle.spec_tree.proofs.Logic.{and-right}
 use Rattle.spec_cse.specs.Answer.{Answer, answer-text}
-use Rattle.spec_cse.specs.AnswerRows.{answer-words, answer-of, answer-laid-out}
+use Rattle.spec_cse.specs.AnswerRows.{answer-words, answer-of, rows-of-answer, no-deeper, answer-laid-out}
 use Rattle.spec_program.specs.Print.{print-call, buffer-after}
 use Rattle.fmt.specs.emit.Writing.{Writes}
 use Rattle.fmt.specs.checked.Check.{rows-in}
@@ -48,13 +49,17 @@ module _ (node ws : List ℕ) where
       go true f = let z : _≡_ {A = ℕ} 0 1 = cc in absurd (omega arith)
       go false f = refl
 
+  of-answer : T (answer-laid-out (rows-in node) ws) → T (rows-of-answer (rows-in node) ws)
+  unfolding answer-laid-out
+  of-answer h = and-right (no-deeper ws) (rows-of-answer (rows-in node) ws) h
+
   so : (b : Bool) → T b → b ≡ true
   so true h = refl
   so false h = absurd h
 
   pub answer-here : laid.Answer ≡ laid-answer (answer-laid-out (rows-in node) ws) → AnswerAt (rows-in node) ws read
   answer-here e =
-      let r = laid-rows (rows-in node) ws (is-laid e) in
+      let r = laid-rows (rows-in node) ws (of-answer (is-laid e)) in
       let a = uncounted (r .answer) in
       let f = answer-fits (rows-in node) (r .answer) (r .parts) (r .results) (r .references) in
       let w : ws ≡ answer-words (number-in (rows-in node)) a = sym (same-words (number-in (rows-in node)) (r .answer) ∙ r .words) in

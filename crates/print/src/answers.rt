@@ -9,10 +9,12 @@ ghost use Rattle.spec_tree.specs.Bytes.{eq-bytes, every};
 ghost use Rattle.spec_tree.specs.Kinds.{is-switch, arity-ok};
 ghost use Rattle.fmt.specs.checked.Check.{rows-in};
 ghost use Rattle.laws.specs.answer.First.{has-name, none-named, first-row, first-word};
-ghost use Rattle.spec_cse.specs.AnswerRows.{stands-below, answer-laid-out};
+ghost use Rattle.spec_cse.specs.AnswerRows.{rows-of-answer, answer-laid-out};
 ghost use Rattle.laws.specs.answer.Seen.{names-bind, binds, entered, bound-by, use-ok, seen, occurs, a-binding, once};
 ghost use Rattle.laws.specs.answer.Fronts.{statement-row, TreeFront, ValuesFront, StmtFront, StmtsFront, ArmsFront, AnswerRows, Results};
 ghost use Rattle.print.specs.answers.Said.{row-at, Says, Counts, Names, Heads, Tells, Spans, Ways, laid-answer};
+use crate::depth::no_deeper;
+use crate::depth::stands_below;
 use fmt::checked::Checked;
 use fmt::checked::tree_ok;
 use words::layout::ARM;
@@ -402,26 +404,6 @@ fn shaped(rows: &[u64], words: &[u64]) -> bool
     results(rows, words, end)
 }
 
-// How many of the spans after a row stand below it. A span is a row with all that stands below it.
-fn stands_below(w: u64) -> u64
-    ensures { λ r. ⌜ (r ≡ stands-below w) × (r ≤ 1 + w / 64) ⌝ }
-{
-    let row = w % KINDS;
-    if row < 2 {
-        return 0;
-    }
-    if row == NAME {
-        return 0;
-    }
-    if row == LET {
-        return 1;
-    }
-    if row >= VALUE {
-        return 1;
-    }
-    w / KINDS
-}
-
 // Where the span at a place ends, if that is at `by` or before it. `left` spans are still to come, and each is a word at least.
 fn span_end(words: &[u64], at: usize, by: usize) -> Part
     requires { ⌜ (at ≤ by) × (by ≤ length (now words)) ⌝ }
@@ -619,8 +601,8 @@ fn bound_once(words: &[u64]) -> bool
 
 // Whether words are the rows of an answer over the symbols of these node rows: each of its parts as extract lays it out, each name bound once, and used only
 // later and in its scope.
-pub fn check_answer(node_rows: &[u64], answer: &[u64]) -> Laid
-    ensures { λ r. ⌜ r ≡ laid-answer (answer-laid-out (rows-in (now («node_rows» .entry))) (now (answer .entry))) ⌝ }
+fn rows_of_answer(node_rows: &[u64], answer: &[u64]) -> Laid
+    ensures { λ r. ⌜ r ≡ laid-answer (rows-of-answer (rows-in (now («node_rows» .entry))) (now (answer .entry))) ⌝ }
 {
     if !shaped(node_rows, answer) {
         return Laid::Refused;
@@ -633,4 +615,14 @@ pub fn check_answer(node_rows: &[u64], answer: &[u64]) -> Laid
     } else {
         Laid::Refused
     }
+}
+
+// Whether extract could lay out these rows. How deep they stand is tested first, by a loop: what comes after it calls itself down the rows.
+pub fn check_answer(node_rows: &[u64], answer: &[u64]) -> Laid
+    ensures { λ r. ⌜ r ≡ laid-answer (answer-laid-out (rows-in (now («node_rows» .entry))) (now (answer .entry))) ⌝ }
+{
+    if !no_deeper(answer) {
+        return Laid::Refused;
+    }
+    rows_of_answer(node_rows, answer)
 }

@@ -16,14 +16,14 @@ ghost use Rattle.print.specs.told.Places.{StmtAt, names-ahead};
 ghost use Rattle.print.specs.told.Pieces.{let-opening, tuple-opening, comma, tuple-closing, brace-opening, brace-closing, side-opening, arm-opening, arm-closing, arms-closing};
 ghost use Rattle.print.specs.told.Writers.{TreeWritten, ValuesWritten, NamesWritten, LetWritten, HeadWritten, StmtWritten, ArmWritten, ArmsWritten, ResultsWritten, BindingsWritten, AnswerWritten, statement-ahead, SomeTree, SomeValues, SomeNames, SomeStmt, SomeArm, SomeArms, SomeResults, SomeAnswer};
 ghost use Rattle.print.specs.answerwriter.Bindings.{is-sign, key-of, binding-of, Readable};
-use fmt::writer::Text;
+use fmt::writer::Pos;
 use words::layout::BRANCH_ROW;
 use words::layout::KINDS;
 use words::layout::LET;
 use words::layout::NAME;
 use words::layout::RESULT;
 use words::layout::SELECT_OR_ROW;
-use words::tokens::Run;
+use words::tokens::tree_end;
 
 const LINE_FEED: u8 = 10;
 
@@ -38,12 +38,6 @@ pub enum Binding {
     Let(u64, usize),
     // The switch, the place of the first name, how many names and arms there are, and whether the last arm is the default.
     Match(Switch, usize, usize, usize, bool),
-}
-
-// The place after the words that were read, and the place after the text that was written.
-struct Pos {
-    next: usize,
-    to: usize,
 }
 
 // ---- what stands before, between and after parts
@@ -188,11 +182,7 @@ fn tree(rows: &[u64], words: &[u64], at: usize, out: &mut [u8], dry: bool, to: u
     requires { ⌜ SomeTree (rows-in (now rows)) (now words) at ⌝ }
     ensures { λ r. ⌜ TreeWritten (rows-in (now (rows .entry))) (now (words .entry)) at dry (now (out .entry)) to (now (out .exit)) (r .next) (r .to) ⌝ }
 {
-    let Text::Ends(next, end) = fmt::writer::write_tree(rows, words, at, out, dry, to) else {
-        // Not met: a tree stands here.
-        return Pos { next: at, to };
-    };
-    Pos { next, to: end }
+    fmt::writer::expression(rows, words, at, out, dry, to)
 }
 
 // n values as a tuple.
@@ -273,10 +263,7 @@ fn read_binding(words: &[u64], at: usize) -> Binding
     if kind == LET {
         return Binding::Let(w / KINDS, key);
     }
-    let Run::Ends(first) = words::tokens::end_of(words, key) else {
-        // Not met: where a match stands its key does.
-        return Binding::Let(w / KINDS, key);
-    };
+    let first = tree_end(words, key);
     let bound = names_end(words, first) - first;
     let count = (w / KINDS) as usize - 1 - bound;
     if kind == BRANCH_ROW {

@@ -1,6 +1,7 @@
 // Printing an answer from its rows, for callers: 13 is decided first, then the text is measured, 14 decided, and the text written.
 mod answers;
 mod answerwriter;
+pub mod depth;
 pub mod lines;
 
 ghost use mathlib.Core.Path.{_≡_};

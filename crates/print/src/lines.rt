@@ -5,10 +5,14 @@ ghost use mathlib.Core.Bool.{true, false};
 ghost use Prim.Native.Nat.{_+_, _<_};
 ghost use lib.ListN.{length, getD};
 ghost use Rattle.fmt.specs.emit.Writing.{Writes};
+ghost use Rattle.fmt.specs.shapes.Places.{Stands};
 ghost use Rattle.print.specs.lines.Refusal.{refusal-text};
 ghost use Rattle.print.specs.lines.Line.{starts-line, line-of, line-answer, bytes-left, opening, closing, Wrote};
 use crate::answerwriter::let_opening;
-use fmt::writer::Text;
+use fmt::checked::Checked;
+use fmt::checked::tree_ok;
+use fmt::writer::Pos;
+use fmt::writer::expression;
 use words::layout::CLASSES;
 use words::layout::KINDS;
 use words::layout::LET;
@@ -58,17 +62,19 @@ fn put_closing(out: &mut [u8], dry: bool, to: usize, w: u64) -> usize
 }
 
 // The line of the row at `at`, from the start of `out`; where `dry` it is only measured.
-fn write_line(rows: &[u64], answer: &[u64], at: usize, out: &mut [u8], dry: bool) -> Text
+fn write_line(rows: &[u64], answer: &[u64], at: usize, out: &mut [u8], dry: bool) -> Pos
     requires { ⌜ (at < length (now answer)) × (true ≡ starts-line (getD (now answer) at 0)) ⌝ }
-    ensures { λ r. ⌜ Wrote (now (rows .entry)) (now (answer .entry)) at dry (now (out .entry)) (now (out .exit)) r ⌝ }
+    requires { ⌜ Stands (now rows) (now answer) (at + 1) ⌝ }
+    ensures { λ r. ⌜ Wrote (now (rows .entry)) (now (answer .entry)) at dry (now (out .entry)) (now (out .exit)) (r .next) (r .to) ⌝ }
 {
     let w = answer[at];
     let start = put_opening(rows, out, dry, w);
-    let Text::Ends(next, to) = fmt::writer::write_tree(rows, answer, at + 1, out, dry, start) else {
-        return Text::Broken;
-    };
-    let end = put_closing(out, dry, to, w);
-    Text::Ends(next, end)
+    let p = expression(rows, answer, at + 1, out, dry, start);
+    let end = put_closing(out, dry, p.to, w);
+    Pos {
+        next: p.next,
+        to: end,
+    }
 }
 
 // The line of the let or the result whose row stands at `at`. Where there is none, or `out` is too short for it, nothing is written.
@@ -79,17 +85,15 @@ pub fn line_at(rows: &[u64], answer: &[u64], at: usize, out: &mut [u8]) -> Line
     if !begins(answer, at) {
         return Line::Broken;
     }
-    let Text::Ends(next, size) = write_line(rows, answer, at, out, true) else {
+    let Checked::Ends(_) = tree_ok(rows, answer, at + 1) else {
         return Line::Broken;
     };
-    if size > out.len() {
+    let measured = write_line(rows, answer, at, out, true);
+    if measured.to > out.len() {
         return Line::NoRoom;
     }
-    let Text::Ends(_, _) = write_line(rows, answer, at, out, false) else {
-        // Not met: the line was measured.
-        return Line::Broken;
-    };
-    Line::Text(size, next)
+    let written = write_line(rows, answer, at, out, false);
+    Line::Text(written.to, written.next)
 }
 
 // The line for a refusal, by 01's number and the record: as much of it as there is room for, and the place after it.

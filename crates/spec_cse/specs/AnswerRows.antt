@@ -1,6 +1,6 @@
 -- Answer rows as words (01, "Turned down", refusals 12 and 13): an answer in its order, one word for each expression occurrence, each let, each match, each
 -- match name, each arm or default, and each result or arm value, each before what stands below it. Assumes nothing.
-use Prim.Native.Nat.{ℕ, zero, suc, _+_, _-_, _/_, _%_}
+use Prim.Native.Nat.{ℕ, zero, suc, _+_, _-_, _/_, _%_, max}
 use mathlib.Core.Bool.{Bool, true, false, _&&_, _||_, cond}
 use mathlib.Core.List.{List, [], _∷_, _++_}
 use lib.IntN.{pos}
@@ -232,8 +232,31 @@ references-ok rows a =
     all-different b && in-scope (list-names rows) b (a .inters) [] (a .results)
 
 -- the words are the rows of an answer over the symbols of these node rows
-unfoldable pub answer-laid-out : List Row → List ℕ → Bool
+unfoldable pub rows-of-answer : List Row → List ℕ → Bool
 unfolding answer-of answer-words number-in name-in eq-bytes intermediates-ok trees-ok references-ok
-answer-laid-out rows ws =
+rows-of-answer rows ws =
     let a = answer-of (name-in rows) 0 ws in
     eq-bytes (answer-words (number-in rows) a) ws && (intermediates-ok (a .inters) && (trees-ok (a .results) && references-ok rows a))
+
+-- how deep rows stand below one another
+unfoldable mutual
+  pub span-depth : Span → ℕ
+  span-depth (span w l) = suc (spans-depth l)
+
+  pub spans-depth : Spans → ℕ
+  spans-depth no-span = 0
+  spans-depth (spans p l) = max (span-depth p) (spans-depth l)
+
+-- How deep extract lays any: no tree of an answer has more nodes than a list may have, 1,024, and so stands no deeper than that; above it stand the row that it
+-- is below, and for each of at most 8 arms around it the arm's row and its match's.
+abbrev pub deepest : ℕ
+deepest = 1041
+
+unfoldable pub no-deeper : List ℕ → Bool
+unfolding read-spans spans-depth
+no-deeper ws = leb (spans-depth (read-spans ws)) deepest
+
+-- rows that extract could lay out
+unfoldable pub answer-laid-out : List Row → List ℕ → Bool
+unfolding no-deeper rows-of-answer
+answer-laid-out rows ws = no-deeper ws && rows-of-answer rows ws

@@ -1,3 +1,4 @@
+pub mod Examples
 pub mod Residues
 pub mod Measure
 pub mod Factors
@@ -5,6 +6,7 @@ pub mod ReplaceValue
 pub mod Coefficient
 pub mod DivisorValue
 pub mod Names
+pub mod OutsideSize
 pub mod Counts
 pub mod Hits
 pub mod Products

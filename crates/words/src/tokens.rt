@@ -1,11 +1,11 @@
 // Trees as words, one u64 a node before its operands (Tokens): how many trees the words are, where a tree ends, and whether two trees are equal. Each function
-// takes any words at all and answers Broken where a word lacks operands.
+// takes any words at all and answers Broken where a word lacks operands, but for `tree_end`.
 ghost use mathlib.Core.Path.{_≡_};
 ghost use Prim.Native.Nat.{_+_, _≤_};
 ghost use lib.ListN.{length, take, drop};
 ghost use Rattle.spec_tree.specs.Bytes.{eq-bytes};
 ghost use Rattle.spec_tree.specs.Tokens.{takes, trees-in, run-at, same-at};
-ghost use Rattle.words.specs.tokens.Answers.{count-answer, end-answer, same-answer};
+ghost use Rattle.words.specs.tokens.Answers.{count-answer, end-answer, There, EndsAt, same-answer};
 use crate::layout::CONST;
 use crate::layout::KINDS;
 
@@ -67,6 +67,20 @@ pub fn end_of(tokens: &[u64], at: usize) -> Run
         i += 1;
     }
     Run::Ends(i)
+}
+
+// The same where a caller knows that the tree is there.
+pub fn tree_end(tokens: &[u64], at: usize) -> usize
+    requires { ⌜ There (now tokens) at ⌝ }
+    ensures { λ r. ⌜ EndsAt (now (tokens .entry)) at r ⌝ }
+{
+    let mut next = at;
+    let mut due: usize = 1;
+    while due > 0 {
+        due = due - 1 + operand_count(tokens[next]) as usize;
+        next += 1;
+    }
+    next
 }
 
 // Whether the n words from i on are those from j on.

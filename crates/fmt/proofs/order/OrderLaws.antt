@@ -3,7 +3,7 @@
 use Prim.Native.Nat.{ℕ, zero, suc, _<_}
 use native.Mathlib.Omega.{arith}
 use mathlib.Core.Path.{_≡_, refl, sym, _∙_, ap, ap₂, subst}
-use mathlib.Core.Bool.{Bool, true, false}
+use mathlib.Core.Bool.{Bool, true, false, cond}
 use mathlib.Core.Logic.{_⊎_, inl, inr, ⊎-elim}
 use mathlib.Core.List.{List, [], _∷_}
 use borrow.Author.Tests.{eqb-true, eqb-false, ltb-true, ltb-false, lt-ltb}
@@ -158,3 +158,12 @@ latest-of-all s (t ∷ l) (suc i) h = latest-of-all (later s t) l i (omega arith
 pub latest-joins : (s t : List ℕ) (l : List (List ℕ)) → latest (later s t) l ≡ later s (latest t l)
 latest-joins s t [] = refl
 latest-joins s t (u ∷ l) = ap (λ (r : List ℕ). latest r l) (later-of-three s t u) ∙ latest-joins s (later t u) l
+
+-- a text that comes before another comes before the later of the two
+pub before-later : (s t : List ℕ) → before s (later s t) ≡ before s t
+unfolding later
+before-later s t = go (before s t) refl
+  where
+    go : (b : Bool) → before s t ≡ b → before s (cond b t s) ≡ b
+    go true e = e
+    go false e = not-before-itself s

@@ -30,8 +30,7 @@ use Rattle.laws.proofs.cse.SizeCount.{total-size}
 use Rattle.fmt.specs.lengths.Room.{number-fits, numbers-fit}
 use Rattle.fmt.proofs.lengths.Leaves.{symbol-short}
 use Rattle.fmt.proofs.lengths.Whole.{text-fits}
-use Rattle.rounds.proofs.kept.Passing.{first-fits, rest-fits}
-use Rattle.guarantee.proofs.passing.Trees.{Fits-all, tree-same, xname-ok, expressions-fit}
+use Rattle.guarantee.proofs.passing.Trees.{Fits-all, tree-same, xname-ok, passes-fit}
 use Rattle.guarantee.proofs.passing.Steps.{Ok-state, roots-fit, extract-all-ok, reciprocals-ok}
 use Rattle.guarantee.proofs.passing.FlatRows.{answer-rows, few-roots, flat-rows-most}
 
@@ -67,8 +66,8 @@ module _ (k : ℕ) (h : k ≤ 1024) where
   unfolding holds-all
   all-short [] f t = tt
   all-short (x ∷ l) f t = (
-    text-fits x (subst T (sym (tree-same x)) (first-fits symbol-ok x l f)) (small-numbers x (and-left (holds known x) (holds-all known l) t)),
-    all-short l (rest-fits symbol-ok x l f) (and-right (holds known x) (holds-all known l) t),
+    text-fits x (subst T (sym (tree-same x)) (f .0 .0)) (small-numbers x (and-left (holds known x) (holds-all known l) t)),
+    all-short l (f .1) (and-right (holds known x) (holds-all known l) t),
   )
 
 numbered-long : (k top : ℕ) (l : List Binding) → Numbered k top (let-names l) → k + length l ≡ top
@@ -178,7 +177,7 @@ flat-text-most es h a e =
     let more = roots-more t in
     let next = numbered-long 0 (t .next) (t .lets) (N .numbered) in
     let top : t .next ≤ 1024 = omega arith in
-    let good = reciprocals-ok false s (good-at Ok-state (extract-all false 0 es) s (P .rounds) (extract-all-ok false 0 es (expressions-fit es (passed es h)))) in
+    let good = reciprocals-ok false s (good-at Ok-state (extract-all false 0 es) s (P .rounds) (extract-all-ok false 0 es (passes-fit es h))) in
     let short = all-short (t .next) top (roots t) (roots-fit t good) (roots-known some-reading (λ s. true) 0 (λ n. 0) vs t N) in
     let x = roots-lines t (names-short 0 (t .next) top (t .lets) (N .numbered)) short in
     let y = text-lines es a P in

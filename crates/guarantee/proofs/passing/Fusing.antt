@@ -1,4 +1,4 @@
--- Fusion keeps what 13 asks of statements and results but for the widths of arms (01, "Scoped fusion", "Turned down": 13). Assumes nothing.
+-- Fusion keeps what 13 asks of statements and results but for the widths of arms, and arms nest no deeper than scopes (01, "Scoped fusion", "Turned down": 13). Assumes nothing.
 use Prim.Native.Nat.{ℕ, zero, suc}
 use native.Mathlib.Omega.{arith}
 use mathlib.Core.Path.{_≡_, refl, sym, _∙_, ap, subst}
@@ -10,7 +10,6 @@ use Rattle.spec_tree.specs.Outcome.{Outcome, ok, refused, _>>=_}
 use Rattle.spec_tree.specs.Tree.{mname, Tree, Forest, Sym, Const, Op, nil, _◂_, operands}
 use Rattle.spec_tree.specs.Kinds.{is-switch, arity-ok}
 use Rattle.spec_tree.specs.Facts.{all-outer}
-use Rattle.spec_tree.specs.Passes.{symbol-ok}
 use Rattle.spec_tree.proofs.Formed.{operand-count}
 use Rattle.spec_rewrite.specs.Rewrite.{replace-outside-arms}
 use Rattle.spec_cse.specs.Extract.{Binding, State, roots, extract-all, reciprocals, among, distinct}
@@ -23,37 +22,38 @@ use Rattle.laws.proofs.cse.Outcomes.{Good, then-good, good-ok, good-at}
 use Rattle.laws.proofs.cse.SortCount.{Every, sorted-every}
 use Rattle.laws.proofs.cse.SwitchLaws.{length-columns}
 use Rattle.laws.proofs.cse.ScopeRoom.{or-no-room, or-not-held}
-use Rattle.rounds.proofs.kept.Passing.{none-fit, one-fits, first-fits, rest-fits}
-use Rattle.guarantee.proofs.passing.Trees.{Fits, Fits-all, mname-ok, kind-fits, operands-fit, head-fits, tail-fits, list-fits, all-outer-fit, outside-fits}
+use Rattle.guarantee.proofs.passing.Trees.{Fits, Fits-all, kind-fits, operands-fit, head-fits, tail-fits, list-fits, all-outer-fit, outside-fits}
 use Rattle.guarantee.proofs.passing.Steps.{Ok-lets, Ok-state, roots-fit, extract-all-ok, reciprocals-ok}
 use Rattle.laws.proofs.cse.PassesLaws.{arity-of}
 
--- ---- what 13 asks, but for the widths of arms
+-- ---- what 13 asks, but for the widths of arms, with arms nested at most so deep
 
 abbrev mutual
-  pub Ok-stmt : Intermediate → Type 0
-  Ok-stmt (Let n e) = T (let-name n) × Fits e
-  Ok-stmt (Match k key ns arms) = (T (is-switch k) × T (arity-ok k (suc (arm-count arms)))) × (Fits key × ((T (leb 1 (length ns)) × T (match-names ns)) × Ok-arms arms))
+  pub Ok-stmt : Intermediate → ℕ → Type 0
+  Ok-stmt (Let a e) n = T (let-name a) × Fits e
+  Ok-stmt (Match k key ns arms) n =
+      (T (is-switch k) × T (arity-ok k (suc (arm-count arms)))) × (Fits key × ((T (leb 1 (length ns)) × T (match-names ns)) × Ok-arms arms n))
 
-  pub Ok-stmts : Intermediates → Type 0
-  Ok-stmts end = Unit {0}
-  Ok-stmts (step s l) = Ok-stmt s × Ok-stmts l
+  pub Ok-stmts : Intermediates → ℕ → Type 0
+  Ok-stmts end n = Unit {0}
+  Ok-stmts (step s l) n = Ok-stmt s n × Ok-stmts l n
 
-  pub Ok-arms : Arms → Type 0
-  Ok-arms no-arm = Unit {0}
-  Ok-arms (arm s vs l) = (Ok-stmts s × Fits-all vs) × Ok-arms l
+  pub Ok-arms : Arms → ℕ → Type 0
+  Ok-arms no-arm n = Unit {0}
+  Ok-arms (arm s vs l) zero = ⊥
+  Ok-arms (arm s vs l) (suc n) = (Ok-stmts s n × Fits-all vs) × Ok-arms l (suc n)
 
-abbrev Oks : List Intermediate → Type 0
-Oks l = Every Ok-stmt l
+abbrev Oks : ℕ → List Intermediate → Type 0
+Oks n l = Every (λ s. Ok-stmt s n) l
 
-block-ok : (l : List Intermediate) → Oks l → Ok-stmts (block l)
+block-ok : (n : ℕ) (l : List Intermediate) → Oks n l → Ok-stmts (block l) n
 unfolding block
-block-ok [] h = tt
-block-ok (s ∷ l) h = (h .0, block-ok l (h .1))
+block-ok n [] h = tt
+block-ok n (s ∷ l) h = (h .0, block-ok n l (h .1))
 
-oks-append : (l : List Intermediate) (s : Intermediate) → Oks l → Ok-stmt s → Oks (l ++ (s ∷ []))
-oks-append [] s h t = (t, tt)
-oks-append (u ∷ l) s h t = (h .0, oks-append l s (h .1) t)
+oks-append : (n : ℕ) (l : List Intermediate) (s : Intermediate) → Oks n l → Ok-stmt s n → Oks n (l ++ (s ∷ []))
+oks-append n [] s h t = (t, tt)
+oks-append n (u ∷ l) s h t = (h .0, oks-append n l s (h .1) t)
 
 -- ---- switches
 
@@ -68,11 +68,11 @@ Ok-switches (s ∷ l) = Ok-switch s × Ok-switches l
 distinct-fit : (seen l : List Tree) → Fits-all l → Fits-all (distinct seen l)
 unfolding distinct
 distinct-fit seen [] h = h
-distinct-fit seen (t ∷ l) h = go (among t seen) (distinct-fit seen l (rest-fits symbol-ok t l h)) (distinct-fit (t ∷ seen) l (rest-fits symbol-ok t l h))
+distinct-fit seen (t ∷ l) h = go (among t seen) (distinct-fit seen l (h .1)) (distinct-fit (t ∷ seen) l (h .1))
   where
     go : (b : Bool) → Fits-all (distinct seen l) → Fits-all (distinct (t ∷ seen) l) → Fits-all (elim b [ true ↦ distinct seen l | false ↦ t ∷ distinct (t ∷ seen) l ])
     go true g k = g
-    go false g k = one-fits symbol-ok t (distinct (t ∷ seen) l) (first-fits symbol-ok t l h) k
+    go false g k = (h .0, k)
 
 operands-count : (f : Forest) → length (operands f) ≡ operand-count f
 unfolding operands operand-count
@@ -95,11 +95,11 @@ switch-step k q f l false g w h = h
 switches-ok : (l : List Tree) → Fits-all l → Ok-switches (switches l)
 unfolding switches
 switches-ok [] h = tt
-switches-ok (Sym n ∷ l) h = switches-ok l (rest-fits symbol-ok (Sym n) l h)
-switches-ok (Const c ∷ l) h = switches-ok l (rest-fits symbol-ok (Const c) l h)
-switches-ok (Op k nil ∷ l) h = switches-ok l (rest-fits symbol-ok (Op k nil) l h)
+switches-ok (Sym n ∷ l) h = switches-ok l (h .1)
+switches-ok (Const c ∷ l) h = switches-ok l (h .1)
+switches-ok (Op k nil ∷ l) h = switches-ok l (h .1)
 switches-ok (Op k (q ◂ f) ∷ l) h =
-    switch-step k q f (switches l) (is-switch k) (λ t. t) (first-fits symbol-ok (Op k (q ◂ f)) l h) (switches-ok l (rest-fits symbol-ok (Op k (q ◂ f)) l h))
+    switch-step k q f (switches l) (is-switch k) (λ t. t) (h .0) (switches-ok l (h .1))
 
 collected-ok : (rs : List Tree) → Fits-all rs → Ok-switches (collect-switches rs)
 unfolding collect-switches
@@ -144,15 +144,15 @@ Fit-lists (l ∷ ls) = Fits-all l × Fit-lists ls
 
 first-fit : (ls : List (List Tree)) → Fit-lists ls → Fits-all (first-arms ls)
 unfolding first-arms
-first-fit [] h = none-fit symbol-ok
+first-fit [] h = tt
 first-fit ([] ∷ ls) h = first-fit ls (h .1)
-first-fit ((t ∷ ts) ∷ ls) h = one-fits symbol-ok t (first-arms ls) (first-fits symbol-ok t ts (h .0)) (first-fit ls (h .1))
+first-fit ((t ∷ ts) ∷ ls) h = (h .0 .0, first-fit ls (h .1))
 
 rest-fit : (ls : List (List Tree)) → Fit-lists ls → Fit-lists (rest-arms ls)
 unfolding rest-arms
 rest-fit [] h = tt
 rest-fit ([] ∷ ls) h = (h .0, rest-fit ls (h .1))
-rest-fit ((t ∷ ts) ∷ ls) h = (rest-fits symbol-ok t ts (h .0), rest-fit ls (h .1))
+rest-fit ((t ∷ ts) ∷ ls) h = (h .0 .1, rest-fit ls (h .1))
 
 columns-fit : (n : ℕ) (ls : List (List Tree)) → Fit-lists ls → Fit-lists (columns n ls)
 unfolding columns
@@ -179,113 +179,125 @@ module _ (m : Tree) (i : ℕ) where
   results-replaced : (l : List Tree) → Fits-all l → Fits-all (replace-in-results m (mname i) l)
   unfolding replace-in-results
   results-replaced [] h = h
-  results-replaced (t ∷ l) h =
-      one-fits symbol-ok (replace-outside-arms m (mname i) t) (replace-in-results m (mname i) l) (outside-fits m (mname i) (mname-ok i) t (first-fits symbol-ok t l h))
-      (results-replaced l (rest-fits symbol-ok t l h))
+  results-replaced (t ∷ l) h = (outside-fits m i t (h .0), results-replaced l (h .1))
 
-  stmts-replaced : (l : List Intermediate) → Oks l → Oks (replace-in-stmts m (mname i) l)
+  stmts-replaced : (n : ℕ) (l : List Intermediate) → Oks n l → Oks n (replace-in-stmts m (mname i) l)
   unfolding replace-in-stmts
-  stmts-replaced [] h = tt
-  stmts-replaced (Let a e ∷ l) h = ((h .0 .0, outside-fits m (mname i) (mname-ok i) e (h .0 .1)), stmts-replaced l (h .1))
-  stmts-replaced (Match k key ns arms ∷ l) h = ((h .0 .0, (outside-fits m (mname i) (mname-ok i) key (h .0 .1 .0), h .0 .1 .1)), stmts-replaced l (h .1))
+  stmts-replaced n [] h = tt
+  stmts-replaced n (Let a e ∷ l) h = ((h .0 .0, outside-fits m i e (h .0 .1)), stmts-replaced n l (h .1))
+  stmts-replaced n (Match k key ns arms ∷ l) h = ((h .0 .0, (outside-fits m i key (h .0 .1 .0), h .0 .1 .1)), stmts-replaced n l (h .1))
 
-abbrev Ok-work : Work → Type 0
-Ok-work w = Fits-all (w .results) × Oks (w .inters)
+abbrev Ok-work : ℕ → Work → Type 0
+Ok-work n w = Fits-all (w .results) × Oks n (w .inters)
 
-abbrev Ok-scope : Scoped → Type 0
-Ok-scope a = Fits-all (a .results) × Oks (a .inters)
+abbrev Ok-scope : ℕ → Scoped → Type 0
+Ok-scope n a = Fits-all (a .results) × Oks n (a .inters)
 
-named-ok : (ms : List Switch) (w : Work) → Ok-work w → Ok-work (name-members ms w)
+named-ok : (n : ℕ) (ms : List Switch) (w : Work) → Ok-work n w → Ok-work n (name-members ms w)
 unfolding name-members
-named-ok [] w h = h
-named-ok (s ∷ ms) w h =
-    named-ok ms
+named-ok n [] w h = h
+named-ok n (s ∷ ms) w h =
+    named-ok n ms
     (record { results = replace-in-results (s .tree) (mname (w .next)) (w .results); inters = replace-in-stmts (s .tree) (mname (w .next)) (w .inters); next = suc (w .next); extracted = w .extracted })
-    (results-replaced (s .tree) (w .next) (w .results) (h .0), stmts-replaced (s .tree) (w .next) (w .inters) (h .1))
+    (results-replaced (s .tree) (w .next) (w .results) (h .0), stmts-replaced (s .tree) (w .next) n (w .inters) (h .1))
 
 -- ---- scopes
 
+-- of a scope that so many more may stand in, itself counted
+abbrev Ok-inner : ℕ → Scoped → Type 0
+Ok-inner zero a = ⊥
+Ok-inner (suc n) a = Ok-scope n a
+
 -- as many arms as columns
-abbrev Ok-armed : List (List Tree) → Armed → Type 0
-Ok-armed ls a = Ok-arms (a .arms) × (arm-count (a .arms) ≡ length ls)
+abbrev Ok-armed : ℕ → List (List Tree) → Armed → Type 0
+Ok-armed n ls a = Ok-arms (a .arms) n × (arm-count (a .arms) ≡ length ls)
 
-module _ (scope : ℕ → List Tree → Outcome Scoped) (fine : (n : ℕ) (es : List Tree) → Fits-all es → Good Ok-scope (scope n es)) where
-  armed-ok : (start : ℕ) (ls : List (List Tree)) → Fit-lists ls → Good (Ok-armed ls) (scope-arms scope start ls)
+one-more : (n : ℕ) (a : Scoped) (arms : Arms) → Ok-inner n a → Ok-arms arms n → Ok-arms (arm (block (a .inters)) (a .results) arms) n
+one-more zero a arms g k = g
+one-more (suc n) a arms g k = ((block-ok n (a .inters) (g .1), g .0), k)
+
+module _ (n : ℕ) (scope : ℕ → List Tree → Outcome Scoped) (fine : (i : ℕ) (es : List Tree) → Fits-all es → Good (Ok-inner n) (scope i es)) where
+  armed-ok : (start : ℕ) (ls : List (List Tree)) → Fit-lists ls → Good (Ok-armed n ls) (scope-arms scope start ls)
   unfolding scope-arms arm-count
-  armed-ok start [] h = good-ok (Ok-armed []) (record { arms = no-arm; next = start; extracted = 0 }) (tt, refl)
+  armed-ok start [] h = good-ok (Ok-armed n []) (record { arms = no-arm; next = start; extracted = 0 }) (tt, refl)
   armed-ok start (es ∷ ls) h =
-      then-good Ok-scope (Ok-armed (es ∷ ls)) (scope start es) (fine start es (h .0)) _
-      (λ a g. then-good (Ok-armed ls) (Ok-armed (es ∷ ls)) (scope-arms scope (a .next) ls) (armed-ok (a .next) ls (h .1)) _
-      (λ r k. good-ok (Ok-armed (es ∷ ls)) _ (((block-ok (a .inters) (g .1), g .0), k .0), ap suc (k .1))))
+      then-good (Ok-inner n) (Ok-armed n (es ∷ ls)) (scope start es) (fine start es (h .0)) _
+      (λ a g. then-good (Ok-armed n ls) (Ok-armed n (es ∷ ls)) (scope-arms scope (a .next) ls) (armed-ok (a .next) ls (h .1)) _
+      (λ r k. good-ok (Ok-armed n (es ∷ ls)) _ (one-more n a (r .arms) g (k .0), ap suc (k .1))))
 
-  group-ok : (g : Group) (w : Work) → Ok-group g → Ok-work w → Good Ok-work (fuse-group scope g w)
+  group-ok : (g : Group) (w : Work) → Ok-group g → Ok-work n w → Good (Ok-work n) (fuse-group scope g w)
   unfolding fuse-group
   group-ok g w f h =
       let v = name-members (members g) w in
-      let H = named-ok (members g) w h in
-      let n = length (g .first .arms) in
-      let l = columns n (arms-of-members (members g)) in
-      then-good (Ok-armed l) Ok-work (scope-arms scope (v .next) l) (armed-ok (v .next) l (columns-fit n (arms-of-members (members g)) (arms-fit (members g) (members-ok g f)))) _
-      (λ a k. good-ok Ok-work _ (
+      let H = named-ok n (members g) w h in
+      let c = length (g .first .arms) in
+      let l = columns c (arms-of-members (members g)) in
+      then-good (Ok-armed n l) (Ok-work n) (scope-arms scope (v .next) l) (armed-ok (v .next) l (columns-fit c (arms-of-members (members g)) (arms-fit (members g) (members-ok g f)))) _
+      (λ a k. good-ok (Ok-work n) _ (
         H .0,
-        oks-append (v .inters) (Match (g .first .kind) (g .first .key) (member-names (w .next) (members g)) (a .arms)) (H .1) (
+        oks-append n (v .inters) (Match (g .first .kind) (g .first .key) (member-names (w .next) (members g)) (a .arms)) (H .1) (
           (
             f .0 .0 .0,
-            subst (λ (c : ℕ). T (arity-ok (g .first .kind) (suc c))) (sym (k .1 ∙ length-columns n (arms-of-members (members g)))) (f .0 .0 .1),
+            subst (λ (m : ℕ). T (arity-ok (g .first .kind) (suc m))) (sym (k .1 ∙ length-columns c (arms-of-members (members g)))) (f .0 .0 .1),
           ),
           (f .0 .1 .0, ((one-named (w .next) g, member-named (w .next) (members g)), k .0)),
         ),
       ))
 
-  groups-ok : (gs : List Group) (w : Work) → Ok-groups gs → Ok-work w → Good Ok-work (fuse-groups scope gs w)
+  groups-ok : (gs : List Group) (w : Work) → Ok-groups gs → Ok-work n w → Good (Ok-work n) (fuse-groups scope gs w)
   unfolding fuse-groups
-  groups-ok [] w f h = good-ok Ok-work w h
-  groups-ok (g ∷ gs) w f h = then-good Ok-work Ok-work (fuse-group scope g w) (group-ok g w (f .0) h) _ (λ v k. groups-ok gs v (f .1) k)
+  groups-ok [] w f h = good-ok (Ok-work n) w h
+  groups-ok (g ∷ gs) w f h = then-good (Ok-work n) (Ok-work n) (fuse-group scope g w) (group-ok g w (f .0) h) _ (λ v k. groups-ok gs v (f .1) k)
 
-binds-ok : (l : List Binding) → Ok-lets l → Oks (binds l)
+binds-ok : (n : ℕ) (l : List Binding) → Ok-lets l → Oks n (binds l)
 unfolding binds
-binds-ok [] h = tt
-binds-ok (b ∷ l) h = (h .0, binds-ok l (h .1))
+binds-ok n [] h = tt
+binds-ok n (b ∷ l) h = (h .0, binds-ok n l (h .1))
 
-begun-ok : (x : ℕ) (s : State) → Ok-state s → Ok-work (unfused x s)
+begun-ok : (n x : ℕ) (s : State) → Ok-state s → Ok-work n (unfused x s)
 unfolding unfused
-begun-ok x s h = (h .0, binds-ok (s .lets) (h .1))
+begun-ok n x s h = (h .0, binds-ok n (s .lets) (h .1))
 
-finish-ok : (w : Work) → Ok-work w → Good Ok-scope (finish w)
+finish-ok : (n : ℕ) (w : Work) → Ok-work n w → Good (Ok-scope n) (finish w)
 unfolding finish
-finish-ok w h = go (topo-sort-intermediates (w .inters)) refl
+finish-ok n w h = go (topo-sort-intermediates (w .inters)) refl
   where
-    go : (o : Outcome (List Intermediate)) → topo-sort-intermediates (w .inters) ≡ o → Good {A = Scoped} Ok-scope (o >>= λ l. ok (record { inters = l; results = w .results; next = w .next; extracted = w .extracted }))
-    go (ok l) e = good-ok Ok-scope _ (h .0, sorted-every Ok-stmt (w .inters) l e (h .1))
+    go : (o : Outcome (List Intermediate)) → topo-sort-intermediates (w .inters) ≡ o → Good {A = Scoped} (Ok-scope n) (o >>= λ l. ok (record { inters = l; results = w .results; next = w .next; extracted = w .extracted }))
+    go (ok l) e = good-ok (Ok-scope n) _ (h .0, sorted-every (λ s. Ok-stmt s n) (w .inters) l e (h .1))
     go (refused i) e = (unfold Good in tt)
 
 fused-ok :
-    (scope : ℕ → List Tree → Outcome Scoped) → ((n : ℕ) (es : List Tree) → Fits-all es → Good Ok-scope (scope n es)) → (x : ℕ) (s : State) → Ok-state s → Good Ok-work (fuse-all scope x s)
+    (n : ℕ) (scope : ℕ → List Tree → Outcome Scoped) → ((i : ℕ) (es : List Tree) → Fits-all es → Good (Ok-inner n) (scope i es)) → (x : ℕ) (s : State) → Ok-state s
+    → Good (Ok-work n) (fuse-all scope x s)
 unfolding fuse-all
-fused-ok scope fine x s h = groups-ok scope fine (groups-from [] (collect-switches (roots s))) (unfused x s) (grouped-ok [] (collect-switches (roots s)) tt (collected-ok (roots s) (roots-fit s h))) (begun-ok x s h)
+fused-ok n scope fine x s h =
+    groups-ok n scope fine (groups-from [] (collect-switches (roots s))) (unfused x s)
+    (grouped-ok [] (collect-switches (roots s)) tt (collected-ok (roots s) (roots-fit s h))) (begun-ok n x s h)
 
-scope-ok : (fuel left : ℕ) (scoped : Bool) (next : ℕ) (es : List Tree) → Fits-all es → Good Ok-scope (cse-scope fuel left scoped next es)
+scope-ok : (fuel left : ℕ) (scoped : Bool) (next : ℕ) (es : List Tree) → Fits-all es → Good (Ok-inner fuel) (cse-scope fuel left scoped next es)
 unfolding cse-scope
 scope-ok zero left scoped next es h = (unfold Good in tt)
 scope-ok (suc fuel) left false next es h =
-    then-good Ok-state Ok-scope (extract-all false next es) (extract-all-ok false next es h) _
-    (λ s g. finish-ok (unfused (length (s .lets)) (reciprocals false s)) (begun-ok (length (s .lets)) (reciprocals false s) (reciprocals-ok false s g)))
+    then-good Ok-state (Ok-scope fuel) (extract-all false next es) (extract-all-ok false next es h) _
+    (λ s g. finish-ok fuel (unfused (length (s .lets)) (reciprocals false s)) (begun-ok fuel (length (s .lets)) (reciprocals false s) (reciprocals-ok false s g)))
 scope-ok (suc fuel) left true next es h =
-    or-no-room (Good Ok-scope) (unfold Good in tt) (opens left next es) _
-    (then-good Ok-state Ok-scope (extract-all true next es) (extract-all-ok true next es h) _
+    or-no-room (Good (Ok-scope fuel)) (unfold Good in tt) (opens left next es) _
+    (then-good Ok-state (Ok-scope fuel) (extract-all true next es) (extract-all-ok true next es h) _
     (λ s g.
     let m = left-after left (length (s .lets)) (reciprocals true s) in
     let inner : ℕ → List Tree → Outcome Scoped = λ n l. cse-scope fuel m true n l in
-    or-not-held (Good Ok-scope) (unfold Good in tt) inner left (length (s .lets)) (reciprocals true s)
-    (then-good Ok-work Ok-scope (fuse-all inner (length (s .lets)) (reciprocals true s))
-    (fused-ok inner (λ n l k. scope-ok fuel m true n l k) (length (s .lets)) (reciprocals true s) (reciprocals-ok true s g)) _ (λ w k. finish-ok w k))))
+    or-not-held (Good (Ok-scope fuel)) (unfold Good in tt) inner left (length (s .lets)) (reciprocals true s)
+    (then-good (Ok-work fuel) (Ok-scope fuel) (fuse-all inner (length (s .lets)) (reciprocals true s))
+    (fused-ok fuel inner (λ n l k. scope-ok fuel m true n l k) (length (s .lets)) (reciprocals true s) (reciprocals-ok true s g)) _ (λ w k. finish-ok fuel w k))))
 
--- both forms
-pub answer-ok : (scoped : Bool) (es : List Tree) → Fits-all es → (a : Answer) → answer scoped es ≡ ok a → Ok-stmts (a .inters) × Fits-all (a .results)
+abbrev Ok-answer : Answer → Type 0
+Ok-answer a = Ok-stmts (a .inters) 8 × Fits-all (a .results)
+
+-- both forms: nine scopes can be open, so arms nest at most 8 deep
+pub answer-ok : (scoped : Bool) (es : List Tree) → Fits-all es → (a : Answer) → answer scoped es ≡ ok a → Ok-stmts (a .inters) 8 × Fits-all (a .results)
 answer-ok scoped es f a e =
-    good-at (λ (b : Answer). Ok-stmts (b .inters) × Fits-all (b .results)) (answer scoped es) a e (unfold answer in
-    then-good Ok-scope (λ (b : Answer). Ok-stmts (b .inters) × Fits-all (b .results)) (cse-scope scopes-open area-rows scoped 0 es) (scope-ok scopes-open area-rows scoped 0 es f) _
-    (λ b h. good-ok (λ (b : Answer). Ok-stmts (b .inters) × Fits-all (b .results)) (as-answer b) (given b h)))
+    good-at Ok-answer (answer scoped es) a e (unfold answer scopes-open in
+    then-good (Ok-inner 9) Ok-answer (cse-scope 9 area-rows scoped 0 es) (scope-ok 9 area-rows scoped 0 es f) _ (λ b h. good-ok Ok-answer (as-answer b) (given b h)))
   where
-    given : (b : Scoped) → Ok-scope b → Ok-stmts (as-answer b .inters) × Fits-all (as-answer b .results)
-    given b h = (unfold as-answer in (block-ok (b .inters) (h .1), h .0))
+    given : (b : Scoped) → Ok-scope 8 b → Ok-answer (as-answer b)
+    given b h = (unfold as-answer in (block-ok 8 (b .inters) (h .1), h .0))

@@ -16,7 +16,7 @@ use Rattle.spec_rewrite.proofs.Names.{holds, holds-each, holds-all, holds-appen
 use Rattle.spec_cse.specs.Answer.{Intermediate, Intermediates, Arms, Answer, Let, Match, end, step, no-arm, arm, names, symbols, all-symbols, elem}
 use Rattle.spec_cse.specs.Scope.{answer}
 use Rattle.spec_cse.specs.Demand.{bound-stmts, all-different, known, in-scope, stmt-in-scope, arms-in-scope, well-scoped}
-use Rattle.spec_cse.specs.AnswerRows.{intermediates-ok, list-names, references-ok, answer-words, answer-laid-out}
+use Rattle.spec_cse.specs.AnswerRows.{intermediates-ok, list-names, references-ok, answer-words, rows-of-answer}
 use Rattle.laws.proofs.cse.Symbols.{elem-here, elem-later, holds-all-at}
 use Rattle.laws.proofs.cse.AnyTable.{table-names-and-values}
 use Rattle.laws.proofs.answer.LaidOut.{rows-laid}
@@ -133,6 +133,6 @@ extract-references t scoped a e = scoped-references t a (table-names-and-values 
 -- its rows pass 13 where its expressions, names and counts are those of an answer
 pub extract-laid :
     (t : Table) (scoped : Bool) (a : Answer) → answer scoped (trees t) ≡ ok a → T (intermediates-ok (a .inters)) → T (trees-ok (a .results))
-    → T (answer-laid-out (t .rows) (answer-words (number-in (t .rows)) a))
+    → T (rows-of-answer (t .rows) (answer-words (number-in (t .rows)) a))
 extract-laid t scoped a e o v =
     rows-laid (t .rows) (answer-words (number-in (t .rows)) a) (record { answer = a; words = refl; parts = o; results = v; references = extract-references t scoped a e })

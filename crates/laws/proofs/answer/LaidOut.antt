@@ -11,7 +11,7 @@ use Rattle.spec_tree.specs.Tokens.{number-in, name-in}
 use Rattle.spec_tree.proofs.Logic.{and-left, and-right, and-both}
 use Rattle.spec_tree.proofs.TreeLaws.{eq-bytes-sound, eq-bytes-refl}
 use Rattle.spec_cse.specs.Answer.{Answer}
-use Rattle.spec_cse.specs.AnswerRows.{answer-words, answer-of, intermediates-ok, references-ok, answer-laid-out}
+use Rattle.spec_cse.specs.AnswerRows.{answer-words, answer-of, intermediates-ok, references-ok, rows-of-answer}
 use Rattle.laws.specs.answer.Fitting.{all-fitting, stmts-fitting, numbered-in}
 use Rattle.laws.proofs.answer.ReadBack.{answer-back}
 use Rattle.laws.proofs.answer.ListNames.{numbered-back, answer-fits}
@@ -24,8 +24,8 @@ pub record RowsOf (rows : List Row) (ws : List ℕ) : Type 0 where
   pub results : T (trees-ok (answer .results))
   pub references : T (references-ok rows answer)
 
-pub laid-rows : (rows : List Row) (ws : List ℕ) → T (answer-laid-out rows ws) → RowsOf rows ws
-unfolding answer-laid-out
+pub laid-rows : (rows : List Row) (ws : List ℕ) → T (rows-of-answer rows ws) → RowsOf rows ws
+unfolding rows-of-answer
 laid-rows rows ws h =
     let a = answer-of (name-in rows) 0 ws in
     let same = eq-bytes (answer-words (number-in rows) a) ws in
@@ -61,8 +61,8 @@ read-back rows a h g = answer-back (number-in rows) (name-in rows) (numbered-in 
 abbrev laid-by : List Row → List ℕ → Answer → Bool
 laid-by rows ws a = eq-bytes (answer-words (number-in rows) a) ws && (intermediates-ok (a .inters) && (trees-ok (a .results) && references-ok rows a))
 
-pub rows-laid : (rows : List Row) (ws : List ℕ) → RowsOf rows ws → T (answer-laid-out rows ws)
-unfolding answer-laid-out
+pub rows-laid : (rows : List Row) (ws : List ℕ) → RowsOf rows ws → T (rows-of-answer rows ws)
+unfolding rows-of-answer
 rows-laid rows ws r =
     let a = uncounted (r .answer) in
     let refs : T (references-ok rows a) = subst (λ (b : Bool). T b) (sym (same-references rows (r .answer))) (r .references) in

@@ -12,7 +12,7 @@ use lib.Dec.{T, eqb, leb, ltb}
 use Rattle.spec_tree.specs.Rows.{Row}
 use Rattle.spec_tree.specs.Tokens.{kind-of, below-of, number-in}
 use Rattle.spec_cse.specs.Demand.{bound-stmts, all-different}
-use Rattle.spec_cse.specs.AnswerRows.{stands-below, answer-words, references-ok, answer-laid-out}
+use Rattle.spec_cse.specs.AnswerRows.{stands-below, answer-words, references-ok, rows-of-answer}
 use Rattle.laws.specs.answer.Fitting.{numbered-in}
 use Rattle.laws.specs.answer.Fronts.{AnswerRows}
 use Rattle.laws.specs.answer.Seen.{span-words, entered, names-bind, match-binds, binds, ended, bound-by, use-ok, seen, a-binding, occurs, once, Ended, Unended, Left}
@@ -376,19 +376,19 @@ module _ (rows : List Row) (ws : List ℕ) where
   never true f = absurd (f tt)
   never false f = refl
 
-  shape : T (answer-laid-out rows ws) → AnswerRows rows ws
+  shape : T (rows-of-answer rows ws) → AnswerRows rows ws
   shape h =
       let r = laid-rows rows ws h in
       let f = answer-fits rows (r .answer) (r .parts) (r .results) (r .references) in
       record { answer = r .answer; parts = r .parts; results = r .results; parts-fit = f .0; results-fit = f .1; words = sym (r .words) }
 
-  pub laid-unshaped : (AnswerRows rows ws → ⊥) → false ≡ answer-laid-out rows ws
-  laid-unshaped n = never (answer-laid-out rows ws) (λ h. n (shape h))
+  pub laid-unshaped : (AnswerRows rows ws → ⊥) → false ≡ rows-of-answer rows ws
+  laid-unshaped n = never (rows-of-answer rows ws) (λ h. n (shape h))
 
-  pub laid-shaped : AnswerRows rows ws → (once ws && seen ws 0 (length ws)) ≡ answer-laid-out rows ws
+  pub laid-shaped : AnswerRows rows ws → (once ws && seen ws 0 (length ws)) ≡ rows-of-answer rows ws
   unfolding shape
   laid-shaped a =
-      same (once ws && seen ws 0 (length ws)) (answer-laid-out rows ws)
+      same (once ws && seen ws 0 (length ws)) (rows-of-answer rows ws)
       (λ h. rows-laid rows ws (record { answer = a .answer; words = sym (a .words); parts = a .parts; results = a .results; references = subst (λ (b : Bool). T b) (sym (references a)) h }))
       (λ h.
       let r = laid-rows rows ws h in

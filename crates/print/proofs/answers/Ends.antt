@@ -15,7 +15,7 @@ use Rattle.fmt.specs.declared.checked.Checked.the-variants as checked
 use Rattle.laws.specs.answer.First.{first-word}
 use Rattle.laws.specs.answer.Fronts.{TreeFront, ValuesFront, StmtFront, StmtsFront, ArmsFront, HeadFront, AnswerRows, Results}
 use Rattle.laws.proofs.answer.CodeLaws.{run-within, tree-ends, tree-none, tree-unfit, tree-unnamed, let-broken, let-ends, match-broken, match-ends, arm-valueless, arm-ends, answer-some, answer-not}
-use Rattle.spec_cse.specs.AnswerRows.{answer-laid-out}
+use Rattle.spec_cse.specs.AnswerRows.{rows-of-answer, no-deeper, answer-laid-out}
 use Rattle.laws.specs.answer.Seen.{bound-by, seen, once, Ended, Unended}
 use Rattle.laws.proofs.answer.WayLaws.{laid-unshaped, laid-shaped}
 use Rattle.print.specs.answers.Said.{Stands, Says, Counts, Heads, Tells, Spans, Ways, laid-answer}
@@ -27,6 +27,7 @@ use Rattle.print.specs.declared.answers.Opening.{Opening}
 use Rattle.print.specs.declared.answers.Opening.the-variants as opening
 use Rattle.print.specs.declared.answers.Step.{Step}
 use Rattle.print.specs.declared.answers.Step.the-variants as step
+use Rattle.print.specs.declared.answers.Laid.{Laid}
 use Rattle.print.specs.declared.answers.Laid.the-variants.{Answer, Refused}
 
 -- ---- an answer by its case
@@ -143,21 +144,31 @@ module _ (ws : List ℕ) (c i at : ℕ) (p : Step) (says : Ways ws c i at p) whe
 -- ---- the whole
 
 module _ (rows : List Row) (ws : List ℕ) (b : Bool) (tells : Tells (AnswerRows rows ws) b) where
-  pub unshaped : b ≡ false → Refused ≡ laid-answer (answer-laid-out rows ws)
+  pub unshaped : b ≡ false → Refused ≡ laid-answer (rows-of-answer rows ws)
   unfolding laid-answer
   unshaped e = ap laid-answer (laid-unshaped rows ws (subst (λ (x : Bool). Tells (AnswerRows rows ws) x) e tells))
 
   shape : b ≡ true → AnswerRows rows ws
   shape e = subst (λ (x : Bool). Tells (AnswerRows rows ws) x) e tells
 
-  pub repeats : b ≡ true → once ws ≡ false → Refused ≡ laid-answer (answer-laid-out rows ws)
+  pub repeats : b ≡ true → once ws ≡ false → Refused ≡ laid-answer (rows-of-answer rows ws)
   unfolding laid-answer
   repeats e o = ap laid-answer (sym (ap (λ (x : Bool). x && seen ws 0 (length ws)) o) ∙ laid-shaped rows ws (shape e))
 
-  pub unscoped : b ≡ true → once ws ≡ true → seen ws 0 (length ws) ≡ false → Refused ≡ laid-answer (answer-laid-out rows ws)
+  pub unscoped : b ≡ true → once ws ≡ true → seen ws 0 (length ws) ≡ false → Refused ≡ laid-answer (rows-of-answer rows ws)
   unfolding laid-answer
   unscoped e o s = ap laid-answer (sym (ap₂ _&&_ o s) ∙ laid-shaped rows ws (shape e))
 
-  pub laid : b ≡ true → once ws ≡ true → seen ws 0 (length ws) ≡ true → Answer ≡ laid-answer (answer-laid-out rows ws)
+  pub laid : b ≡ true → once ws ≡ true → seen ws 0 (length ws) ≡ true → Answer ≡ laid-answer (rows-of-answer rows ws)
   unfolding laid-answer
   laid e o s = ap laid-answer (sym (ap₂ _&&_ o s) ∙ laid-shaped rows ws (shape e))
+
+module _ (rows : List Row) (ws : List ℕ) where
+  pub too-deep : no-deeper ws ≡ false → Refused ≡ laid-answer (answer-laid-out rows ws)
+  unfolding laid-answer answer-laid-out
+  too-deep e = ap (λ (b : Bool). laid-answer (b && rows-of-answer rows ws)) (sym e)
+
+  -- rows that are no deeper are decided by what they are
+  pub laid-by-rows : {r : Laid} → no-deeper ws ≡ true → r ≡ laid-answer (rows-of-answer rows ws) → r ≡ laid-answer (answer-laid-out rows ws)
+  unfolding answer-laid-out
+  laid-by-rows e f = f ∙ ap (λ (b : Bool). laid-answer (b && rows-of-answer rows ws)) (sym e)

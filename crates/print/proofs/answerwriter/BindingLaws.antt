@@ -13,7 +13,7 @@ use lib.Dec.{eqb}
 use Rattle.spec_tree.specs.Tree.{Name, Tree}
 use Rattle.spec_tree.specs.Rows.{Row}
 use Rattle.spec_tree.specs.Tokens.{tokens, number-in, name-code, run-at, kind-of}
-use Rattle.words.specs.tokens.Answers.{end-answer}
+use Rattle.words.specs.tokens.Answers.{end-answer, There}
 use Rattle.words.specs.declared.tokens.Run.{Run}
 use Rattle.words.specs.declared.tokens.Run.the-variants as run
 use Rattle.spec_cse.specs.Answer.{Intermediate, Arms}
@@ -103,14 +103,9 @@ module _ (rows : List Row) (ws : List ℕ) (at : ℕ) where
       let a : names-ahead (drop first ws) ≡ length ns = ap (λ (x : ℕ). names-ahead (drop x ws)) e ∙ p .ahead in
       record { inside = omega (arith, e, r, p .inside); counted = omega (arith, a, p .below) }
 
-  pub key-whole : (s : Intermediate) → StmtAt rows ws at s → (getD ws at 0 % 64 ≡ 29 → ⊥) → run.Broken ≡ end-answer (at + 1) (run-at ws (at + 1)) → ⊥
-  unfolding end-answer
-  key-whole (answer.Let n e) h k f = k (let-parts rows ws n e at h .kind)
-  key-whole (answer.Match j key ns arms) h k f =
-      let p = match-parts rows ws j key ns arms at h in
-      let g : run.Broken ≡ run.Ends (at + 1 + length (tokens number key)) = f ∙ ap (end-answer (at + 1)) (tree-run rows ws key (p .key-here)) in
-      let z : _≡_ {A = ℕ} 0 1 = cc in
-      omega arith
+  pub key-there : (s : Intermediate) → StmtAt rows ws at s → (getD ws at 0 % 64 ≡ 29 → ⊥) → There ws (at + 1)
+  key-there (answer.Let n e) h k = absurd (k (let-parts rows ws n e at h .kind))
+  key-there (answer.Match j key ns arms) h k = (length (tokens number key), tree-run rows ws key (match-parts rows ws j key ns arms at h .key-here))
 
   module _ (first after bound count : ℕ) (e : run.Ends first ≡ end-answer (at + 1) (run-at ws (at + 1))) (f : after ≡ first + names-ahead (drop first ws)) (b : bound ≡ after - first) (c : count ≡ getD ws at 0 / 64 - 1 - bound) where
     counts : (k : ℕ) (key : Tree) (ns : List Name) (arms : Arms) → MatchParts rows ws k key ns arms at → (first ≡ at + 1 + length (tokens number key)) × (bound ≡ length ns) × (count ≡ arm-count arms)

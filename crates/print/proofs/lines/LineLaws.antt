@@ -16,13 +16,9 @@ use Rattle.spec_tree.specs.Tokens.{run-at}
 use Rattle.spec_tree.specs.text.Text.{display}
 use Rattle.fmt.specs.emit.Writing.{Writes}
 use Rattle.fmt.proofs.emit.WriteLaws.{writes-then, writes-as}
-use Rattle.fmt.specs.shapes.Places.{tree-here, Stands}
-use Rattle.fmt.proofs.shapes.PlaceLaws.{run-is-size}
-use Rattle.fmt.proofs.shapes.NodeLaws.{names}
-use Rattle.fmt.specs.writer.Answers.{write-answer}
-use Rattle.fmt.specs.declared.writer.Text.{Text}
-use Rattle.fmt.specs.declared.writer.Text.the-variants.{Ends, Broken}
-use Rattle.fmt.proofs.writer.Told.{ends-told, broken-told}
+use Rattle.fmt.specs.checked.Check.{rows-in, tree-in, checked-answer}
+use Rattle.fmt.specs.shapes.Places.{tree-here, Stands, Passes}
+use Rattle.fmt.specs.declared.checked.Checked.the-variants as checked
 use Rattle.print.specs.lines.Line.{Spoken, starts-line, row-line, line-by, line-of, line-answer, bytes-left, opening, closing, Wrote}
 use Rattle.print.specs.declared.lines.Line.{Line}
 use Rattle.print.specs.declared.lines.Line.the-variants as line
@@ -69,15 +65,15 @@ module _ (rows ws : List ℕ) (at : ℕ) where
       go true f = absurd (clash true refl f)
       go false f = unfold line-by in refl
 
-  no-tree : (Stands rows ws (at + 1) → ⊥) → line-of rows ws at ≡ none
-  unfolding line-of tree-here
-  no-tree S = go (starts-line row) (run-at ws (at + 1)) refl (tree-ok tree) (λ t. t)
+  no-tree : checked.Broken ≡ checked-answer (at + 1) (run-at ws (at + 1)) (tree-ok (tree-in (rows-in rows) ws (at + 1))) → line-of rows ws at ≡ none
+  unfolding line-of tree-here checked-answer
+  no-tree e = go (starts-line row) (run-at ws (at + 1)) (tree-ok (tree-in (rows-in rows) ws (at + 1))) e
     where
-      go : (b : Bool) (o : Option ℕ) → run-at ws (at + 1) ≡ o → (g : Bool) → (T g → T (tree-ok tree)) → line-by b o g at text ≡ none
-      go false o f g h = unfold line-by in refl
-      go true none f g h = unfold line-by in refl
-      go true (some n) f false h = unfold line-by in refl
-      go true (some n) f true h = absurd (S (record { run = f ∙ ap some (run-is-size (names rows) ws (at + 1) n f); good = h tt }))
+      go : (b : Bool) (o : Option ℕ) (g : Bool) → checked.Broken ≡ checked-answer (at + 1) o g → line-by b o g at text ≡ none
+      go false o g e = unfold line-by in refl
+      go true none g e = unfold line-by in refl
+      go true (some n) false e = unfold line-by in refl
+      go true (some n) true e = absurd (let z : _≡_ {A = ℕ} 0 1 = cc in omega arith)
 
   -- ---- what is promised
 
@@ -93,8 +89,8 @@ module _ (rows ws : List ℕ) (at : ℕ) where
     pub not-begun : false ≡ starts-line (getD ws at 0) → Promised (line-of rows ws at) old line.Broken old
     not-begun e = broken (line-of rows ws at) old old (no-start e) refl
 
-    pub not-measured : (new : List ℕ) → Wrote rows ws at true old new Broken → Promised (line-of rows ws at) old line.Broken new
-    not-measured new W = broken (line-of rows ws at) old new (no-tree (W .0)) (W .1 refl)
+    pub not-there : checked.Broken ≡ checked-answer (at + 1) (run-at ws (at + 1)) (tree-ok (tree-in (rows-in rows) ws (at + 1))) → Promised (line-of rows ws at) old line.Broken old
+    not-there e = broken (line-of rows ws at) old old (no-tree e) refl
 
     too-short : (s : Spoken) → length old < length (s .text) → Promised (some s) old line.NoRoom old
     unfolding line-answer bytes-left
@@ -104,39 +100,29 @@ module _ (rows ws : List ℕ) (at : ℕ) where
     unfolding line-answer bytes-left
     fitting s new h e = rw (le-ltb (length old) (length (s .text)) h) (refl, e)
 
-    module _ (b : true ≡ starts-line (getD ws at 0)) (mid : List ℕ) (next end : ℕ) (W : Wrote rows ws at true old mid (Ends next end)) where
+    module _ (b : true ≡ starts-line (getD ws at 0)) (S : Stands rows ws (at + 1)) (mid : List ℕ) (next end : ℕ) (W : Wrote rows ws at true old mid next end) where
       pub no-room : length mid < end → Promised (line-of rows ws at) old line.NoRoom mid
       no-room h =
-          let m : mid ≡ old = W .2 .leaves in
-          let l : length old < length text = omega (arith, h, W .2 .ends, ap length m) in
+          let m : mid ≡ old = W .1 .leaves in
+          let l : length old < length text = omega (arith, h, W .1 .ends, ap length m) in
           subst (λ (x : List ℕ). Promised (line-of rows ws at) old line.NoRoom x) (sym m)
-          (subst (λ (o : Option Spoken). Promised o old line.NoRoom old) (sym (line-here b (W .0))) (too-short (record { text = text; next = at + 1 + size tree }) l))
+          (subst (λ (o : Option Spoken). Promised o old line.NoRoom old) (sym (line-here b S)) (too-short (record { text = text; next = at + 1 + size tree }) l))
 
-      pub not-written : (new : List ℕ) → Wrote rows ws at false mid new Broken → ⊥
-      not-written new X = X .0 (W .0)
-
-      pub written : (new : List ℕ) (next' end' : ℕ) → end ≤ length mid → Wrote rows ws at false mid new (Ends next' end') → Promised (line-of rows ws at) old (line.Text end next) new
-      written new next' end' h X =
-          let m : mid ≡ old = W .2 .leaves in
-          let l : length text ≤ length old = omega (arith, h, W .2 .ends, ap length m) in
-          let n : length text ≡ end = omega (arith, W .2 .ends, l) in
+      pub written : (new : List ℕ) (after last : ℕ) → end ≤ length mid → Wrote rows ws at false mid new after last → Promised (line-of rows ws at) old (line.Text last after) new
+      written new after last h X =
+          let m : mid ≡ old = W .1 .leaves in
+          let l : length text ≤ length old = omega (arith, h, W .1 .ends, ap length m) in
+          let n : last ≡ length text = omega (arith, X .1 .ends, l, ap length m) in
           let q : new ≡ text ++ drop (length text) old =
-          X .2 .leaves ∙ (ap (λ (x : List ℕ). sets x 0 text) m ∙ (sets-eq text old 0 (omega arith) ∙ ap (λ (i : ℕ). text ++ drop i old) (let z : 0 + length text ≡ length text = omega arith in z))) in
+          X .1 .leaves ∙ (ap (λ (x : List ℕ). sets x 0 text) m ∙ (sets-eq text old 0 (omega arith) ∙ ap (λ (i : ℕ). text ++ drop i old) (let z : 0 + length text ≡ length text = omega arith in z))) in
           let s : Spoken = record { text = text; next = at + 1 + size tree } in
-          let r : Promised (line-of rows ws at) old (line.Text (length text) (at + 1 + size tree)) new = subst (λ (o : Option Spoken). Promised o old (line.Text (length text) (at + 1 + size tree)) new) (sym (line-here b (W .0))) (fitting s new l q) in
-          subst (λ (k : ℕ). Promised (line-of rows ws at) old (line.Text end k) new) (sym (W .1)) (subst (λ (k : ℕ). Promised (line-of rows ws at) old (line.Text k (at + 1 + size tree)) new) n r)
+          rw (n, X .0) (subst (λ (o : Option Spoken). Promised o old (line.Text (length text) (at + 1 + size tree)) new) (sym (line-here b S)) (fitting s new l q))
 
   -- ---- what `write_line` leaves
 
-  module _ (dry : Bool) (old mid : List ℕ) (to : ℕ) (O : Writes dry old 0 (opening rows (getD ws at 0)) mid to) (new : List ℕ) where
-    pub told-broken : Broken ≡ write-answer rows ws (at + 1) dry mid to .answer → new ≡ write-answer rows ws (at + 1) dry mid to .bytes → Wrote rows ws at dry old new Broken
-    told-broken e q =
-        let p = broken-told rows ws (at + 1) dry mid to new e q in
-        (p .0, λ d. p .1 ∙ (O .leaves ∙ (rw d)))
-
-    pub told-ends :
-        true ≡ starts-line (getD ws at 0) → (next place : ℕ) → Ends next place ≡ write-answer rows ws (at + 1) dry mid to .answer → new ≡ write-answer rows ws (at + 1) dry mid to .bytes
-        → (last : List ℕ) (end : ℕ) → Writes dry new place (closing (getD ws at 0)) last end → Wrote rows ws at dry old last (Ends next end)
-    told-ends b next place e q last end C =
-        let p = ends-told rows ws (at + 1) dry mid to new next place e q in
-        (p .0, p .1 .token, writes-as (opening rows row ++ (display tree ++ closing row)) text (line-parts rows row tree b) (writes-then O (writes-then (p .1 .written) C)))
+  pub told :
+      true ≡ starts-line (getD ws at 0) → (dry : Bool) (old mid : List ℕ) (to : ℕ) → Writes dry old 0 (opening rows (getD ws at 0)) mid to
+      → (new : List ℕ) (next place : ℕ) → Passes dry mid (at + 1) to tree (display tree) new next place
+      → (last : List ℕ) (end : ℕ) → Writes dry new place (closing (getD ws at 0)) last end → Wrote rows ws at dry old last next end
+  told b dry old mid to O new next place P last end C =
+      (P .token, writes-as (opening rows row ++ (display tree ++ closing row)) text (line-parts rows row tree b) (writes-then O (writes-then (P .written) C)))

@@ -18,9 +18,7 @@ use Rattle.spec_cse.specs.AnswerRows.{let-row, result-row}
 use Rattle.fmt.specs.emit.Writing.{Writes, low-bytes}
 use Rattle.fmt.specs.symbols.Symbols.{symbol-text}
 use Rattle.print.specs.told.Pieces.{let-opening}
-use Rattle.fmt.specs.shapes.Places.{tree-here, Stands}
-use Rattle.fmt.specs.declared.writer.Text.{Text}
-use Rattle.fmt.specs.declared.writer.Text.the-variants as writer
+use Rattle.fmt.specs.shapes.Places.{tree-here}
 use Rattle.print.specs.declared.lines.Line.{Line}
 use Rattle.print.specs.declared.lines.Line.the-variants as line
 
@@ -69,12 +67,10 @@ opening rows w = cond (eqb w result-row) [] (let-opening (low-bytes (symbol-text
 unfoldable pub closing : ℕ → List ℕ
 closing w = cond (eqb w result-row) (10 ∷ []) (bytes ";\n")
 
--- a line was written, or measured where `dry`; or there is no tree after its row, and then measuring leaves all as it was
-abbrev pub Wrote : List ℕ → List ℕ → ℕ → Bool → List ℕ → List ℕ → Text → Type 0
-Wrote rows ws at dry old new (writer.Ends next last) =
-    Stands rows ws (at + 1) × (next ≡ at + 1 + size (tree-here rows ws (at + 1)))
-    × Writes dry old 0 (row-line (getD ws at 0) (tree-here rows ws (at + 1))) new last
-Wrote rows ws at dry old new writer.Broken = (Stands rows ws (at + 1) → ⊥) × (dry ≡ true → new ≡ old)
+-- a line was written, or measured where `dry`
+abbrev pub Wrote : List ℕ → List ℕ → ℕ → Bool → List ℕ → List ℕ → ℕ → ℕ → Type 0
+Wrote rows ws at dry old new next last =
+    (next ≡ at + 1 + size (tree-here rows ws (at + 1))) × Writes dry old 0 (row-line (getD ws at 0) (tree-here rows ws (at + 1))) new last
 
 -- ---- all lines from a place on, of at most so many, with so many bytes lent for each; none where one is missing before the words end, or is longer
 

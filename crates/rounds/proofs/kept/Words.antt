@@ -117,7 +117,7 @@ module _ (p : Name → Bool) where
   mutual
     unfolding taken well-formed operands-ok
 
-    taken-formed : (t : Tree) → T (taken p t) → T (well-formed t)
+    pub taken-formed : (t : Tree) → T (taken p t) → T (well-formed t)
     taken-formed (Sym n) h = tt
     taken-formed (Const c) h = tt
     taken-formed (Op k f) h =

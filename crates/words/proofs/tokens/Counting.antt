@@ -1,4 +1,4 @@
--- What the loops of `count_trees` and `end_of` keep, with no code in it. Assumes nothing.
+-- What the loops of `count_trees`, `end_of` and `tree_end` keep, with no code in it. Assumes nothing.
 use Prim.Native.Nat.{ℕ, suc, _+_, _-_, _≤_, _<_}
 use native.Mathlib.Omega.{arith}
 use mathlib.Core.Path.{_≡_, refl, sym, _∙_, ap}
@@ -8,7 +8,7 @@ use lib.ListN.{length, getD, drop, length-drop, drop-of-length-le}
 use lib.Seq.{drop-cons, drop-length}
 use Rattle.spec_tree.specs.Tokens.{takes, trees-in, words-of, run-at}
 use Rattle.spec_tree.proofs.TokenLaws.{complete-cons, broken-here, broken-end, complete-within, words-none, words-short}
-use Rattle.words.specs.tokens.Answers.{count-answer, end-answer}
+use Rattle.words.specs.tokens.Answers.{count-answer, end-answer, There}
 use Rattle.words.specs.declared.tokens.Trees.the-variants as trees
 use Rattle.words.specs.declared.tokens.Run.the-variants as run
 use Rattle.spec_tree.proofs.Lists.{place-before}
@@ -91,3 +91,23 @@ ending-ends {ws} {at} {i} {left} k h =
     let p : run.Ends (i + 0) ≡ end-answer at (run-at ws at) = rw e at (k .answer) in
     let q : i ≡ i + 0 = omega arith in
     ap run.Ends q ∙ p
+
+-- ---- where the tree is there
+
+there-whole : (ws : List ℕ) (at : ℕ) → There ws at → run.Broken ≡ end-answer at (run-at ws at) → ⊥
+unfolding end-answer
+there-whole ws at t e =
+    let f : run.Broken ≡ run.Ends (at + t .0) = e ∙ ap (end-answer at) (t .1) in
+    let z : _≡_ {A = ℕ} 0 1 = cc in
+    omega arith
+
+pub there-starts : {ws : List ℕ} {at : ℕ} → There ws at → Ending ws at at 1
+there-starts {ws} {at} t =
+    let n : length ws < at → ⊥ = λ h. there-whole ws at t (ending-past ws at h) in
+    ending-starts (omega arith)
+
+-- as many words as trees are still to come
+pub there-room : {ws : List ℕ} {at i left : ℕ} → There ws at → Ending ws at i left → left ≤ length ws - i
+there-room {ws} {at} {i} {left} t k =
+    let n : length ws - i < left → ⊥ = λ h. there-whole ws at t (ending-stops k h) in
+    omega arith

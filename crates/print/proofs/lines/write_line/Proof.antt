@@ -1,6 +1,5 @@
 -- `print::lines::write_line` meets its contract. Assumes nothing.
-use mathlib.Core.Path.{sym, _∙_}
-use Rattle.print.proofs.lines.LineLaws.{told-broken, told-ends}
+use Rattle.print.proofs.lines.LineLaws.{told}
 use borrow.Author.Needs.{needs}
 use Rattle.print.proofs.lines.write_line.Statement.{statement}
 use Rattle.print.proofs.lines.write_line.Tie as tie
@@ -14,10 +13,12 @@ write-line-spec =
     (λ c κs. search needs)
     (λ c. search needs)
     (λ c κs. search needs)
-    (λ c. search needs)
-    (λ c. search needs)
-    (λ c. search needs)
-    (λ c. told-broken (c .before .before .before .before .before .before .before .before .before .before .before .before .before .before .args .rows .now) (c .before .before .before .before .before .before .before .before .before .before .before .before .before .before .args .answer .now) (c .before .before .before .before .before .before .before .before .before .before .before .before .before .before .args .at) (c .before .before .before .before .before .before .before .before .before .before .before .before .before .before .args .dry) (c .before .before .before .before .before .before .before .before .before .before .before .before .before .before .args .out .now) _ _ (c .before .before .before .before .before .before .before .before .put-opening .ensures) _ (sym (c .enum-told .given .1) ∙ c .before .before .before .before .write-tree .ensures .0) (c .before .before .before .before .write-tree .ensures .1))
     (λ c κs. search needs)
     (λ c. search needs)
-    (λ c. told-ends (c .before .before .before .before .before .before .before .before .before .before .before .before .before .before .before .before .before .before .before .args .rows .now) (c .before .before .before .before .before .before .before .before .before .before .before .before .before .before .before .before .before .before .before .args .answer .now) (c .before .before .before .before .before .before .before .before .before .before .before .before .before .before .before .before .before .before .before .args .at) (c .before .before .before .before .before .before .before .before .before .before .before .before .before .before .before .before .before .before .before .args .dry) (c .before .before .before .before .before .before .before .before .before .before .before .before .before .before .before .before .before .before .before .args .out .now) _ _ (c .before .before .before .before .before .before .before .before .before .before .before .before .before .put-opening .ensures) _ (c .before .before .before .before .before .before .before .before .before .before .before .before .before .before .before .before .before .before .before .pre .1) _ _ (sym (c .before .before .before .before .before .next .given .1) ∙ c .before .before .before .before .before .before .before .before .before .write-tree .ensures .0) (c .before .before .before .before .before .before .before .before .before .write-tree .ensures .1) _ _ (c .before .before .put-closing .ensures)))
+    (λ c.
+    let start = c .before .before .before .before .before .before .before .before .before .before .before .before .before .before .before .before in
+    let at-put-opening = c .before .before .before .before .before .before .before .before .before .before in
+    let at-expression = c .before .before .before .before .before .before in
+    let at-put-closing = c .before .before in
+    told (start .args .rows .now) (start .args .answer .now) (start .args .at) (start .pre .0 .1) (start .args .dry)
+    (start .args .out .now) _ _ (at-put-opening .put-opening .ensures) _ _ _ (at-expression .expression .ensures) _ _ (at-put-closing .put-closing .ensures)))

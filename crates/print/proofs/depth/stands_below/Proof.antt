@@ -1,8 +1,8 @@
--- `print::answers::stands_below` meets its contract. Assumes nothing.
+-- `print::depth::stands_below` meets its contract. Assumes nothing.
 use native.Mathlib.Omega.{arith}
 use Rattle.laws.proofs.answer.WayLaws.{stands-none, stands-name, stands-let, stands-each, stands-many}
-use Rattle.print.proofs.answers.stands_below.Statement.{statement}
-use Rattle.print.proofs.answers.stands_below.Tie as tie
+use Rattle.print.proofs.depth.stands_below.Statement.{statement}
+use Rattle.print.proofs.depth.stands_below.Tie as tie
 
 pub stands-below-spec : {M : Type 1} → statement M
 stands-below-spec =
