@@ -1,27 +1,24 @@
 // What programs in other languages call. A slice goes in as a pointer and a length; an answer comes back as a number, and its values in a slice that the
 // caller lends, since an enum cannot pass.
 ghost use mathlib.Core.Path.{_≡_};
-ghost use mathlib.Core.Bool.{true, false};
+ghost use mathlib.Core.Bool.{true, false, _&&_};
 ghost use Prim.Native.Nat.{_≤_};
 ghost use lib.ListN.{length};
 ghost use Rattle.spec_sheet.specs.Call.{load-call};
 ghost use Rattle.spec_cse.specs.Call.{extract-call, table-after};
 ghost use Rattle.cse_flat.specs.Answers.{extraction-answer};
+ghost use Rattle.spec_cse.specs.AnswerRows.{no-deeper};
 ghost use Rattle.spec_program.specs.Print.{print-call, buffer-after};
 ghost use Rattle.print.specs.Printing.{printed};
 ghost use Rattle.fmt.specs.writer.Answers.{write-answer};
-ghost use Rattle.words.specs.words.Words.{tree-of, name-of};
-ghost use Rattle.replace.specs.closed.Closed.{endless};
-ghost use Rattle.replace.specs.replacing.Replacing.{replaced-words, replaceable};
-ghost use Rattle.replace.specs.Answers.{replacement, short-of-room};
+ghost use Rattle.replace.specs.Answers.{Leaves};
 ghost use Rattle.spec_rewrite.specs.Rewrite.{replace-divisor, replace-outside-arms};
-ghost use Rattle.words.specs.words.Answers.{rewriting};
 ghost use Rattle.capi.specs.Loads.{Loads};
 ghost use Rattle.capi.specs.Extracts.{extracted-number, extracted-answer, Extracts};
 ghost use Rattle.capi.specs.Prints.{Prints};
-ghost use Rattle.capi.specs.Texts.{Texts};
-ghost use Rattle.capi.specs.Replaces.{replaced-number, replaced-answer, Replaces};
-ghost use Rattle.capi.specs.Rewrites.{rewritten-number, rewritten-answer, Rewrites};
+ghost use Rattle.capi.specs.Texts.{text-by, Texts};
+ghost use Rattle.capi.specs.Replaces.{replace-call, replaced-number, replaced-answer, Replaces};
+ghost use Rattle.capi.specs.Rewrites.{rewrite-call, Rewrote, rewritten-number, rewritten-answer, Rewrites};
 use cse_flat::Extraction;
 use cse_flat::cse;
 use cse_scoped::cse_scoped;
@@ -30,11 +27,12 @@ use fmt::writer::write_tree;
 use load::Loaded;
 use load::load;
 use print::Printed;
+use print::depth::no_deeper;
 use print::print;
 use replace::Replaced;
 use replace::divisor::replace_divisor;
 use replace::outside::replace_outside_arms;
-use replace::replace;
+use replace::unchanged::replace_or_leave;
 use words::words::Rewritten;
 
 // 01's number for a rebuilt coefficient outside the constants.
@@ -151,6 +149,24 @@ pub extern "C" fn cse_print(rows: &[u64], answer: &[u64], out: &mut [u8], said: 
     }
 }
 
+// The text of the tree at a place of words that stand no deeper than an answer's: the writer calls itself down the tree.
+fn text_no_deeper(
+    rows: &[u64],
+    tokens: &[u64],
+    at: usize,
+    out: &mut [u8],
+    dry: bool,
+    to: usize,
+) -> Text
+    ensures { λ r. ⌜ (r ≡ text-by (no-deeper (now (tokens .entry))) (write-answer (now (rows .entry)) (now (tokens .entry)) at dry (now (out .entry)) to) (now (out .entry)) .answer)
+        × (now (out .exit) ≡ text-by (no-deeper (now (tokens .entry))) (write-answer (now (rows .entry)) (now (tokens .entry)) at dry (now (out .entry)) to) (now (out .entry)) .bytes) ⌝ }
+{
+    if !no_deeper(tokens) {
+        return Text::Broken;
+    }
+    write_tree(rows, tokens, at, out, dry, to)
+}
+
 // The text of the tree at a place of some words. 0 where there is such a tree: answer[0] is the place after its words, answer[1] the place after its text.
 #[no_mangle]
 pub extern "C" fn cse_text(
@@ -162,12 +178,13 @@ pub extern "C" fn cse_text(
     to: usize,
     answer: &mut [u64],
 ) -> u64
-    ensures { λ r. ⌜ Texts (write-answer (now (rows .entry)) (now (tokens .entry)) at dry (now (out .entry)) to) (now (out .entry)) (now (answer .entry)) r (now (out .exit)) (now (answer .exit)) ⌝ }
+    ensures { λ r. ⌜ Texts (text-by (no-deeper (now (tokens .entry))) (write-answer (now (rows .entry)) (now (tokens .entry)) at dry (now (out .entry)) to) (now (out .entry)))
+        (now (out .entry)) (now (answer .entry)) r (now (out .exit)) (now (answer .exit)) ⌝ }
 {
     if answer.len() < 2 {
         return NO_ANSWER;
     }
-    match write_tree(rows, tokens, at, out, dry, to) {
+    match text_no_deeper(rows, tokens, at, out, dry, to) {
         Text::Ends(next, end) => {
             answer[0] = next as u64;
             answer[1] = end as u64;
@@ -193,8 +210,50 @@ fn replace_told(got: Replaced, answer: &mut [u64]) -> u64
     }
 }
 
-// Each equal tree becomes a symbol, and so do the target's factors in a product. Where a coefficient is refused the trees are written as they were; what is
-// left in `places` is free.
+// Whether words and what is sought in them stand no deeper than an answer's: the rewritings call themselves down the words.
+fn both_no_deeper(tokens: &[u64], part: &[u64]) -> bool
+    ensures { λ r. ⌜ r ≡ (no-deeper (now (tokens .entry)) && no-deeper (now (part .entry))) ⌝ }
+{
+    if no_deeper(tokens) {
+        return no_deeper(part);
+    }
+    false
+}
+
+fn replace_no_deeper(
+    tokens: &[u64],
+    target: &[u64],
+    name: u64,
+    places: &mut [u64],
+    out: &mut [u64],
+) -> Replaced
+    ensures { λ r. ⌜ Leaves (replace-call (now (tokens .entry)) (now (target .entry)) name (length (now (places .entry))) (now (out .entry))) r (now (out .exit)) ⌝ }
+{
+    if both_no_deeper(tokens, target) {
+        return replace_or_leave(tokens, target, name, places, out);
+    }
+    Replaced::Broken
+}
+
+fn divisor_no_deeper(tokens: &[u64], divisor: &[u64], name: u64, out: &mut [u64]) -> Rewritten
+    ensures { λ r. ⌜ Rewrote (rewrite-call replace-divisor (now (tokens .entry)) (now (divisor .entry)) name (now (out .entry))) r (now (out .exit)) ⌝ }
+{
+    if both_no_deeper(tokens, divisor) {
+        return replace_divisor(tokens, divisor, name, out);
+    }
+    Rewritten::Broken
+}
+
+fn outside_no_deeper(tokens: &[u64], target: &[u64], name: u64, out: &mut [u64]) -> Rewritten
+    ensures { λ r. ⌜ Rewrote (rewrite-call replace-outside-arms (now (tokens .entry)) (now (target .entry)) name (now (out .entry))) r (now (out .exit)) ⌝ }
+{
+    if both_no_deeper(tokens, target) {
+        return replace_outside_arms(tokens, target, name, out);
+    }
+    Rewritten::Broken
+}
+
+// Each equal tree becomes a symbol, and so do the target's factors in a product. `places` has three words for each of the tokens; what is left there is free.
 #[no_mangle]
 pub extern "C" fn cse_replace(
     tokens: &[u64],
@@ -204,15 +263,13 @@ pub extern "C" fn cse_replace(
     out: &mut [u64],
     answer: &mut [u64],
 ) -> u64
-    ensures { λ r. ⌜ Replaces (replacement (replaceable (now (tokens .entry)) (now (target .entry)) name)
-        (short-of-room (now (tokens .entry)) (now (target .entry)) (length (now (places .entry))) (length (now (out .entry)))) (endless (tree-of (now (target .entry))) (name-of name))
-        (replaced-words (tree-of (now (target .entry))) (name-of name) (now (tokens .entry))) (now (tokens .entry)) (now (out .entry)))
+    ensures { λ r. ⌜ Replaces (replace-call (now (tokens .entry)) (now (target .entry)) name (length (now (places .entry))) (now (out .entry)))
         (now (out .entry)) (now (answer .entry)) r (now (out .exit)) (now (answer .exit)) ⌝ }
 {
     if answer.len() < 1 {
         return NO_ANSWER;
     }
-    let got = replace(tokens, target, name, places, out);
+    let got = replace_no_deeper(tokens, target, name, places, out);
     replace_told(got, answer)
 }
 
@@ -240,12 +297,12 @@ pub extern "C" fn cse_replace_divisor(
     out: &mut [u64],
     answer: &mut [u64],
 ) -> u64
-    ensures { λ r. ⌜ Rewrites (rewriting replace-divisor (now (tokens .entry)) (now (divisor .entry)) name (now (out .entry))) (now (out .entry)) (now (answer .entry)) r (now (out .exit)) (now (answer .exit)) ⌝ }
+    ensures { λ r. ⌜ Rewrites (rewrite-call replace-divisor (now (tokens .entry)) (now (divisor .entry)) name (now (out .entry))) (now (out .entry)) (now (answer .entry)) r (now (out .exit)) (now (answer .exit)) ⌝ }
 {
     if answer.len() < 1 {
         return NO_ANSWER;
     }
-    let got = replace_divisor(tokens, divisor, name, out);
+    let got = divisor_no_deeper(tokens, divisor, name, out);
     rewrite_told(got, answer)
 }
 
@@ -258,11 +315,11 @@ pub extern "C" fn cse_replace_outside_arms(
     out: &mut [u64],
     answer: &mut [u64],
 ) -> u64
-    ensures { λ r. ⌜ Rewrites (rewriting replace-outside-arms (now (tokens .entry)) (now (target .entry)) name (now (out .entry))) (now (out .entry)) (now (answer .entry)) r (now (out .exit)) (now (answer .exit)) ⌝ }
+    ensures { λ r. ⌜ Rewrites (rewrite-call replace-outside-arms (now (tokens .entry)) (now (target .entry)) name (now (out .entry))) (now (out .entry)) (now (answer .entry)) r (now (out .exit)) (now (answer .exit)) ⌝ }
 {
     if answer.len() < 1 {
         return NO_ANSWER;
     }
-    let got = replace_outside_arms(tokens, target, name, out);
+    let got = outside_no_deeper(tokens, target, name, out);
     rewrite_told(got, answer)
 }

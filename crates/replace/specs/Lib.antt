@@ -6,3 +6,4 @@ pub mod matching
 pub mod replacing
 pub mod divisor
 pub mod outside
+pub mod unchanged

@@ -7,6 +7,7 @@ mod factors;
 mod matching;
 pub mod outside;
 mod replaceable;
+pub mod unchanged;
 
 ghost use mathlib.Core.Path.{_≡_};
 ghost use mathlib.Core.List.{_++_};

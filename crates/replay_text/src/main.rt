@@ -120,14 +120,16 @@ fn say_tree(rows: &[u64], words: &[u64], out: &mut [u8]) {
     say_text(written, out);
 }
 
-// How many bytes an answer's text has, and the bytes lent.
+// How many bytes an answer's text has, or by which number it is refused, and the bytes lent.
 fn say_answer(rows: &[u64], words: &[u64], out: &mut [u8]) {
     fill(out);
-    let Printed::Bytes(n) = print(rows, words, out) else {
-        say_bytes(b"broken");
-        return;
-    };
-    say_number(n);
+    match print(rows, words, out) {
+        Printed::Bytes(n) => say_number(n),
+        Printed::Refused(q) => {
+            io::write_all(STDOUT_FILENO, b"refused ");
+            say_number(q as usize);
+        }
+    }
     say_bytes(out);
 }
 
@@ -161,7 +163,7 @@ fn say_words(answer: bool, rows: &[u64], words: &[u64], n: usize, out: &mut [u8]
 }
 
 fn say_line(line: &[u8], rows: &[u64]) {
-    let mut words = [0u64; 1024];
+    let mut words = [0u64; 16384];
     let mut out = [0u8; 4096];
     let n = read_words(line, &mut words);
     say_words(is_answer(line), rows, &words, n, &mut out);
@@ -196,7 +198,7 @@ fn start(list: &[u8], rows: &mut [u64]) {
 }
 
 fn main() {
-    let mut list = [0u8; 65536];
+    let mut list = [0u8; 262144];
     let n = io::read_full(STDIN_FILENO, &mut list);
     let mut rows = [0u64; 700];
     start(&list[..n], &mut rows);

@@ -9,10 +9,17 @@ pub cse-replace-spec : {M : Type 1} → statement M
 cse-replace-spec =
     tie.close
     (tie.spec
-    (λ c. no-room 1 _ _ _ (c .before .before .before .before .before .before .args .out .now) (c .before .before .before .before .before .before .args .answer .now) (c .if1 .taken))
+    (λ c.
+    let start = c .before .before .before .before .before .before in
+    no-room 1 _ _ _ (start .args .out .now) (start .args .answer .now) (c .if1 .taken))
     (λ c κs. search needs)
     (λ c κs. search needs)
     (λ c. search needs)
     (λ c. search needs)
     (λ c. search needs)
-    (λ c. is-called 1 replaced-number replaced-answer _ _ (c .before .before .before .before .before .before .before .before .before .before .before .before .before .before .before .before .before .args .out .now) (c .before .before .before .before .before .before .before .before .before .before .before .before .before .before .before .before .before .args .answer .now) (c .before .before .before .before .before .before .before .before .replace .result) _ _ _ (c .before .before .before .before .before .before .before .before .before .before .before .if1 .left) (c .before .before .before .before .before .before .before .before .replace .ensures) (c .before .before .replace-told .ensures)))
+    (λ c.
+    let start = c .before .before .before .before .before .before .before .before .before .before .before .before .before .before .before .before .before in
+    let at-if1 = c .before .before .before .before .before .before .before .before .before .before .before in
+    let at-replace-no-deeper = c .before .before .before .before .before .before .before .before in
+    let at-replace-told = c .before .before in
+    is-called 1 replaced-number replaced-answer _ _ (start .args .out .now) (start .args .answer .now) (at-replace-no-deeper .replace-no-deeper .result) _ _ _ (at-if1 .if1 .left) (at-replace-no-deeper .replace-no-deeper .ensures) (at-replace-told .replace-told .ensures)))

@@ -10,7 +10,9 @@ pub cse-text-spec : {M : Type 1} → statement M
 cse-text-spec =
     tie.close
     (tie.spec
-    (λ c. no-room 2 _ _ _ (c .before .before .before .before .before .args .out .now) (c .before .before .before .before .before .args .answer .now) (c .if1 .taken))
+    (λ c.
+    let start = c .before .before .before .before .before in
+    no-room 2 _ _ _ (start .args .out .now) (start .args .answer .now) (c .if1 .taken))
     (λ c κs. search needs)
     (λ c. search needs)
     (λ c. search needs)
@@ -18,6 +20,14 @@ cse-text-spec =
     (λ c. search needs)
     (λ c. search needs)
     (λ c. search needs)
-    (λ c. is-called 2 text-number text-answer _ _ (c .before .before .before .before .before .before .before .before .before .before .before .before .args .out .now) (c .before .before .before .before .before .before .before .before .before .before .before .before .args .answer .now) (c .before .before .before .before .before .write-tree .result) _ _ _ (c .before .before .before .before .before .before .before .if1 .left) (c .before .before .before .before .before .write-tree .ensures) (text-written _ (c .before .before .before .before .before .before .before .before .before .before .before .before .args .answer .now) (c .before .before .before .before .before .before .before .if1 .left) _ _ (c .before .next .given .1)))
+    (λ c.
+    let start = c .before .before .before .before .before .before .before .before .before .before .before .before in
+    let at-if1 = c .before .before .before .before .before .before .before in
+    let at-text-no-deeper = c .before .before .before .before .before in
+    is-called 2 text-number text-answer _ _ (start .args .out .now) (start .args .answer .now) (at-text-no-deeper .text-no-deeper .result) _ _ _ (at-if1 .if1 .left) (at-text-no-deeper .text-no-deeper .ensures) (text-written _ (start .args .answer .now) (at-if1 .if1 .left) _ _ (c .before .next .given .1)))
     (λ c. search needs)
-    (λ c. is-called 2 text-number text-answer _ _ (c .before .before .before .before .before .before .before .before .before .before .before .args .out .now) (c .before .before .before .before .before .before .before .before .before .before .before .args .answer .now) (c .before .before .before .before .write-tree .result) _ _ _ (c .before .before .before .before .before .before .if1 .left) (c .before .before .before .before .write-tree .ensures) (text-broken _ (c .before .before .before .before .before .before .before .before .before .before .before .args .answer .now) (c .enum-told .given .1))))
+    (λ c.
+    let start = c .before .before .before .before .before .before .before .before .before .before .before in
+    let at-if1 = c .before .before .before .before .before .before in
+    let at-text-no-deeper = c .before .before .before .before in
+    is-called 2 text-number text-answer _ _ (start .args .out .now) (start .args .answer .now) (at-text-no-deeper .text-no-deeper .result) _ _ _ (at-if1 .if1 .left) (at-text-no-deeper .text-no-deeper .ensures) (text-broken _ (start .args .answer .now) (c .enum-told .given .1))))

@@ -16,7 +16,7 @@ use Rattle.spec_rewrite.specs.Rewrite.{replace-outside-arms, replace-operands, 
 use Rattle.words.specs.words.Words.{rewritten-words, tree-of, name-of}
 use Rattle.words.proofs.words.Rewriting.{rewritten-short}
 use Rattle.words.proofs.words.Chains.{named-by-number, readable, name-readable, rewritten-trees, rewritten-complete}
-use Rattle.replace.proofs.outside.Replacing.{outside-size}
+use Rattle.spec_rewrite.proofs.OutsideSize.{outside-size}
 
 module _ (g : Tree) (n : Name) (named : T (readable (Sym n))) where
   either-readable : (b : Bool) (t : Tree) → T (readable t) → T (readable (elim b as (λ _. Tree) [ true ↦ Sym n | false ↦ t ]))

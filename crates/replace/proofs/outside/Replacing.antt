@@ -1,4 +1,4 @@
--- What `replace_outside_arms` makes of the first tree of complete words, case by case, and that it lets no tree grow. Assumes nothing.
+-- What `replace_outside_arms` makes of the first tree of complete words, case by case. Assumes nothing.
 use Prim.Native.Nat.{ℕ, _+_, _-_, _≤_, _<_}
 use native.Mathlib.Omega.{arith}
 use mathlib.Core.Path.{_≡_, refl, sym, _∙_, ap, ap₂, subst}
@@ -10,14 +10,12 @@ use lib.ListN.{length, getD, take, drop, length-take}
 use lib.Seq.{length-take-le, drop-drop, take-add}
 use lib.Dec.{T, leb}
 use Rattle.spec_tree.specs.Kinds.{is-switch}
-use Rattle.spec_tree.specs.Facts.{size}
 use Rattle.spec_tree.specs.Tree.{Name, Tree, Forest, Sym, Const, Op, nil, _◂_, forest, eq-tree}
 use Rattle.spec_tree.specs.Tokens.{tokens, all-tokens, kind-of, below-of, takes, tree-of-word, read, trees-in, words-of, numbered}
 use Rattle.spec_tree.proofs.TreeLaws.{eq-bytes-sound, eq-tree-refl}
 use Rattle.spec_tree.proofs.TokenLaws.{Word, a-symbol, a-constant, an-operation, word-is, operation-takes, symbol-tree, constant-tree, operation-tree, made, complete-tail, complete-length}
 use Rattle.spec_tree.proofs.TokenCode.{all-tokens-cons, writes-back}
 use Rattle.spec_rewrite.specs.Rewrite.{replace-outside-arms, replace-operands, replace-key}
-use Rattle.spec_rewrite.proofs.Measure.{sum-each, size-op}
 use Rattle.words.specs.words.Words.{number, rewritten-words, tree-of, name-of, begins-with, Complete}
 use Rattle.words.proofs.words.Rewriting.{segment, node-written, first-tree, first-of, take-one, one-tree-words, begins-so, node, rewritten-read, rewritten-word, rewritten-node, rewritten-symbol}
 use Rattle.replace.specs.outside.Part.{has-arms}
@@ -112,45 +110,6 @@ module _ (g : Tree) (n : Name) where
       ap (replace-outside-arms g n) s
       ∙ (node-kept (kind-of w) (forest (t ∷ l)) true (sym (ap (λ (u : Tree). eq-tree u g) s) ∙ e) (le-leb 26 (kind-of w) k)
       ∙ (ap (Op (kind-of w)) (key-rewritten t l) ∙ sym (operation-tree numbered w (replace-outside-arms g n t ∷ l) (omega arith))))
-
-  -- ---- sizes
-
-  symbol-size : (b : Bool) (s : Name) → size (elim b as (λ _. Tree) [ true ↦ Sym n | false ↦ Sym s ]) ≤ size (Sym s)
-  unfolding size
-  symbol-size true s = omega arith
-  symbol-size false s = omega arith
-
-  constant-size : (b : Bool) (c : _) → size (elim b as (λ _. Tree) [ true ↦ Sym n | false ↦ Const c ]) ≤ size (Const c)
-  unfolding size
-  constant-size true c = omega arith
-  constant-size false c = omega arith
-
-  name-size : size (Sym n) ≡ 1
-  unfolding size
-  name-size = refl
-
-  node-size :
-      (k : ℕ) (f : Forest) (b s : Bool) → sum-each size (replace-key g n f) ≤ sum-each size f → sum-each size (replace-operands g n f) ≤ sum-each size f
-      → size (elim b as (λ _. Tree) [ true ↦ Sym n | false ↦ Op k (elim s as (λ _. Forest) [ true ↦ replace-key g n f | false ↦ replace-operands g n f ]) ]) ≤ size (Op k f)
-  node-size k f true s hk ho = omega (arith, name-size, size-op k f)
-  node-size k f false true hk ho = omega (arith, size-op k (replace-key g n f), size-op k f)
-  node-size k f false false hk ho = omega (arith, size-op k (replace-operands g n f), size-op k f)
-
-  mutual
-    unfolding replace-outside-arms sum-each
-
-    pub outside-size : (e : Tree) → size (replace-outside-arms g n e) ≤ size e
-    outside-size (Sym s) = symbol-size (eq-tree (Sym s) g) s
-    outside-size (Const c) = constant-size (eq-tree (Const c) g) c
-    outside-size (Op k f) = node-size k f (eq-tree (Op k f) g) (is-switch k) (key-size f) (operands-size f)
-
-    operands-size : (f : Forest) → sum-each size (replace-operands g n f) ≤ sum-each size f
-    operands-size nil = omega arith
-    operands-size (t ◂ f) = omega (arith, outside-size t, operands-size f)
-
-    key-size : (f : Forest) → sum-each size (replace-key g n f) ≤ sum-each size f
-    key-size nil = omega arith
-    key-size (t ◂ f) = omega (arith, outside-size t)
 
 -- ---- on words
 

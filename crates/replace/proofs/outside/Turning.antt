@@ -15,7 +15,8 @@ use Rattle.words.proofs.words.Rewriting.{one-long, rewritten-short}
 use Rattle.words.proofs.words.Scanning.{put-one, put-more, put-lent, put-long, here-long, here-complete, Scanned, scan-long, scan-turn}
 use Rattle.replace.specs.outside.Part.{part-of}
 use Rattle.replace.specs.declared.outside.Part.the-variants as part
-use Rattle.replace.proofs.outside.Replacing.{outside-size, node-stays, Switched, switch-made, target-made}
+use Rattle.spec_rewrite.proofs.OutsideSize.{outside-size}
+use Rattle.replace.proofs.outside.Replacing.{node-stays, Switched, switch-made, target-made}
 use Rattle.replace.proofs.outside.Searching.{some-tree, target-means, switch-means, node-means, arms-mean}
 use Rattle.spec_tree.proofs.Lists.{rest-is}
 
