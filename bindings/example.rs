@@ -19,10 +19,10 @@ fn main() -> Result<(), Box<dyn std::error::Error>> {
     // sin(x / n) and cos(x / n), and the answer taken apart
     let mut list = List::new();
     let [x, n] = ["x", "n"].map(|name| list.symbol(name));
-    let quotient = list.operation(Kind::Div, &[x, n]);
+    let quotient = list.operation(Kind::Div, &[x, n])?;
     for kind in [Kind::Sin, Kind::Cos] {
-        let root = list.operation(kind, &[quotient]);
-        list.root(root);
+        let root = list.operation(kind, &[quotient])?;
+        list.root(root)?;
     }
     let code = extractor.extract(&list)?.code();
     let divided = vec![Tree::Symbol("x".to_string()), Tree::Symbol("n".to_string())];

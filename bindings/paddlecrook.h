@@ -6,8 +6,8 @@
  * Each function returns 0, or the number of a refusal (README.md has them all). Refused, a call leaves every output as it was, but for what its
  * own comment says; accepted, it leaves output past its answer as it was.
  *
- * Stack, which no proof covers: 1 MB is ample for all but cse_extract_scoped, which needs some 210 KB more for each level that arms nest, 2.8 MB at the limit of
- * 8; give it 4 MB. Most systems give a main thread 8 MB, and many give other threads less. README.md has what was measured.
+ * Stack, which no proof covers: each function is to have the bytes that its CSE_STACK_ constant below says. Most systems
+ * give a main thread 8 MB, and many give other threads less. README.md has what was measured.
  *
  * Link with libpaddlecrook.a, which bindings/build makes.
  */
@@ -41,6 +41,20 @@ extern "C" {
 
 /* No flat answer has more rows; a scoped one may. */
 #define CSE_ANSWER_ROWS 67328
+
+/* The stack that each function is to have, in bytes: at least a quarter more than was measured at the worst inputs. */
+#define CSE_STACK_LOAD (384 * 1024)
+#define CSE_STACK_EXTRACT (1088 * 1024)
+#define CSE_STACK_EXTRACT_SCOPED (4096 * 1024)
+#define CSE_STACK_PRINT (1024 * 1024)
+#define CSE_STACK_TEXT (1024 * 1024)
+#define CSE_STACK_REPLACE (320 * 1024)
+#define CSE_STACK_REPLACE_DIVISOR (256 * 1024)
+#define CSE_STACK_REPLACE_OUTSIDE_ARMS (384 * 1024)
+
+/* Words stand at most so deep below one another in any answer. A tree of n nodes in one another stands n deep; a let, a
+ * value or a result is one more above its tree; and a match and its arm are two above what the arm has. */
+#define CSE_DEEPEST 1041
 
 /* Kinds of node rows and of words. A word is kind + 64 * below. Below is, for a symbol, 3 * number + class (class 0: the number of the first row with its
  * name; 1: __xN; 2: __mN); for a constant 0, 1, 2, 3, 4 .. for 0, -1, 1, -2, 2 ..; otherwise how many parts follow. An answer is words: its statements, then a
@@ -76,30 +90,36 @@ uint64_t cse_extract_scoped(const uint64_t *rows, size_t rows_len, const uint64_
 
 /* Writes the text of an answer: a line for each binding and each result. rows: the list's; answer: exactly the answer's words; out: as many bytes as the
  * text may have; said: 1 or more.
- * 0: said[0] is how many bytes were written. 13, 14. 255: said is empty. */
+ * 0: said[0] is how many bytes were written. 13, also for words that stand deeper than CSE_DEEPEST; 14.
+ * 255: said is empty. */
 uint64_t cse_print(const uint64_t *rows, size_t rows_len, const uint64_t *answer, size_t answer_len, uint8_t *out, size_t out_len, uint64_t *said,
                    size_t said_len);
 
 /* Writes the text of the tree that begins at the word `at`, from the byte `to` on; `dry` only measures. Bytes past the end of out are dropped.
  * 0: answer[0] is the place after the tree's words, answer[1] the place after its text, one past the end where it was cut off.
- * 253: no tree of an answer begins there. 255: answer has fewer than two words. */
+ * 253: no tree of an answer begins there, or words stand deeper than CSE_DEEPEST, those before and after the tree too.
+ * 255: answer has fewer than two words. */
 uint64_t cse_text(const uint64_t *rows, size_t rows_len, const uint64_t *tokens, size_t tokens_len, size_t at, uint8_t *out, size_t out_len, bool dry,
                   size_t to, uint64_t *answer, size_t answer_len);
 
 /* The rewritings that extraction is made of, on words of trees. name: the word of a symbol; out: as many words as tokens has, or more; answer: 1 or more.
  * 0: answer[0] is how many words were written. 253: the words aren't trees, or the name isn't a symbol's. 254: too few places. 255: answer is empty. */
 
-/* Each division by a tree becomes a product with a symbol. */
+/* Each division by a tree becomes a product with a symbol. 253 too for tokens or a divisor that stand deeper than
+ * CSE_DEEPEST. */
 uint64_t cse_replace_divisor(const uint64_t *tokens, size_t tokens_len, const uint64_t *divisor, size_t divisor_len, uint64_t name, uint64_t *out,
                              size_t out_len, uint64_t *answer, size_t answer_len);
 
-/* Each equal tree outside the arms of switches becomes a symbol. */
+/* Each equal tree outside the arms of switches becomes a symbol. 253 too for tokens or a target that stand deeper than
+ * CSE_DEEPEST. */
 uint64_t cse_replace_outside_arms(const uint64_t *tokens, size_t tokens_len, const uint64_t *target, size_t target_len, uint64_t name, uint64_t *out,
                                   size_t out_len, uint64_t *answer, size_t answer_len);
 
-/* Each equal tree becomes a symbol, and so do the target's factors in a product. places: twice as many words as tokens or target has, whichever has more;
- * what is left there is free. 253 too for a target that would be replaced for ever: a product with coefficient 1 that has no factor, or the name alone. 10: a
- * rebuilt coefficient is no constant; out has the trees as they were. */
+/* Each equal tree becomes a symbol, and so do the target's factors in a product. places: three words for each of the
+ * tokens, or for every two of the target's, whichever is more; what is left there is free, refused or not.
+ * 253 too for tokens or a target that stand deeper than CSE_DEEPEST, and for a target that would be replaced for ever: a
+ * product with coefficient 1 that has no factor, or the name alone. 10: a rebuilt coefficient is no constant; nothing is
+ * written to out. */
 uint64_t cse_replace(const uint64_t *tokens, size_t tokens_len, const uint64_t *target, size_t target_len, uint64_t name, uint64_t *places,
                      size_t places_len, uint64_t *out, size_t out_len, uint64_t *answer, size_t answer_len);
 

@@ -5,6 +5,7 @@
 //! For a program or a generator as it stands: `mod paddlecrook;`, and `rustc -L` with the folder of
 //! libpaddlecrook.a, which bindings/build makes.
 #![allow(dead_code)]
+use std::sync::atomic::{AtomicU64, Ordering};
 use std::{fmt, thread};
 
 mod c {
@@ -208,21 +209,88 @@ impl Kind {
     ];
 }
 
-/// A node of the list that made it.
+/// A node of the list that made it, and of each clone that is made of the list later. Any other list refuses it.
 #[derive(Clone, Copy, Debug, PartialEq, Eq)]
-pub struct Node(u64);
+pub struct Node {
+    list: u64,
+    row: u64,
+}
+
+/// A node was given to a list that it doesn't belong to; the list is as it was.
+#[derive(Clone, Copy, Debug, PartialEq, Eq)]
+pub struct ForeignNode;
+
+impl fmt::Display for ForeignNode {
+    fn fmt(&self, f: &mut fmt::Formatter) -> fmt::Result {
+        f.write_str("the node belongs to another list than the one that it is given to")
+    }
+}
+
+impl std::error::Error for ForeignNode {}
+
+/// The number of the next list: no two lists have the same, so that a node tells whose it is.
+static NEXT_LIST: AtomicU64 = AtomicU64::new(0);
+
+fn new_number() -> u64 {
+    NEXT_LIST.fetch_add(1, Ordering::Relaxed)
+}
 
 /// Formulas that share nodes: node rows, and the nodes that are results. Names, constants, counts of operands
-/// and limits are tested on extraction: a list that a sheet couldn't give is refused as `BadRows`.
-#[derive(Clone, Debug, Default, PartialEq, Eq)]
+/// and limits are tested on extraction: a list that a sheet couldn't give is refused as `BadRows`. Whose the
+/// nodes are is tested as they are given. Lists are equal if their rows and roots are.
+#[derive(Debug)]
 pub struct List {
     rows: Vec<u64>,
     roots: Vec<u64>,
+    number: u64,
+    /// the lists that this one is a clone of, through any number of clones, each with how many of its nodes it took
+    cloned: Vec<(u64, u64)>,
 }
+
+impl Default for List {
+    fn default() -> List {
+        List {
+            rows: Vec::new(),
+            roots: Vec::new(),
+            number: new_number(),
+            cloned: Vec::new(),
+        }
+    }
+}
+
+/// A clone has the same rows, so that the nodes made so far are its own too. What either list makes from then
+/// on isn't in the other, which may have something else in that row: hence a number of its own.
+impl Clone for List {
+    fn clone(&self) -> List {
+        let mut cloned = self.cloned.clone();
+        cloned.push((self.number, (self.rows.len() / WIDTH) as u64));
+        List {
+            rows: self.rows.clone(),
+            roots: self.roots.clone(),
+            number: new_number(),
+            cloned,
+        }
+    }
+}
+
+impl PartialEq for List {
+    fn eq(&self, other: &List) -> bool {
+        self.rows == other.rows && self.roots == other.roots
+    }
+}
+
+impl Eq for List {}
 
 impl List {
     pub fn new() -> List {
         List::default()
+    }
+
+    /// The row of a node that belongs to this list.
+    fn row(&self, node: Node) -> Result<u64, ForeignNode> {
+        let taken = |(list, nodes): &(u64, u64)| node.list == *list && node.row < *nodes;
+        let own = node.list == self.number || self.cloned.iter().any(taken);
+        if own { Ok(node.row) } else { Err(ForeignNode) }
     }
 
     /// Reads a sheet.
@@ -251,7 +319,11 @@ impl List {
         }
         rows.truncate(answer[0] as usize * WIDTH);
         roots.truncate(answer[1] as usize);
-        Ok(List { rows, roots })
+        Ok(List {
+            rows,
+            roots,
+            ..List::new()
+        })
     }
 
     /// Fields that have no place in the row are counted, so that the row is refused.
@@ -260,7 +332,10 @@ impl List {
         self.rows.extend([kind, default, fields.len() as u64]);
         self.rows.extend(fields.iter().take(WIDTH - 3));
         self.rows.resize(at + WIDTH, 0);
-        Node((at / WIDTH) as u64)
+        Node {
+            list: self.number,
+            row: (at / WIDTH) as u64,
+        }
     }
 
     pub fn symbol(&mut self, name: &str) -> Node {
@@ -274,16 +349,18 @@ impl List {
 
     /// An operation on nodes of this list. Of a switch the first operand is the index or condition, and of a
     /// SelectOr the last is the default.
-    pub fn operation(&mut self, kind: Kind, operands: &[Node]) -> Node {
+    pub fn operation(&mut self, kind: Kind, operands: &[Node]) -> Result<Node, ForeignNode> {
         let default = u64::from(kind == SelectOr);
         let number = (kind as u64).min(Select as u64);
-        let numbers: Vec<u64> = operands.iter().map(|n| n.0).collect();
-        self.put(number, default, &numbers)
+        let rows: Vec<u64> = operands.iter().map(|n| self.row(*n)).collect::<Result<_, _>>()?;
+        Ok(self.put(number, default, &rows))
     }
 
-    /// Makes a node the next result.
-    pub fn root(&mut self, node: Node) {
-        self.roots.push(node.0);
+    /// Makes a node of this list the next result.
+    pub fn root(&mut self, node: Node) -> Result<(), ForeignNode> {
+        let row = self.row(node)?;
+        self.roots.push(row);
+        Ok(())
     }
 
     fn name(&self, row: usize) -> String {
