@@ -7,7 +7,7 @@ use std::collections::HashMap;
 
 /// How often a list is run. Hash order is new in each run, so a tie that it decides stays hidden
 /// once in 2^47 lists.
-const RUNS: usize = 48;
+pub const RUNS: usize = 48;
 
 #[derive(PartialEq)]
 pub enum Outcome {
@@ -60,8 +60,13 @@ pub type Events = [bool; EVENTS.len()];
 
 /// The outcome that all runs agree on, or none where hash order decides.
 pub fn settled(scoped: bool, es: &[E]) -> Option<(Outcome, Events)> {
+    settled_in(RUNS, scoped, es)
+}
+
+/// The same for so many runs.
+pub fn settled_in(runs: usize, scoped: bool, es: &[E]) -> Option<(Outcome, Events)> {
     let first = once(scoped, es);
-    (1..RUNS)
+    (1..runs)
         .all(|_| once(scoped, es).0 == first.0)
         .then_some(first)
 }

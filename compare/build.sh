@@ -39,26 +39,42 @@ link() {
     compile "$1" -L target/staticlib -l static=capi
 }
 
-# The programs of stored cases are crates that are run on a file stdin and have to write what their file stdout has.
+# The source in the build's folder with three lines more, one of them in place of a comment, which test what a scope is
+# given, holds and states (extracts/held.rs); they do nothing in the flat form.
+count_held() {
+    local fuse='    open.fuse(\&results, \&intermediates, rounds, \&groups);'
+    rm "$build/cse.rs"
+    sed -e 's|^    let mut results = exprs\.to_vec();$|&\n    let open = crate::held::open(scoped, *counter, exprs);|' \
+        -e 's|^    // Post-pass: extract common divisors as reciprocals\.$|    let rounds = lets.len();|' \
+        -e "s|^    for (switch, n_arms, has_default, members) in groups {\$|$fuse\n&|" \
+        "$source/cse.rs" >"$build/cse.rs"
+    if [ "$(grep -cE '^    (let open = |let rounds = |open\.fuse)' "$build/cse.rs")" -ne 3 ]; then
+        echo 'compare: cse.rs has no place for the tests of 23'
+        exit 1
+    fi
+}
 
-# CRATE COMMAND...: the command makes the two files anew, in the folder that it is given as its last word
+# Stored cases are two files of a folder: stdin, which a program is run on, and stdout, which it has to write.
+
+# FOLDER COMMAND...: the command makes the two files anew, in the folder that it is given as its last word
 renew() {
-    local crate=$1
+    local folder=$1
     shift
-    rm -rf "${out:?}/$crate"
-    mkdir -p "$out/$crate"
-    "$@" "$out/$crate"
+    rm -rf "${out:?}/anew/$folder"
+    mkdir -p "$out/anew/$folder"
+    "$@" "$out/anew/$folder"
 }
 
-# CRATE: what was made anew becomes what is stored
+# FOLDER: what was made anew becomes what is stored
 store() {
-    cp "$out/$1/stdin" "$out/$1/stdout" "crates/$1"
+    mkdir -p "$1"
+    cp "$out/anew/$1/stdin" "$out/anew/$1/stdout" "$1"
 }
 
-# CRATE WORDS: fails with the words unless what was made anew is what is stored
+# FOLDER WORDS: fails with the words unless what was made anew is what is stored
 hold() {
     local file
     for file in stdin stdout; do
-        cmp "$out/$1/$file" "crates/$1/$file" || { echo "crates/$1/$file $2" >&2; exit 1; }
+        cmp "$out/anew/$1/$file" "$1/$file" || { echo "$1/$file $2" >&2; exit 1; }
     done
 }

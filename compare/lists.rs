@@ -6,6 +6,7 @@ use crate::tree::*;
 /// Limits of a list: its occurrences, and how deep its arms nest.
 const MOST: usize = 30;
 const MOST_HUGE: usize = 80;
+const MOST_STEEP: usize = 40;
 pub const DEEPEST: usize = 8;
 
 /// A list within the limits.
@@ -46,6 +47,27 @@ pub fn switching(r: &mut Random) -> Vec<T> {
         };
         let total: usize = es.iter().map(size).sum();
         if (3..=most).contains(&total) && es.iter().all(|t| nesting(t) <= DEEPEST) {
+            return es;
+        }
+    }
+}
+
+/// A list whose arms nest as deep as may be, and that is small all the same, since most of its switches have one arm.
+pub fn deepest(r: &mut Random) -> Vec<T> {
+    loop {
+        let es = steep(r);
+        let total: usize = es.iter().map(size).sum();
+        if total <= MOST_STEEP && es.iter().any(|t| nesting(t) == DEEPEST) {
+            return es;
+        }
+    }
+}
+
+/// A list that has each of some kinds, on trees that repeat: beside itself, in another operation, or in an arm.
+pub fn with_kinds(r: &mut Random, kinds: &[usize]) -> Vec<T> {
+    loop {
+        let es = kinds_in_turn(r, kinds);
+        if es.iter().map(size).sum::<usize>() <= MOST {
             return es;
         }
     }
@@ -343,6 +365,58 @@ pub fn nested(r: &mut Random) -> Vec<T> {
     }
     let mut es = vec![t];
     es.extend((0..r.below(3)).map(|_| one(r, &pool)));
+    es
+}
+
+/// Eight switches in one another around a part that is used twice, some with a part beside their arm, and now and then
+/// another root with such a part, or a switch on the outermost key.
+fn steep(r: &mut Random) -> Vec<T> {
+    let sum = op(ADD, vec![sym("a"), sym("b")]);
+    let parts = [sym("a"), num(1), sum.clone(), op(9, vec![sum.clone()])];
+    let mut t = match r.below(4) {
+        0 => op(DIV, vec![op(DIV, vec![sym("p"), num(3)]), num(3)]),
+        1 => op(MUL, vec![op(8, vec![sum.clone()]), sum]),
+        2 => op(8, vec![sum]),
+        _ => sym("p"),
+    };
+    for _ in 0..DEEPEST {
+        let kind = *r.pick(&[SELECT, SELECT, SELECT, SELECT_OR, BRANCH]);
+        let mut arms = vec![sym(["i", "j"][r.below(2)]), t];
+        if kind != SELECT {
+            arms.insert(1 + r.below(2), r.pick(&parts).clone());
+        }
+        t = op(kind, arms);
+        if r.chance(10) {
+            t = op(*r.pick(&[NEG, 8, 22]), vec![t]);
+        }
+    }
+    let mut es = vec![t];
+    match r.below(4) {
+        0 => es.push(r.pick(&parts).clone()),
+        1 => es.push(op(SELECT, vec![sym("i"), r.pick(&parts).clone()])),
+        _ => {}
+    }
+    es
+}
+
+// ---- kinds: one operation of each, and then some of them again
+
+fn kinds_in_turn(r: &mut Random, kinds: &[usize]) -> Vec<T> {
+    let mut pool = vec![sym("a"), sym("b"), num(2)];
+    let leaves = pool.len();
+    for kind in kinds {
+        let parts = (0..arity(r, *kind)).map(|_| one(r, &pool)).collect();
+        pool.push(op(*kind, parts));
+    }
+    let made = pool.split_off(leaves);
+    let again = r.pick(&made).clone();
+    let other = r.pick(&made).clone();
+    let mut es = made;
+    es.push(match r.below(3) {
+        0 => op(ADD, vec![again, other]),
+        1 => op(SELECT, vec![sym("i"), again, other]),
+        _ => op(8, vec![again]),
+    });
     es
 }
 

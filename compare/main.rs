@@ -21,11 +21,17 @@ mod tree;
 pub use arael::{E, Expr, FuncKind, symbol};
 pub(crate) use arael::{as_exact_int, expand_func};
 
-use answers::{EVENTS, Events, Outcome, settled};
+use answers::{EVENTS, Event, Events, Outcome, settled};
 use std::collections::HashSet;
 use tree::{KINDS, Maker, T, antt, mark_kinds};
 
 const SEED: u64 = 20_261_115;
+/// Of so many lists one nests as deep as may be. Of so many one is made to have some of the kinds that the fewest lists
+/// have, while these are fewer than wanted.
+const ONE_IS_DEEP: usize = 20;
+const ONE_HAS_KINDS: usize = 5;
+const KINDS_AT_ONCE: usize = 3;
+const LISTS_OF_A_KIND: usize = 3;
 
 /// A list with the source's two answers.
 pub struct Case {
@@ -43,7 +49,7 @@ struct Tally {
     tied: usize,
     refused: [usize; 12],
     events: [usize; EVENTS.len()],
-    kinds: [bool; KINDS],
+    kinds: [usize; KINDS],
 }
 
 fn main() {
@@ -54,6 +60,11 @@ fn main() {
     asked::hush();
     let mut tally = Tally::default();
     let mut cases = gather(count, &mut tally);
+    let missing = tally.missing();
+    if !missing.is_empty() {
+        eprintln!("compare: FAILED: of {count} lists none has {}", missing.join(", "));
+        std::process::exit(1);
+    }
     if spoil {
         cases
             .iter_mut()
@@ -70,7 +81,7 @@ fn gather(count: usize, tally: &mut Tally) -> Vec<Case> {
     let mut seen = HashSet::new();
     let mut cases = Vec::new();
     while cases.len() < count {
-        let es = lists::list(&mut r);
+        let es = tally.next(&mut r);
         let mut maker = Maker::new(r.chance(50));
         let given: Vec<E> = es.iter().map(|t| maker.make(t)).collect();
         let picky = r.chance(90);
@@ -108,9 +119,34 @@ fn gather(count: usize, tally: &mut Tally) -> Vec<Case> {
 }
 
 impl Tally {
+    /// A list to try, by how many there are and what they lack.
+    fn next(&self, r: &mut random::Random) -> Vec<T> {
+        // symbols and constants are in every other list
+        let mut kinds: Vec<usize> = (tree::NEG..KINDS).collect();
+        kinds.sort_by_key(|k| self.kinds[*k]);
+        if self.lists % ONE_IS_DEEP == 1 {
+            lists::deepest(r)
+        } else if self.lists % ONE_HAS_KINDS == 0 && self.kinds[kinds[0]] < LISTS_OF_A_KIND {
+            lists::with_kinds(r, &kinds[..KINDS_AT_ONCE])
+        } else {
+            lists::list(r)
+        }
+    }
+
+    /// What has to be met and was not: a kind, and arms nested 8 deep in an answer.
+    fn missing(&self) -> Vec<&'static str> {
+        let kinds = tree::WORDS.into_iter().zip(self.kinds);
+        let deepest = Event::Deepest as usize;
+        kinds.chain([(EVENTS[deepest], self.events[deepest])]).filter(|(_, n)| *n == 0).map(|(name, _)| name).collect()
+    }
+
     fn add(&mut self, case: &Case, events: &Events) {
         self.lists += 1;
-        case.es.iter().for_each(|t| mark_kinds(t, &mut self.kinds));
+        let mut kinds = [false; KINDS];
+        case.es.iter().for_each(|t| mark_kinds(t, &mut kinds));
+        for (count, seen) in self.kinds.iter_mut().zip(kinds) {
+            *count += usize::from(seen);
+        }
         for (count, seen) in self.events.iter_mut().zip(events) {
             *count += usize::from(*seen);
         }
@@ -127,17 +163,14 @@ impl Tally {
             .map(|(name, n)| format!("{name} {n}"))
             .collect();
         format!(
-            "{} lists agree in both forms, {} left out because hash order decides; refused by 10 {}, by 11 {}; lists with {}; all kinds: {}",
+            "{} lists agree in both forms, {} left out because hash order decides; refused by 10 {}, by 11 {}; \
+             lists with {}; each of {KINDS} kinds in {} lists or more",
             self.lists,
             self.tied,
             self.refused[10],
             self.refused[11],
             events.join(", "),
-            if self.kinds.iter().all(|k| *k) {
-                "yes"
-            } else {
-                "no"
-            },
+            self.kinds.iter().min().expect("kinds"),
         )
     }
 }

@@ -16,6 +16,13 @@ pub const SELECT: usize = 27;
 pub const SELECT_OR: usize = 28;
 pub const KINDS: usize = 29;
 
+/// The kinds as sheets name them.
+pub const WORDS: [&str; KINDS] = [
+    "Sym", "Const", "Neg", "Add", "Sub", "Mul", "Div", "Pow", "Sin", "Cos", "Tan", "Asin", "Acos", "Atan",
+    "Atan2", "Sinh", "Cosh", "Tanh", "Exp", "Ln", "Log2", "Log10", "Sqrt", "Abs", "Heaviside", "Clamp",
+    "Branch", "Select", "SelectOr",
+];
+
 pub enum Tree {
     Sym(&'static str),
     Const(i64),

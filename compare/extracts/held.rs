@@ -1,5 +1,6 @@
-//! Refusal 23, which the source doesn't have: docs/DECISIONS.md says what a scope may be given, hold and state, and how the scopes that are open share the
-//! work area's rows. `run.sh` has the source call `open` as a scope starts, and `fuse` as it has grouped its switches, before it fuses them.
+//! Refusal 23, which the source doesn't have: docs/DECISIONS.md says what a scope may be given, hold and state, and how
+//! the scopes that are open share the work area's rows. `count_held` in build.sh has the source call `open` as a scope
+//! starts, and `fuse` as it has grouped its switches, before it fuses them.
 use crate::arael::{E, Expr, LargeScope};
 use crate::cse::{Intermediate, Switch, children};
 use std::cell::Cell;

@@ -13,17 +13,7 @@ driver() {
     compile "$1" -L target/bindings
 }
 
-# The source with three lines more, one of them in place of a comment, which test what a scope is given, holds and states (extracts/held.rs). Times are
-# measured without them.
-count_held() {
-    rm "$build/cse.rs"
-    sed -e 's|^    let mut results = exprs\.to_vec();$|&\n    let open = crate::held::open(scoped, *counter, exprs);|' \
-        -e 's|^    // Post-pass: extract common divisors as reciprocals\.$|    let rounds = lets.len();|' \
-        -e 's|^    for (switch, n_arms, has_default, members) in groups {$|    open.fuse(\&results, \&intermediates, rounds, \&groups);\n&|' \
-        "$source/cse.rs" >"$build/cse.rs"
-    [ "$(grep -cE '^    (let open = |let rounds = |open\.fuse)' "$build/cse.rs")" -eq 3 ] || { echo 'compare: cse.rs has no place for the tests of 23'; exit 1; }
-}
-
+# Times are measured without the tests of 23.
 compared() {
     count_held
     driver extracts

@@ -91,10 +91,10 @@ fn by_nodes(list: &List) -> paddlecrook::List {
                 let number = if row[1] == 1 { SELECT_OR } else { kind as usize };
                 let kind = Kind::ALL.into_iter().find(|k| *k as usize == number).expect("a kind");
                 let operands: Vec<Node> = fields.iter().map(|n| nodes[*n as usize]).collect();
-                made.operation(kind, &operands)
+                made.operation(kind, &operands).expect("nodes of this list")
             }
         });
     }
-    list.roots.iter().for_each(|n| made.root(nodes[*n as usize]));
+    list.roots.iter().for_each(|n| made.root(nodes[*n as usize]).expect("a node of this list"));
     made
 }

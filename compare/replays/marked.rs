@@ -29,8 +29,10 @@ const REFUSED: [(&str, usize, usize); 9] = [
     ("Sym,a/Root,1/", 5, 1),
 ];
 
-pub fn cases() -> Vec<Case> {
-    let asked = marked().into_iter().map(|es| case(&es, true).expect("hash order decides no marked list").0);
+/// In either form; what M9, M11 and the refused sheets give is the same in both.
+pub fn cases(scoped: bool) -> Vec<Case> {
+    let told = |es: Vec<T>| case(scoped, &es, true).expect("hash order decides no marked list").0;
+    let asked = marked().into_iter().map(told);
     let refused = REFUSED.iter().map(|(sheet, n, record)| Case::refused(sheet, *n, *record));
     asked.chain([M9, M11].map(|[sheet, said]| Case::new(sheet, said))).chain(refused).collect()
 }

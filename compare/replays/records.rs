@@ -1,12 +1,6 @@
 //! The sheet of a list, a slash for each CRLF.
-use crate::tree::{T, Tree};
+use crate::tree::{T, Tree, WORDS};
 use std::collections::HashMap;
-
-const WORDS: [&str; 29] = [
-    "Sym", "Const", "Neg", "Add", "Sub", "Mul", "Div", "Pow", "Sin", "Cos", "Tan", "Asin", "Acos", "Atan",
-    "Atan2", "Sinh", "Cosh", "Tanh", "Exp", "Ln", "Log2", "Log10", "Sqrt", "Abs", "Heaviside", "Clamp",
-    "Branch", "Select", "SelectOr",
-];
 
 /// Where `share` is set, equal records are one node, the roots stand last, and the last CRLF is there;
 /// otherwise each place has a node of its own, a root stands after its tree, and the last CRLF is missing.

@@ -9,6 +9,8 @@ mod arael;
 mod area;
 mod asked;
 mod cse;
+mod deep;
+mod depth;
 mod fmt;
 mod lists;
 mod pairs;
@@ -32,6 +34,10 @@ const SEED: u64 = 20_261_115;
 const WRONG: usize = 5_000;
 /// Of a hundred calls so many are unsound, or lent too little.
 const UNSOUND: usize = 4;
+/// One pair in so many is put into words that stand deep.
+const DEEP_ONE_IN: usize = 100;
+/// So much is printed of a call that differs.
+const SHOWN: usize = 4_000;
 /// The word of a Neg, which needs an operand, and of an Add that has one operand only.
 const MINUS: u64 = 66;
 const LAME_SUM: u64 = 67;
@@ -99,9 +105,8 @@ fn asked(rewriting: Rewriting, pair: &Pair, name: &E) -> Option<Vec<E>> {
     }
 }
 
-/// Where a coefficient is refused the trees are written as they were; where there is no end nothing is
-/// written.
-fn expected(tokens: &[u64], endless: bool, given: &Option<Vec<E>>) -> Expected {
+/// Where a coefficient is refused, and where there is no end, nothing is written.
+fn expected(endless: bool, given: &Option<Vec<E>>) -> Expected {
     match given {
         None if endless => nothing(BROKEN),
         Some(es) => {
@@ -109,10 +114,7 @@ fn expected(tokens: &[u64], endless: bool, given: &Option<Vec<E>>) -> Expected {
             let answer = vec![out.len() as u64];
             Expected { number: 0, out, answer }
         }
-        None => Expected {
-            out: tokens.to_vec(),
-            ..nothing(REFUSED)
-        },
+        None => nothing(REFUSED),
     }
 }
 
@@ -126,15 +128,19 @@ fn nothing(number: u64) -> Expected {
 
 // ---- calls
 
+/// Three places for each token, of which two thirds have to hold the target too.
+fn least_places(tokens: &[u64], part: &[u64]) -> usize {
+    3 * tokens.len().max(part.len().div_ceil(2))
+}
+
 fn sound_call(r: &mut Random, rewriting: Rewriting, pair: &Pair, name: &str) -> Call {
     let tokens = words_of(&pair.es);
     let part = words_of(std::slice::from_ref(&pair.part));
-    let most = tokens.len().max(part.len());
     let more = if r.chance(50) { 0 } else { r.below(20) };
     Call {
         rewriting,
         name: words::BELOW * words::symbol_code(name, &number),
-        places: 2 * most + more,
+        places: least_places(&tokens, &part) + more,
         out: tokens.len() + more,
         answer: 1 + r.below(2),
         tokens,
@@ -157,10 +163,14 @@ fn spoil_call(r: &mut Random, c: &mut Call) -> u64 {
             c.answer = 0;
             return NO_ANSWER;
         }
-        5 => c.part = vec![PRODUCT, ONE, ONE],
+        5 => {
+            c.part = vec![PRODUCT, ONE, ONE];
+            c.places = least_places(&c.tokens, &c.part);
+        }
         6 => c.tokens.insert(0, LAME_SUM),
         _ => {
-            c.places = r.below(2 * c.tokens.len());
+            let least = least_places(&c.tokens, &c.part);
+            c.places = if r.chance(50) { least - 1 } else { r.below(least) };
             return NO_ROOM;
         }
     }
@@ -169,7 +179,7 @@ fn spoil_call(r: &mut Random, c: &mut Call) -> u64 {
 
 // ---- what was met
 
-const EVENTS: [&str; 11] = [
+const EVENTS: [&str; 11 + deep::SORTS] = [
     "unchanged",
     "refused by 10",
     "equal trees",
@@ -181,7 +191,15 @@ const EVENTS: [&str; 11] = [
     "targets without a symbol",
     "products matched by factors of which one is the name",
     "targets that never end",
+    // counted as calls
+    "words 1,041 deep",
+    "a target 1,041 deep",
+    "words 1,042 deep",
+    "a target 1,042 deep",
+    "words or a target 100,000 deep and more",
 ];
+/// Where those begin that deep words are counted by.
+const DEEP: usize = 11;
 
 #[derive(Default)]
 struct Tally {
@@ -267,19 +285,21 @@ impl Tally {
         if let Some(difference) = port.difference(c, given) {
             self.differ += 1;
             if self.differ <= 10 {
-                println!("DIFFERS: {difference}: {shown}\n  {c:?}\n  {given:?}");
+                let cut = |s: String| s.chars().take(SHOWN).collect::<String>();
+                let (c, given) = (cut(format!("{c:?}")), cut(format!("{given:?}")));
+                println!("DIFFERS: {difference}: {shown}\n  {c}\n  {given}");
             }
         }
     }
 
     fn say(&self, rewriting: Rewriting, port: &Port) -> bool {
-        let shown = if rewriting == Rewriting::Replace { &EVENTS[..] } else { &["unchanged", "", "rewritten"] };
-        let met: Vec<String> = shown
-            .iter()
-            .zip(self.events)
-            .filter(|(name, _)| !name.is_empty())
-            .map(|(name, n)| format!("{name} {n}"))
-            .collect();
+        let shown: Vec<(&str, usize)> = if rewriting == Rewriting::Replace {
+            EVENTS.into_iter().zip(self.events).collect()
+        } else {
+            let deep = EVENTS.into_iter().zip(self.events).skip(DEEP);
+            [("unchanged", self.events[0]), ("rewritten", self.events[2])].into_iter().chain(deep).collect()
+        };
+        let met: Vec<String> = shown.iter().map(|(name, n)| format!("{name} {n}")).collect();
         let kinds = self.kinds.iter().filter(|met| **met).count();
         println!(
             "{rewriting:?}: {} calls, {} differ; {}; unsound {}, too few places {}, no room for an answer {}; kinds met {kinds}",
@@ -297,8 +317,8 @@ impl Tally {
             each(port.time),
             each(self.source)
         );
-        let wanted = shown.iter().zip(self.events).filter(|(name, _)| !name.is_empty());
-        self.differ == 0 && kinds == words::KINDS && wanted.chain([(&"", self.unsound.iter().copied().min().unwrap())]).all(|(_, n)| n > 0)
+        let wanted = shown.iter().map(|(_, n)| *n);
+        self.differ == 0 && kinds == words::KINDS && wanted.chain(self.unsound).all(|n| n > 0)
     }
 }
 
@@ -327,8 +347,13 @@ fn compare(count: usize) {
         let mut r = Random(SEED);
         let mut port = Port::new();
         let mut tally = Tally::default();
-        for _ in 0..count {
+        for n in 0..count {
             hold_one(&mut r, rewriting, &mut port, &mut tally);
+            if n % DEEP_ONE_IN == 0 {
+                let (c, given, sort) = deep_call(&mut r, rewriting, n / DEEP_ONE_IN);
+                tally.events[DEEP + sort] += 1;
+                tally.hold(&mut port, &c, &given, "deep words");
+            }
         }
         well &= tally.say(rewriting, &port);
     }
@@ -347,12 +372,37 @@ fn hold_one(r: &mut Random, rewriting: Rewriting, port: &mut Port, tally: &mut T
     tally.source += began.elapsed();
     tally.mark(rewriting, &pair, &name, &given);
     let never = endless(rewriting, &pair.part, &name);
-    tally.hold(port, &c, &expected(&c.tokens, never, &given), &shown(&pair));
+    tally.hold(port, &c, &expected(never, &given), &shown(&pair));
     if r.chance(UNSOUND) {
         let number = spoil_call(r, &mut c);
         tally.unsound[(number - BROKEN) as usize] += 1;
         tally.hold(port, &c, &nothing(number), &shown(&pair));
     }
+}
+
+/// A pair put into words that stand deep, by turns of each sort: the call, what it should do, and the sort.
+fn deep_call(r: &mut Random, rewriting: Rewriting, turn: usize) -> (Call, Expected, usize) {
+    let pair = pair(r, rewriting);
+    let name = new_name(r);
+    if turn % deep::SORTS == deep::FAR {
+        let mut c = sound_call(r, rewriting, &pair, &name);
+        deep::put_far(r, &mut c);
+        c.places = least_places(&c.tokens, &c.part);
+        c.out = c.tokens.len();
+        return (c, nothing(BROKEN), deep::FAR);
+    }
+    let sort = turn % deep::FAR;
+    let pair = deep::sunk(r, pair, sort);
+    let c = sound_call(r, rewriting, &pair, &name);
+    let name = pairs::sym(&name);
+    let deepest = depth::depth(&c.tokens).max(depth::depth(&c.part));
+    assert_eq!(deepest, deep::of_sort(sort), "as deep as it should be");
+    if deepest > depth::DEEPEST {
+        return (c, nothing(BROKEN), sort);
+    }
+    let never = endless(rewriting, &pair.part, &name);
+    let given = expected(never, &asked(rewriting, &pair, &name));
+    (c, given, sort)
 }
 
 /// Expectations that are each wrong in one thing: all have to be noticed.
@@ -362,13 +412,18 @@ fn self_test() {
     let mut noticed = 0;
     for n in 0..WRONG {
         let rewriting = [Rewriting::Replace, Rewriting::Divisor, Rewriting::OutsideArms][n % 3];
-        let pair = pair(&mut r, rewriting);
-        let name = new_name(&mut r);
-        let c = sound_call(&mut r, rewriting, &pair, &name);
-        let name = pairs::sym(&name);
-        let never = endless(rewriting, &pair.part, &name);
-        let mut given = expected(&c.tokens, never, &asked(rewriting, &pair, &name));
-        assert_eq!(port.difference(&c, &given), None, "a true one: {}", shown(&pair));
+        let (c, mut given, shown) = if n % DEEP_ONE_IN == 0 {
+            let (c, given, _) = deep_call(&mut r, rewriting, n / DEEP_ONE_IN);
+            (c, given, String::from("deep words"))
+        } else {
+            let pair = pair(&mut r, rewriting);
+            let name = new_name(&mut r);
+            let c = sound_call(&mut r, rewriting, &pair, &name);
+            let name = pairs::sym(&name);
+            let never = endless(rewriting, &pair.part, &name);
+            (c, expected(never, &asked(rewriting, &pair, &name)), shown(&pair))
+        };
+        assert_eq!(port.difference(&c, &given), None, "a true one: {shown}");
         spoil(&mut r, &mut given);
         noticed += usize::from(port.difference(&c, &given).is_some());
     }

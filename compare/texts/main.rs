@@ -10,6 +10,8 @@ mod arael;
 mod area;
 mod asked;
 mod cse;
+mod deep;
+mod depth;
 mod exported;
 mod fmt;
 mod lists;
@@ -37,6 +39,10 @@ const SEED: u64 = 20_261_115;
 const WRONG: usize = 5_000;
 /// Of a hundred trees so many are damaged too.
 const DAMAGED: usize = 5;
+/// One tree, and one answer, in so many stands about as deep as is taken, or far deeper.
+const DEEP_ONE_IN: usize = 100;
+/// So much is printed of a call that differs.
+const SHOWN: usize = 4_000;
 
 fn main() {
     let words: Vec<String> = std::env::args().skip(1).collect();
@@ -155,6 +161,7 @@ struct Tally {
     deepest: usize,
     longest: usize,
     differ: usize,
+    depths: deep::Depths,
     /// how often each kind stands at each place of an operation
     met: Vec<[[usize; KINDS]; PLACES]>,
     source: Duration,
@@ -173,6 +180,7 @@ impl Tally {
             deepest: 0,
             longest: 0,
             differ: 0,
+            depths: deep::Depths::default(),
             met: vec![[[0; KINDS]; PLACES]; KINDS],
             source: Duration::ZERO,
         }
@@ -193,7 +201,7 @@ impl Tally {
         if let Some(difference) = port.difference(c, given) {
             self.differ += 1;
             if self.differ <= 10 {
-                println!("DIFFERS: {difference}: {text}\n  {c:?}\n  {given:?}");
+                show(&difference, c, given, text);
             }
         }
     }
@@ -217,7 +225,7 @@ impl Tally {
         let missing = self.missing();
         let seats: usize = (2..KINDS).map(|k| places(k) * KINDS).sum();
         println!(
-            "{} trees, {} differ; texts too long for what was lent {}, only measured {}; damaged {}, no room for an answer {}; kinds at places of operands met {} of {seats}, nests as deep as {}, names as long as {}",
+            "{} trees, {} differ; texts too long for what was lent {}, only measured {}; damaged {}, no room for an answer {}; kinds at places of operands met {} of {seats}, nests as deep as {}, names as long as {}; {}",
             self.trees,
             self.differ,
             self.too_long,
@@ -227,6 +235,7 @@ impl Tally {
             seats - missing.len(),
             self.deepest,
             self.longest,
+            self.depths.said(),
         );
         let calls = self.trees + self.damaged + self.no_answer;
         println!(
@@ -237,9 +246,15 @@ impl Tally {
             self.source.as_secs_f64() * 1e6 / self.trees as f64
         );
         missing.iter().take(5).for_each(|m| println!("never met: {m}"));
-        let met = [self.too_long, self.dry, self.damaged, self.no_answer];
+        let met = [self.too_long, self.dry, self.damaged, self.no_answer, self.depths.fewest()];
         self.differ == 0 && missing.is_empty() && !met.contains(&0) && self.longest == 32
     }
+}
+
+pub fn show(difference: &str, c: &Call, given: &Expected, text: &str) {
+    let cut = |s: String| s.chars().take(SHOWN).collect::<String>();
+    let [text, c, given] = [text.to_string(), format!("{c:?}"), format!("{given:?}")].map(cut);
+    println!("DIFFERS: {difference}: {text}\n  {c}\n  {given}");
 }
 
 fn places(kind: usize) -> usize {
@@ -257,8 +272,11 @@ fn compare(count: usize) {
     let mut r = Random(SEED);
     let mut port = Port::new();
     let mut tally = Tally::new();
-    for _ in 0..count {
+    for n in 0..count {
         hold_one(&mut r, &mut port, &mut tally);
+        if n % DEEP_ONE_IN == 0 {
+            hold_deep(&mut r, &mut port, &mut tally);
+        }
     }
     let trees = tally.say(&port);
     let answers = printed::compare(count);
@@ -288,20 +306,55 @@ fn hold_one(r: &mut Random, port: &mut Port, tally: &mut Tally) {
     }
 }
 
+/// A tree that stands about as deep as is taken, with the words around it, or far deeper.
+fn hold_deep(r: &mut Random, port: &mut Port, tally: &mut Tally) {
+    let rows = trees::rows(r);
+    let (c, given, levels) = deep_text(r, &rows);
+    tally.depths.count(levels);
+    tally.hold(port, &c, &given, "deep words");
+}
+
+/// The call, what it should do, and how deep its words stand.
+fn deep_text(r: &mut Random, rows: &Rows) -> (Call, Expected, usize) {
+    if r.chance(20) {
+        let leaf = trees::leaf(r, rows);
+        let mut p = placed(r, rows, &leaf, 0);
+        let (many, sort) = (deep::far(r), r.below(3));
+        p.call.words = deep::far_tree(sort, many);
+        p.call.writer = Writer::Text { at: 0, dry: p.dry };
+        let levels = depth::depth(&p.call.words);
+        return (p.call, nothing(BROKEN), levels);
+    }
+    // up to three words before the tree may have it below them
+    let levels = depth::DEEPEST - 3 + r.below(6);
+    let e = deep::tree(r, rows, levels);
+    let text = e.to_string();
+    let p = placed(r, rows, &e, text.len());
+    let levels = depth::depth(&p.call.words);
+    let given = if levels > depth::DEEPEST { nothing(BROKEN) } else { expected(&p, &text) };
+    (p.call, given, levels)
+}
+
 /// Expectations that are each wrong in one thing: all have to be noticed.
 fn self_test() {
     let mut r = Random(SEED);
     let mut port = Port::new();
     let mut noticed = 0;
-    for _ in 0..WRONG {
+    for n in 0..WRONG {
         let rows = trees::rows(&mut r);
-        let e = trees::tree(&mut r, &rows);
-        let text = e.to_string();
-        let p = placed(&mut r, &rows, &e, text.len());
-        let mut given = expected(&p, &text);
-        assert_eq!(port.difference(&p.call, &given), None, "a true one: {text}");
+        let (c, mut given, text) = if n % DEEP_ONE_IN == 0 {
+            let (c, given, _) = deep_text(&mut r, &rows);
+            (c, given, String::from("deep words"))
+        } else {
+            let e = trees::tree(&mut r, &rows);
+            let text = e.to_string();
+            let p = placed(&mut r, &rows, &e, text.len());
+            let given = expected(&p, &text);
+            (p.call, given, text)
+        };
+        assert_eq!(port.difference(&c, &given), None, "a true one: {text}");
         spoil(&mut r, &mut given);
-        noticed += usize::from(port.difference(&p.call, &given).is_some());
+        noticed += usize::from(port.difference(&c, &given).is_some());
     }
     noticed += printed::noticed(&mut r, &mut port, WRONG);
     println!("of {} wrong expectations {noticed} are noticed", 2 * WRONG);

@@ -4,13 +4,15 @@
 use crate::arael::E;
 use crate::asked::{Answer, asked, text};
 use crate::cse::{Intermediate, Switch};
+use crate::deep::{self, Depths};
+use crate::depth::{DEEPEST, depth};
 use crate::lists;
 use crate::port::{Call, Expected, NO_ANSWER, Port, Writer};
 use crate::random::Random;
 use crate::rows::{RESULT, Rows, laid_out};
 use crate::tree::Maker;
 use crate::words::BELOW;
-use crate::{nothing, spoil};
+use crate::{DEEP_ONE_IN, nothing, show, spoil};
 use std::time::{Duration, Instant};
 
 const SEED: u64 = 20_261_116;
@@ -18,8 +20,8 @@ const SEED: u64 = 20_261_116;
 const DAMAGED: usize = 5;
 
 /// 01's numbers: words that are no answer's rows, and a text longer than what is lent.
-const NOT_LAID_OUT: u64 = 13;
-const TOO_LONG: u64 = 14;
+pub const NOT_LAID_OUT: u64 = 13;
+pub const TOO_LONG: u64 = 14;
 
 /// One list, or two or three together, with node rows for its symbols.
 fn list(r: &mut Random) -> (Rows, Vec<E>) {
@@ -111,6 +113,7 @@ struct Tally {
     rows: usize,
     bytes: usize,
     differ: usize,
+    depths: Depths,
     source: Duration,
 }
 
@@ -143,6 +146,24 @@ fn expected(c: &Call, text: &str) -> Expected {
     }
 }
 
+/// An answer that stands about as deep as is taken, or far deeper: the call, what it should do, and how deep it stands.
+fn deep_answer(r: &mut Random) -> (Call, Expected, usize) {
+    let rows = deep::rows();
+    if r.chance(20) {
+        let (many, sort) = (deep::far(r), r.below(4));
+        let c = call(r, &rows, deep::far_answer(sort, many), 0);
+        let levels = depth(&c.words);
+        return (c, nothing(NOT_LAID_OUT), levels);
+    }
+    let levels = DEEPEST - 3 + r.below(6);
+    let a = deep::answer(r, levels);
+    let text = text(&a);
+    let c = call(r, &rows, laid_out(&rows, &a), text.len());
+    assert_eq!(depth(&c.words), levels, "as deep as it should be");
+    let given = if levels > DEEPEST { nothing(NOT_LAID_OUT) } else { expected(&c, &text) };
+    (c, given, levels)
+}
+
 /// Words that are no answer's rows; the number that is to be returned.
 fn damage(r: &mut Random, c: &mut Call) -> u64 {
     let i = r.below(c.words.len());
@@ -167,7 +188,7 @@ impl Tally {
         if let Some(difference) = port.difference(c, given) {
             self.differ += 1;
             if self.differ <= 10 {
-                println!("DIFFERS: {difference}: {text}\n  {c:?}\n  {given:?}");
+                show(&difference, c, given, text);
             }
         }
     }
@@ -197,14 +218,15 @@ impl Tally {
     fn say(&self, port: &Port) -> bool {
         let forms: Vec<String> = FORMS.iter().zip(self.forms).map(|(name, n)| format!("{name} {n}")).collect();
         println!(
-            "{} answers, {} differ; refused by 13 {}, by 14 {}, no room for an answer {}; lists that the source refuses {}; answers with {}",
+            "{} answers, {} differ; refused by 13 {}, by 14 {}, no room for an answer {}; lists that the source refuses {}; answers with {}; {}",
             self.answers,
             self.differ,
             self.damaged,
             self.too_long,
             self.no_answer,
             self.refused,
-            forms.join(", ")
+            forms.join(", "),
+            self.depths.said()
         );
         let answers = self.answers as f64;
         println!(
@@ -214,7 +236,7 @@ impl Tally {
             port.time.as_secs_f64() * 1e6 / (answers + (self.damaged + self.no_answer) as f64),
             self.source.as_secs_f64() * 1e6 / answers
         );
-        let met = [self.damaged, self.too_long, self.no_answer];
+        let met = [self.damaged, self.too_long, self.no_answer, self.depths.fewest()];
         self.differ == 0 && !met.contains(&0) && !self.forms.contains(&0)
     }
 }
@@ -232,7 +254,14 @@ pub fn compare(count: usize) -> bool {
     };
     let empty = call(&mut r, &Rows::new(), laid_out(&Rows::new(), &none), 0);
     tally.hold(&mut port, &empty, &expected(&empty, ""), "no roots");
+    let mut lists = 0;
     while tally.answers < count {
+        if lists % DEEP_ONE_IN == 0 {
+            let (c, given, levels) = deep_answer(&mut r);
+            tally.depths.count(levels);
+            tally.hold(&mut port, &c, &given, "deep rows");
+        }
+        lists += 1;
         let (rows, es) = list(&mut r);
         for scoped in [false, true] {
             match asked(&es, scoped) {
@@ -253,9 +282,13 @@ pub fn noticed(r: &mut Random, port: &mut Port, wrong: usize) -> usize {
         let Ok(answer) = asked(&es, tried % 2 == 0) else {
             continue;
         };
-        let text = text(&answer);
-        let c = call(r, &rows, laid_out(&rows, &answer), text.len());
+        let mut text = text(&answer);
+        let mut c = call(r, &rows, laid_out(&rows, &answer), text.len());
         let mut given = expected(&c, &text);
+        if tried % DEEP_ONE_IN == 0 {
+            (c, given, _) = deep_answer(r);
+            text = String::from("deep rows");
+        }
         assert_eq!(port.difference(&c, &given), None, "a true one: {text}");
         spoil(r, &mut given);
         noticed += usize::from(port.difference(&c, &given).is_some());

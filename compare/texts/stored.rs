@@ -5,13 +5,15 @@
 //! tree, or an exclamation mark and an answer's rows, and then how many bytes are lent, one more than the
 //! text has. In stdout a tree has two lines, for a call that only measures and one that writes: the places
 //! after its words and after its text, and all bytes lent, which were filled with `#`. An answer has the
-//! count of its bytes, and all bytes lent.
+//! count of its bytes, or `refused` and the number, and all bytes lent.
 use crate::arael::E;
-use crate::asked::{self, asked};
+use crate::asked::{self, Answer, asked};
+use crate::deep;
+use crate::depth::{DEEPEST, depth};
 use crate::lists;
 use crate::pair::Pair;
 use crate::random::Random;
-use crate::printed::{self, FORMS};
+use crate::printed::{self, FORMS, NOT_LAID_OUT, TOO_LONG};
 use crate::tree::Maker;
 use crate::rows::{Rows, laid_out};
 use crate::trees::{self, num, op, sym};
@@ -24,6 +26,10 @@ const SHORT: usize = 200;
 /// Answers are stored until each form was met so often; those with longer texts are left out.
 const OF_EACH_FORM: usize = 4;
 const SHORT_ANSWER: usize = 300;
+/// So many bytes are lent for answers that are refused.
+const FEW_BYTES: usize = 16;
+/// So many rows were too many for a stack of 8 MB, before the depth was tested.
+const FAR: usize = 12_000;
 /// The bytes lent are filled with this, which no text has.
 const FILLED: &str = "#";
 const SYMBOLS: [&str; 13] = [
@@ -50,7 +56,50 @@ pub fn pair() -> Pair {
         }
     }
     put_answers(&mut pair, &rows);
+    put_deep(&mut pair, &rows);
     pair
+}
+
+/// Answers that stand as deep as is taken, one deeper, and far deeper: by signs below a result and by matches in one
+/// another. Each says what it should give by how deep its words stand, and by the source's text.
+fn put_deep(pair: &mut Pair, rows: &Rows) {
+    let signs = |count: usize| (0..count).fold(sym("a"), |e, _| op(2, vec![e]));
+    for levels in [DEEPEST, DEEPEST + 1] {
+        let signs = |rows_around: usize| signs(levels - rows_around - 1);
+        let result = Answer { inters: Vec::new(), results: vec![signs(1)], reciprocals: 0 };
+        put_by_depth(pair, rows, &result, levels, true);
+        // two rows for each match, the value's, and its tree
+        let many = (levels - 2) / 2;
+        let nest = deep::nest(many, sym("b"), signs(2 * many + 1), |n| n % 5);
+        let matches = Answer { inters: vec![nest], results: vec![sym("a")], reciprocals: 0 };
+        put_by_depth(pair, rows, &matches, levels, false);
+    }
+    put_refused(pair, &deep::far_answer(0, FAR), NOT_LAID_OUT);
+    put_refused(pair, &deep::far_answer(3, FAR / 12), NOT_LAID_OUT);
+}
+
+/// With as many bytes as the text has and one more, or with few.
+fn put_by_depth(pair: &mut Pair, rows: &Rows, a: &Answer, levels: usize, whole: bool) {
+    let (words, said) = (laid_out(rows, a), asked::text(a));
+    assert_eq!(depth(&words), levels, "as deep as it should be");
+    if levels > DEEPEST {
+        put_refused(pair, &words, NOT_LAID_OUT);
+    } else if whole {
+        put_said(pair, &words, &said);
+    } else {
+        assert!(said.len() > FEW_BYTES);
+        put_refused(pair, &words, TOO_LONG);
+    }
+}
+
+fn put_said(pair: &mut Pair, words: &[u64], said: &str) {
+    pair.stdin += &format!("!{} {}\n", spaced(words), said.len() + 1);
+    pair.stdout += &format!("{} {said}{FILLED}\n", said.len());
+}
+
+fn put_refused(pair: &mut Pair, words: &[u64], number: u64) {
+    pair.stdin += &format!("!{} {FEW_BYTES}\n", spaced(words));
+    pair.stdout += &format!("refused {number} {}\n", FILLED.repeat(FEW_BYTES));
 }
 
 /// The source's own answers to random lists.
@@ -70,8 +119,7 @@ fn put_answers(pair: &mut Pair, rows: &Rows) {
         let said = asked::text(&answer);
         if wanted && said.len() <= SHORT_ANSWER {
             met.iter_mut().zip(forms).for_each(|(n, here)| *n += usize::from(here));
-            pair.stdin += &format!("!{} {}\n", spaced(&laid_out(rows, &answer)), said.len() + 1);
-            pair.stdout += &format!("{} {said}{FILLED}\n", said.len());
+            put_said(pair, &laid_out(rows, &answer), &said);
         }
     }
 }
