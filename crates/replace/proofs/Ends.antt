@@ -124,6 +124,14 @@ module _ (part : List ℕ) (name : ℕ) where
       go true p true q e = (let z : _≡_ {A = ℕ} 0 1 = cc in absurd (omega arith))
       go true p false q e = (sym p, over-is true false p q)
 
+  pub by-lone : sought-so sought.Endless → true ≡ b
+  unfolding sought-as
+  by-lone e = go b refl d e
+    where
+      go : (x : Bool) → b ≡ x → (y : Bool) → sought.Endless ≡ sought-as x y → true ≡ b
+      go true p y e = sym p
+      go false p y e = (let z : _≡_ {A = ℕ} 0 1 = cc in absurd (omega arith))
+
   pub by-endless : sought-so sought.Endless → endless (tree-of part) (name-of name) ≡ true
   unfolding sought-as
   by-endless e = go b refl d refl e

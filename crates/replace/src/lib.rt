@@ -84,9 +84,10 @@ enum Sought {
     Endless,
 }
 
-enum Step {
+pub enum Step {
     // How many words were written.
     Wrote(usize),
+    // Refusal 10: the coefficient of a product to be rebuilt is no constant.
     Refused,
 }
 
@@ -374,6 +375,35 @@ fn replace_trees(
         Sought::Factors => replace_sought(tokens, target, name, true, places, out),
         Sought::Endless => Replaced::Broken,
     }
+}
+
+// Whether the target is sought by its factors.
+fn seeks_factors(target: &[u64], name: u64, places: &mut [u64]) -> bool
+    requires { ⌜ (trees-in (now target) ≡ some 1) × (kind-of name ≡ 0) × (length (now target) ≤ length (now places)) ⌝ }
+    ensures { λ r. ⌜ r ≡ by-factors (tree-of (now (target .entry))) ⌝ }
+{
+    let sought = seek(target, name, places);
+    match sought {
+        Sought::Whole => false,
+        Sought::Factors => true,
+        Sought::Endless => true,
+    }
+}
+
+// `replace` for a caller that knows that the words are trees, that replacing ends, and that there is room.
+pub fn replace_known(
+    tokens: &[u64],
+    target: &[u64],
+    name: u64,
+    places: &mut [u64],
+    out: &mut [u64],
+) -> Step
+    requires { ⌜ Trees (now tokens) × Target (now target) name × (length (now target) ≤ length (now places)) ⌝ }
+    requires { ⌜ (2 * length (now tokens) ≤ length (now places)) × (length (now tokens) ≤ length (now out)) ⌝ }
+    ensures { λ r. ⌜ Writes (rewritten-words (now (target .entry)) name (now (tokens .entry))) (length (now (tokens .entry))) (now (out .entry)) r (now (out .exit)) ⌝ }
+{
+    let sought = seeks_factors(target, name, places);
+    rewrite(tokens, target, name, sought, places, out)
 }
 
 // Each node equal to the target becomes the name, and so do the target's factors in a product, as often as they are all there.

@@ -1,5 +1,4 @@
-pub mod Testing
 pub mod Extracting
-pub mod Rounding
+pub mod Lending
 pub mod Ending
 pub mod kept

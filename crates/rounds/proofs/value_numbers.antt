@@ -1,4 +1,5 @@
 pub mod Laws
+pub mod Keys
 pub mod Nodes
 pub mod Belows
 pub mod Chains

@@ -2,21 +2,17 @@
 // text, and of equals the one met first.
 ghost use mathlib.Core.Path.{_≡_};
 ghost use mathlib.Core.Bool.{cond};
-ghost use Prim.Native.Nat.{_*_, _≤_, _<_, min};
-ghost use lib.ListN.{length};
-ghost use Rattle.spec_tree.specs.Bytes.{every};
-ghost use Rattle.fmt.specs.checked.Check.{rows-in, word-ok};
+ghost use Prim.Native.Nat.{_*_, _≤_, _<_};
+ghost use lib.ListN.{length, getD};
+ghost use Rattle.fmt.specs.checked.Check.{rows-in};
 ghost use Rattle.laws.specs.positions.Places.{savings-at, candidate-at};
 ghost use Rattle.rounds.specs.uses.Marks.{Complete};
-ghost use Rattle.rounds.specs.choice.Leading.{HasFacts, HasUses, Writable, Lead, leader-of, later-at, best-step, Leads};
-ghost use Rattle.rounds.specs.choice.Answers.{has-room, best-answer};
-use crate::uses::mark_outside;
+ghost use Rattle.rounds.specs.choice.Leading.{HasFacts, HasUses, HasOutside, Writable, Lead, leader-of, later-at, best-step, Leads};
+ghost use Rattle.rounds.specs.value_numbers.Tables.{Known};
+ghost use Rattle.rounds.specs.Answers.{Finds, Lent};
+use crate::outside::count_outside;
 use crate::value_numbers::class_tables;
-use fmt::checked::Checked;
-use fmt::checked::tree_ok;
 use fmt::order::before_at;
-use words::tokens::Trees;
-use words::tokens::count_trees;
 
 // Each place has PER_PLACE words of facts: size, cost, depth, operations, and whether it has a symbol.
 const PER_PLACE: usize = 5;
@@ -27,18 +23,9 @@ const DEPTH: usize = 2;
 
 const SYMBOL: usize = 4;
 
-// So many words at most, which keeps products small; and so many bytes for each, for two texts.
-const MOST_WORDS: usize = 1000000;
-
-const TEXT_BYTES: usize = 68;
-
 pub enum Best {
     At(usize),
     Nothing,
-    // A word lacks an operand, or isn't one of a tree of an answer.
-    Broken,
-    // Too many words, or too little lent for them.
-    NoRoom,
 }
 
 // The best place so far and what it saves: 0 where there is none, since a candidate saves something.
@@ -47,19 +34,12 @@ struct Leader {
     savings: u64,
 }
 
-// Whether every word is one of a tree that print takes.
-fn words_pass(rows: &[u64], tokens: &[u64]) -> bool
-    requires { ⌜ Complete (now tokens) ⌝ }
-    ensures { λ r. ⌜ r ≡ every (word-ok (rows-in (now (rows .entry)))) (now (tokens .entry)) ⌝ }
+// How often the tree of a class is used outside arms. In the flat form every place is outside.
+fn outside_uses(scoped: bool, outside: &[u64], class: usize, count: u64) -> u64
+    requires { ⌜ class < length (now outside) ⌝ }
+    ensures { λ r. ⌜ r ≡ cond scoped (getD (now (outside .entry)) class 0) count ⌝ }
 {
-    let mut at = 0;
-    while at < tokens.len() {
-        let Checked::Ends(end) = tree_ok(rows, tokens, at) else {
-            return false;
-        };
-        at = end;
-    }
-    true
+    if scoped { outside[class] } else { count }
 }
 
 // What binding the tree at i saves where it is a candidate, and else 0.
@@ -73,11 +53,16 @@ fn savings_of(
     i: usize,
 ) -> u64
     requires { ⌜ Complete (now tokens) ⌝ }
-    requires { ⌜ (i < length (now tokens)) × (length (now tokens) ≤ 1000000) ⌝ }
+    requires { ⌜ (i < length (now tokens)) × (length (now tokens) ≤ 1927) ⌝ }
     requires { ⌜ HasFacts (now tokens) (now facts) ⌝ }
-    requires { ⌜ HasUses (now tokens) scoped (now classes) (now uses) (now outside) ⌝ }
+    requires { ⌜ HasUses (now tokens) (now classes) (now uses) × HasOutside (now tokens) scoped (now classes) (now outside) ⌝ }
     ensures { λ r. ⌜ r ≡ cond (candidate-at (now (tokens .entry)) scoped i) (savings-at (now (tokens .entry)) i) 0 ⌝ }
 {
+    let class = classes[i] as usize;
+    let count = uses[class];
+    if count < 2 {
+        return 0;
+    }
     let row = PER_PLACE * i;
     let cost = facts[row + COST];
     if cost < 1 {
@@ -86,32 +71,31 @@ fn savings_of(
     if facts[row + SYMBOL] < 1 {
         return 0;
     }
-    let class = classes[i] as usize;
-    let count = uses[class];
-    if count < 2 {
-        return 0;
-    }
-    if outside[class] < 1 {
+    if outside_uses(scoped, outside, class, count) < 1 {
         return 0;
     }
     (count - 1) * cost
 }
 
-// Of two places that save as much: whether the second is deeper, or as deep with a later text.
+// Of two places that save as much: whether the second is deeper, or as deep with a later text. Places of one class have one tree.
 fn later(
     rows: &[u64],
     tokens: &[u64],
     facts: &[u64],
+    classes: &[u64],
     text: &mut [u8],
     place: usize,
     i: usize,
 ) -> bool
     requires { ⌜ Complete (now tokens) ⌝ }
     requires { ⌜ (place < length (now tokens)) × (i < length (now tokens)) ⌝ }
-    requires { ⌜ HasFacts (now tokens) (now facts) ⌝ }
+    requires { ⌜ HasFacts (now tokens) (now facts) × Known (now tokens) 0 (now classes) ⌝ }
     requires { ⌜ Writable (now rows) (now tokens) (length (now text)) ⌝ }
     ensures { λ r. ⌜ r ≡ later-at (now (rows .entry)) (now (tokens .entry)) place i ⌝ }
 {
+    if classes[place] == classes[i] {
+        return false;
+    }
     let row = PER_PLACE * place;
     let a = facts[row + DEPTH];
     let row = PER_PLACE * i;
@@ -136,9 +120,9 @@ fn met(
     i: usize,
 ) -> Leader
     requires { ⌜ Complete (now tokens) ⌝ }
-    requires { ⌜ (i < length (now tokens)) × (length (now tokens) ≤ 1000000) ⌝ }
-    requires { ⌜ HasFacts (now tokens) (now facts) ⌝ }
-    requires { ⌜ HasUses (now tokens) scoped (now classes) (now uses) (now outside) ⌝ }
+    requires { ⌜ (i < length (now tokens)) × (length (now tokens) ≤ 1927) ⌝ }
+    requires { ⌜ HasFacts (now tokens) (now facts) × Known (now tokens) 0 (now classes) ⌝ }
+    requires { ⌜ HasUses (now tokens) (now classes) (now uses) × HasOutside (now tokens) scoped (now classes) (now outside) ⌝ }
     requires { ⌜ Writable (now rows) (now tokens) (length (now text)) ⌝ }
     requires { ⌜ Lead (now tokens) (leader .place) (leader .savings) ⌝ }
     ensures { λ r. ⌜ Lead (now (tokens .entry)) (r .place) (r .savings) × (leader-of (r .place) (r .savings) ≡ best-step (now (rows .entry)) (now (tokens .entry)) scoped (leader-of (leader .place) (leader .savings)) i) ⌝ }
@@ -153,7 +137,7 @@ fn met(
     if savings == 0 {
         return leader;
     }
-    if later(rows, tokens, facts, text, leader.place, i) {
+    if later(rows, tokens, facts, classes, text, leader.place, i) {
         return Leader { place: i, savings };
     }
     leader
@@ -171,9 +155,9 @@ fn search(
     text: &mut [u8],
 ) -> Leader
     requires { ⌜ Complete (now tokens) ⌝ }
-    requires { ⌜ length (now tokens) ≤ 1000000 ⌝ }
-    requires { ⌜ HasFacts (now tokens) (now facts) ⌝ }
-    requires { ⌜ HasUses (now tokens) scoped (now classes) (now uses) (now outside) ⌝ }
+    requires { ⌜ length (now tokens) ≤ 1927 ⌝ }
+    requires { ⌜ HasFacts (now tokens) (now facts) × Known (now tokens) 0 (now classes) ⌝ }
+    requires { ⌜ HasUses (now tokens) (now classes) (now uses) × HasOutside (now tokens) scoped (now classes) (now outside) ⌝ }
     requires { ⌜ Writable (now rows) (now tokens) (length (now text)) ⌝ }
     ensures { λ r. ⌜ Leads (now (rows .entry)) (now (tokens .entry)) scoped (r .place) (r .savings) ⌝ }
 {
@@ -200,61 +184,26 @@ fn search(
     leader
 }
 
-// Whether enough is lent for so many words.
-fn has_room(words: usize, facts: usize, marks: usize, text: usize) -> bool
-    ensures { λ r. ⌜ r ≡ has-room words facts marks text ⌝ }
-{
-    if words > MOST_WORDS {
-        return false;
-    }
-    if facts < PER_PLACE * words {
-        return false;
-    }
-    if marks < words {
-        return false;
-    }
-    text >= TEXT_BYTES * words
-}
-
-// The smaller of two numbers.
-fn smaller(a: usize, b: usize) -> usize
-    ensures { λ r. ⌜ r ≡ min a b ⌝ }
-{
-    if a < b { a } else { b }
-}
-
-// The place of the best candidate among the trees that the words are. The facts, the marks, the tables and the text are worked in; what is
-// left there is free.
+// The place of the best candidate among the trees that the words are. What else is lent is worked in, and what is left there is free: the places outside arms are marked
+// in `heads`, and counted in `next`, when these have served.
 pub fn best_place(
     rows: &[u64],
     tokens: &[u64],
     scoped: bool,
     facts: &mut [u64],
-    marks: &mut [u64],
     classes: &mut [u64],
     next: &mut [u64],
     heads: &mut [u64],
     uses: &mut [u64],
-    outside: &mut [u64],
     text: &mut [u8],
 ) -> Best
-    ensures { λ r. ⌜ r ≡ best-answer (now (rows .entry)) (now (tokens .entry)) scoped (length (now (facts .entry))) (min (length (now (marks .entry))) (min (length (now (classes .entry))) (min (length (now (next .entry))) (min (length (now (heads .entry))) (min (length (now (uses .entry))) (length (now (outside .entry)))))))) (length (now (text .entry))) ⌝ }
+    requires { ⌜ Complete (now tokens) × (length (now tokens) ≤ 1927) × Writable (now rows) (now tokens) (length (now text)) ⌝ }
+    requires { ⌜ Lent (length (now tokens)) (length (now facts)) (length (now classes)) (length (now next)) (length (now heads)) (length (now uses)) ⌝ }
+    ensures { λ r. ⌜ Finds (rows-in (now (rows .entry))) (now (tokens .entry)) scoped r ⌝ }
 {
-    let counts = smaller(uses.len(), outside.len());
-    let chains = smaller(next.len(), smaller(heads.len(), counts));
-    let tables = smaller(marks.len(), smaller(classes.len(), chains));
-    if !has_room(tokens.len(), facts.len(), tables, text.len()) {
-        return Best::NoRoom;
-    }
-    let Trees::Count(_) = count_trees(tokens) else {
-        return Best::Broken;
-    };
-    mark_outside(tokens, scoped, marks);
-    class_tables(tokens, marks, facts, classes, next, heads, uses, outside);
-    if !words_pass(rows, tokens) {
-        return Best::Broken;
-    }
-    let leader = search(rows, tokens, scoped, facts, classes, uses, outside, text);
+    class_tables(tokens, facts, classes, next, heads, uses);
+    count_outside(tokens, scoped, classes, heads, next);
+    let leader = search(rows, tokens, scoped, facts, classes, uses, next, text);
     let place = leader.place;
     if leader.savings == 0 {
         Best::Nothing

@@ -1,160 +1,54 @@
 // The rounds of extraction on words of trees (01, "Extraction"), the first part of `cse_scope` of the source. In a round the tree at the best place gets the next name, which stands for it in all the trees,
 // and is the last of them itself; rounds go on until no candidate is left. Local arrays hold what is worked out beside the words: the facts and marks of the places, the places of factors, and the words written.
-pub mod choice;
+mod choice;
 mod measure;
+mod outside;
 pub mod uses;
-mod value_numbers;
+pub mod value_numbers;
 
 ghost use mathlib.Core.Path.{_≡_};
-ghost use Prim.Native.Nat.{_+_, _≤_};
+ghost use Prim.Native.Nat.{_*_, _≤_};
 ghost use lib.ListN.{length, take};
-ghost use Rattle.spec_tree.specs.Bytes.{every};
+ghost use lib.Dec.{T};
 ghost use Rattle.fmt.specs.checked.Check.{rows-in};
-ghost use Rattle.rounds.specs.kept.Sound.{numbered-below};
-ghost use Rattle.rounds.specs.Answers.{Finds, Chosen, Extracts, Turns, round-answer};
+ghost use Rattle.rounds.specs.kept.Sound.{extractable};
+ghost use Rattle.rounds.specs.Answers.{Chosen, Lent, Extracts, Turns, Turned-so};
 ghost use Rattle.rounds.specs.Rounds.{rounds-answer, Leaves-words};
 use crate::choice::Best;
 use crate::choice::best_place;
-use replace::Replaced;
-use replace::replace;
+use replace::Step;
+use replace::replace_known;
 use words::copying::put;
 use words::layout::CLASSES;
 use words::layout::KINDS;
 use words::layout::LET_CLASS;
-use words::layout::SYM;
-use words::tokens::Run;
-use words::tokens::end_of;
+use words::tokens::tree_end;
 
-// The most words, five words of facts for each, and two places for each.
+// The most words, five words of facts for each, and chains for them.
 const MOST_WORDS: usize = 1927;
 
 const FACTS: usize = 9635;
 
-const PLACES: usize = 3854;
+const CHAINS: usize = 2048;
 
-// Few words and their facts, so that most rounds needn't clear the large arrays.
+// Few words and their facts, so that most lists needn't clear the large arrays.
 const FEW_WORDS: usize = 256;
 
 const FEW_FACTS: usize = 1280;
 
-const TEXT_BYTES: usize = 131072;
-
-// Far below what a word can hold.
-const LARGEST_NAME: u64 = 1099511627776;
-
-// Rounds are fewer than words, so that names from here on stay below.
-const LARGEST_FIRST: u64 = 549755813888;
-
-pub enum Round {
+enum Round {
     // How many words there are now.
     Next(usize),
     // No candidate is left.
     Last,
     // A rebuilt coefficient is no constant: 10.
     Refused,
-    // A word lacks operands, a tree isn't one that print takes, or a name isn't below the next.
-    Broken,
-    // More words than the arrays hold or than there are, too little text, or a name too large.
-    NoRoom,
 }
 
 pub enum Rounds {
     // How many words there are now, and how many bindings were made.
     Done(usize, usize),
     Refused,
-    Broken,
-    NoRoom,
-}
-
-// Whether a word's number, if it is that of a name made by extraction, is below the next.
-fn is_below(w: u64, name: u64) -> bool
-    ensures { λ r. ⌜ r ≡ numbered-below name w ⌝ }
-{
-    if w % KINDS != SYM {
-        return true;
-    }
-    if w / KINDS % CLASSES != LET_CLASS {
-        return true;
-    }
-    w / KINDS / CLASSES < name
-}
-
-fn are_below(tokens: &[u64], name: u64) -> bool
-    ensures { λ r. ⌜ r ≡ every (numbered-below name) (now (tokens .entry)) ⌝ }
-{
-    let mut i = 0;
-    while i < tokens.len() {
-        if !is_below(tokens[i], name) {
-            return false;
-        }
-        i += 1;
-    }
-    true
-}
-
-// The best place among few words, with small arrays.
-fn find_in_few(rows: &[u64], tokens: &[u64], scoped: bool, text: &mut [u8]) -> Best
-    requires { ⌜ (length (now tokens) ≤ 256) × (131072 ≤ length (now text)) ⌝ }
-    ensures { λ r. ⌜ Finds (rows-in (now (rows .entry))) (now (tokens .entry)) scoped r ⌝ }
-{
-    let mut facts = [0u64; FEW_FACTS];
-    let mut marks = [0u64; FEW_WORDS];
-    let mut classes = [0u64; FEW_WORDS];
-    let mut next = [0u64; FEW_WORDS];
-    let mut heads = [0u64; FEW_WORDS];
-    let mut uses = [0u64; FEW_WORDS];
-    let mut outside = [0u64; FEW_WORDS];
-    best_place(
-        rows,
-        tokens,
-        scoped,
-        &mut facts,
-        &mut marks,
-        &mut classes,
-        &mut next,
-        &mut heads,
-        &mut uses,
-        &mut outside,
-        text,
-    )
-}
-
-// The same among any number of words, with large ones.
-fn find_in_many(rows: &[u64], tokens: &[u64], scoped: bool, text: &mut [u8]) -> Best
-    requires { ⌜ (length (now tokens) ≤ 1927) × (131072 ≤ length (now text)) ⌝ }
-    ensures { λ r. ⌜ Finds (rows-in (now (rows .entry))) (now (tokens .entry)) scoped r ⌝ }
-{
-    let mut facts = [0u64; FACTS];
-    let mut marks = [0u64; MOST_WORDS];
-    let mut classes = [0u64; MOST_WORDS];
-    let mut next = [0u64; MOST_WORDS];
-    let mut heads = [0u64; MOST_WORDS];
-    let mut uses = [0u64; MOST_WORDS];
-    let mut outside = [0u64; MOST_WORDS];
-    best_place(
-        rows,
-        tokens,
-        scoped,
-        &mut facts,
-        &mut marks,
-        &mut classes,
-        &mut next,
-        &mut heads,
-        &mut uses,
-        &mut outside,
-        text,
-    )
-}
-
-// The best place among words that the arrays hold.
-fn find_best(rows: &[u64], tokens: &[u64], scoped: bool, text: &mut [u8]) -> Best
-    requires { ⌜ (length (now tokens) ≤ 1927) × (131072 ≤ length (now text)) ⌝ }
-    ensures { λ r. ⌜ Finds (rows-in (now (rows .entry))) (now (tokens .entry)) scoped r ⌝ }
-{
-    if tokens.len() <= FEW_WORDS {
-        return find_in_few(rows, tokens, scoped, text);
-    }
-    find_in_many(rows, tokens, scoped, text)
 }
 
 // The words with the tree at a place replaced by a name, and that tree after them.
@@ -164,26 +58,23 @@ fn extract(
     scoped: bool,
     at: usize,
     name: u64,
+    places: &mut [u64],
     out: &mut [u64],
-) -> Replaced
+) -> Step
     requires { ⌜ Chosen (rows-in (now rows)) (now tokens) scoped at name ⌝ }
-    requires { ⌜ (length (now tokens) ≤ 1927) × (name ≤ 1099511627776) × (length (now tokens) ≤ length (now out)) ⌝ }
+    requires { ⌜ (length (now tokens) ≤ 1927) × (name ≤ 1099511627776) ⌝ }
+    requires { ⌜ (2 * length (now tokens) ≤ length (now places)) × (length (now tokens) ≤ length (now out)) ⌝ }
     ensures { λ r. ⌜ Extracts (now (tokens .entry)) at name (now (out .entry)) r (now (out .exit)) ⌝ }
 {
-    let mut places = [0u64; PLACES];
-    let Run::Ends(end) = end_of(tokens, at) else {
-        return Replaced::Broken;
-    };
+    let end = tree_end(tokens, at);
     let word = KINDS * (LET_CLASS + CLASSES * name);
-    let replaced = replace(tokens, &tokens[at..end], word, &mut places, out);
-    match replaced {
-        Replaced::Words(n) => {
+    let step = replace_known(tokens, &tokens[at..end], word, places, out);
+    match step {
+        Step::Wrote(n) => {
             put(&tokens[at..end], n, out);
-            Replaced::Words(n + (end - at))
+            Step::Wrote(n + (end - at))
         }
-        Replaced::Refused => Replaced::Refused,
-        Replaced::Broken => Replaced::Broken,
-        Replaced::NoRoom => Replaced::NoRoom,
+        Step::Refused => Step::Refused,
     }
 }
 
@@ -195,86 +86,98 @@ fn extract_here(
     scoped: bool,
     at: usize,
     name: u64,
+    places: &mut [u64],
+    out: &mut [u64],
 ) -> Round
     requires { ⌜ Chosen (rows-in (now rows)) (take len (now tokens)) scoped at name ⌝ }
     requires { ⌜ (len ≤ length (now tokens)) × (len ≤ 1927) × (name ≤ 1099511627776) ⌝ }
+    requires { ⌜ (2 * len ≤ length (now places)) × (len ≤ length (now out)) ⌝ }
     ensures { λ r. ⌜ Turns (now (tokens .entry)) len at name r (now (tokens .exit)) ⌝ }
 {
-    let mut out = [0u64; MOST_WORDS];
-    let made = extract(rows, &tokens[..len], scoped, at, name, &mut out);
+    let made = extract(rows, &tokens[..len], scoped, at, name, places, out);
     match made {
-        Replaced::Words(n) => {
+        Step::Wrote(n) => {
             put(&out[..n], 0, tokens);
             Round::Next(n)
         }
-        Replaced::Refused => Round::Refused,
-        Replaced::Broken => Round::Broken,
-        Replaced::NoRoom => Round::NoRoom,
+        Step::Refused => Round::Refused,
     }
 }
 
-// One round on the first `len` words, whose trees are results and bindings by number; `name` is the next number. Unless the answer is Next, no word changes.
-pub fn one_round(
+// One round on the first `len` words, whose trees are results and bindings by number; `name` is the next number. Unless the answer is Next, no word changes. The tables
+// are worked in; when the best place is found, those of facts and uses serve for the places of factors and the words written.
+fn one_round(
     rows: &[u64],
     tokens: &mut [u64],
     len: usize,
     scoped: bool,
     name: u64,
+    facts: &mut [u64],
+    classes: &mut [u64],
+    next: &mut [u64],
+    heads: &mut [u64],
+    uses: &mut [u64],
     text: &mut [u8],
 ) -> Round
-    ensures { λ r. ⌜ (r ≡ round-answer (rows-in (now (rows .entry))) (now (tokens .entry)) len scoped name (length (now (text .entry))) .answer)
-        × (now (tokens .exit) ≡ round-answer (rows-in (now (rows .entry))) (now (tokens .entry)) len scoped name (length (now (text .entry))) .words) ⌝ }
+    requires { ⌜ T (extractable (rows-in (now rows)) name (take len (now tokens))) × (len ≤ length (now tokens)) × (len ≤ 1927) ⌝ }
+    requires { ⌜ (name ≤ 1099511627776) × (131072 ≤ length (now text)) ⌝ }
+    requires { ⌜ Lent len (length (now facts)) (length (now classes)) (length (now next)) (length (now heads)) (length (now uses)) ⌝ }
+    ensures { λ r. ⌜ Turned-so (rows-in (now (rows .entry))) (now (tokens .entry)) len scoped name r (now (tokens .exit)) ⌝ }
 {
-    if len > MOST_WORDS {
-        return Round::NoRoom;
-    }
-    if len > tokens.len() {
-        return Round::NoRoom;
-    }
-    if name > LARGEST_NAME {
-        return Round::NoRoom;
-    }
-    if text.len() < TEXT_BYTES {
-        return Round::NoRoom;
-    }
-    let found = find_best(rows, &tokens[..len], scoped, text);
+    let found = best_place(
+        rows,
+        &tokens[..len],
+        scoped,
+        facts,
+        classes,
+        next,
+        heads,
+        uses,
+        text,
+    );
     match found {
-        Best::At(at) => {
-            if are_below(&tokens[..len], name) {
-                return extract_here(rows, tokens, len, scoped, at, name);
-            }
-            Round::Broken
-        }
-        Best::Nothing => {
-            if are_below(&tokens[..len], name) {
-                return Round::Last;
-            }
-            Round::Broken
-        }
-        Best::Broken => Round::Broken,
-        Best::NoRoom => Round::NoRoom,
+        Best::At(at) => extract_here(rows, tokens, len, scoped, at, name, facts, uses),
+        Best::Nothing => Round::Last,
     }
 }
 
-// Rounds on the first `len` words, all of whose trees are results, until no candidate is left; `first` is the first number. What stands past them never changes.
-pub fn extract_all(
+// Rounds until no candidate is left.
+fn rounds_in(
     rows: &[u64],
     tokens: &mut [u64],
     len: usize,
     scoped: bool,
     first: u64,
+    facts: &mut [u64],
+    classes: &mut [u64],
+    next: &mut [u64],
+    heads: &mut [u64],
+    uses: &mut [u64],
     text: &mut [u8],
 ) -> Rounds
-    ensures { λ r. ⌜ (r ≡ rounds-answer (rows-in (now (rows .entry))) (now (tokens .entry)) len scoped first (length (now (text .entry))))
-        × Leaves-words (rows-in (now (rows .entry))) (now (tokens .entry)) len scoped first (length (now (text .entry))) (now (tokens .exit)) ⌝ }
+    requires { ⌜ T (extractable (rows-in (now rows)) first (take len (now tokens))) × (len ≤ length (now tokens)) × (len ≤ 1927) ⌝ }
+    requires { ⌜ (first ≤ 549755813888) × (131072 ≤ length (now text)) ⌝ }
+    requires { ⌜ Lent len (length (now facts)) (length (now classes)) (length (now next)) (length (now heads)) (length (now uses)) ⌝ }
+    ensures { λ r. ⌜ (r ≡ rounds-answer (rows-in (now (rows .entry))) (now (tokens .entry)) len scoped first)
+        × Leaves-words (rows-in (now (rows .entry))) (now (tokens .entry)) len scoped first (now (tokens .exit)) ⌝ }
 {
-    if first > LARGEST_FIRST {
-        return Rounds::NoRoom;
-    }
     let mut words = len;
     let mut made: usize = 0;
     loop {
-        let turned = one_round(rows, tokens, words, scoped, first + made as u64, text);
+        let name = first + made as u64;
+        let turned = one_round(
+            rows,
+            tokens,
+            words,
+            scoped,
+            name,
+            facts,
+            classes,
+            next,
+            heads,
+            uses,
+            text,
+        );
         match turned {
             Round::Next(now) => {
                 words = now;
@@ -286,12 +189,94 @@ pub fn extract_all(
             Round::Refused => {
                 return Rounds::Refused;
             }
-            Round::Broken => {
-                return Rounds::Broken;
-            }
-            Round::NoRoom => {
-                return Rounds::NoRoom;
-            }
         }
     }
+}
+
+// The same for few words, with small arrays.
+fn rounds_in_few(
+    rows: &[u64],
+    tokens: &mut [u64],
+    len: usize,
+    scoped: bool,
+    first: u64,
+    text: &mut [u8],
+) -> Rounds
+    requires { ⌜ T (extractable (rows-in (now rows)) first (take len (now tokens))) × (len ≤ length (now tokens)) × (len ≤ 256) ⌝ }
+    requires { ⌜ (first ≤ 549755813888) × (131072 ≤ length (now text)) ⌝ }
+    ensures { λ r. ⌜ (r ≡ rounds-answer (rows-in (now (rows .entry))) (now (tokens .entry)) len scoped first)
+        × Leaves-words (rows-in (now (rows .entry))) (now (tokens .entry)) len scoped first (now (tokens .exit)) ⌝ }
+{
+    let mut facts = [0u64; FEW_FACTS];
+    let mut classes = [0u64; FEW_WORDS];
+    let mut next = [0u64; FEW_WORDS];
+    let mut heads = [0u64; FEW_WORDS];
+    let mut uses = [0u64; FEW_WORDS];
+    rounds_in(
+        rows,
+        tokens,
+        len,
+        scoped,
+        first,
+        &mut facts,
+        &mut classes,
+        &mut next,
+        &mut heads,
+        &mut uses,
+        text,
+    )
+}
+
+// The same for any number of words, with large ones.
+fn rounds_in_many(
+    rows: &[u64],
+    tokens: &mut [u64],
+    len: usize,
+    scoped: bool,
+    first: u64,
+    text: &mut [u8],
+) -> Rounds
+    requires { ⌜ T (extractable (rows-in (now rows)) first (take len (now tokens))) × (len ≤ length (now tokens)) × (len ≤ 1927) ⌝ }
+    requires { ⌜ (first ≤ 549755813888) × (131072 ≤ length (now text)) ⌝ }
+    ensures { λ r. ⌜ (r ≡ rounds-answer (rows-in (now (rows .entry))) (now (tokens .entry)) len scoped first)
+        × Leaves-words (rows-in (now (rows .entry))) (now (tokens .entry)) len scoped first (now (tokens .exit)) ⌝ }
+{
+    let mut facts = [0u64; FACTS];
+    let mut classes = [0u64; MOST_WORDS];
+    let mut next = [0u64; MOST_WORDS];
+    let mut heads = [0u64; CHAINS];
+    let mut uses = [0u64; MOST_WORDS];
+    rounds_in(
+        rows,
+        tokens,
+        len,
+        scoped,
+        first,
+        &mut facts,
+        &mut classes,
+        &mut next,
+        &mut heads,
+        &mut uses,
+        text,
+    )
+}
+
+// Rounds on the first `len` words, all of whose trees are results, until no candidate is left; `first` is the first number. What stands past them never changes.
+pub fn extract_all(
+    rows: &[u64],
+    tokens: &mut [u64],
+    len: usize,
+    scoped: bool,
+    first: u64,
+    text: &mut [u8],
+) -> Rounds
+    requires { ⌜ T (extractable (rows-in (now rows)) first (take len (now tokens))) × (len ≤ length (now tokens)) × (len ≤ 1927) ⌝ }
+    requires { ⌜ (first ≤ 549755813888) × (131072 ≤ length (now text)) ⌝ }
+    ensures { λ r. ⌜ (r ≡ rounds-answer (rows-in (now (rows .entry))) (now (tokens .entry)) len scoped first)
+        × Leaves-words (rows-in (now (rows .entry))) (now (tokens .entry)) len scoped first (now (tokens .exit)) ⌝ }
+{
+    if len <= FEW_WORDS {
+        return rounds_in_few(rows, tokens, len, scoped, first, text);
+    }
+    rounds_in_many(rows, tokens, len, scoped, first, text)
 }

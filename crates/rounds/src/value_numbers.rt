@@ -2,20 +2,19 @@
 // there, in one pass and in time near the number of words. From the right, a place looks for its tree among those that stand for their class, in a chain found by its word and the classes of its operands.
 ghost use mathlib.Core.Path.{_≡_};
 ghost use mathlib.Core.Bool.{true, cond};
-ghost use Prim.Native.Nat.{ℕ, _+_, _*_, _≤_, _<_, min};
+ghost use Prim.Native.Nat.{_+_, _*_, _≤_, _<_};
 ghost use lib.ListN.{length, getD};
 ghost use lib.Dec.{eqb};
 ghost use Rattle.spec_tree.specs.Bytes.{eq-bytes};
-ghost use Rattle.spec_tree.specs.Tokens.{flag, takes};
+ghost use Rattle.spec_tree.specs.Tokens.{takes};
 ghost use Rattle.rounds.specs.measure.Columns.{Ready};
-ghost use Rattle.rounds.specs.uses.Marks.{Complete, is-marked};
-ghost use Rattle.rounds.specs.value_numbers.Classes.{mixed, mixed-all, class-at, bucket-at};
+ghost use Rattle.rounds.specs.uses.Marks.{Complete};
+ghost use Rattle.rounds.specs.value_numbers.Classes.{chains, chain-of, class-at, bucket-at};
 ghost use Rattle.rounds.specs.value_numbers.Walks.{below, Walk, Sized, Put};
 ghost use Rattle.rounds.specs.value_numbers.Tables.{Known, Links, Passing, Chase, Reset, Counted};
-ghost use Rattle.rounds.specs.value_numbers.Answers.{class-answer, Passed, Tables};
+ghost use Rattle.rounds.specs.value_numbers.Answers.{Passed, Tables};
+use crate::measure::Facts;
 use crate::measure::facts_at;
-use words::tokens::Trees;
-use words::tokens::count_trees;
 use words::tokens::operand_count;
 
 // Each place has PER_PLACE words of facts, of which the first is the size.
@@ -29,43 +28,17 @@ const OPERATIONS: usize = 3;
 
 const SYMBOL: usize = 4;
 
-// A prime and a number below 2^31: a key stays below the prime.
-const PRIME: u64 = 2147483647;
+// So many places have the few chains, so that most rounds needn't reset many.
+const FEW_WORDS: usize = 256;
 
-const FACTOR: u64 = 1540483477;
+const FEW_CHAINS: u64 = 256;
 
-pub enum Classed {
-    // How many nodes were entered.
-    Done(usize),
-    // A word lacks an operand.
-    Broken,
-    // Too little is lent.
-    NoRoom,
-}
+const MANY_CHAINS: u64 = 2048;
 
-// One more number in a key.
-fn mix(key: u64, x: u64) -> u64
-    ensures { λ r. ⌜ r ≡ mixed key x ⌝ }
-{
-    (key % PRIME * FACTOR + x % PRIME) % PRIME
-}
+// A key is taken below 2^30, and its 64th added, so that all its parts tell chains apart.
+const KEYS: u64 = 1073741824;
 
-// The key of a word with `count` operands from `place` on.
-fn key_of(facts: &[u64], classes: &[u64], w: u64, place: usize, count: usize) -> u64
-    requires { ⌜ Walk (now facts) (now classes) place count ⌝ }
-    ensures { λ r. ⌜ r ≡ mixed-all w (below (now (facts .entry)) (now (classes .entry)) place count) ⌝ }
-{
-    let mut key = w;
-    let mut p = place;
-    let mut left = count;
-    while left > 0 {
-        key = mix(key, classes[p]);
-        let row = PER_PLACE * p;
-        p += facts[row] as usize;
-        left -= 1;
-    }
-    key
-}
+const SHIFT: u64 = 64;
 
 // Whether the `count` trees from a on have the classes of those from b on.
 fn same_below(facts: &[u64], classes: &[u64], a: usize, b: usize, count: usize) -> bool
@@ -89,18 +62,26 @@ fn same_below(facts: &[u64], classes: &[u64], a: usize, b: usize, count: usize) 
     true
 }
 
-// The chain of a place.
-fn bucket_of(tokens: &[u64], facts: &[u64], classes: &[u64], i: usize) -> usize
-    requires { ⌜ Complete (now tokens) ⌝ }
-    requires { ⌜ i < length (now tokens) ⌝ }
-    requires { ⌜ Sized (now tokens) (i + 1) (now facts) ⌝ }
-    requires { ⌜ Known (now tokens) (i + 1) (now classes) ⌝ }
-    ensures { λ r. ⌜ (r ≡ bucket-at (now (tokens .entry)) i) × (r < length (now (tokens .entry))) ⌝ }
+// The chain of a key, among so many words.
+fn chain_of(words: usize, key: u64) -> usize
+    ensures { λ r. ⌜ (r ≡ chain-of words key) × (r < chains words) ⌝ }
 {
-    let w = tokens[i];
-    let count = operand_count(w) as usize;
-    let key = key_of(facts, classes, w, i + 1, count);
-    key as usize % tokens.len()
+    let k = key % KEYS;
+    let all = k + k / SHIFT;
+    if words <= FEW_WORDS {
+        return (all % FEW_CHAINS) as usize;
+    }
+    (all % MANY_CHAINS) as usize
+}
+
+// How many chains there are.
+fn chain_count(words: usize) -> usize
+    ensures { λ r. ⌜ r ≡ chains words ⌝ }
+{
+    if words <= FEW_WORDS {
+        return FEW_CHAINS as usize;
+    }
+    MANY_CHAINS as usize
 }
 
 // Whether the trees at i and at p, a place past it, are equal.
@@ -153,20 +134,21 @@ fn chosen(class: usize, i: usize, head: u64) -> u64
     if class == i { i as u64 } else { head }
 }
 
-// Writes the facts of a place, from those of its operands.
-fn put_facts(tokens: &[u64], facts: &mut [u64], i: usize)
-    requires { ⌜ i < length (now tokens) ⌝ }
-    requires { ⌜ 5 * length (now tokens) ≤ length (now facts) ⌝ }
+// Writes the facts of a place, from those of its operands, and answers the chain that it is in.
+fn put_facts(tokens: &[u64], facts: &mut [u64], classes: &[u64], i: usize) -> usize
+    requires { ⌜ Complete (now tokens) × (i < length (now tokens)) × (5 * length (now tokens) ≤ length (now facts)) ⌝ }
+    requires { ⌜ Sized (now tokens) (i + 1) (now facts) × Known (now tokens) (i + 1) (now classes) ⌝ }
     requires { ⌜ Ready (length (now tokens)) (now facts) (i + 1) (takes (getD (now tokens) i 0)) ⌝ }
-    ensures { λ _. ⌜ Put (now (tokens .entry)) i (now (facts .entry)) (now (facts .exit)) ⌝ }
+    ensures { λ r. ⌜ Put (now (tokens .entry)) i (now (facts .entry)) (now (facts .exit)) × (r ≡ bucket-at (now (tokens .entry)) i) × (r < chains (length (now (tokens .entry)))) ⌝ }
 {
-    let f = facts_at(tokens, facts, i);
+    let f = facts_at(tokens, facts, classes, i);
     let row = PER_PLACE * i;
     facts[row] = f.size;
     facts[row + COST] = f.cost;
     facts[row + DEPTH] = f.depth;
     facts[row + OPERATIONS] = f.operations;
     facts[row + SYMBOL] = f.symbol;
+    chain_of(tokens.len(), f.key)
 }
 
 // Finds the class of a place, and puts the place into its chain where it stands for its class.
@@ -176,15 +158,15 @@ fn link(
     classes: &mut [u64],
     next: &mut [u64],
     heads: &mut [u64],
+    b: usize,
     i: usize,
 ) -> usize
-    requires { ⌜ Complete (now tokens) ⌝ }
-    requires { ⌜ i < length (now tokens) ⌝ }
+    requires { ⌜ Complete (now tokens) × (i < length (now tokens)) ⌝ }
+    requires { ⌜ (b ≡ bucket-at (now tokens) i) × (b < chains (length (now tokens))) ⌝ }
     requires { ⌜ Sized (now tokens) (i + 1) (now facts) ⌝ }
     requires { ⌜ Passing (now tokens) (i + 1) (now classes) (now next) (now heads) ⌝ }
     ensures { λ r. ⌜ (r ≡ class-at (now (tokens .entry)) i) × Passing (now (tokens .entry)) i (now (classes .exit)) (now (next .exit)) (now (heads .exit)) ⌝ }
 {
-    let b = bucket_of(tokens, facts, classes, i);
     let head = heads[b];
     let class = find(tokens, facts, classes, next, head as usize, i);
     classes[i] = class as u64;
@@ -193,47 +175,34 @@ fn link(
     class
 }
 
-// 1 for a place that is marked.
-fn marked(marks: &[u64], i: usize) -> u64
-    requires { ⌜ i < length (now marks) ⌝ }
-    ensures { λ r. ⌜ r ≡ flag (is-marked (now (marks .entry)) i) ⌝ }
-{
-    if marks[i] == 0 { 0 } else { 1 }
-}
-
 // The pass from the right: the facts of every place, its class, and the places of each class counted. Each node is entered once; how often is told.
 fn pass(
     tokens: &[u64],
-    marks: &[u64],
     facts: &mut [u64],
     classes: &mut [u64],
     next: &mut [u64],
     heads: &mut [u64],
     uses: &mut [u64],
-    outside: &mut [u64],
 ) -> usize
-    requires { ⌜ Complete (now tokens) ⌝ }
-    requires { ⌜ (5 * length (now tokens) ≤ length (now facts)) × (length (now tokens) ≤ length (now marks)) ⌝ }
+    requires { ⌜ Complete (now tokens) × (5 * length (now tokens) ≤ length (now facts)) ⌝ }
     requires { ⌜ Passing (now tokens) (length (now tokens)) (now classes) (now next) (now heads) ⌝ }
     requires { ⌜ Counted (now tokens) (λ j. true) (length (now tokens)) (now uses) ⌝ }
-    requires { ⌜ Counted (now tokens) (is-marked (now marks)) (length (now tokens)) (now outside) ⌝ }
-    ensures { λ r. ⌜ Passed (now (tokens .entry)) (now (marks .entry)) (now (facts .entry)) r (now (facts .exit)) (now (classes .exit)) (now (uses .exit)) (now (outside .exit)) ⌝ }
+    ensures { λ r. ⌜ Passed (now (tokens .entry)) (now (facts .entry)) r (now (facts .exit)) (now (classes .exit)) (now (uses .exit)) ⌝ }
 {
     let mut entered: usize = 0;
     let mut i = tokens.len();
     while i > 0 {
         i -= 1;
         entered += 1;
-        put_facts(tokens, facts, i);
-        let class = link(tokens, facts, classes, next, heads, i);
+        let b = put_facts(tokens, facts, classes, i);
+        let class = link(tokens, facts, classes, next, heads, b, i);
         uses[class] += 1;
-        outside[class] += marked(marks, i);
     }
     entered
 }
 
 // Sets the first n entries.
-fn reset(table: &mut [u64], n: usize, value: u64)
+pub fn reset(table: &mut [u64], n: usize, value: u64)
     requires { ⌜ n ≤ length (now table) ⌝ }
     ensures { λ _. ⌜ Reset (now (table .entry)) n value (now (table .exit)) ⌝ }
 {
@@ -244,59 +213,21 @@ fn reset(table: &mut [u64], n: usize, value: u64)
     }
 }
 
-// The smaller of two numbers.
-fn smaller(a: usize, b: usize) -> usize
-    ensures { λ r. ⌜ r ≡ min a b ⌝ }
-{
-    if a < b { a } else { b }
-}
-
-// The room of the least of five tables.
-fn least(a: usize, b: usize, c: usize, d: usize, e: usize) -> usize
-    ensures { λ r. ⌜ r ≡ min a (min b (min c (min d e))) ⌝ }
-{
-    let last = smaller(d, e);
-    let later = smaller(c, last);
-    smaller(a, smaller(b, later))
-}
-
-// In one pass, the facts of every place, its class, how many places have its tree, and how many of them are marked: the counts stand at its class.
+// In one pass, the facts of every place, its class, and how many places have its tree: the counts stand at its class. How many nodes were entered is told.
 pub fn class_tables(
     tokens: &[u64],
-    marks: &[u64],
     facts: &mut [u64],
     classes: &mut [u64],
     next: &mut [u64],
     heads: &mut [u64],
     uses: &mut [u64],
-    outside: &mut [u64],
-) -> Classed
-    ensures { λ r. ⌜ r ≡ class-answer (now (tokens .entry)) (length (now (facts .entry))) (length (now (marks .entry))) (min (length (now (classes .entry))) (min (length (now (next .entry))) (min (length (now (heads .entry))) (min (length (now (uses .entry))) (length (now (outside .entry))))))) ⌝ }
-    ensures { λ r. ⌜ ((n : ℕ) → r ≡ Classed.Done n → Tables (now (tokens .entry)) (now (marks .entry)) (now (facts .entry)) n (now (facts .exit)) (now (classes .exit)) (now (uses .exit)) (now (outside .exit))) ⌝ }
+) -> usize
+    requires { ⌜ Complete (now tokens) × (5 * length (now tokens) ≤ length (now facts)) × (chains (length (now tokens)) ≤ length (now heads)) ⌝ }
+    requires { ⌜ (length (now tokens) ≤ length (now classes)) × (length (now tokens) ≤ length (now next)) × (length (now tokens) ≤ length (now uses)) ⌝ }
+    ensures { λ r. ⌜ Tables (now (tokens .entry)) (now (facts .entry)) r (now (facts .exit)) (now (classes .exit)) (now (uses .exit)) ⌝ }
 {
     let n = tokens.len();
-    if facts.len() / PER_PLACE < n {
-        return Classed::NoRoom;
-    }
-    if marks.len() < n {
-        return Classed::NoRoom;
-    }
-    if least(
-        classes.len(),
-        next.len(),
-        heads.len(),
-        uses.len(),
-        outside.len(),
-    )
-        < n
-    {
-        return Classed::NoRoom;
-    }
-    let Trees::Count(_) = count_trees(tokens) else {
-        return Classed::Broken;
-    };
-    reset(heads, n, n as u64);
+    reset(heads, chain_count(n), n as u64);
     reset(uses, n, 0);
-    reset(outside, n, 0);
-    Classed::Done(pass(tokens, marks, facts, classes, next, heads, uses, outside))
+    pass(tokens, facts, classes, next, heads, uses)
 }

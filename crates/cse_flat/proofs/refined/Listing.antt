@@ -25,7 +25,6 @@ use Rattle.rounds.proofs.kept.Steps.{ready-of}
 use Rattle.rounds.specs.Rounds.{all-rounds, rounds-answer, Leaves-words}
 use Rattle.rounds.specs.declared.Rounds.{Rounds}
 use Rattle.rounds.specs.declared.Rounds.the-variants as rounds
-use Rattle.rounds.proofs.Rounds as rounds-enum
 use Rattle.reciprocals.specs.divisors.Answers.{to-bind-short, to-bind-by, to-bind-answer}
 use Rattle.reciprocals.specs.declared.divisors.ToBind.{ToBind}
 use Rattle.reciprocals.specs.declared.divisors.ToBind.the-variants as tobind
@@ -54,22 +53,14 @@ module _ (rows : List Row) (old : List ℕ) (len : ℕ) (scoped : Bool) (first t
   pub given-so : T (extractable rows first ws) × T (symbols-pass (is-number rows) ws) → (len ≤ 1927) × (len ≤ length old) × (first ≤ 549755813888) → 131072 ≤ text → Given
   given-so (g, p) (f, t, l) b = record { good = g; pass = p; few = f; there = t; low = l; bytes = b }
 
-  module _ (g : Given) (r : Rounds) (out : List ℕ) (given : (r ≡ rounds-answer rows old len scoped first text) × Leaves-words rows old len scoped first text out) where
+  module _ (g : Given) (r : Rounds) (out : List ℕ) (given : (r ≡ rounds-answer rows old len scoped first) × Leaves-words rows old len scoped first out) where
     after-rounds : Rounded rows scoped first ws r out
-    after-rounds = rounded rows old len scoped first text (g .few) (g .there) (g .low) (g .bytes) (g .good) r out given
+    after-rounds = rounded rows old len scoped first r out given
 
     -- ---- rounds that are not done are refused
 
-    not-done : (q : Rounds) → Rounded rows scoped first ws q out → Run.OneOf (1 ∷ 2 ∷ 3 ∷ []) (Declared.tagOf rounds-enum.the-type q) → Rounds-refused rows scoped first ws
-    not-done (rounds.Done n m) h (inl e) = absurd (omega arith)
-    not-done (rounds.Done n m) h (inr (inl e)) = absurd (omega arith)
-    not-done (rounds.Done n m) h (inr (inr e)) = absurd (omega arith)
-    not-done rounds.Refused h e = h
-    not-done rounds.Broken h e = absurd h
-    not-done rounds.NoRoom h e = absurd h
-
-    pub rounds-refused : Run.OneOf (1 ∷ 2 ∷ 3 ∷ []) (Declared.tagOf rounds-enum.the-type r) → Rounds-refused rows scoped first ws
-    rounds-refused k = not-done r after-rounds k
+    pub rounds-refused : r ≡ rounds.Refused → Rounds-refused rows scoped first ws
+    rounds-refused e = subst (λ (q : Rounds). Rounded rows scoped first ws q out) e after-rounds
 
     module _ (n m : ℕ) (is-done : r ≡ rounds.Done n m) where
       abbrev pub vs : List ℕ

@@ -2,19 +2,17 @@
 -- Assumes nothing.
 use Prim.Native.Nat.{ℕ}
 use mathlib.Core.Path.{_≡_, sym, _∙_, ap}
-use mathlib.Core.Bool.{Bool, true}
+use mathlib.Core.Bool.{Bool}
 use mathlib.Core.Option.{Option, none, some}
 use mathlib.Core.List.{List}
-use lib.ListN.{length}
 use lib.Dec.{T}
-use Rattle.spec_tree.specs.Bytes.{every}
-use Rattle.spec_tree.specs.Tokens.{trees-in, read, name-in}
-use Rattle.fmt.specs.checked.Check.{rows-in, word-ok}
+use Rattle.spec_tree.specs.Rows.{Row}
+use Rattle.spec_tree.specs.Tokens.{read, name-in}
 use Rattle.spec_cse.specs.Extract.{best}
 use Rattle.laws.specs.positions.Names.{is-number, symbols-pass}
 use Rattle.laws.specs.positions.Places.{best-place}
 use Rattle.laws.proofs.positions.BestPlace.{if-some, named-there, best-at-place}
-use Rattle.rounds.specs.choice.Answers.{has-room, best-of, best-answer}
+use Rattle.rounds.specs.Answers.{Finds}
 use Rattle.rounds.specs.declared.choice.Best.{Best}
 use Rattle.rounds.specs.declared.choice.Best.the-variants as answer
 
@@ -22,22 +20,14 @@ use Rattle.rounds.specs.declared.choice.Best.the-variants as answer
 abbrev pub place-in : Best → Option ℕ
 place-in (answer.At p) = some p
 place-in answer.Nothing = none
-place-in answer.Broken = none
-place-in answer.NoRoom = none
 
-module _ (rows ws : List ℕ) (scoped : Bool) (n f m t : ℕ) (room : has-room (length ws) f m t ≡ true) (complete : trees-in ws ≡ some n) (pass : every (word-ok (rows-in rows)) ws ≡ true) where
-  found : (o : Option ℕ) → place-in (best-of true (some n) true o) ≡ o
-  unfolding best-of
-  found none = mathlib.Core.Path.refl
-  found (some p) = mathlib.Core.Path.refl
-
-  -- enough lent, and words of trees that print takes: the answer is the best place
-  pub answer-is : place-in (best-answer rows ws scoped f m t) ≡ best-place ws (name-in (rows-in rows)) scoped
-  unfolding best-answer
-  answer-is = rw (room, complete, pass) (found (best-place ws (name-in (rows-in rows)) scoped))
+module _ (rows : List Row) (ws : List ℕ) (scoped : Bool) where
+  pub answer-is : (r : Best) → Finds rows ws scoped r → place-in r ≡ best-place ws (name-in rows) scoped
+  answer-is (answer.At p) f = sym f
+  answer-is answer.Nothing f = sym f
 
   -- where symbols are numbered by the first row with their name, that is the best candidate of the definition
   pub answer-is-best :
-      (h : T (symbols-pass (is-number (rows-in rows)) ws))
-      → best scoped (read (name-in (rows-in rows)) ws) ≡ if-some (named-there (rows-in rows) ws h) (place-in (best-answer rows ws scoped f m t))
-  answer-is-best h = best-at-place (rows-in rows) ws h scoped ∙ ap (if-some (named-there (rows-in rows) ws h)) (sym answer-is)
+      (h : T (symbols-pass (is-number rows) ws)) (r : Best) → Finds rows ws scoped r
+      → best scoped (read (name-in rows) ws) ≡ if-some (named-there rows ws h) (place-in r)
+  answer-is-best h r f = best-at-place rows ws h scoped ∙ ap (if-some (named-there rows ws h)) (sym (answer-is r f))

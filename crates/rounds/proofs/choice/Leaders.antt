@@ -7,7 +7,7 @@ use mathlib.Core.Bool.{Bool, true, false, _&&_, _||_, cond}
 use mathlib.Core.Option.{Option, none, some}
 use mathlib.Core.List.{List}
 use borrow.Author.Tests.{lt-ltb, le-ltb, le-leb, lt-leb, eq-eqb, ne-eqb, eqb-true, eqb-false}
-use lib.ListN.{length}
+use lib.ListN.{length, getD}
 use lib.Dec.{T, eqb, leb, ltb, leb→le}
 use Rattle.spec_tree.specs.Tree.{eq-tree}
 use Rattle.spec_tree.specs.Facts.{cost, depth, has-symbol}
@@ -21,7 +21,9 @@ use Rattle.laws.proofs.positions.UsesAt.{uses-counted, candidate-counted}
 use Rattle.rounds.specs.uses.Marks.{Complete}
 use Rattle.rounds.proofs.uses.Runs.{ends-within}
 use Rattle.fmt.specs.order.Order.{text-here}
-use Rattle.rounds.specs.choice.Leading.{leader-of, Lead, later-at, best-step, Leads}
+use Rattle.rounds.specs.choice.Leading.{HasUses, HasOutside, leader-of, Lead, later-at, best-step, Leads}
+use Rattle.laws.proofs.positions.BestPlace.{text-of, text-at-is}
+use Rattle.fmt.proofs.order.OrderLaws.{not-before-itself}
 use Rattle.rounds.proofs.choice.Passing.{text-is}
 
 -- ---- counts of equal places
@@ -116,7 +118,24 @@ module _ (ws : List ℕ) (scoped : Bool) (i : ℕ) where
       ∙ rw (le-leb 1 (cost (numbered-at ws i)) (omega arith), flag-some (has-symbol (numbered-at ws i)) f g l, le-leb 2 (uses-at ws i) (omega arith)) (sym o) in
       rw t (ap₂ (λ (a b : ℕ). (a - 1) * b) u e)
 
+-- how often the tree at a place is used outside arms, from what was counted
+pub outside-count :
+    {ws cl us ou : List ℕ} (scoped : Bool) → HasUses ws cl us → HasOutside ws scoped cl ou → (i : ℕ) → i < length ws
+    → cond scoped (getD ou (getD cl i 0) 0) (getD us (getD cl i 0) 0) ≡ equal-places ws (outside-at ws scoped) i (length ws)
+unfolding outside-at
+outside-count {ws} {cl} {us} {ou} true u o i h = o .outside-are refl i h
+outside-count {ws} {cl} {us} {ou} false u o i h = u .uses-are i h ∙ (uses-counted ws i ∙ same-places ws (λ j. true) (outside-at ws false) i (length ws) (λ j g. refl))
+
 -- ---- of two that save as much
+
+-- a tree never beats itself
+pub itself-not : (rows ws : List ℕ) (i j : ℕ) → numbered-at ws i ≡ numbered-at ws j → false ≡ later-at rows ws i j
+unfolding later-at
+itself-not rows ws i j e =
+    let n = name-in (rows-in rows) in
+    let t : text-at ws n i ≡ text-at ws n j = text-at-is ws n i ∙ (ap (text-of ws n) e ∙ sym (text-at-is ws n j)) in
+    let d : depth (numbered-at ws i) ≡ depth (numbered-at ws j) = ap depth e in
+    sym (rw (le-ltb (depth (numbered-at ws i)) (depth (numbered-at ws j)) (omega arith), eq-eqb (depth (numbered-at ws i)) (depth (numbered-at ws j)) d, t) (not-before-itself (text-at ws n j)))
 
 module _ (rows ws : List ℕ) (i j a b : ℕ) (ea : a ≡ depth (numbered-at ws i)) (eb : b ≡ depth (numbered-at ws j)) where
   pub depth-decides : (a ≡ b → ⊥) → ltb a b ≡ later-at rows ws i j
@@ -337,3 +356,9 @@ searching-ends {rows} {ws} {scoped} {i} {p} {s} k h =
     done : (o : Option ℕ) → best-place-from ws (name-in (rows-in rows)) scoped o i 0 ≡ o
     done none = refl
     done (some a) = refl
+
+pub counted-so : (b : Bool) (m n : ℕ) → b ≡ true → m ≡ cond b m n
+counted-so b m n e = sym (ap (λ (x : Bool). cond x m n) e)
+
+pub counted-not : (b : Bool) (m n : ℕ) → b ≡ false → n ≡ cond b m n
+counted-not b m n e = sym (ap (λ (x : Bool). cond x m n) e)

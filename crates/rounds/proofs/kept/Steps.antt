@@ -28,8 +28,9 @@ use Rattle.laws.proofs.cse.RoundsCount.{symbol-factor, factors-nodes, made-befo
 use Rattle.replace.specs.closed.Closed.{endless}
 use Rattle.replace.proofs.closed.Equal.{several-ends}
 use Rattle.fmt.specs.checked.Check.{word-ok}
-use Rattle.words.specs.words.Words.{tree-of, name-of, some-trees, one-tree, sound}
-use Rattle.replace.specs.replacing.Replacing.{replaced-words, formed-word, replaceable}
+use Rattle.words.specs.words.Words.{tree-of, name-of, some-trees}
+use Rattle.replace.specs.replacing.Replacing.{replaced-words}
+use Rattle.replace.specs.replacing.Deciding.{Trees, Target}
 use Rattle.laws.specs.positions.Places.{numbered-at, best-place}
 use Rattle.laws.specs.positions.Rounds.{next-number, extract-on, extract-words}
 use Rattle.laws.proofs.positions.BestPlace.{Best, best-place-is, candidate-at-is}
@@ -151,15 +152,13 @@ module _ (rows : List Row) (scoped : Bool) (n : ℕ) (ws : List ℕ) (r : Ready 
 
   -- ---- it may be replaced
 
-  pub may-replace : T (replaceable ws part (name-word n))
-  unfolding replaceable sound some-trees one-tree
-  may-replace =
-      let a = formed-words ws (r .trees) (r .complete) (all-taken-formed (name-ok rows) (read numbered ws) (r .taken)) in
-      let c : T (some-trees (trees-in ws)) = subst (λ (o : Option ℕ). T (some-trees o)) (sym (r .complete)) tt in
-      let d : T (one-tree (trees-in part)) = subst (λ (o : Option ℕ). T (one-tree o)) (sym part-one) tt in
-      let e : T (eqb (kind-of (name-word n)) 0) = eq→eqb (kind-of (name-word n)) 0 (kind-zero (1 + 3 * n)) in
-      let s = and-both (some-trees (trees-in ws)) (one-tree (trees-in part) && eqb (kind-of (name-word n)) 0) c (and-both (one-tree (trees-in part)) (eqb (kind-of (name-word n)) 0) d e) in
-      and-both (every formed-word ws) (sound ws part (name-word n)) a s
+  pub may-rewrite : Trees ws
+  may-rewrite =
+      record {
+        count = r .trees;
+        complete = r .complete;
+        formed = formed-words ws (r .trees) (r .complete) (all-taken-formed (name-ok rows) (read numbered ws) (r .taken));
+      }
 
   -- it has a symbol, and the name is new
   target-ends : endless target (xname n) ≡ false
@@ -170,8 +169,8 @@ module _ (rows : List Row) (scoped : Bool) (n : ℕ) (ws : List ℕ) (r : Ready 
       several-ends target (xname n) (symbol-factor target (f .1))
       (let a = absent (made-before n) (xname n) (new-name n) target held in let b = factors-nodes (Sym (xname n)) target in omega arith)
 
-  pub may-end : endless (tree-of part) (name-of (name-word n)) ≡ false
-  may-end = ap₂ endless part-tree (word-names n) ∙ target-ends
+  pub may-replace : Target part (name-word n)
+  may-replace = record { one = part-one; symbol = kind-zero (1 + 3 * n); ends = ap₂ endless part-tree (word-names n) ∙ target-ends }
 
   -- the words replaced, and the run
   pub extracted-are : extract-words target n ws ≡ (replaced-words (tree-of part) (name-of (name-word n)) ws >>= λ l. ok (l ++ part))

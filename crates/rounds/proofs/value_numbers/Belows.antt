@@ -18,7 +18,7 @@ use Rattle.spec_tree.proofs.TreeLaws.{eq-bytes-sound, eq-bytes-refl}
 use Rattle.spec_tree.proofs.TokenLaws.{sizes, read-past, read-size, tree-at}
 use Rattle.laws.specs.positions.Places.{numbered-at}
 use Rattle.rounds.specs.uses.Marks.{Complete}
-use Rattle.rounds.specs.value_numbers.Classes.{mixed-all, class-of, class-at, bucket-at, operands-at}
+use Rattle.rounds.specs.value_numbers.Classes.{chain-of, mixed-all, class-of, class-at, bucket-at, operands-at}
 use Rattle.rounds.specs.value_numbers.Walks.{below, Walk, Sized}
 use Rattle.rounds.specs.value_numbers.Tables.{Known}
 use Rattle.rounds.proofs.value_numbers.Laws.{class-tree, class-same, tree-same}
@@ -87,7 +87,7 @@ module _ (ws fs cl : List ℕ) (i : ℕ) (sized : Sized ws i fs) (known : Known 
     pub walk-there-as : (n w : ℕ) → n ≡ takes w → getD ws j 0 ≡ w → Walk fs cl (j + 1) n
     walk-there-as n w e f = walk-there n (e ∙ ap takes (sym f))
 
-    pub bucket-is : (n key : ℕ) → n ≡ takes (getD ws j 0) → key ≡ mixed-all (getD ws j 0) (below fs cl (j + 1) n) → key % length ws ≡ bucket-at ws j
+    pub bucket-is : (n key : ℕ) → n ≡ takes (getD ws j 0) → key ≡ mixed-all (getD ws j 0) (below fs cl (j + 1) n) → chain-of (length ws) key ≡ bucket-at ws j
     unfolding bucket-at
     bucket-is n key e k = rw (k, e, operands-below .classes)
 

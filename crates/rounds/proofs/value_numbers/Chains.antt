@@ -9,7 +9,7 @@ use lib.ListN.{length, getD, set, length-set}
 use lib.Seq.{getD-set-same, getD-set-other}
 use lib.Dec.{eqb}
 use Rattle.rounds.specs.uses.Marks.{Complete}
-use Rattle.rounds.specs.value_numbers.Classes.{class-at, bucket-at}
+use Rattle.rounds.specs.value_numbers.Classes.{chains, class-at, bucket-at}
 use Rattle.rounds.specs.value_numbers.Tables.{Known, Link, Links, Heads, Passing, Chase}
 use Rattle.rounds.proofs.value_numbers.Laws.{class-low, class-high, class-tree, class-stands}
 use Rattle.rounds.proofs.value_numbers.Nodes.{bucket-same}
@@ -50,7 +50,7 @@ module _ (ws : List ℕ) where
     in-chain : bucket-at ws (class-at ws i) ≡ bucket-at ws i
     in-chain = bucket-same ws complete (class-at ws i) i (class-high ws i inside) inside (class-tree ws i inside)
 
-    pub chase-starts : (hd : List ℕ) (b : ℕ) → Heads ws (i + 1) hd → b ≡ bucket-at ws i → b < length ws → Chase ws i (getD hd b 0)
+    pub chase-starts : (hd : List ℕ) (b : ℕ) → Heads ws (i + 1) hd → b ≡ bucket-at ws i → b < chains (length ws) → Chase ws i (getD hd b 0)
     chase-starts hd b k e l =
         let f = k .each b l in
         record {
@@ -92,7 +92,7 @@ module _ (ws : List ℕ) where
 -- ---- the pass
 
 pub passing-starts :
-    (ws cl nx hd : List ℕ) → length ws ≤ length cl → length ws ≤ length nx → length ws ≤ length hd → ((b : ℕ) → b < length ws → getD hd b 0 ≡ length ws)
+    (ws cl nx hd : List ℕ) → length ws ≤ length cl → length ws ≤ length nx → chains (length ws) ≤ length hd → ((b : ℕ) → b < chains (length ws) → getD hd b 0 ≡ length ws)
     → Passing ws (length ws) cl nx hd
 passing-starts ws cl nx hd a b c ends =
     record {
@@ -138,13 +138,13 @@ links-turns {ws} {nx} {j} k h b v e first =
     }
 
 heads-turns :
-    {ws hd : List ℕ} {j : ℕ} → Heads ws (j + 1) hd → j < length ws → (b c v : ℕ) → b ≡ bucket-at ws j → b < length ws → c ≡ class-at ws j
+    {ws hd : List ℕ} {j : ℕ} → Heads ws (j + 1) hd → j < length ws → (b c v : ℕ) → b ≡ bucket-at ws j → b < chains (length ws) → c ≡ class-at ws j
     → v ≡ cond (eqb c j) j (getD hd b 0) → Heads ws j (set hd b v)
 heads-turns {ws} {hd} {j} k h b c v e l s w =
     record {
       long = simp length-set (k .long);
       each = λ q g.
-          at-set (λ q x. q < length ws → Link ws q j x) hd b v q (omega (arith, k .long)) (λ z. go (eqb c j) refl)
+          at-set (λ q x. q < chains (length ws) → Link ws q j x) hd b v q (omega (arith, k .long)) (λ z. go (eqb c j) refl)
           (λ ne z. link-down ws (k .each q z) (λ t u. ne (sym u ∙ sym e))) g;
     }
   where
@@ -158,7 +158,7 @@ heads-turns {ws} {hd} {j} k h b c v e l s w =
         subst (λ (n : ℕ). Link ws b j n) (sym is) (link-down ws (k .each b l) (λ t u. eqb-false c j p (s ∙ t)))
 
 pub passing-turns :
-    {ws cl nx hd : List ℕ} {j : ℕ} → Passing ws (j + 1) cl nx hd → j < length ws → (b c v : ℕ) → b ≡ bucket-at ws j → b < length ws → c ≡ class-at ws j
+    {ws cl nx hd : List ℕ} {j : ℕ} → Passing ws (j + 1) cl nx hd → j < length ws → (b c v : ℕ) → b ≡ bucket-at ws j → b < chains (length ws) → c ≡ class-at ws j
     → v ≡ cond (eqb c j) j (getD hd b 0) → Passing ws j (set cl j c) (set nx j (getD hd b 0)) (set hd b v)
 passing-turns {ws} {cl} {nx} {hd} {j} k h b c v e l s w =
     record {

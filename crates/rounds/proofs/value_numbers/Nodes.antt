@@ -1,7 +1,6 @@
 -- Equal trees have equal words and equal operands, and so are in one chain. Assumes nothing.
-use Prim.Native.Nat.{ℕ, suc, _+_, _%_, _≤_, _<_}
+use Prim.Native.Nat.{ℕ, suc, _+_, _≤_, _<_}
 use native.Mathlib.Omega.{arith}
-use native.Mathlib.Nat.{mod-lt}
 use mathlib.Core.Path.{_≡_, refl, sym, _∙_, ap, subst}
 use mathlib.Core.Bool.{Bool, true, false}
 use mathlib.Core.Option.{Option, none, some}
@@ -19,7 +18,7 @@ use Rattle.spec_tree.proofs.TokenLaws.{tree-at, read-cons, made, Word, a-symbol
 use Rattle.laws.specs.positions.Places.{numbered-at}
 use Rattle.rounds.specs.uses.Marks.{Complete}
 use Rattle.rounds.proofs.uses.Runs.{word-differs}
-use Rattle.rounds.specs.value_numbers.Classes.{mixed-all, class-of, bucket-at, operands-at}
+use Rattle.rounds.specs.value_numbers.Classes.{chain-of, mixed-all, class-of, bucket-at, operands-at}
 
 -- the operands of a word are told by its tree
 below-same : (w : ℕ) (l r : List Tree) → tree-of-word numbered w (take (takes w) l) ≡ tree-of-word numbered w (take (takes w) r) → take (takes w) l ≡ take (takes w) r
@@ -33,9 +32,6 @@ below-same w l r e = go (word-is w)
         sym (operation-tree numbered w (take (takes w) l) h) ∙ (e ∙ operation-tree numbered w (take (takes w) r) h) in
         let f : forest (take (takes w) l) ≡ forest (take (takes w) r) = cc in
         sym (operands-forest (take (takes w) l)) ∙ (ap operands f ∙ operands-forest (take (takes w) r))
-
-pub rest-below : (key : ℕ) {n : ℕ} → 0 < n → key % n < n
-rest-below key {n} h = mod-lt key h
 
 module _ (ws : List ℕ) where
   -- a node is its word and its operands
@@ -73,8 +69,8 @@ module _ (ws : List ℕ) where
     pub bucket-same : (i p : ℕ) → i < length ws → p < length ws → numbered-at ws i ≡ numbered-at ws p → bucket-at ws i ≡ bucket-at ws p
     unfolding bucket-at
     bucket-same i p h g e =
-        ap (λ (x : ℕ). mixed-all x (map (class-of ws) (operands-at ws i)) % length ws) (node-word i p h g e)
-        ∙ ap (λ (l : List Tree). mixed-all (getD ws p 0) (map (class-of ws) l) % length ws) (node-operands i p h g e)
+        ap (λ (x : ℕ). chain-of (length ws) (mixed-all x (map (class-of ws) (operands-at ws i)))) (node-word i p h g e)
+        ∙ ap (λ (l : List Tree). chain-of (length ws) (mixed-all (getD ws p 0) (map (class-of ws) l))) (node-operands i p h g e)
 
     -- the operands are there
     pub enough : (j : ℕ) → j < length ws → takes (getD ws j 0) ≤ length (read numbered (drop (j + 1) ws))

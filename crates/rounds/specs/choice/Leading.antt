@@ -2,7 +2,7 @@
 -- Assumes nothing.
 use Prim.Native.Nat.{ℕ, _+_, _*_, _≤_, _<_}
 use mathlib.Core.Path.{_≡_}
-use mathlib.Core.Bool.{Bool, _&&_, _||_, cond}
+use mathlib.Core.Bool.{Bool, true, _&&_, _||_, cond}
 use mathlib.Core.Option.{Option, none, some}
 use mathlib.Core.List.{List}
 use lib.ListN.{length, getD}
@@ -27,14 +27,17 @@ pub record HasMarks (ws : List ℕ) (scoped : Bool) (marks : List ℕ) : Type 0 
   pub long : length ws ≤ length marks
   pub marked : (j : ℕ) → j < length ws → is-marked marks j ≡ outside-at ws scoped j
 
--- by its class, how many places have the tree at each, and how many of them are outside arms
-pub record HasUses (ws : List ℕ) (scoped : Bool) (cl us ou : List ℕ) : Type 0 where
+-- by its class, how many places have the tree at each
+pub record HasUses (ws cl us : List ℕ) : Type 0 where
   pub long-classes : length ws ≤ length cl
   pub within : (i : ℕ) → i < length ws → getD cl i 0 < length ws
   pub long : length ws ≤ length us
-  pub long-outside : length ws ≤ length ou
   pub uses-are : (i : ℕ) → i < length ws → getD us (getD cl i 0) 0 ≡ uses-at ws i
-  pub outside-are : (i : ℕ) → i < length ws → getD ou (getD cl i 0) 0 ≡ equal-places ws (outside-at ws scoped) i (length ws)
+
+-- and, in the scoped form, how many of them are outside arms
+pub record HasOutside (ws : List ℕ) (scoped : Bool) (cl ou : List ℕ) : Type 0 where
+  pub long : length ws ≤ length ou
+  pub outside-are : scoped ≡ true → (i : ℕ) → i < length ws → getD ou (getD cl i 0) 0 ≡ equal-places ws (outside-at ws scoped) i (length ws)
 
 -- every tree can be written, and two texts fit
 pub record Writable (rows ws : List ℕ) (room : ℕ) : Type 0 where

@@ -1,17 +1,24 @@
 -- Classes of equal trees (01, "Uses"): a place's class is the last place with a tree equal to its own, so that two places have one class where their trees
 -- are equal; and how many places have a class. Assumes nothing.
-use Prim.Native.Nat.{ℕ, zero, suc, _+_, _*_, _%_}
-use mathlib.Core.Bool.{Bool, true, false, _&&_}
+use Prim.Native.Nat.{ℕ, zero, suc, _+_, _*_, _/_, _%_}
+use mathlib.Core.Bool.{Bool, true, false, _&&_, cond}
 use mathlib.Core.List.{List, [], _∷_, map}
 use lib.ListN.{length, getD, take, drop}
-use lib.Dec.{eqb}
+use lib.Dec.{eqb, leb}
 use Rattle.spec_tree.specs.Tree.{Tree, eq-tree}
 use Rattle.spec_tree.specs.Tokens.{read, numbered, takes}
 use Rattle.laws.specs.positions.Places.{numbered-at}
 
--- one more number in a key: the numbers stay below 2^31, so that no product wraps
+-- one more number in a key: each is taken below 2^20, so that no product is too large
 unfoldable pub mixed : ℕ → ℕ → ℕ
-mixed h x = (h % 2147483647 * 1540483477 + x % 2147483647) % 2147483647
+mixed h x = h % 1048576 * 1021 + x % 1048576
+
+-- how many chains there are among n places, and which one a key has
+unfoldable pub chains : ℕ → ℕ
+chains n = cond (leb n 256) 256 2048
+
+unfoldable pub chain-of : ℕ → ℕ → ℕ
+chain-of n key = cond (leb n 256) ((key % 1073741824 + key % 1073741824 / 64) % 256) ((key % 1073741824 + key % 1073741824 / 64) % 2048)
 
 unfoldable pub mixed-all : ℕ → List ℕ → ℕ
 unfolding mixed
@@ -38,8 +45,8 @@ module _ (ws : List ℕ) where
 
   -- the chain that a place is in: from its word and the classes of its operands
   unfoldable pub bucket-at : ℕ → ℕ
-  unfolding mixed-all last-place takes read
-  bucket-at i = mixed-all (getD ws i 0) (map class-of (operands-at i)) % length ws
+  unfolding chain-of mixed-all last-place takes read
+  bucket-at i = chain-of (length ws) (mixed-all (getD ws i 0) (map class-of (operands-at i)))
 
   -- how many of the first n places that pass have a class
   unfoldable pub class-places : (ℕ → Bool) → ℕ → ℕ → ℕ

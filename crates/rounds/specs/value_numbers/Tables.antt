@@ -5,7 +5,7 @@ use mathlib.Core.Bool.{Bool}
 use mathlib.Core.List.{List}
 use lib.ListN.{length, getD}
 use Rattle.laws.specs.positions.Places.{equal-places}
-use Rattle.rounds.specs.value_numbers.Classes.{class-at, bucket-at, class-places}
+use Rattle.rounds.specs.value_numbers.Classes.{chains, class-at, bucket-at, class-places}
 
 -- the classes of the places from i on
 pub record Known (ws : List ℕ) (i : ℕ) (cl : List ℕ) : Type 0 where
@@ -27,8 +27,8 @@ pub record Links (ws : List ℕ) (i : ℕ) (nx : List ℕ) : Type 0 where
 
 -- each chain starts with its first place from i on
 pub record Heads (ws : List ℕ) (i : ℕ) (hd : List ℕ) : Type 0 where
-  pub long : length ws ≤ length hd
-  pub each : (b : ℕ) → b < length ws → Link ws b i (getD hd b 0)
+  pub long : chains (length ws) ≤ length hd
+  pub each : (b : ℕ) → b < chains (length ws) → Link ws b i (getD hd b 0)
 
 -- the three together
 pub record Passing (ws : List ℕ) (i : ℕ) (cl nx hd : List ℕ) : Type 0 where

@@ -4,6 +4,7 @@ use native.Mathlib.Omega.{arith}
 use mathlib.Core.Path.{_≡_, refl, _∙_}
 use lib.ListN.{length}
 use Rattle.rounds.proofs.choice.Leaders.{Searching, searching-starts, searching-turns, searching-ends}
+use borrow.Author.Needs.{needs}
 use Rattle.rounds.proofs.choice.search.Statement.{statement}
 use Rattle.rounds.proofs.choice.search.Tie as tie
 
@@ -19,10 +20,8 @@ search-spec =
     (tie.spec
     Inv-loop
     μ-loop
-    (λ c. (searching-starts (c .before .before .before .before .before .before .before .args .rows .now) (c .before .before .before .before .before .before .before .args .tokens .now) (c .before .before .before .before .before .before .before .args .scoped), refl))
-    (λ c κs.
-    let p = c .before .before .before .before .before .before .before .before .before .before .pre in
-    (p .0, ((c .before .loop-test .taken, p .1 .0), (p .1 .1 .0, (p .1 .1 .1 .0, (record { pass = p .1 .1 .1 .1 .pass; fits = omega (arith, p .1 .1 .1 .1 .fits, c .before .before .loop .inv .1) }, c .before .before .loop .inv .0 .lead))))))
+    (λ c. (let a = c .before .before .before .before .before .before .before .args in (searching-starts (a .rows .now) (a .tokens .now) (a .scoped), refl)))
+    (λ c κs. (let p = c .before .before .before .before .before .before .before .before .before .before .pre in (p .0, ((c .before .loop-test .taken, p .1 .0), (p .1 .1 .0, (p .1 .1 .1 .0, (record { pass = p .1 .1 .1 .1 .pass; fits = omega (arith, p .1 .1 .1 .1 .fits, c .before .before .loop .inv .1) }, c .before .before .loop .inv .0 .lead)))))))
     (λ c. omega (arith, c .before .before .before .before .loop-test .taken))
     (λ c. omega (arith, c .before .before .before .before .loop-test .taken))
     (λ c. (searching-turns (c .before .before .before .before .before .loop .inv .0) (c .before .before .before .before .loop-test .taken) (c .before .before .met .ensures), c .before .before .met .kept .1 .1 .1 .1 .1 .1 .1 .0 ∙ c .before .before .before .before .before .loop .inv .1))

@@ -8,13 +8,9 @@ pub link-spec : {M : Type 1} → statement M
 link-spec =
     tie.close
     (tie.spec
-    (λ c κs. search needs)
     (λ c. search needs)
     (λ c. search needs)
-    (λ c κs.
-    let p = c .before .before .before .before .before .before .before .before .before .before .pre in
-    let k = p .1 .1 .1 in
-    (p .0, (p .1 .0, (p .1 .1 .0, (k .known, (k .links, chase-starts _ (p .0) (c .before .before .before .before .before .before .before .before .before .before .args .i) (p .1 .0) _ (c .before .before .before .bucket-of .result) (k .heads) (c .before .before .before .bucket-of .ensures .0) (c .before .before .before .bucket-of .ensures .1)))))))
+    (λ c κs. (let s = c .before .before .before .before .before .before .before .before in let k = s .pre .1 .1 .1 in (s .pre .0 .0, (s .pre .0 .1, (s .pre .1 .1 .0, (k .known, (k .links, chase-starts _ (s .pre .0 .0) (s .args .i) (s .pre .0 .1) _ (s .args .b) (k .heads) (s .pre .1 .0 .0) (s .pre .1 .0 .1))))))))
     (λ c. search needs)
     (λ c. search needs)
     (λ c. search needs)
@@ -25,6 +21,4 @@ link-spec =
     (λ c. search needs)
     (λ c. search needs)
     (λ c. search needs)
-    (λ c.
-    let p = c .before .before .before .before .before .before .before .before .before .before .before .before .pre in
-    (c .before .find .ensures, passing-turns (p .1 .1 .1) (p .1 .0) (c .before .before .before .before .before .bucket-of .result) (c .before .find .result) (c .chosen .result) (c .before .before .before .before .before .bucket-of .ensures .0) (c .before .before .before .before .before .bucket-of .ensures .1) (c .before .find .ensures) (c .chosen .ensures))))
+    (λ c. (let s = c .before .before .before .before .before .before .before .before .before .before in (c .before .find .ensures, passing-turns (s .pre .1 .1 .1) (s .pre .0 .1) (s .args .b) (c .before .find .result) (c .chosen .result) (s .pre .1 .0 .0) (s .pre .1 .0 .1) (c .before .find .ensures) (c .chosen .ensures)))))
