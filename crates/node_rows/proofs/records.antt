@@ -1,2 +1,3 @@
 pub mod RecordBytes
 pub mod ShapeLaws
+pub mod ShortSheets

@@ -1,6 +1,7 @@
 pub mod RowLaws
 pub mod RunLaws
 pub mod NameLaws
+pub mod ChainLaws
 pub mod WriteLaws
 pub mod WordLaws
 pub mod CycleLaws

@@ -1,5 +1,7 @@
 // The fields of a node row (01, "Expressions and facts"), for any words: a constant's sign, 1 for minus, and size; numbers of earlier nodes; and all fields by the kind.
 ghost use mathlib.Core.Path.{_≡_};
+ghost use Prim.Native.Nat.{_≤_};
+ghost use lib.ListN.{length, drop};
 ghost use Rattle.node_rows.specs.fields.Constant.{constant-test};
 ghost use Rattle.node_rows.specs.fields.Below.{below};
 ghost use Rattle.node_rows.specs.fields.Tests.{operation-test, plain-test, fields-test};
@@ -29,7 +31,7 @@ pub(crate) fn constant_ok(fields: &[u64]) -> bool
     size > 0
 }
 
-// Operands and roots name earlier rows: each number is below a bound. Words that are all below 1 are 0.
+// Operands and roots name earlier rows: each number is below a bound.
 pub fn all_below(numbers: &[u64], bound: u64) -> bool
     ensures { λ r. ⌜ r ≡ below bound (now (numbers .entry)) ⌝ }
 {
@@ -41,6 +43,34 @@ pub fn all_below(numbers: &[u64], bound: u64) -> bool
         i += 1;
     }
     true
+}
+
+// Whether all words are 0. They are put together before one test, since that is four words at a step where a test of each is one.
+fn all_zero(words: &[u64]) -> bool
+    ensures { λ r. ⌜ r ≡ below 1 (now (words .entry)) ⌝ }
+{
+    let mut any = 0u64;
+    let mut i = 0;
+    while i < words.len() {
+        any = any | words[i];
+        i += 1;
+    }
+    any == 0
+}
+
+// Whether a row's words from `end` on are 0. Most rows have one or two fields; what follows those is of one length.
+pub(crate) fn zero_from(row: &[u64], end: usize) -> bool
+    requires { ⌜ length (now row) ≡ 35 ⌝ }
+    requires { ⌜ end ≤ 35 ⌝ }
+    ensures { λ r. ⌜ r ≡ below 1 (drop end (now (row .entry))) ⌝ }
+{
+    if end > 5 {
+        return all_zero(&row[end..]);
+    }
+    if !all_zero(&row[end..5]) {
+        return false;
+    }
+    all_zero(&row[5..35])
 }
 
 fn operation_ok(kind: u64, default: bool, operands: &[u64], i: u64) -> bool

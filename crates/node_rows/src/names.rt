@@ -24,13 +24,18 @@ fn is_letter(b: u64) -> bool
     }
 }
 
+// The letters and digits among the bytes below 64, and among the 64 after those, a bit for each.
+const WORD_BYTES: [u64; 2] = [287948901175001088, 576460745995190270];
+
+// Names are long, and their bytes are letters or digits in no order, so the ranges are not tried one after another.
 fn is_word_byte(b: u64) -> bool
     ensures { λ r. ⌜ r ≡ (is-letter b || is-digit b) ⌝ }
 {
-    if is_letter(b) {
-        return true;
+    if b > 127 {
+        return false;
     }
-    is_digit(b)
+    let half = (b / 64) as usize;
+    (WORD_BYTES[half] >> (b % 64)) % 2 == 1
 }
 
 fn all_digits(bytes: &[u64]) -> bool

@@ -11,6 +11,7 @@ ghost use Rattle.node_rows.specs.rows.Measure.{pick, capped-size, capped
 ghost use Rattle.node_rows.specs.rows.Nine.{check-rows};
 use crate::fields::all_below;
 use crate::fields::fields_ok;
+use crate::fields::zero_from;
 use crate::records::fits_a_sheet;
 use words::layout::BRANCH;
 use words::layout::NEG;
@@ -31,7 +32,7 @@ fn row_ok(row: &[u64], i: u64) -> bool
         return false;
     }
     let end = 3 + row[2] as usize;
-    if !all_below(&row[end..], 1) {
+    if !zero_from(row, end) {
         return false;
     }
     fields_ok(row[0], row[1], &row[3..end], i)

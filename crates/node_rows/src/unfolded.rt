@@ -9,6 +9,7 @@ ghost use Rattle.spec_tree.specs.Rows.{trees};
 ghost use Rattle.spec_tree.specs.Layout.{row-fields, signed, laid-out, table-of};
 ghost use Rattle.spec_tree.specs.Tokens.{number-in, constant-code, all-tokens};
 ghost use Rattle.node_rows.specs.unfolded.Write.{Wrote};
+ghost use Rattle.node_rows.specs.unfolded.Chain.{bucket, bucket-at, First-named, Link, Nexts, Chains, Node-words};
 ghost use Rattle.node_rows.specs.unfolded.Unfold.{row-count, rows-in, row-at, row-number, operand-rows, run, runs, Rows-laid, unfolded, Answers};
 use crate::rows::Checked;
 use words::layout::ROW_WIDTH;
@@ -46,23 +47,73 @@ fn kind_of(rows: &[u64], r: usize) -> u64
     rows[at] + default
 }
 
-// The first row that is the same as row r: a symbol's number. Unused words are 0, so symbols with one name have equal rows. There are at most 1,024
-// occurrences and as many rows, so a search for each occurrence costs about what a table of the symbols' numbers would.
-fn first_named(rows: &[u64], r: usize) -> usize
+// Whether rows i and r, which are symbols, have one name.
+fn same_name(rows: &[u64], i: usize, r: usize) -> bool
     requires { ⌜ Rows-laid (now rows) ⌝ }
-    requires { ⌜ r < row-count (now rows) ⌝ }
-    requires { ⌜ row-number (row-at (now rows) r) ≡ 0 ⌝ }
-    ensures { λ e. ⌜ (e ≡ number-in (rows-in (now (rows .entry))) (row-fields (row-at (now (rows .entry)) r))) × (e ≤ r) ⌝ }
+    requires { ⌜ (i < row-count (now rows)) × (r < row-count (now rows)) ⌝ }
+    ensures { λ b. ⌜ b ≡ eq-bytes (row-fields (row-at (now (rows .entry)) i)) (row-fields (row-at (now (rows .entry)) r)) ⌝ }
 {
+    let other = i * ROW_WIDTH;
     let own = r * ROW_WIDTH;
+    let count = rows[own + 2];
+    if rows[other + 2] != count {
+        return false;
+    }
+    let n = count as usize;
+    same_words(&rows[other + 3..other + 3 + n], &rows[own + 3..own + 3 + n])
+}
+
+// The bucket of a name: sums of its bytes, in which their order counts.
+fn bucket_of(name: &[u64]) -> usize
+    requires { ⌜ length (now name) ≤ 32 ⌝ }
+    ensures { λ b. ⌜ (b ≡ bucket (now (name .entry))) × (b < 256) ⌝ }
+{
+    let mut sum = 0u64;
+    let mut sums = 0u64;
     let mut i = 0;
-    while i < r {
-        let at = i * ROW_WIDTH;
-        if same_words(&rows[at..at + ROW_WIDTH], &rows[own..own + ROW_WIDTH]) {
-            return i;
-        }
+    while i < name.len() {
+        sum += name[i] % 256;
+        sums += sum;
         i += 1;
     }
+    ((31 * sums + sum) % 256) as usize
+}
+
+// The first row that has row r's name, if it is along a chain from a link on, or else r. A link is 0, or a row and 1.
+fn first_named(rows: &[u64], r: usize, link: u64, next: &[u64]) -> usize
+    requires { ⌜ Rows-laid (now rows) ⌝ }
+    requires { ⌜ (r < row-count (now rows)) × (row-number (row-at (now rows) r) ≡ 0) × (r ≤ length (now next)) ⌝ }
+    requires { ⌜ Link (now rows) (bucket-at (now rows) r) r link × Nexts (now rows) r (now next) ⌝ }
+    ensures { λ e. ⌜ First-named (now (rows .entry)) r e ⌝ }
+{
+    let mut q = link as usize;
+    while q > 0 {
+        let i = q - 1;
+        if same_name(rows, i, r) {
+            return i;
+        }
+        q = next[i] as usize;
+    }
+    r
+}
+
+// A symbol's number, the first row of its name. The first rows of names are kept in chains, one for each bucket, and the last of them leads.
+fn symbol_number(rows: &[u64], r: usize, heads: &mut [u64], next: &mut [u64]) -> usize
+    requires { ⌜ Rows-laid (now rows) ⌝ }
+    requires { ⌜ (r < row-count (now rows)) × (row-number (row-at (now rows) r) ≡ 0) ⌝ }
+    requires { ⌜ Chains (now rows) r (now heads) (now next) ⌝ }
+    ensures { λ e. ⌜ (e ≡ number-in (rows-in (now (rows .entry))) (row-fields (row-at (now (rows .entry)) r))) × (e ≤ r) ⌝ }
+    ensures { λ e. ⌜ Chains (now (rows .entry)) (r + 1) (now (heads .exit)) (now (next .exit)) ⌝ }
+{
+    let own = r * ROW_WIDTH;
+    let count = rows[own + 2] as usize;
+    let b = bucket_of(&rows[own + 3..own + 3 + count]);
+    let e = first_named(rows, r, heads[b], next);
+    if e < r {
+        return e;
+    }
+    next[r] = heads[b];
+    heads[b] = r as u64 + 1;
     r
 }
 
@@ -75,20 +126,38 @@ fn constant_code(sign: u64, size: u64) -> u64
 }
 
 // The word of row r's node: its kind, and a symbol's or a constant's code or the number of operands.
-fn node_word(rows: &[u64], r: usize) -> u64
+fn node_word(rows: &[u64], r: usize, heads: &mut [u64], next: &mut [u64]) -> u64
     requires { ⌜ Rows-laid (now rows) ⌝ }
     requires { ⌜ r < row-count (now rows) ⌝ }
+    requires { ⌜ Chains (now rows) r (now heads) (now next) ⌝ }
     ensures { λ w. ⌜ w ≡ getD (run (now (rows .entry)) r) 0 0 ⌝ }
+    ensures { λ w. ⌜ Chains (now (rows .entry)) (r + 1) (now (heads .exit)) (now (next .exit)) ⌝ }
 {
     let at = r * ROW_WIDTH;
     let kind = kind_of(rows, r);
     if kind == 0 {
-        return 192 * (first_named(rows, r) as u64);
+        return 192 * (symbol_number(rows, r, heads, next) as u64);
     }
     if kind == 1 {
         return 1 + 64 * constant_code(rows[at + 3], rows[at + 4]);
     }
     kind + 64 * rows[at + 2]
+}
+
+// The words of all rows' nodes.
+fn node_words(rows: &[u64], words: &mut [u64])
+    requires { ⌜ Rows-laid (now rows) ⌝ }
+    requires { ⌜ row-count (now rows) ≤ length (now words) ⌝ }
+    ensures { λ _. ⌜ Node-words (now (rows .entry)) (row-count (now (rows .entry))) (now (words .exit)) ⌝ }
+{
+    let n = rows.len() / ROW_WIDTH;
+    let mut heads = [0u64; 256];
+    let mut next = [0u64; 1024];
+    let mut r = 0;
+    while r < n {
+        words[r] = node_word(rows, r, &mut heads, &mut next);
+        r += 1;
+    }
 }
 
 // A leaf's fields are no operands.
@@ -105,21 +174,24 @@ fn operand_count(rows: &[u64], r: usize) -> usize
 }
 
 // Row r's tree, written from `at` on; gives the end. Its operands are earlier rows, so this ends.
-fn unfold_row(rows: &[u64], r: usize, out: &mut [u64], at: usize) -> usize
-    requires { ⌜ Rows-laid (now rows) ⌝ }
+fn unfold_row(rows: &[u64], words: &[u64], r: usize, out: &mut [u64], at: usize) -> usize
+    requires { ⌜ Rows-laid (now rows) × Node-words (now rows) (row-count (now rows)) (now words) ⌝ }
     requires { ⌜ r < row-count (now rows) ⌝ }
     requires { ⌜ at + length (run (now rows) r) ≤ length (now out) ⌝ }
     ensures { λ e. ⌜ Wrote (now (out .entry)) at (run (now (rows .entry)) r) e (now (out .exit)) ⌝ }
 {
-    out[at] = node_word(rows, r);
+    out[at] = words[r];
+    let count = operand_count(rows, r);
+    if count == 0 {
+        return at + 1;
+    }
     let first = r * ROW_WIDTH + 3;
-    let end = first + operand_count(rows, r);
-    unfold_each(rows, &rows[first..end], out, at + 1)
+    unfold_each(rows, words, &rows[first..first + count], out, at + 1)
 }
 
 // The trees of several rows, one after another.
-fn unfold_each(rows: &[u64], list: &[u64], out: &mut [u64], at: usize) -> usize
-    requires { ⌜ Rows-laid (now rows) ⌝ }
+fn unfold_each(rows: &[u64], words: &[u64], list: &[u64], out: &mut [u64], at: usize) -> usize
+    requires { ⌜ Rows-laid (now rows) × Node-words (now rows) (row-count (now rows)) (now words) ⌝ }
     requires { ⌜ T (every (λ n. ltb n (row-count (now rows))) (now list)) ⌝ }
     requires { ⌜ at + length (runs (now rows) (now list)) ≤ length (now out) ⌝ }
     ensures { λ e. ⌜ Wrote (now (out .entry)) at (runs (now (rows .entry)) (now (list .entry))) e (now (out .exit)) ⌝ }
@@ -127,7 +199,7 @@ fn unfold_each(rows: &[u64], list: &[u64], out: &mut [u64], at: usize) -> usize
     let mut to = at;
     let mut done = 0;
     while done < list.len() {
-        to = unfold_row(rows, list[done] as usize, out, to);
+        to = unfold_row(rows, words, list[done] as usize, out, to);
         done += 1;
     }
     to
@@ -141,7 +213,9 @@ fn unfold_roots(rows: &[u64], roots: &[u64], out: &mut [u64]) -> usize
         (all-tokens (number-in (table-of (now (rows .entry)) (now (roots .entry)) .rows)) (trees (table-of (now (rows .entry)) (now (roots .entry)))))
         e (now (out .exit)) ⌝ }
 {
-    unfold_each(rows, roots, out, 0)
+    let mut words = [0u64; 1024];
+    node_words(rows, &mut words);
+    unfold_each(rows, &words, roots, out, 0)
 }
 
 // The words of the roots' trees, first in `out`, which every list fits; or 9, where load could lay out no such rows. What stands in `out` past the words stays, and all

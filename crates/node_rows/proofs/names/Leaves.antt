@@ -1,5 +1,5 @@
 -- The tests of names and words in the order in which the code makes them. Assumes nothing.
-use Prim.Native.Nat.{ℕ, suc, _+_, _-_, _≤_, _<_}
+use Prim.Native.Nat.{ℕ, suc, _+_, _-_, _/_, _%_, _^_, _≤_, _<_}
 use mathlib.Core.Path.{_≡_, refl, sym, _∙_, subst}
 use mathlib.Core.Bool.{Bool, true, false, not, _&&_, _||_}
 use mathlib.Core.Logic.{_⊎_, inl, inr, ⊎-elim}
@@ -54,6 +54,21 @@ letter-high b h =
     let r : 65 ≤ b = omega arith in
     let s : 97 ≤ b = omega arith in
     rw (le-leb 65 b r, lt-leb b 90 p, le-leb 97 b s, lt-leb b 122 q, ne-eqb b 95 n)
+
+-- the code's table of letters and digits, tested at every byte
+abbrev alike : Bool → Bool → Bool
+alike true b = b
+alike false b = not b
+
+alike-same : (a b : Bool) → T (alike a b) → a ≡ b
+alike-same true b t = yes b t
+alike-same false b t = no b t
+
+abbrev in-table : ℕ → Bool
+in-table b = eqb (getD (287948901175001088 ∷ 576460745995190270 ∷ []) (b / 64) 0 / 2 ^ (b % 64) % 2) 1
+
+pub word-byte : (b : ℕ) → b < 128 → in-table b ≡ (is-letter b || is-digit b)
+word-byte b h = alike-same (in-table b) (is-letter b || is-digit b) (span (λ b. alike (in-table b) (is-letter b || is-digit b)) 0 128 tt b (omega arith) h)
 
 -- ---- a test of every word, from the front
 

@@ -1,18 +1,31 @@
--- The test of a table's form, row by row, and what it says of each row. Assumes nothing.
+-- A test of a table's form, and what it says of each row. Assumes nothing.
 use Prim.Native.Nat.{ℕ, zero, suc, _+_, _-_, _*_, _/_, _≤_, _<_}
-use mathlib.Core.Path.{_≡_, sym, ap, _∙_, subst}
-use mathlib.Core.Bool.{Bool, true, false, _&&_, _||_, not}
+use mathlib.Core.Path.{_≡_, ap, _∙_, subst}
+use mathlib.Core.Bool.{Bool, true, _&&_, _||_, not}
 use mathlib.Core.List.{List}
 use native.Mathlib.Omega.{arith}
-use native.Mathlib.Numerals.{add-one}
-use borrow.Author.Tests.{le-leb, lt-leb, eq-eqb, ne-eqb}
-use lib.Dec.{T, eqb, leb, ltb, leb→le, ltb→lt}
+use borrow.Author.Tests.{eq-eqb}
+use lib.Dec.{T, eqb, leb, ltb, leb→le, ltb→lt, eqb→eq}
 use lib.ListN.{length, getD, take, drop, length-take, length-drop}
 use lib.Seq.{drop-drop}
 use Rattle.spec_tree.proofs.Logic.{and-left, and-right}
-use Rattle.node_rows.specs.records.Shape.{row-shaped, each-shaped, shaped, Shape, Shapes}
+use Rattle.node_rows.specs.records.Shape.{Shape, Shapes}
 
--- ---- one row: each test that fails, and the last
+-- a kind of 01 with or without default, at most 32 fields, and at least two of a constant
+unfoldable pub row-shaped : List ℕ → Bool
+row-shaped row =
+    leb (getD row 0 0) 28
+    && (leb (getD row 1 0) (28 - getD row 0 0) && (leb (getD row 2 0) 32 && (not (eqb (getD row 0 0 + getD row 1 0) 1) || ltb 1 (getD row 2 0))))
+
+unfoldable pub each-shaped : ℕ → List ℕ → Bool
+unfolding row-shaped
+each-shaped zero ws = true
+each-shaped (suc n) ws = row-shaped (take 35 ws) && each-shaped n (drop 35 ws)
+
+unfoldable pub shaped : List ℕ → List ℕ → Bool
+unfolding each-shaped
+shaped ws roots =
+    eqb (length ws) (35 * (length ws / 35)) && (leb (length ws / 35) 1024 && (leb (length roots) 64 && each-shaped (length ws / 35) ws))
 
 module _ (row : List ℕ) where
   abbrev kind : ℕ
@@ -24,28 +37,7 @@ module _ (row : List ℕ) where
   abbrev count : ℕ
   count = getD row 2 0
 
-  pub kind-large : 28 < kind → false ≡ row-shaped row
-  unfolding row-shaped
-  kind-large h = rw (lt-leb kind 28 h)
-
-  pub default-large : kind ≤ 28 → 28 - kind < default → false ≡ row-shaped row
-  unfolding row-shaped
-  default-large a h = rw (le-leb kind 28 a, lt-leb default (28 - kind) h)
-
-  pub count-large : kind ≤ 28 → default ≤ 28 - kind → 32 < count → false ≡ row-shaped row
-  unfolding row-shaped
-  count-large a b h = rw (le-leb kind 28 a, le-leb default (28 - kind) b, lt-leb count 32 h)
-
-  pub no-constant : kind ≤ 28 → default ≤ 28 - kind → count ≤ 32 → (kind + default ≡ 1 → ⊥) → true ≡ row-shaped row
-  unfolding row-shaped
-  no-constant a b d h = rw (le-leb kind 28 a, le-leb default (28 - kind) b, le-leb count 32 d, ne-eqb (kind + default) 1 h)
-
-  pub a-constant : kind ≤ 28 → default ≤ 28 - kind → count ≤ 32 → kind + default ≡ 1 → ltb 1 count ≡ row-shaped row
-  unfolding row-shaped
-  a-constant a b d h = rw (le-leb kind 28 a, le-leb default (28 - kind) b, le-leb count 32 d, eq-eqb (kind + default) 1 h)
-
-  -- what the test says
-  pub shape-of : length row ≡ 35 → T (row-shaped row) → Shape row
+  shape-of : length row ≡ 35 → T (row-shaped row) → Shape row
   unfolding row-shaped
   shape-of wide h =
       let last = not (eqb (kind + default) 1) || ltb 1 count in
@@ -63,33 +55,6 @@ module _ (row : List ℕ) where
       two : kind + default ≡ 1 → T (not (eqb (kind + default) 1) || ltb 1 count) → 2 ≤ count
       two e t = ltb→lt 1 count (subst (λ (b : Bool). T (not b || ltb 1 count)) (eq-eqb (kind + default) 1 e) t)
 
--- ---- all rows
-
--- the i-th of the rows from a place on
-module _ (n : ℕ) (ws : List ℕ) where
-  rest-drop : (i : ℕ) → drop 35 (drop (35 * i) ws) ≡ drop (35 * suc i) ws
-  rest-drop i = drop-drop 35 (35 * i) ws ∙ ap (λ (m : ℕ). drop m ws) (let e : 35 * i + 35 ≡ 35 * suc i = omega arith in e)
-
-  pub shaped-begin : each-shaped n ws ≡ each-shaped (n - 0) (drop (35 * 0) ws)
-  shaped-begin = ap (λ (m : ℕ). each-shaped m ws) (let e : n ≡ n - 0 = omega arith in e)
-
-  shaped-step : (i : ℕ) → i < n → each-shaped (n - i) (drop (35 * i) ws) ≡ (row-shaped (take 35 (drop (35 * i) ws)) && each-shaped (n - suc i) (drop (35 * suc i) ws))
-  unfolding each-shaped
-  shaped-step i h =
-      ap (λ (m : ℕ). each-shaped m (drop (35 * i) ws)) (let e : n - i ≡ suc (n - suc i) = omega arith in e)
-      ∙ ap (λ (l : List ℕ). row-shaped (take 35 (drop (35 * i) ws)) && each-shaped (n - suc i) l) (rest-drop i)
-
-  pub shaped-next : (i : ℕ) → i < n → row-shaped (take 35 (drop (35 * i) ws)) ≡ true → each-shaped n ws ≡ each-shaped (n - i) (drop (35 * i) ws)
-      → each-shaped n ws ≡ each-shaped (n - (i + 1)) (drop (35 * (i + 1)) ws)
-  shaped-next i h t q = q ∙ (shaped-step i h ∙ rw (t, add-one i))
-
-  pub shaped-stop : (i : ℕ) → i < n → row-shaped (take 35 (drop (35 * i) ws)) ≡ false → each-shaped n ws ≡ each-shaped (n - i) (drop (35 * i) ws) → false ≡ each-shaped n ws
-  shaped-stop i h t q = sym (q ∙ (shaped-step i h ∙ rw t))
-
-  pub shaped-end : (i : ℕ) → n ≤ i → each-shaped n ws ≡ each-shaped (n - i) (drop (35 * i) ws) → true ≡ each-shaped n ws
-  unfolding each-shaped
-  shaped-end i h q = sym (q ∙ ap (λ (m : ℕ). each-shaped m (drop (35 * i) ws)) (let e : n - i ≡ 0 = omega arith in e))
-
 each-at : (n : ℕ) (ws : List ℕ) → T (each-shaped n ws) → (i : ℕ) → i < n → T (row-shaped (take 35 (drop (35 * i) ws)))
 unfolding each-shaped
 each-at zero ws t i h = absurd (omega arith)
@@ -98,7 +63,7 @@ each-at (suc n) ws t (suc i) h =
     subst (λ (l : List ℕ). T (row-shaped (take 35 l))) (drop-drop (35 * i) 35 ws ∙ ap (λ (m : ℕ). drop m ws) (let e : 35 + 35 * i ≡ 35 * suc i = omega arith in e))
     (each-at n (drop 35 ws) (and-right (row-shaped (take 35 ws)) (each-shaped n (drop 35 ws)) t) i (omega arith))
 
-pub shapes-of : (ws : List ℕ) → length ws ≡ 35 * (length ws / 35) → length ws / 35 ≤ 1024 → T (each-shaped (length ws / 35) ws) → Shapes ws
+shapes-of : (ws : List ℕ) → length ws ≡ 35 * (length ws / 35) → length ws / 35 ≤ 1024 → T (each-shaped (length ws / 35) ws) → Shapes ws
 shapes-of ws whole few t =
     record {
       whole = whole;
@@ -106,32 +71,12 @@ shapes-of ws whole few t =
       each-row = λ i h. shape-of (take 35 (drop (35 * i) ws)) (rw (length-take, length-drop) (omega arith)) (each-at (length ws / 35) ws t i h);
     }
 
--- a part from 35 * i to 35 * i + 35 is the i-th row
-pub part-of-row : (ws : List ℕ) (i : ℕ) → row-shaped (take 35 (drop (35 * i) ws)) ≡ row-shaped (take (35 * i + 35 - 35 * i) (drop (35 * i) ws))
-part-of-row ws i = ap (λ (m : ℕ). row-shaped (take m (drop (35 * i) ws))) (let e : 35 ≡ 35 * i + 35 - 35 * i = omega arith in e)
-
--- ---- the whole test: each of its parts that fails, and all of them
-
-module _ (ws roots : List ℕ) (fits : Bool) where
-  abbrev n : ℕ
-  n = length ws / 35
-
-  pub not-whole : (length ws ≡ 35 * n → ⊥) → false ≡ (shaped ws roots && fits)
-  unfolding shaped
-  not-whole h = rw (ne-eqb (length ws) (35 * n) h)
-
-  pub many-rows : length ws ≡ 35 * n → 1024 < n → false ≡ (shaped ws roots && fits)
-  unfolding shaped
-  many-rows a h = rw (eq-eqb (length ws) (35 * n) a, lt-leb n 1024 h)
-
-  pub many-roots : length ws ≡ 35 * n → n ≤ 1024 → 64 < length roots → false ≡ (shaped ws roots && fits)
-  unfolding shaped
-  many-roots a b h = rw (eq-eqb (length ws) (35 * n) a, le-leb n 1024 b, lt-leb (length roots) 64 h)
-
-  pub no-shape : length ws ≡ 35 * n → n ≤ 1024 → length roots ≤ 64 → each-shaped n ws ≡ false → false ≡ (shaped ws roots && fits)
-  unfolding shaped
-  no-shape a b d h = rw (eq-eqb (length ws) (35 * n) a, le-leb n 1024 b, le-leb (length roots) 64 d, h)
-
-  pub all-shaped : length ws ≡ 35 * n → n ≤ 1024 → length roots ≤ 64 → each-shaped n ws ≡ true → fits ≡ (shaped ws roots && fits)
-  unfolding shaped
-  all-shaped a b d h = rw (eq-eqb (length ws) (35 * n) a, le-leb n 1024 b, le-leb (length roots) 64 d, h)
+pub all-shapes : (ws roots : List ℕ) → T (shaped ws roots) → Shapes ws
+unfolding shaped
+all-shapes ws roots t =
+    let n = length ws / 35 in
+    let some = leb (length roots) 64 && each-shaped n ws in
+    let r = and-right (eqb (length ws) (35 * n)) (leb n 1024 && some) t in
+    let u = and-right (leb n 1024) some r in
+    shapes-of ws (eqb→eq (length ws) (35 * n) (and-left (eqb (length ws) (35 * n)) (leb n 1024 && some) t)) (leb→le n 1024 (and-left (leb n 1024) some r))
+    (and-right (leb (length roots) 64) (each-shaped n ws) u)

@@ -17,12 +17,13 @@ use Rattle.spec_tree.specs.Rows.{Row, row-sym, row-const, row-op, Table, trees,
 use Rattle.spec_tree.specs.Passes.{operands-ok}
 use Rattle.spec_tree.specs.Layout.{row-kind, row-default, row-fields, row-words, table-words, table-of, row-ok, rows-ok, in-domain, sheet-fits, loadable, laid-out, table-or-9}
 use Rattle.spec_tree.proofs.Logic.{and-left, and-right, and-both}
-use Rattle.spec_tree.proofs.Tests.{is-true, eq→eqb}
+use Rattle.spec_tree.proofs.Tests.{eq→eqb}
 use Rattle.spec_tree.proofs.KindLaws.{arity-kind}
 use Rattle.spec_tree.proofs.TreeLaws.{eq-bytes-sound}
 use Rattle.spec_tree.proofs.DomainPasses.{domain}
 use Rattle.spec_tree.proofs.LayoutLaws.{fields-few, words-long, table-long}
-use Rattle.node_rows.specs.records.Shape.{row-shaped, each-shaped, shaped}
+use Rattle.node_rows.specs.records.Shape.{Shapes}
+use Rattle.node_rows.proofs.records.ShapeLaws.{row-shaped, each-shaped, shaped, all-shapes}
 use Rattle.node_rows.specs.rows.Check.{laid-in-domain, check-domain}
 use Rattle.node_rows.specs.rows.Nine.{check-rows}
 
@@ -91,11 +92,11 @@ table-shaped t h =
     (and-both (leb m 1024) (leb (length (t .roots)) 64 && each-shaped m ws) (le→leb m 1024 (let f = D .few-rows in omega arith))
     (and-both (leb (length (t .roots)) 64) (each-shaped m ws) (le→leb (length (t .roots)) 64 (D .few-roots)) each))
 
-pub laid-shaped : (ws ns : List ℕ) → T (laid-in-domain ws ns) → shaped ws ns ≡ true
+pub laid-shaped : (ws ns : List ℕ) → T (laid-in-domain ws ns) → Shapes ws
 unfolding laid-in-domain table-of
 laid-shaped ws ns t =
     let e = eq-bytes (table-words (table-of ws ns .rows)) ws in
-    is-true (shaped ws ns)
+    all-shapes ws ns
     (subst (λ (l : List ℕ). T (shaped l ns)) (eq-bytes-sound (table-words (table-of ws ns .rows)) ws (and-left e (in-domain (table-of ws ns)) t))
     (table-shaped (table-of ws ns) (and-right e (in-domain (table-of ws ns)) t)))
 
@@ -126,8 +127,16 @@ module _ (ws ns : List ℕ) where
       go true d e = absurd (let z : _≡_ {A = ℕ} 0 1 = cc in omega arith)
       go false d e = sym (by-tests false (both-tests ws ns ∙ rw d))
 
+  pub laid-by : (n : ℕ) → ok n ≡ check-domain ws ns → T (laid-in-domain ws ns)
+  unfolding check-domain
+  laid-by n e = go (laid-in-domain ws ns) (λ t. t) e
+    where
+      go : (b : Bool) → (T b → T (laid-in-domain ws ns)) → ok n ≡ by-domain b → T (laid-in-domain ws ns)
+      go true f e = f tt
+      go false f e = absurd (let z : _≡_ {A = ℕ} 0 1 = cc in omega arith)
+
   -- accepted by the first, and by the second or not
-  pub in-domain-then : (n : ℕ) (f : Bool) → ok n ≡ check-domain ws ns → f ≡ (shaped ws ns && sheet-fits (table-of ws ns)) → cond f (ok n) (refused (by 9)) ≡ check-rows ws ns
+  pub in-domain-then : (n : ℕ) (f : Bool) → ok n ≡ check-domain ws ns → f ≡ sheet-fits (table-of ws ns) → cond f (ok n) (refused (by 9)) ≡ check-rows ws ns
   unfolding check-domain
   in-domain-then n f e g = go (laid-in-domain ws ns) refl e
     where
@@ -136,5 +145,5 @@ module _ (ws ns : List ℕ) where
       second false s d h e = rw h (sym (by-tests false (both-tests ws ns ∙ rw (d, s))))
 
       go : (b : Bool) → laid-in-domain ws ns ≡ b → ok n ≡ by-domain b → cond f (ok n) (refused (by 9)) ≡ check-rows ws ns
-      go true d e = second (sheet-fits (table-of ws ns)) refl d (g ∙ rw (laid-shaped ws ns (subst T (sym d) tt))) e
+      go true d e = second (sheet-fits (table-of ws ns)) refl d g e
       go false d e = absurd (let z : _≡_ {A = ℕ} 0 1 = cc in omega arith)

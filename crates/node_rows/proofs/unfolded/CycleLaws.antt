@@ -1,9 +1,9 @@
 -- The steps of `unfold_row` and `unfold_each`: a row's word and then its operands' trees; trees one after another. Assumes nothing.
 use Prim.Native.Nat.{ℕ, suc, _+_, _-_, _*_, _≤_, _<_}
 use mathlib.Core.Path.{_≡_, refl, ap, _∙_, subst}
-use mathlib.Core.List.{List, _∷_}
+use mathlib.Core.List.{List, [], _∷_}
 use native.Mathlib.Omega.{arith}
-use lib.ListN.{length, getD, take, drop, set}
+use lib.ListN.{length, getD, take, drop, set, length-set}
 use lib.Seq.{take-length}
 use lib.Dec.{T, ltb}
 use Rattle.spec_tree.specs.Bytes.{every}
@@ -62,6 +62,12 @@ module _ {ws : List ℕ} (laid : Rows-laid ws) (r : ℕ) (inside : r < row-count
       (old new : List ℕ) (at w end : ℕ) → at < length old → w ≡ getD (run ws r) 0 0 → Wrote (set old at w) (at + 1) (runs ws lent) end new
       → Wrote old at (run ws r) end new
   row-done old new at w end h e v = rw (run-lent, ← e) (wrote-then (wrote-set old at w h) v)
+
+  -- a leaf
+  pub leaf-done : n ≡ 0 → (old : List ℕ) (at w : ℕ) → at < length old → w ≡ getD (run ws r) 0 0 → Wrote old at (run ws r) (at + 1) (set old at w)
+  leaf-done z old at w h e =
+      let none : runs ws lent ≡ [] = ap (λ (m : ℕ). runs ws (take (r * 35 + 3 + m - (r * 35 + 3)) (drop (r * 35 + 3) ws))) z ∙ ap (λ (m : ℕ). runs ws (take m (drop (r * 35 + 3) ws))) (let q : r * 35 + 3 + 0 - (r * 35 + 3) ≡ 0 = omega arith in q) ∙ runs-none ws in
+      row-done old (set old at w) at w (at + 1) h e (rw none (wrote-none (set old at w) (at + 1) (rw length-set (omega arith))))
 
 pub row-holds-word : {ws : List ℕ} → Rows-laid ws → (r : ℕ) → r < row-count ws → 0 < length (run ws r)
 row-holds-word laid r h = omega (arith, ap length (run-is laid r h))

@@ -5,22 +5,27 @@ use mathlib.Core.Bool.{Bool, true, false}
 use mathlib.Core.List.{List, [], _∷_}
 use native.Mathlib.Omega.{arith}
 use native.Mathlib.Nat.{zero-add, add-zero}
-use lib.ListN.{length, getD, take, drop, length-take, length-drop}
+use lib.ListN.{length, getD, take, drop}
 use lib.Dec.{T, ltb}
 use Rattle.spec_tree.specs.Bytes.{eq-bytes, every}
 use Rattle.spec_tree.specs.Rows.{Row, row-sym, row-const, row-op}
-use Rattle.spec_tree.specs.Layout.{row-words, row-of, row-fields, row-ok}
+use Rattle.spec_tree.specs.Layout.{row-fields, row-ok}
 use Rattle.spec_tree.specs.Tokens.{first-named, number-in}
 use Rattle.spec_tree.specs.Passes.{operands-ok}
 use Rattle.spec_tree.proofs.Logic.{and-left}
 use Rattle.spec_tree.proofs.TreeLaws.{eq-bytes-sound, eq-bytes-refl}
-use Rattle.node_rows.specs.unfolded.Unfold.{row-count, rows-in, row-at, words-at, row-number, Rows-laid}
+use Rattle.node_rows.specs.unfolded.Unfold.{row-count, rows-in, row-at, row-number, Rows-laid}
+use Rattle.node_rows.specs.unfolded.Chain.{First-named}
 use Rattle.node_rows.proofs.unfolded.RowLaws.{Stands, stands, few-kinds}
 use Rattle.spec_tree.proofs.LayoutLaws.{rows-long}
 
 true-is : (b : Bool) → T b → b ≡ true
 true-is true t = refl
 true-is false t = absurd t
+
+false-is : (b : Bool) → (T b → ⊥) → false ≡ b
+false-is true f = absurd (f tt)
+false-is false f = refl
 
 -- a row before the first with the name is passed over
 passed : (j : ℕ) (r : Row) (l : List Row) (s : List ℕ) → (r ≡ row-sym s → ⊥) → first-named j (r ∷ l) s ≡ first-named (suc j) l s
@@ -46,10 +51,6 @@ first-is (r ∷ l) j (suc i) s d h e f =
     let m : suc j + i ≡ j + suc i = omega arith in
     passed j r l s (f 0 (omega arith)) ∙ first-is l (suc j) i s d (omega arith) e (λ k n. f (suc k) (omega arith)) ∙ m
 
--- no row before row i is the same as row r
-abbrev pub None-before : List ℕ → ℕ → ℕ → Type 0
-None-before ws r i = (k : ℕ) → k < i → row-at ws k ≡ row-at ws r → ⊥
-
 symbol-is : (i : ℕ) (r : Row) → T (row-ok i r) → row-number r ≡ 0 → r ≡ row-sym (row-fields r)
 unfolding row-ok row-number row-fields
 symbol-is i (row-sym s) t e = refl
@@ -58,37 +59,45 @@ symbol-is i (row-op k ns) t e = absurd (omega (arith, few-kinds k (length ns) (a
 
 -- the first row that is the same as a symbol's is the symbol's number
 pub found :
-    {ws : List ℕ} → Rows-laid ws → (r e : ℕ) → r < row-count ws → row-number (row-at ws r) ≡ 0 → e ≤ r
-    → row-at ws e ≡ row-at ws r → None-before ws r e → e ≡ number-in (rows-in ws) (row-fields (row-at ws r))
+    {ws : List ℕ} → Rows-laid ws → (r e : ℕ) → r < row-count ws → row-number (row-at ws r) ≡ 0 → First-named ws r e
+    → e ≡ number-in (rows-in ws) (row-fields (row-at ws r))
 unfolding rows-in row-at number-in
-found {ws} laid r e h z l p f =
+found {ws} laid r e h z f =
+    let l = f .earlier in
     let c = stands laid r h in
     let q : row-at ws r ≡ row-sym (row-fields (row-at ws r)) = symbol-is r (row-at ws r) (c .tested) z in
     let n : e < length (rows-in ws) = rw (rows-long (row-count ws) ws) (omega arith) in
-    sym (first-is (rows-in ws) 0 e (row-fields (row-at ws r)) (row-op 0 []) n (p ∙ q) (λ k m g. f k m (g ∙ sym q)) ∙ zero-add e)
+    sym (first-is (rows-in ws) 0 e (row-fields (row-at ws r)) (row-op 0 []) n (f .same ∙ q) (λ k m g. f .first k m (g ∙ sym q)) ∙ zero-add e)
 
--- rows are the same where their words are
-pub same-row :
-    {ws : List ℕ} → Rows-laid ws → (i r : ℕ) → i < row-count ws → r < row-count ws → eq-bytes (words-at ws i) (words-at ws r) ≡ true → row-at ws i ≡ row-at ws r
-same-row {ws} laid i r h k e =
-    stands laid i h .row ∙ ap row-of (eq-bytes-sound (words-at ws i) (words-at ws r) (subst T (sym e) tt)) ∙ sym (stands laid r k .row)
+-- ---- two symbols' names
 
-pub other-row :
-    {ws : List ℕ} → Rows-laid ws → (i r : ℕ) → i < row-count ws → r < row-count ws → eq-bytes (words-at ws i) (words-at ws r) ≡ false → row-at ws i ≡ row-at ws r → ⊥
-other-row {ws} laid i r h k e p =
-    let w : words-at ws i ≡ words-at ws r = sym (stands laid i h .words) ∙ ap row-words p ∙ stands laid r k .words in
-    subst T (ap (λ (x : List ℕ). eq-bytes (words-at ws i) x) w ∙ e) (eq-bytes-refl (words-at ws i))
+module _ {ws : List ℕ} {i r : ℕ} (c : Stands ws i) (d : Stands ws r) where
+  abbrev name : ℕ → List ℕ
+  name k = row-fields (row-at ws k)
 
--- the parts of the words that are lent are the rows' words
-pub lent : (ws : List ℕ) (i : ℕ) → take (i * 35 + 35 - i * 35) (drop (i * 35) ws) ≡ words-at ws i
-unfolding words-at
-lent ws i = let e : i * 35 + 35 - i * 35 ≡ 35 = omega arith in rw e refl
+  pub counts-differ : (getD ws (i * 35 + 2) 0 ≡ getD ws (r * 35 + 2) 0 → ⊥) → false ≡ eq-bytes (name i) (name r)
+  counts-differ h = false-is (eq-bytes (name i) (name r)) (λ t. h (c .count ∙ ap length (eq-bytes-sound (name i) (name r) t) ∙ sym (d .count)))
 
-pub lent-long : {ws : List ℕ} (i : ℕ) → Stands ws i → length (take (i * 35 + 35 - i * 35) (drop (i * 35) ws)) ≡ 35
-lent-long {ws} i c = simp (length-take, length-drop) (omega (arith, c .inside))
+  pub same-by-name : row-number (row-at ws i) ≡ 0 → row-number (row-at ws r) ≡ 0 → eq-bytes (name i) (name r) ≡ true → row-at ws i ≡ row-at ws r
+  same-by-name y z e =
+      symbol-is i (row-at ws i) (c .tested) y ∙ ap row-sym (eq-bytes-sound (name i) (name r) (subst T (sym e) tt)) ∙ sym (symbol-is r (row-at ws r) (d .tested) z)
 
-pub judged :
-    (ws : List ℕ) (i r : ℕ) (b : Bool)
-    → b ≡ eq-bytes (take (i * 35 + 35 - i * 35) (drop (i * 35) ws)) (take (r * 35 + 35 - r * 35) (drop (r * 35) ws))
-    → eq-bytes (words-at ws i) (words-at ws r) ≡ b
-judged ws i r b e = sym (e ∙ ap₂ eq-bytes (lent ws i) (lent ws r))
+  pub other-by-name : eq-bytes (name i) (name r) ≡ false → row-at ws i ≡ row-at ws r → ⊥
+  other-by-name e p = subst T (ap (λ (x : Row). eq-bytes (name i) (row-fields x)) p ∙ e) (eq-bytes-refl (name i))
+
+-- the part of the words that is lent is the name
+pub name-lent : {ws : List ℕ} {i : ℕ} (c : Stands ws i) (n : ℕ) → n ≡ getD ws (i * 35 + 2) 0 → take (i * 35 + 3 + n - (i * 35 + 3)) (drop (i * 35 + 3) ws) ≡ row-fields (row-at ws i)
+name-lent {ws} {i} c n h =
+    let e : i * 35 + 3 + n - (i * 35 + 3) ≡ length (row-fields (row-at ws i)) = omega (arith, c .count) in
+    rw e (c .fields)
+
+pub names-long :
+    {ws : List ℕ} {i r : ℕ} (c : Stands ws i) (d : Stands ws r) (n : ℕ) → n ≡ getD ws (i * 35 + 2) 0 → n ≡ getD ws (r * 35 + 2) 0
+    → length (take (i * 35 + 3 + n - (i * 35 + 3)) (drop (i * 35 + 3) ws)) ≡ length (take (r * 35 + 3 + n - (r * 35 + 3)) (drop (r * 35 + 3) ws))
+names-long c d n p q = ap length (name-lent c n p) ∙ (sym (c .count) ∙ (sym p ∙ (q ∙ (d .count ∙ sym (ap length (name-lent d n q))))))
+
+pub names-judged :
+    {ws : List ℕ} {i r : ℕ} (c : Stands ws i) (d : Stands ws r) (n : ℕ) (b : Bool) → n ≡ getD ws (i * 35 + 2) 0 → n ≡ getD ws (r * 35 + 2) 0
+    → b ≡ eq-bytes (take (i * 35 + 3 + n - (i * 35 + 3)) (drop (i * 35 + 3) ws)) (take (r * 35 + 3 + n - (r * 35 + 3)) (drop (r * 35 + 3) ws))
+    → b ≡ eq-bytes (row-fields (row-at ws i)) (row-fields (row-at ws r))
+names-judged c d n b p q e = e ∙ ap₂ eq-bytes (name-lent c n p) (name-lent d n q)

@@ -9,11 +9,16 @@ pub unfold-roots-spec : {M : Type 1} → statement M
 unfold-roots-spec =
     tie.close
     (tie.spec
+    (λ c. search needs)
     (λ c κs. let s = c .before .before .before .before in
+    let l = laid (s .args .rows .now) (s .args .roots .now) (s .pre .0) in
+    (l, omega (arith, l .few)))
+    (λ c. search needs)
+    (λ c κs. let s = c .before .before .before .before .before .before .before .before in
     let ws = s .args .rows .now in
     let roots = s .args .roots .now in
     let t = s .pre .0 in
     let f = runs-few ws roots t in
-    (laid ws roots t, (roots-below ws roots t, omega arith)))
+    ((laid ws roots t, c .before .before .before .node-words .ensures), (roots-below ws roots t, omega arith)))
     (λ c. search needs)
-    (λ c. let s = c .before .before .before .before .before .before .before in rw (← runs-are (s .args .rows .now) (s .args .roots .now) (s .pre .0)) (c .before .before .unfold-each .ensures)))
+    (λ c. let s = c .before .before .before .before .before .before .before .before .before .before .before in rw (← runs-are (s .args .rows .now) (s .args .roots .now) (s .pre .0)) (c .before .before .unfold-each .ensures)))
