@@ -7,9 +7,14 @@ use std::rc::Rc;
 
 pub const NEG: usize = 2;
 pub const ADD: usize = 3;
+pub const SUB: usize = 4;
 pub const MUL: usize = 5;
 pub const DIV: usize = 6;
+pub const POW: usize = 7;
+pub const SIN: usize = 8;
+pub const COS: usize = 9;
 pub const ATAN2: usize = 14;
+pub const EXP: usize = 18;
 pub const CLAMP: usize = 25;
 pub const BRANCH: usize = 26;
 pub const SELECT: usize = 27;

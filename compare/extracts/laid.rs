@@ -46,18 +46,54 @@ pub fn lay_out(r: &mut Random, es: &[T]) -> List {
             laying.names.insert(name, name.to_string());
         }
     }
-    let roots = es.iter().map(|t| laying.tree(t) as u64).collect();
-    if laying.rows.words.is_empty() {
-        // a sheet without records is no sheet
-        laying.rows.put_symbol("a");
-    }
-    List {
-        rows: laying.rows,
-        roots,
+    laying.list(es)
+}
+
+/// As a generator lays out its list: a row for each tree however often it is held, no others, and symbols by their own names.
+pub fn as_made(es: &[T]) -> List {
+    as_made_after(Rows::new(), es)
+}
+
+/// The same, after rows that no root reaches.
+pub fn as_made_after(rows: Rows, es: &[T]) -> List {
+    let mut names = HashMap::new();
+    es.iter().for_each(|t| own_names(t, &mut names));
+    let laying = Laying {
+        // nothing is left to it
+        r: &mut Random(0),
+        rows,
+        shared: 100,
+        of_tree: HashMap::new(),
+        names,
+        spare: 0,
+        unreached: 0,
+    };
+    laying.list(es)
+}
+
+fn own_names(t: &T, names: &mut HashMap<&'static str, String>) {
+    match t.as_ref() {
+        Tree::Sym(name) => {
+            names.insert(name, name.to_string());
+        }
+        Tree::Const(_) => {}
+        Tree::Op(_, parts) => parts.iter().for_each(|t| own_names(t, names)),
     }
 }
 
 impl Laying<'_> {
+    fn list(mut self, es: &[T]) -> List {
+        let roots = es.iter().map(|t| self.tree(t) as u64).collect();
+        if self.rows.words.is_empty() {
+            // a sheet without records is no sheet
+            self.rows.put_symbol("a");
+        }
+        List {
+            rows: self.rows,
+            roots,
+        }
+    }
+
     fn tree(&mut self, t: &T) -> usize {
         let made = self.of_tree.get(&Rc::as_ptr(t)).copied();
         if let (Some(row), true) = (made, self.r.chance(self.shared)) {

@@ -1,7 +1,8 @@
 //! The calls of the port, and what each should return and leave in memory.
 use crate::area::Area;
+use crate::clock::Clock;
 use crate::exported::cse_print;
-use std::time::{Duration, Instant};
+use std::time::Duration;
 
 /// crates/capi: a slice is a pointer and a length.
 type Extract = unsafe extern "C" fn(*const u64, usize, *const u64, usize, *mut u64, usize, *mut u8, usize, *mut u64, usize, *mut u64, usize) -> u64;
@@ -104,7 +105,7 @@ impl Port {
         let (text, text_len) = self.text.lend_used(c.text);
         let (table, table_len) = self.table.lend(c.table);
         let (answer, answer_len) = self.answer.lend(c.answer);
-        let began = Instant::now();
+        let began = Clock::start();
         // all areas are apart, and as long as is said
         let number = unsafe {
             (self.call)(
