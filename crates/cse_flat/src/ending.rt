@@ -3,7 +3,7 @@
 ghost use mathlib.Core.Path.{_≡_};
 ghost use mathlib.Core.List.{_++_};
 ghost use Prim.Native.Nat.{_+_, _-_, _*_, _≤_, _<_};
-ghost use lib.ListN.{length, take, drop, replicate};
+ghost use lib.ListN.{length, getD, take, drop, replicate};
 ghost use Rattle.topo_sort.specs.reads.Marks.{with-needs};
 ghost use Rattle.reciprocals.specs.final.Entries.{final-run, entry-row, entry-tree, entry, entries};
 ghost use Rattle.reciprocals.specs.final.Final.{final-rows};
@@ -22,10 +22,8 @@ use words::copying::put;
 use words::layout::FIRST_LET;
 use words::layout::NEXT_NAME;
 use words::layout::RESULT;
-use words::tokens::Run;
 use words::tokens::Trees;
 use words::tokens::count_trees;
-use words::tokens::end_of;
 
 // The most words, and the most bindings.
 const MOST: usize = 1024;
@@ -59,7 +57,26 @@ pub enum Finished {
     NoRoom,
 }
 
-// A tree from before, settled. That it lacks words never comes up.
+// Where the settled tree of number i ends: where the next begins, and the last with the words.
+fn end_settled(
+    tokens: &[u64],
+    settled: &[u64],
+    starts: &[u64],
+    places: &[u64],
+    results: usize,
+    i: usize,
+) -> usize
+    requires { ⌜ Ready (now tokens) (now settled) (now starts) (now places) results ⌝ }
+    requires { ⌜ i < length (now starts) ⌝ }
+    ensures { λ r. ⌜ r ≡ getD (now (starts .entry)) i 0 + length (final-run results (now (places .entry)) (now (tokens .entry)) i) ⌝ }
+{
+    if i + 1 < starts.len() {
+        return starts[i + 1] as usize;
+    }
+    settled.len()
+}
+
+// A tree from before, settled.
 fn take_settled(
     tokens: &[u64],
     settled: &[u64],
@@ -74,9 +91,7 @@ fn take_settled(
     ensures { λ r. ⌜ Stands (final-run results (now (places .entry)) (now (tokens .entry)) i) (now (tree .exit)) r ⌝ }
 {
     let at = starts[i] as usize;
-    let Run::Ends(end) = end_of(settled, at) else {
-        return 0;
-    };
+    let end = end_settled(tokens, settled, starts, places, results, i);
     put(&settled[at..end], 0, tree);
     end - at
 }
@@ -140,22 +155,14 @@ fn mark_one(
     places: &[u64],
     results: usize,
     j: usize,
+    tree: &mut [u64],
     bits: &mut [u64],
 )
     requires { ⌜ Ready (now tokens) (now settled) (now starts) (now places) results ⌝ }
-    requires { ⌜ j < (length (now starts) - results) + length (now places) ⌝ }
+    requires { ⌜ (j < (length (now starts) - results) + length (now places)) × (1026 ≤ length (now tree)) ⌝ }
     ensures { λ _. ⌜ now (bits .exit) ≡ with-needs (binding-run results (now (places .entry)) (now (tokens .entry)) j) j (now (bits .entry)) ⌝ }
 {
-    let mut tree = [0u64; TREE];
-    let n = take_tree(
-        tokens,
-        settled,
-        starts,
-        places,
-        results,
-        results + j,
-        &mut tree,
-    );
+    let n = take_tree(tokens, settled, starts, places, results, results + j, tree);
     mark_needs(&tree[..n], j, bits);
 }
 
@@ -167,15 +174,16 @@ fn mark_all(
     places: &[u64],
     results: usize,
     count: usize,
+    tree: &mut [u64],
     bits: &mut [u64],
 )
     requires { ⌜ Ready (now tokens) (now settled) (now starts) (now places) results ⌝ }
-    requires { ⌜ count ≤ (length (now starts) - results) + length (now places) ⌝ }
+    requires { ⌜ (count ≤ (length (now starts) - results) + length (now places)) × (1026 ≤ length (now tree)) ⌝ }
     ensures { λ _. ⌜ now (bits .exit) ≡ marks (binding-run results (now (places .entry)) (now (tokens .entry))) count (now (bits .entry)) ⌝ }
 {
     let mut j = 0;
     while j < count {
-        mark_one(tokens, settled, starts, places, results, j, bits);
+        mark_one(tokens, settled, starts, places, results, j, tree, bits);
         j += 1;
     }
 }
@@ -196,9 +204,19 @@ fn order_in(
     requires { ⌜ now bits ≡ replicate (32 * count) 0 ⌝ }
     ensures { λ r. ⌜ In-order (final-order results (now (places .entry)) (now (tokens .entry)) count) count (now (taken .entry)) (now (taken .exit)) r ⌝ }
 {
+    let mut tree = [0u64; TREE];
     let mut waiting = [0u64; MOST];
     let mut stack = [0u64; MOST];
-    mark_all(tokens, settled, starts, places, results, count, bits);
+    mark_all(
+        tokens,
+        settled,
+        starts,
+        places,
+        results,
+        count,
+        &mut tree,
+        bits,
+    );
     order(bits, count, &mut waiting, &mut stack, taken)
 }
 
@@ -303,6 +321,35 @@ fn tree_of(taken: &[u64], count: usize, results: usize, q: usize) -> usize
     q - taken.len()
 }
 
+// How many words the final tree of number i has: a reciprocal is made for it.
+fn count_words(
+    tokens: &[u64],
+    settled: &[u64],
+    starts: &[u64],
+    places: &[u64],
+    results: usize,
+    i: usize,
+    tree: &mut [u64],
+) -> usize
+    requires { ⌜ Ready (now tokens) (now settled) (now starts) (now places) results ⌝ }
+    requires { ⌜ (i < length (now starts) + length (now places)) × (1026 ≤ length (now tree)) ⌝ }
+    ensures { λ r. ⌜ r ≡ length (final-run results (now (places .entry)) (now (tokens .entry)) i) ⌝ }
+{
+    if i < starts.len() {
+        let end = end_settled(tokens, settled, starts, places, results, i);
+        return end - starts[i] as usize;
+    }
+    take_reciprocal(
+        tokens,
+        settled,
+        starts,
+        places,
+        results,
+        i - starts.len(),
+        tree,
+    )
+}
+
 // How many rows entry q is.
 fn entry_rows(
     tokens: &[u64],
@@ -312,17 +359,16 @@ fn entry_rows(
     results: usize,
     taken: &[u64],
     q: usize,
+    tree: &mut [u64],
 ) -> usize
     requires { ⌜ Ready (now tokens) (now settled) (now starts) (now places) results ⌝ }
     requires { ⌜ Positions (now taken) ((length (now starts) - results) + length (now places)) ⌝ }
-    requires { ⌜ q < length (now taken) + results ⌝ }
+    requires { ⌜ (q < length (now taken) + results) × (1026 ≤ length (now tree)) ⌝ }
     ensures { λ r. ⌜ (r ≡ length (entry results (now (places .entry)) (now (tokens .entry)) (now (taken .entry)) q)) × (r ≤ 1027) ⌝ }
 {
-    let mut tree = [0u64; TREE];
     let count = starts.len() - results + places.len();
     let i = tree_of(taken, count, results, q);
-    let n = take_tree(tokens, settled, starts, places, results, i, &mut tree);
-    n + 1
+    1 + count_words(tokens, settled, starts, places, results, i, tree)
 }
 
 // How many rows the answer has.
@@ -333,18 +379,51 @@ fn count_rows(
     places: &[u64],
     results: usize,
     taken: &[u64],
+    tree: &mut [u64],
 ) -> usize
     requires { ⌜ Ready (now tokens) (now settled) (now starts) (now places) results ⌝ }
     requires { ⌜ Positions (now taken) ((length (now starts) - results) + length (now places)) ⌝ }
+    requires { ⌜ 1026 ≤ length (now tree) ⌝ }
     ensures { λ r. ⌜ r ≡ length (entries results (now (places .entry)) (now (tokens .entry)) (now (taken .entry)) (length (now (taken .entry)) + results)) ⌝ }
 {
     let mut rows = 0;
     let mut q = 0;
     while q < taken.len() + results {
-        rows += entry_rows(tokens, settled, starts, places, results, taken, q);
+        rows += entry_rows(tokens, settled, starts, places, results, taken, q, tree);
         q += 1;
     }
     rows
+}
+
+// Writes the words of the final tree of number i from a place on; the place after them.
+fn put_tree(
+    tokens: &[u64],
+    settled: &[u64],
+    starts: &[u64],
+    places: &[u64],
+    results: usize,
+    i: usize,
+    tree: &mut [u64],
+    at: usize,
+    table: &mut [u64],
+) -> usize
+    requires { ⌜ Ready (now tokens) (now settled) (now starts) (now places) results ⌝ }
+    requires { ⌜ (i < length (now starts) + length (now places)) × (1026 ≤ length (now tree)) ⌝ }
+    requires { ⌜ at + length (final-run results (now places) (now tokens) i) ≤ length (now table) ⌝ }
+    ensures { λ r. ⌜ (r ≡ at + length (final-run results (now (places .entry)) (now (tokens .entry)) i))
+        × (now (table .exit) ≡ take at (now (table .entry)) ++ (final-run results (now (places .entry)) (now (tokens .entry)) i
+        ++ drop (at + length (final-run results (now (places .entry)) (now (tokens .entry)) i)) (now (table .entry)))) ⌝ }
+{
+    if i < starts.len() {
+        let begin = starts[i] as usize;
+        let end = end_settled(tokens, settled, starts, places, results, i);
+        put(&settled[begin..end], at, table);
+        return at + (end - begin);
+    }
+    let j = i - starts.len();
+    let n = take_reciprocal(tokens, settled, starts, places, results, j, tree);
+    put(&tree[..n], at, table);
+    at + n
 }
 
 // Writes the rows of entry q from a place on.
@@ -356,23 +435,32 @@ fn write_entry(
     results: usize,
     taken: &[u64],
     q: usize,
+    tree: &mut [u64],
     at: usize,
     table: &mut [u64],
 ) -> usize
     requires { ⌜ Ready (now tokens) (now settled) (now starts) (now places) results ⌝ }
     requires { ⌜ Positions (now taken) ((length (now starts) - results) + length (now places)) ⌝ }
+    requires { ⌜ 1026 ≤ length (now tree) ⌝ }
     requires { ⌜ (q < length (now taken) + results) × (at + length (entry results (now places) (now tokens) (now taken) q) ≤ length (now table)) ⌝ }
     ensures { λ r. ⌜ (r ≡ at + length (entry results (now (places .entry)) (now (tokens .entry)) (now (taken .entry)) q))
         × (now (table .exit) ≡ take at (now (table .entry)) ++ (entry results (now (places .entry)) (now (tokens .entry)) (now (taken .entry)) q
         ++ drop (at + length (entry results (now (places .entry)) (now (tokens .entry)) (now (taken .entry)) q)) (now (table .entry)))) ⌝ }
 {
-    let mut tree = [0u64; TREE];
     let count = starts.len() - results + places.len();
     let i = tree_of(taken, count, results, q);
-    let n = take_tree(tokens, settled, starts, places, results, i, &mut tree);
     table[at] = row_of(taken, count, q);
-    put(&tree[..n], at + 1, table);
-    at + 1 + n
+    put_tree(
+        tokens,
+        settled,
+        starts,
+        places,
+        results,
+        i,
+        tree,
+        at + 1,
+        table,
+    )
 }
 
 // Writes the answer's rows to the front of the table.
@@ -383,10 +471,12 @@ fn write_rows(
     places: &[u64],
     results: usize,
     taken: &[u64],
+    tree: &mut [u64],
     table: &mut [u64],
 )
     requires { ⌜ Ready (now tokens) (now settled) (now starts) (now places) results ⌝ }
     requires { ⌜ Positions (now taken) ((length (now starts) - results) + length (now places)) ⌝ }
+    requires { ⌜ 1026 ≤ length (now tree) ⌝ }
     requires { ⌜ length (entries results (now places) (now tokens) (now taken) (length (now taken) + results)) ≤ length (now table) ⌝ }
     ensures { λ _. ⌜ now (table .exit) ≡ entries results (now (places .entry)) (now (tokens .entry)) (now (taken .entry)) (length (now (taken .entry)) + results)
         ++ drop (length (entries results (now (places .entry)) (now (tokens .entry)) (now (taken .entry)) (length (now (taken .entry)) + results))) (now (table .entry)) ⌝ }
@@ -402,6 +492,7 @@ fn write_rows(
             results,
             taken,
             q,
+            tree,
             at,
             table,
         );
@@ -424,11 +515,21 @@ fn write_answer(
     ensures { λ r. ⌜ (r ≡ finish-outcome (lent-rows (length (now (table .entry))) (entries results (now (places .entry)) (now (tokens .entry)) (now (taken .entry)) (length (now (taken .entry)) + results)) (length (now (starts .entry)) - results)) (now (table .entry)) .answer)
         × (now (table .exit) ≡ finish-outcome (lent-rows (length (now (table .entry))) (entries results (now (places .entry)) (now (tokens .entry)) (now (taken .entry)) (length (now (taken .entry)) + results)) (length (now (starts .entry)) - results)) (now (table .entry)) .table) ⌝ }
 {
-    let rows = count_rows(tokens, settled, starts, places, results, taken);
+    let mut tree = [0u64; TREE];
+    let rows = count_rows(tokens, settled, starts, places, results, taken, &mut tree);
     if rows > table.len() {
         return Finished::Refused(TOO_MANY);
     }
-    write_rows(tokens, settled, starts, places, results, taken, table);
+    write_rows(
+        tokens,
+        settled,
+        starts,
+        places,
+        results,
+        taken,
+        &mut tree,
+        table,
+    );
     Finished::Rows(rows)
 }
 

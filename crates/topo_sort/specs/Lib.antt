@@ -2,3 +2,4 @@ pub mod Needs
 pub mod Turns
 pub mod reads
 pub mod treelist
+pub mod links

@@ -1,5 +1,6 @@
 // The order of bindings, as topo_sort_intermediates has it (01, "Order"): bindings free of others form a stack, the top is taken, and its dependents join the top
 // when their last need is met. What needs what is a table of bits: row j, column i is yes where statement j needs statement i.
+pub mod links;
 pub mod reads;
 pub mod treelist;
 
@@ -45,7 +46,7 @@ fn count_needs(needs: &[u64], j: usize, count: usize) -> usize
 }
 
 // Statement j joins the top of the stack where none of its needs is left.
-fn push_free(left: u64, j: usize, stack: &mut [u64], top: usize) -> usize
+pub fn push_free(left: u64, j: usize, stack: &mut [u64], top: usize) -> usize
     requires { ⌜ (top ≤ length (now stack)) × (left ≡ 0 → top < length (now stack)) ⌝ }
     ensures { λ r. ⌜ Pushed (eqb left 0) j (now (stack .entry)) top (now (stack .exit)) r ⌝ }
 {

@@ -1,6 +1,6 @@
 -- A tree from before is taken from the settled words: its run stands where the list of trees says, and is the run of the final tree; a reciprocal is made, and is the
 -- run of the final tree too. Assumes nothing.
-use Prim.Native.Nat.{ℕ, _+_, _-_, _≤_, _<_}
+use Prim.Native.Nat.{ℕ, suc, _+_, _-_, _≤_, _<_}
 use native.Mathlib.Omega.{arith}
 use mathlib.Core.Path.{_≡_, refl, sym, _∙_, ap, subst}
 use mathlib.Core.Bool.{Bool, true, false}
@@ -25,7 +25,7 @@ use Rattle.reciprocals.specs.declared.reciprocal.Bound.the-variants as b
 use Rattle.reciprocals.proofs.reciprocal.There.{tested-there}
 use Rattle.reciprocals.proofs.reciprocal.Made.{made, made-words, made-is, made-within, bound-always}
 use Rattle.reciprocals.proofs.reciprocal.Whole.{first-complete, first-read}
-use Rattle.topo_sort.proofs.treelist.Begins.{tree-number, start-number, ends-within, run-there, words-there}
+use Rattle.topo_sort.proofs.treelist.Begins.{tree-number, start-number, next-start, last-end, ends-within, run-there, words-there}
 use Rattle.reciprocals.specs.final.Final.{final-trees}
 use Rattle.reciprocals.specs.final.Entries.{final-run}
 use Rattle.reciprocals.specs.final.Ready.{Ready, Stands}
@@ -85,6 +85,13 @@ module _ {ws settled starts places : List ℕ} {k : ℕ} (ready : Ready ws settl
 
     start-is : start-number settled i ≡ getD starts i 0
     start-is = ap (λ (l : List ℕ). getD l i 0) (sym (ready .starts-are))
+
+    -- it ends where the next begins, and the last ends with the words
+    pub next-is : suc i < length starts → getD starts (suc i) 0 ≡ getD starts i 0 + length (final-run k places ws i)
+    next-is g = omega (arith, ap (λ (l : List ℕ). getD l (suc i) 0) (ready .starts-are), next-start settled i (omega (arith, read-count)), start-is, long-is)
+
+    pub last-is : length starts ≤ suc i → length settled ≡ getD starts i 0 + length (final-run k places ws i)
+    last-is g = omega (arith, last-end settled i (omega (arith, read-count)) (omega (arith, read-count)), start-is, long-is)
 
     pub run-there-is : run-at settled (getD starts i 0) ≡ some (length (final-run k places ws i))
     run-there-is =

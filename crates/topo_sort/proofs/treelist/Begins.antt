@@ -6,7 +6,7 @@ use mathlib.Core.Path.{_≡_, refl, sym, _∙_, ap}
 use mathlib.Core.Option.{some}
 use mathlib.Core.List.{List, [], _∷_, _++_}
 use lib.ListN.{length, getD, take, drop}
-use lib.Seq.{getD-drop, take-suc, drop-cons, take-at}
+use lib.Seq.{getD-drop, take-all, take-suc, drop-cons, take-at}
 use Rattle.spec_tree.specs.Tree.{Tree, Op, nil}
 use Rattle.spec_tree.specs.Facts.{total, size}
 use Rattle.spec_tree.specs.Tokens.{tokens, all-tokens, read, trees-in, run-at, numbered}
@@ -75,6 +75,10 @@ module _ (ws : List ℕ) where
 
   pub ends-within : (i : ℕ) → i < length (read numbered ws) → start-number i + size (tree-number i) ≤ length ws
   ends-within i h = omega (arith, past-sizes i h, one-more trees i h, all-sizes trees (suc i), read-size numbered ws)
+
+  pub last-end : (i : ℕ) → i < length (read numbered ws) → length (read numbered ws) ≤ suc i → length ws ≡ start-number i + size (tree-number i)
+  last-end i h g =
+      omega (arith, past-sizes i h, one-more trees i h, ap sizes (take-all (suc i) trees g), read-size numbered ws)
 
   pub starts-within : (i : ℕ) → i < length (read numbered ws) → start-number i < length ws
   starts-within i h = omega (arith, ends-within i h, size-one (tree-number i))

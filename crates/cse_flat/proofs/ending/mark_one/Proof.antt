@@ -12,11 +12,12 @@ pub mark-one-spec : {M : Type 1} → statement M
 mark-one-spec =
     tie.close
     (tie.spec
-    (λ c. let start = c .before .before .before .before .before in omega (arith, start .pre .0 .numbers, start .pre .0 .enough, start .pre .1, trees-few (start .pre .0)))
-    (λ c. search needs)
-    (λ c κs. let start = c .before .before .before .before .before .before in (start .pre .0, (omega (arith, start .pre .0 .enough, start .pre .1), search needs)))
-    (λ c. search needs)
-    (λ c. sym (length-take-le _ _ (c .before .before .take-tree .ensures .inside)))
+    (λ c. let start = c .before .before .before .before .before .before in omega (arith, start .pre .0 .numbers, start .pre .0 .enough, start .pre .1 .0, trees-few (start .pre .0)))
+    (λ c κs. let start = c .before .before .before .before .before .before .before in (start .pre .0, (omega (arith, start .pre .0 .enough, start .pre .1 .0), start .pre .1 .1)))
+    (λ c. c .before .before .take-tree .ensures .inside)
+    (λ c. sym (length-take-le _ _ (c .before .before .before .take-tree .ensures .inside)))
     (λ c κs. tt)
     (λ c. search needs)
-    (λ c. let a = c .before .before .before .before .before .before .before .before .before .before .before .before .before .args in c .before .before .mark-needs .ensures .1 ∙ marked-one (a .results) (a .j) _ (a .places .now) (a .tokens .now) _ (c .before .before .before .before .before .before .take-tree .ensures) (a .bits .now)))
+    (λ c. search needs)
+    (λ c. let a = c .before .before .before .before .before .before .before .before .before .before .before .before .before .before .before .args in
+    c .before .before .mark-needs .ensures .1 ∙ marked-one (a .results) (a .j) _ (a .places .now) (a .tokens .now) _ (c .before .before .before .before .before .before .before .take-tree .ensures) (a .bits .now)))
