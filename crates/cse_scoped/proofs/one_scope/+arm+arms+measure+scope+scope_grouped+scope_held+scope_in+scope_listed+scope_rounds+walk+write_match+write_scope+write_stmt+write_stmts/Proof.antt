@@ -873,7 +873,6 @@ write-stmts-returns :
     write-stmts-μ-loop
 write-stmts-returns t c = let s = c .before .before .before .before .before .before .before .before .before .before .before .before .before .before .before in let a = s .args in (stmts-end (rows-in (a .rows .now)) (a .fuel) (length (a .work .now) - a .h) (a .tokens .now) (a .results) (a .first) (a .places .now) (take (a .h) (a .work .now)) (a .starts .now) (a .members .now) (a .ends .now) (a .numbers .now) (a .stops .now) (a .kept .now) (s .pre .1 .0 .1) (s .pre .1 .1 .0 .0) (s .pre .1 .1 .0 .1) (a .taken .now) (a .at) (a .table .now) (s .pre .1 .1 .1 .1) (c .before .loop .q) (c .before .loop .to) _ (record { to-is = c .before .loop .inv .1; table-is = c .before .loop .inv .2 }) (omega (arith, c .before .loop .inv .0, c .loop-test .left)), c .before .loop .inv .6)
 
-
 scope-returns : (t : ℕ) → scope-lts.Need-returns (scope-rounds-below t, scope-rounds.Post) (scope-at t) scope.Post
 scope-returns t c = let s = c .before .before .before .before .before in let a = s .args in too-deep (rows-in (a .rows .now)) (length (a .work .now)) (a .row) (a .next) (take (a .len) (a .work .now)) (a .at) (a .table .now) (a .fuel) (c .if1 .taken)
 
