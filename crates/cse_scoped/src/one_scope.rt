@@ -20,7 +20,7 @@ ghost use Rattle.fusion.specs.place.Overlay.{overlay};
 ghost use Rattle.fusion.specs.place.Parts.{place-groups, group-start, match-run, reciprocals-first, words-held, held-words};
 ghost use Rattle.fusion.specs.place.Whole.{arms-told, group-told, stmts-count, stmt-run, stmts-runs, scope-told};
 ghost use Rattle.cse_scoped.specs.one_scope.Answers.{scope-answer, Laid, Scope-laid, told-rows, inner, arm-told, arms-answer, Arms-wrote, walk-answer, Walk-wrote, words-of, Holding-so, walk-refusal, refusal-number, Copied-so, Switches-so};
-ghost use Rattle.cse_scoped.specs.one_scope.Frame.{most-rows, Lent, Holds, Is-group, Arm-fits, Arms-fit, Members, groups-told, Ready, grouped-scope, Sized, Numbered, group-again, Group-sized, scope-arms, Positions, Left, left-scope, Grouping-so, Found-so};
+ghost use Rattle.cse_scoped.specs.one_scope.Frame.{most-rows, Lent, Holds, Is-group, Arm-fits, Arms-fit, Members, groups-told, Ready, grouped-scope, Sized, Numbered, group-again, Group-sized, scope-arms, Positions, Left, left-scope, Grouping-so, Found-so, Switch-room, Room};
 ghost use Rattle.statements.specs.Prepared.{Prepared, Grouped, begin-of};
 use cse_flat::Listed;
 use cse_flat::extract_and_list;
@@ -61,6 +61,11 @@ const MOST_STMTS: usize = 2048;
 
 // The rows of arms that a scope keeps.
 const KEPT: usize = 2048;
+
+// Most scopes are given and hold no more words than this: with short arrays for what is as many at most, and for the rows of their arms, nothing long is cleared.
+const FEW: usize = 128;
+
+const FEW_KEPT: usize = 512;
 
 // The largest number that a scope may start with.
 const MOST_NUMBER: u64 = 2147483648;
@@ -202,7 +207,7 @@ fn group_listed(held: &[u64], places: &[u64], members: &mut [u64], ends: &mut [u
 // made, `members` is for the work, and the switches stand in `switches`.
 fn group_all(held: &[u64], switches: &mut [u64], members: &mut [u64], ends: &mut [u64]) -> Found
     requires { ⌜ T (some-trees (trees-in (now held))) × (length (now held) ≤ 65536) ⌝ }
-    requires { ⌜ (length (now switches) ≡ 3640) × (length (now members) ≡ 3640) × (length (now ends) ≡ 3640) ⌝ }
+    requires { ⌜ Switch-room (now held) (now switches) × (length (now members) ≡ length (now switches)) × (length (now ends) ≡ length (now switches)) ⌝ }
     ensures { λ r. ⌜ Found-so (now (held .entry)) r (now (members .exit)) (now (ends .exit)) ⌝ }
 {
     let listed = list_all(held, members, switches);
@@ -697,6 +702,8 @@ fn scope_grouped(
     members: &[u64],
     ends: &[u64],
     numbers: &mut [u64],
+    stops: &mut [u64],
+    kept: &mut [u64],
     fuel: usize,
     row: u64,
     text: &mut [u8],
@@ -704,13 +711,11 @@ fn scope_grouped(
     table: &mut [u64],
 ) -> Scoped
     requires { ⌜ Lent h (now work) (now text) × Holds (rows-in (now rows)) (reciprocals-first (now tokens) results first (now places) + length (now places)) (take h (now work)) ⌝ }
-    requires { ⌜ Ready (now tokens) results first (now places) (take h (now work)) (now starts) (now members) (now ends) × (length (now members) ≤ length (now numbers)) ⌝ }
+    requires { ⌜ Ready (now tokens) results first (now places) (take h (now work)) (now starts) (now members) (now ends) × (length (now members) ≤ length (now numbers)) × (length (now ends) ≤ length (now stops)) ⌝ }
     requires { ⌜ at + told-rows (grouped-scope (rows-in (now rows)) fuel (length (now work) - h) row (now tokens) results first (now places)) ≤ most-rows ⌝ }
     ensures { λ r. ⌜ (r ≡ scope-answer (grouped-scope (rows-in (now (rows .entry))) fuel (length (now (work .entry)) - h) row (now (tokens .entry)) results first (now (places .entry))) at)
         × Scope-laid (grouped-scope (rows-in (now (rows .entry))) fuel (length (now (work .entry)) - h) row (now (tokens .entry)) results first (now (places .entry))) at (now (table .entry)) (now (table .exit)) ⌝ }
 {
-    let mut stops = [0u64; MOST_STMTS];
-    let mut kept = [0u64; KEPT];
     let next = first + (starts.len() - results + places.len()) as u64;
     let walked = walk(
         rows,
@@ -722,8 +727,8 @@ fn scope_grouped(
         next,
         text,
         numbers,
-        &mut stops,
-        &mut kept,
+        stops,
+        kept,
     );
     let Walked::Done(after, extracted) = walked else {
         return Scoped::Refused(walk_refusal(walked));
@@ -743,7 +748,7 @@ fn scope_grouped(
         ends,
         &numbers[..m],
         &stops[..g],
-        &kept,
+        kept,
         fuel,
         row,
         after,
@@ -754,8 +759,67 @@ fn scope_grouped(
     )
 }
 
-// The scope from what it holds on, which stands in front of the work area: where its trees begin there, its groups, and whether its switches or its statements are
-// too many.
+// The scope from what it holds on, which stands in front of the work area, with arrays for what it keeps while its arms are done: where its trees begin there, its
+// groups, and whether its switches or its statements are too many.
+fn scope_in(
+    rows: &[u64],
+    work: &mut [u64],
+    h: usize,
+    tokens: &[u64],
+    results: usize,
+    trees: usize,
+    first: u64,
+    places: &[u64],
+    starts: &mut [u64],
+    members: &mut [u64],
+    ends: &mut [u64],
+    numbers: &mut [u64],
+    stops: &mut [u64],
+    kept: &mut [u64],
+    fuel: usize,
+    row: u64,
+    text: &mut [u8],
+    at: usize,
+    table: &mut [u64],
+) -> Scoped
+    requires { ⌜ Lent h (now work) (now text) × Left (rows-in (now rows)) (now tokens) results first (now places) ⌝ }
+    requires { ⌜ (trees-in (now tokens) ≡ some trees) × (take h (now work) ≡ held-words (now tokens) results first (now places)) ⌝ }
+    requires { ⌜ at + told-rows (left-scope (rows-in (now rows)) fuel (length (now work)) row (now tokens) results first (now places)) ≤ most-rows ⌝ }
+    requires { ⌜ Room (take h (now work)) (now starts) (now members) (now ends) (now numbers) (now stops) ⌝ }
+    ensures { λ r. ⌜ (r ≡ scope-answer (left-scope (rows-in (now (rows .entry))) fuel (length (now (work .entry))) row (now (tokens .entry)) results first (now (places .entry))) at)
+        × Scope-laid (left-scope (rows-in (now (rows .entry))) fuel (length (now (work .entry))) row (now (tokens .entry)) results first (now (places .entry))) at (now (table .entry)) (now (table .exit)) ⌝ }
+{
+    list_trees(&work[..h], starts);
+    let found = group_all(&work[..h], numbers, members, ends);
+    let Found::Groups(m, g) = found else {
+        return Scoped::Refused(TOO_MUCH);
+    };
+    if trees - results + places.len() + g > MOST_STMTS {
+        return Scoped::Refused(TOO_MUCH);
+    }
+    scope_grouped(
+        rows,
+        work,
+        tokens,
+        results,
+        first,
+        places,
+        h,
+        &starts[..trees],
+        &members[..m],
+        &ends[..g],
+        numbers,
+        stops,
+        kept,
+        fuel,
+        row,
+        text,
+        at,
+        table,
+    )
+}
+
+// The same with arrays of its own: short ones where it holds few words.
 fn scope_held(
     rows: &[u64],
     work: &mut [u64],
@@ -777,30 +841,56 @@ fn scope_held(
     ensures { λ r. ⌜ (r ≡ scope-answer (left-scope (rows-in (now (rows .entry))) fuel (length (now (work .entry))) row (now (tokens .entry)) results first (now (places .entry))) at)
         × Scope-laid (left-scope (rows-in (now (rows .entry))) fuel (length (now (work .entry))) row (now (tokens .entry)) results first (now (places .entry))) at (now (table .entry)) (now (table .exit)) ⌝ }
 {
+    if h <= FEW {
+        let mut starts = [0u64; FEW];
+        let mut members = [0u64; FEW];
+        let mut ends = [0u64; FEW];
+        let mut numbers = [0u64; FEW];
+        let mut stops = [0u64; FEW];
+        let mut kept = [0u64; FEW_KEPT];
+        return scope_in(
+            rows,
+            work,
+            h,
+            tokens,
+            results,
+            trees,
+            first,
+            places,
+            &mut starts,
+            &mut members,
+            &mut ends,
+            &mut numbers,
+            &mut stops,
+            &mut kept,
+            fuel,
+            row,
+            text,
+            at,
+            table,
+        );
+    }
     let mut starts = [0u64; MOST];
     let mut members = [0u64; MOST_SWITCHES];
     let mut ends = [0u64; MOST_SWITCHES];
     let mut numbers = [0u64; MOST_SWITCHES];
-    list_trees(&work[..h], &mut starts);
-    let found = group_all(&work[..h], &mut numbers, &mut members, &mut ends);
-    let Found::Groups(m, g) = found else {
-        return Scoped::Refused(TOO_MUCH);
-    };
-    if trees - results + places.len() + g > MOST_STMTS {
-        return Scoped::Refused(TOO_MUCH);
-    }
-    scope_grouped(
+    let mut stops = [0u64; MOST_STMTS];
+    let mut kept = [0u64; KEPT];
+    scope_in(
         rows,
         work,
+        h,
         tokens,
         results,
+        trees,
         first,
         places,
-        h,
-        &starts[..trees],
-        &members[..m],
-        &ends[..g],
+        &mut starts,
+        &mut members,
+        &mut ends,
         &mut numbers,
+        &mut stops,
+        &mut kept,
         fuel,
         row,
         text,
@@ -817,6 +907,7 @@ fn scope_listed(
     results: usize,
     first: u64,
     places: &[u64],
+    tokens: &mut [u64],
     fuel: usize,
     row: u64,
     text: &mut [u8],
@@ -825,11 +916,11 @@ fn scope_listed(
 ) -> Scoped
     requires { ⌜ Lent used (now work) (now text) × Left (rows-in (now rows)) (take used (now work)) results first (now places) ⌝ }
     requires { ⌜ at + told-rows (left-scope (rows-in (now rows)) fuel (length (now work)) row (take used (now work)) results first (now places)) ≤ most-rows ⌝ }
+    requires { ⌜ used ≤ length (now tokens) ⌝ }
     ensures { λ r. ⌜ (r ≡ scope-answer (left-scope (rows-in (now (rows .entry))) fuel (length (now (work .entry))) row (take used (now (work .entry))) results first (now (places .entry))) at)
         × Scope-laid (left-scope (rows-in (now (rows .entry))) fuel (length (now (work .entry))) row (take used (now (work .entry))) results first (now (places .entry))) at (now (table .entry)) (now (table .exit)) ⌝ }
 {
-    let mut tokens = [0u64; MOST];
-    put(&work[..used], 0, &mut tokens);
+    put(&work[..used], 0, tokens);
     let trees = tree_count(&tokens[..used]);
     let number = first + (trees - results) as u64;
     let holding = hold_all(&tokens[..used], places, number, work);
@@ -846,6 +937,49 @@ fn scope_listed(
         first,
         places,
         fuel,
+        row,
+        text,
+        at,
+        table,
+    )
+}
+
+// The scope of the first `len` words of the work area once it is known that it may be opened, with arrays for what its rounds leave and for the divisors to bind.
+fn scope_rounds(
+    rows: &[u64],
+    work: &mut [u64],
+    len: usize,
+    fuel: usize,
+    row: u64,
+    next: u64,
+    text: &mut [u8],
+    at: usize,
+    table: &mut [u64],
+    places: &mut [u64],
+    tokens: &mut [u64],
+) -> Scoped
+    requires { ⌜ T (extractable (rows-in (now rows)) next (take len (now work))) × T (symbols-pass (is-number (rows-in (now rows))) (take len (now work))) ⌝ }
+    requires { ⌜ Lent len (now work) (now text) ⌝ }
+    requires { ⌜ at + told-rows (scope-told (rows-in (now rows)) fuel (length (now work)) row next (take len (now work))) ≤ most-rows ⌝ }
+    requires { ⌜ (1 ≤ fuel) × (len ≤ 1927) × (next ≤ 2147483648) ⌝ }
+    requires { ⌜ (len ≤ length (now places)) × (len ≤ length (now tokens)) ⌝ }
+    ensures { λ r. ⌜ (r ≡ scope-answer (scope-told (rows-in (now (rows .entry))) fuel (length (now (work .entry))) row next (take len (now (work .entry)))) at)
+        × Scope-laid (scope-told (rows-in (now (rows .entry))) fuel (length (now (work .entry))) row next (take len (now (work .entry)))) at (now (table .entry)) (now (table .exit)) ⌝ }
+{
+    let results = tree_count(&work[..len]);
+    let listed = extract_and_list(rows, work, len, true, next, text, places);
+    let Listed::Words(used, _, divisors) = listed else {
+        return Scoped::Refused(BAD_COEFFICIENT);
+    };
+    scope_listed(
+        rows,
+        work,
+        used,
+        results,
+        next,
+        &places[..divisors],
+        tokens,
+        fuel - 1,
         row,
         text,
         at,
@@ -881,23 +1015,36 @@ pub fn scope(
     if next > MOST_NUMBER {
         return Scoped::Refused(TOO_MUCH);
     }
+    if len <= FEW {
+        let mut places = [0u64; FEW];
+        let mut tokens = [0u64; FEW];
+        return scope_rounds(
+            rows,
+            work,
+            len,
+            fuel,
+            row,
+            next,
+            text,
+            at,
+            table,
+            &mut places,
+            &mut tokens,
+        );
+    }
     let mut places = [0u64; MOST];
-    let results = tree_count(&work[..len]);
-    let listed = extract_and_list(rows, work, len, true, next, text, &mut places);
-    let Listed::Words(used, _, divisors) = listed else {
-        return Scoped::Refused(BAD_COEFFICIENT);
-    };
-    scope_listed(
+    let mut tokens = [0u64; MOST];
+    scope_rounds(
         rows,
         work,
-        used,
-        results,
-        next,
-        &places[..divisors],
-        fuel - 1,
+        len,
+        fuel,
         row,
+        next,
         text,
         at,
         table,
+        &mut places,
+        &mut tokens,
     )
 }

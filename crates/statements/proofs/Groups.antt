@@ -2,24 +2,30 @@
 -- switch. Assumes nothing.
 use Prim.Native.Nat.{ℕ, zero, suc, _+_, _-_, _≤_, _<_}
 use native.Mathlib.Omega.{arith}
-use mathlib.Core.Path.{_≡_, refl, sym, _∙_, ap}
+use mathlib.Core.Path.{_≡_, refl, sym, _∙_, ap, subst}
 use mathlib.Core.Bool.{Bool, true, false}
 use mathlib.Core.List.{List, [], _∷_, _++_, map}
-use lib.Dec.{eqb}
+use lib.Dec.{T, eqb}
 use lib.ListN.{length, getD, take, drop, length-append, length-map}
 use lib.Seq.{drop-at, drop-append-add, take-at, getD-drop}
+use Rattle.spec_tree.specs.Tree.{Tree, Sym, Const, Op, nil, _◂_}
 use Rattle.spec_tree.specs.Tokens.{numbered}
 use Rattle.spec_tree.proofs.TokenLaws.{run-size}
 use Rattle.words.specs.words.Words.{Complete}
 use Rattle.reciprocals.proofs.bindings.Parts.{All-there}
+use Rattle.laws.specs.positions.Places.{numbered-at}
 use Rattle.laws.proofs.positions.Extraction.{Every, every-append}
 use Rattle.laws.specs.switches.Switches.{switch-places, arm-count}
 use Rattle.laws.specs.switches.Groups.{member, group-first, group-numbers, members-within, members-of, member-places}
 use Rattle.laws.proofs.switches.Collected.{Switching, places-switch}
 use Rattle.laws.proofs.switches.Grouped.{Opens, every-so, opener-first, numbers-open}
 use Rattle.laws.proofs.switches.GroupColumns.{every-at, members-armed}
+use Rattle.laws.proofs.switches.Parts.{switch-tree, switch-at-is}
 use Rattle.laws.proofs.switches.Stepping.{places-end, places-few}
 use Rattle.laws.proofs.switches.Turned.{Armed}
+use Rattle.fusion.specs.Switchless.{switch-node}
+use Rattle.fusion.specs.Words.{steps-at}
+use Rattle.fusion.proofs.Switchless as switchless
 use Rattle.fusion.specs.place.Parts.{place-groups, joined-groups, ends-from, group-at, group-start, group-end, opener}
 use Rattle.statements.specs.Prepared.{begin-of}
 
@@ -103,6 +109,13 @@ opener-is gs g h one =
 
 -- ---- of switches
 
+node-is : (t : Tree) → switch-tree t ≡ switch-node t
+unfolding switch-tree switch-node
+node-is (Sym n) = refl
+node-is (Const c) = refl
+node-is (Op k nil) = refl
+node-is (Op k (q ◂ f)) = refl
+
 every-map : {A B : Type 0} (P : B → Type 0) (f : A → B) (Q : A → Type 0) → ((a : A) → Q a → P (f a)) → (l : List A) → Every Q l → Every P (map f l)
 every-map P f Q g [] h = tt
 every-map P f Q g (a ∷ l) h = (g a (h .0), every-map P f Q g l (h .1))
@@ -164,6 +177,22 @@ module _ (hs : List ℕ) where
   drop-every (suc n) [] h = tt
   drop-every (suc n) (q ∷ l) h = drop-every n l (h .1)
 
+  members-switch : (n : ℕ) → Every (Switching hs) (drop n (joined-groups (place-groups hs)))
+  members-switch n = drop-every n (joined-groups (place-groups hs)) (every-joined (place-groups hs) groups-of-switches)
+
   -- the members from any number on are there
   pub members-there : Complete hs → (n : ℕ) → All-there hs (drop n (joined-groups (place-groups hs)))
-  members-there c n = switches-there c (drop n (joined-groups (place-groups hs))) (drop-every n (joined-groups (place-groups hs)) (every-joined (place-groups hs) groups-of-switches))
+  members-there c n = switches-there c (drop n (joined-groups (place-groups hs))) (members-switch n)
+
+  -- and are switches, whatever their numbers are
+  steps-switches : Complete hs → (l ns : List ℕ) → Every (Switching hs) l → switchless.Of-switches (steps-at hs l ns)
+  unfolding steps-at
+  steps-switches c [] ns h = tt
+  steps-switches c (p ∷ l) [] h = tt
+  steps-switches c (p ∷ l) (n ∷ ns) h = (
+    subst T (sym (switch-at-is hs (c .0) (c .1) p (h .0 .0)) ∙ node-is (numbered-at hs p)) (h .0 .1),
+    steps-switches c l ns (h .1),
+  )
+
+  pub members-steps : Complete hs → (n : ℕ) (ns : List ℕ) → switchless.Of-switches (steps-at hs (drop n (joined-groups (place-groups hs))) ns)
+  members-steps c n ns = steps-switches c (drop n (joined-groups (place-groups hs))) ns (members-switch n)

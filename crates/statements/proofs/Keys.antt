@@ -25,12 +25,13 @@ use Rattle.laws.proofs.switches.Words.{ends-within, words-one, words-read}
 use Rattle.reciprocals.specs.final.Ready.{Stands}
 use Rattle.fusion.specs.Settled.{fused-tree}
 use Rattle.fusion.specs.Words.{steps-at}
+use Rattle.fusion.proofs.Switchless.{Of-switches}
 use Rattle.fusion.proofs.scopeneeds.Arms.{key-inside, key-stands}
 use Rattle.fusion.specs.place.Overlay.{overlay}
 use Rattle.fusion.specs.place.Parts.{place-groups, joined-groups, group-at, group-start, group-end, opener, steps-from, key-run, match-head}
 use Rattle.statements.specs.Prepared.{most, Prepared, Grouped, Fusable, fused-by, begin-of}
 use Rattle.statements.proofs.Held.{held-complete, held-places-small, rewritten-one}
-use Rattle.statements.proofs.Groups.{end-is, begin-is, group-long, group-inside, group-part, opener-is, group-switches, opener-switch, members-there}
+use Rattle.statements.proofs.Groups.{end-is, begin-is, group-long, group-inside, group-part, opener-is, group-switches, opener-switch, members-there, members-steps}
 use Rattle.statements.proofs.Taking.{put-front, stands-as}
 use Rattle.node_rows.proofs.names.Leaves.{rest}
 use Rattle.fusion.proofs.groups.Groups.{ends-length}
@@ -162,6 +163,8 @@ module _ {held members ends numbers : List ℕ} (G : Grouped held members ends n
       later =
           record {
             there = subst (λ (l : List ℕ). All-there held (drop (getD ends g 0) l)) (sym (G .members-are)) (members-there held (G .complete) (getD ends g 0));
+            switches = subst (λ (l : List ℕ). Of-switches (steps-at held (drop (getD ends g 0) l) (drop (getD ends g 0) numbers))) (sym (G .members-are))
+                (members-steps held (G .complete) (getD ends g 0) (drop (getD ends g 0) numbers));
             numbered = omega (arith, length-drop (getD ends g 0) members, length-drop (getD ends g 0) numbers, G .numbered);
             small = λ i w.
                 subst (λ (x : ℕ). x ≤ most) (sym (getD-drop (getD ends g 0) numbers i 0))

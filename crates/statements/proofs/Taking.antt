@@ -8,7 +8,7 @@ use mathlib.Core.List.{List, [], _∷_, _++_, append-nil}
 use borrow.Author.Tests.{le-leb}
 use lib.Dec.{T}
 use lib.ListN.{length, getD, take, drop, length-take}
-use lib.Seq.{getD-take}
+use lib.Seq.{getD-take, length-take-le}
 use Rattle.spec_tree.specs.Tree.{Op, nil}
 use Rattle.spec_tree.specs.Facts.{size}
 use Rattle.spec_tree.specs.Tokens.{tokens, all-tokens, read, numbered, run-at, trees-in}
@@ -27,8 +27,10 @@ use Rattle.topo_sort.specs.treelist.Starts.{starts-of}
 use Rattle.topo_sort.proofs.treelist.Begins.{tree-number, start-number, ends-within, run-there, words-there, as-many}
 use Rattle.reciprocals.specs.final.Ready.{Stands}
 use Rattle.reciprocals.proofs.final.Taking.{in-front}
-use Rattle.fusion.specs.Words.{fused-words}
-use Rattle.fusion.proofs.Words.{fused-words-are}
+use Rattle.fusion.specs.Switchless.{no-switch-words}
+use Rattle.fusion.specs.Words.{fused-words, steps-at}
+use Rattle.fusion.proofs.Switchless.{Of-switches}
+use Rattle.fusion.proofs.Words.{fused-words-are, fused-words-same}
 use Rattle.fusion.specs.fuse.Answers.{Fusing, fusing-by, all-there, all-small, room-for, fusing}
 use Rattle.fusion.specs.declared.fuse.Fused.{Fused}
 use Rattle.fusion.specs.declared.fuse.Fused.the-variants as fused
@@ -37,7 +39,7 @@ use Rattle.fusion.proofs.tables.Laws.{overlay-front}
 use Rattle.fusion.specs.place.Whole.{tree-run}
 use Rattle.statements.specs.Prepared.{Prepared, run-number, reciprocal-run, settled-run, Fusable, fused-by}
 use Rattle.statements.proofs.Held.{held-run-is, reciprocal-run-is, settled-whole, fused-final, held-complete}
-use Rattle.statements.proofs.Groups.{members-there}
+use Rattle.statements.proofs.Groups.{members-there, members-steps}
 
 -- a run written to the front stands there
 pub put-front : (ws old out : List ℕ) (n : ℕ) → n ≡ length ws → length ws ≤ length old → out ≡ overlay 0 ws old → Stands ws out n
@@ -85,7 +87,7 @@ module _ (held starts : List ℕ) (i : ℕ) (complete : Complete held) (are : st
       cc
 
   module _ (end : ℕ) (e : end ≡ getD starts i 0 + length (run-number held i)) where
-    part-is : take (end - getD starts i 0) (drop (getD starts i 0) held) ≡ run-number held i
+    pub part-is : take (end - getD starts i 0) (drop (getD starts i 0) held) ≡ run-number held i
     part-is = let z : end - getD starts i 0 ≡ length (run-number held i) = omega arith in ap (λ (n : ℕ). take n (drop (getD starts i 0) held)) z ∙ words-there-are
 
     pub held-stands :
@@ -124,6 +126,11 @@ module _ (ws places : List ℕ) (n j : ℕ) (there : T (bindings.all-there ws pl
       ((λ x. let z : _≡_ {A = ℕ} 0 1 = cc in omega arith), (λ x. let z : _≡_ {A = ℕ} 0 1 = cc in omega arith))
 
 -- ---- members replaced
+
+-- words without a switch have none to replace
+unfused : {held members numbers : List ℕ} → Fusable held members numbers → (ws : List ℕ) (m : ℕ) → trees-in ws ≡ some m → no-switch-words ws ≡ true → fused-by held members numbers ws ≡ ws
+unfolding fused-by
+unfused {held} {members} {numbers} f ws m e none = fused-words-same (steps-at held members numbers) ws m e (f .switches) (subst T (sym none) tt)
 
 small-each : (l : List ℕ) → ((i : ℕ) → i < length l → getD l i 0 ≤ 549755813888) → all-small l ≡ true
 unfolding all-small
@@ -166,6 +173,11 @@ module _ {held members numbers : List ℕ} (f : Fusable held members numbers) (o
       let p : n ≡ length new = cc in
       in-front new old out n p (g ∙ (ap (λ (b : Fusing). b .out) fusing-so ∙ ap (λ (x : ℕ). new ++ drop x old) (sym p)))
 
+  pub unfused-stands : no-switch-words (take len old) ≡ true → Stands (fused-by held members numbers (take len old)) old len
+  unfused-stands none =
+      let same = unfused f (take len old) (c .0) (c .1) none in
+      record { many = omega (arith, ap length same, length-take-le len old lent); words = sym same; inside = lent }
+
   pub fused-always : (b : Fused) → b ≡ fusing held members numbers old len .answer → (b ≡ fused.Broken → ⊥) × (b ≡ fused.NoRoom → ⊥)
   fused-always b e =
       let q : b ≡ fused.Words (length new) = e ∙ ap (λ (b : Fusing). b .answer) fusing-so in
@@ -189,6 +201,7 @@ module _ {ws : List ℕ} {k first : ℕ} {places held starts members ends number
   fusable =
       record {
         there = subst (λ (l : List ℕ). All-there held l) (sym (p .members-are)) (members-there held (held-complete p) 0);
+        switches = subst (λ (l : List ℕ). Of-switches (steps-at held l numbers)) (sym (p .members-are)) (members-steps held (held-complete p) 0 numbers);
         numbered = omega (arith, p .numbered);
         small = λ i h. p .small i (omega (arith, h, p .numbered));
       }
@@ -200,3 +213,28 @@ module _ {ws : List ℕ} {k first : ℕ} {places held starts members ends number
     pub final-stands : (out : List ℕ) (n : ℕ) → Stands (fused-by held members numbers (take len mid)) out n → Stands (tree-run ws k first places numbers i) out n
     final-stands out n t =
         stands-as (fused-by held members numbers (take len mid)) (tree-run ws k first places numbers i) out n (ap (fused-by held members numbers) (s .words) ∙ fused-final p i h) t
+
+  -- ---- written over a table
+
+  module _ (i : ℕ) (at : ℕ) (old out : List ℕ) where
+    pub tree-put :
+        (tree : List ℕ) (n : ℕ) → Stands (tree-run ws k first places numbers i) tree n → out ≡ overlay at (take n tree) old
+        → (at + n ≡ at + length (tree-run ws k first places numbers i)) × (out ≡ overlay at (tree-run ws k first places numbers i) old)
+    tree-put tree n s f = (omega (arith, s .many), f ∙ ap (λ (l : List ℕ). overlay at l old) (s .words))
+
+    module _ (h : i < length starts) where
+      plain-run : no-switch-words (run-number held i) ≡ true → run-number held i ≡ tree-run ws k first places numbers i
+      plain-run none =
+          let j : i < length starts + length places = omega arith in
+          sym (unfused fusable (run-number held i) 1 (ap trees-in (held-run-is p i h) ∙ settled-whole p i j) none)
+          ∙ (ap (fused-by held members numbers) (held-run-is p i h) ∙ fused-final p i j)
+
+      -- one without a switch from where it is held
+      pub plain-put :
+          (end : ℕ) → end ≡ getD starts i 0 + length (run-number held i) → no-switch-words (take (end - getD starts i 0) (drop (getD starts i 0) held)) ≡ true
+          → out ≡ overlay at (take (end - getD starts i 0) (drop (getD starts i 0) held)) old
+          → (at + (end - getD starts i 0) ≡ at + length (tree-run ws k first places numbers i)) × (out ≡ overlay at (tree-run ws k first places numbers i) old)
+      plain-put end e none f =
+          let part = part-is held starts i (held-complete p) (p .starts-are) h end e in
+          let same = plain-run (subst (λ (l : List ℕ). no-switch-words l ≡ true) part none) in
+          (omega (arith, ap length same), f ∙ ap (λ (l : List ℕ). overlay at l old) (part ∙ same))

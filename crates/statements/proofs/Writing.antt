@@ -22,9 +22,8 @@ use Rattle.statements.proofs.Keys.{end-inside, numbers-part}
 
 -- ---- a row and the run below it
 
-module _ (at w : ℕ) (run old mid out tree : List ℕ) (n : ℕ) (s : Stands run tree n) (e : mid ≡ overlay at (w ∷ []) old) (f : out ≡ overlay (at + 1) (take n tree) mid) where
-  pub row-written : out ≡ overlay at (w ∷ run) old
-  row-written = f ∙ (ap₂ (overlay (at + 1)) (s .words) e ∙ sym (overlay-append at (w ∷ []) run old))
+row-written : (at w : ℕ) (run old mid out : List ℕ) → mid ≡ overlay at (w ∷ []) old → out ≡ overlay (at + 1) run mid → out ≡ overlay at (w ∷ run) old
+row-written at w run old mid out e f = f ∙ (ap (overlay (at + 1) run) e ∙ sym (overlay-append at (w ∷ []) run old))
 
 pub let-word : (x : ℕ) → 93 + 192 * x ≡ word let-row (1 + 3 * x)
 let-word x = omega arith
@@ -34,19 +33,23 @@ unfolding let-run
 let-long x run = refl
 
 pub let-written :
-    (at x : ℕ) (run old mid out tree : List ℕ) (n : ℕ) → Stands run tree n → mid ≡ overlay at ((93 + 192 * x) ∷ []) old → out ≡ overlay (at + 1) (take n tree) mid
-    → (at + 1 + n ≡ at + length (let-run x run)) × (out ≡ overlay at (let-run x run) old)
+    (at x : ℕ) (run old mid out : List ℕ) (end : ℕ) → end ≡ at + 1 + length run → mid ≡ overlay at ((93 + 192 * x) ∷ []) old → out ≡ overlay (at + 1) run mid
+    → (end ≡ at + length (let-run x run)) × (out ≡ overlay at (let-run x run) old)
 unfolding let-run
-let-written at x run old mid out tree n s e f =
-    (omega (arith, s .many), row-written at (93 + 192 * x) run old mid out tree n s e f ∙ ap (λ (w : ℕ). overlay at (w ∷ run) old) (let-word x))
+let-written at x run old mid out end s e f =
+    (omega (arith, s), row-written at (93 + 192 * x) run old mid out e f ∙ ap (λ (w : ℕ). overlay at (w ∷ run) old) (let-word x))
+
+pub value-long : (row : ℕ) (run : List ℕ) → length (value-run row run) ≡ suc (length run)
+unfolding value-run
+value-long row run = refl
 
 pub value-written :
-    (at row : ℕ) (run old mid out tree : List ℕ) (n : ℕ) → Stands run tree n → mid ≡ overlay at (row ∷ []) old → out ≡ overlay (at + 1) (take n tree) mid
-    → (at + 1 + n ≡ at + length (value-run row run)) × (out ≡ overlay at (value-run row run) old)
+    (at row : ℕ) (run old mid out : List ℕ) (end : ℕ) → end ≡ at + 1 + length run → mid ≡ overlay at (row ∷ []) old → out ≡ overlay (at + 1) run mid
+    → (end ≡ at + length (value-run row run)) × (out ≡ overlay at (value-run row run) old)
 unfolding value-run
-value-written at row run old mid out tree n s e f =
+value-written at row run old mid out end s e f =
     let z : row ≡ word row 0 = omega arith in
-    (omega (arith, s .many), row-written at row run old mid out tree n s e f ∙ ap (λ (w : ℕ). overlay at (w ∷ run) old) z)
+    (omega (arith, s), row-written at row run old mid out e f ∙ ap (λ (w : ℕ). overlay at (w ∷ run) old) z)
 
 -- ---- runs one after another
 
@@ -162,7 +165,7 @@ module _ {held members ends numbers : List ℕ} (G : Grouped held members ends n
   head-written at w old t1 t2 t3 tree n ew s e1 e2 e3 =
       let key = key-run held gs numbers g in
       let names = names-run held gs numbers g in
-      let both : t2 ≡ overlay at (w ∷ key) old = row-written at w key old t1 t2 tree n s e1 e2 in
+      let both : t2 ≡ overlay at (w ∷ key) old = row-written at w key old t1 t2 e1 (e2 ∙ ap (λ (l : List ℕ). overlay (at + 1) l t1) (s .words)) in
       let z : at + 1 + n ≡ at + length (w ∷ key) = omega (arith, s .many) in
       let put : t3 ≡ overlay (at + 1 + n) (rows-of-names part) t2 = e3 ∙ ap (λ (x : Bool). names-put x part (at + 1 + n) t2) (fit-each part part-small) in (
         omega (arith, s .many, length-append key names, names-count),

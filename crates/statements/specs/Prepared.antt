@@ -18,6 +18,7 @@ use Rattle.topo_sort.specs.Needs.{all-or-ring}
 use Rattle.topo_sort.specs.declared.Ordered.{Ordered}
 use Rattle.fusion.specs.Settled.{fused-tree}
 use Rattle.fusion.specs.Words.{steps-at}
+use Rattle.fusion.proofs.Switchless.{Of-switches}
 use Rattle.fusion.specs.place.Parts.{place-groups, joined-groups, ends-from, held-words, settled-trees, key-run, names-run, match-head}
 use Rattle.fusion.specs.place.Reads.{all-arms-run}
 use Rattle.fusion.specs.place.Whole.{stmts-count}
@@ -74,9 +75,10 @@ unfoldable pub settled-run : List ℕ → ℕ → ℕ → List ℕ → ℕ → L
 unfolding tokens settled-trees
 settled-run ws k first places i = tokens number (getD (settled-trees ws k first places) i (Op 0 nil))
 
--- each member is there and has a number
+-- each member is there, a switch, and has a number
 pub record Fusable (held members numbers : List ℕ) : Type 0 where
   pub there : All-there held members
+  pub switches : Of-switches (steps-at held members numbers)
   pub numbered : length members ≤ length numbers
   pub small : (i : ℕ) → i < length members → getD numbers i 0 ≤ most
 

@@ -52,7 +52,7 @@ fn is_switch(word: u64) -> bool
 }
 
 // Whether none of some words is.
-fn no_switch(words: &[u64]) -> bool
+pub fn no_switch(words: &[u64]) -> bool
     ensures { λ r. ⌜ r ≡ no-switch-words (now (words .entry)) ⌝ }
 {
     let mut i = 0;

@@ -16,6 +16,7 @@ ghost use Rattle.fusion.specs.place.Parts.{place-groups, key-run, let-run, valu
 ghost use Rattle.fusion.specs.place.Reads.{with-reads};
 ghost use Rattle.fusion.specs.place.Whole.{stmts-count, tree-run, reads-run, needs-table, stmts-order, values-runs};
 ghost use Rattle.statements.specs.Prepared.{Prepared, Readied, Grouped, run-number, reciprocal-run, settled-run, Fusable, fused-by, begin-of, order-told, match-reads, head-run};
+use crate::holding::no_switch;
 use fusion::fuse::Fused;
 use fusion::fuse::fuse;
 use fusion::scopeneeds::mark_arms;
@@ -104,13 +105,16 @@ fn take_tree(
     take_reciprocal(tokens, places, number, i - starts.len(), tree)
 }
 
-// The first `len` words with the members replaced. That they can't be never comes up.
+// The first `len` words with the members replaced, each a switch: words without one stay as they are. That they can't be replaced never comes up.
 fn fuse_words(held: &[u64], members: &[u64], numbers: &[u64], tree: &mut [u64], len: usize) -> usize
     requires { ⌜ Fusable (now held) (now members) (now numbers) ⌝ }
     requires { ⌜ (len ≤ length (now tree)) × (len ≤ 1929) ⌝ }
     requires { ⌜ Complete (take len (now tree)) ⌝ }
     ensures { λ r. ⌜ Stands (fused-by (now (held .entry)) (now (members .entry)) (now (numbers .entry)) (take len (now (tree .entry)))) (now (tree .exit)) r ⌝ }
 {
+    if no_switch(&tree[..len]) {
+        return len;
+    }
     let fused = fuse(held, members, numbers, tree, len);
     match fused {
         Fused::Words(n) => n,
@@ -465,6 +469,99 @@ pub fn order_stmts(
     )
 }
 
+// Makes the final tree of number i and writes it from a place on; the place after it.
+fn make_tree(
+    tokens: &[u64],
+    results: usize,
+    first: u64,
+    places: &[u64],
+    held: &[u64],
+    starts: &[u64],
+    members: &[u64],
+    numbers: &[u64],
+    i: usize,
+    at: usize,
+    table: &mut [u64],
+) -> usize
+    requires { ⌜ Readied (now tokens) results first (now places) (now held) (now starts) (now members) (now numbers) ⌝ }
+    requires { ⌜ (i < length (now starts) + length (now places)) × (at + length (tree-run (now tokens) results first (now places) (now numbers) i) ≤ 9223372036854775808) ⌝ }
+    ensures { λ r. ⌜ (r ≡ at + length (tree-run (now (tokens .entry)) results first (now (places .entry)) (now (numbers .entry)) i))
+        × (now (table .exit) ≡ overlay at (tree-run (now (tokens .entry)) results first (now (places .entry)) (now (numbers .entry)) i) (now (table .entry))) ⌝ }
+{
+    let mut tree = [0u64; TREE];
+    let n = take_final(
+        tokens,
+        results,
+        first,
+        places,
+        held,
+        starts,
+        members,
+        numbers,
+        i,
+        &mut tree,
+    );
+    put(&tree[..n], at, table);
+    at + n
+}
+
+// Writes the final tree of number i from a place on; the place after it. One without a switch stands as it is in what is held. That it lacks words never comes up.
+fn write_tree(
+    tokens: &[u64],
+    results: usize,
+    first: u64,
+    places: &[u64],
+    held: &[u64],
+    starts: &[u64],
+    members: &[u64],
+    numbers: &[u64],
+    i: usize,
+    at: usize,
+    table: &mut [u64],
+) -> usize
+    requires { ⌜ Readied (now tokens) results first (now places) (now held) (now starts) (now members) (now numbers) ⌝ }
+    requires { ⌜ (i < length (now starts) + length (now places)) × (at + length (tree-run (now tokens) results first (now places) (now numbers) i) ≤ 9223372036854775808) ⌝ }
+    ensures { λ r. ⌜ (r ≡ at + length (tree-run (now (tokens .entry)) results first (now (places .entry)) (now (numbers .entry)) i))
+        × (now (table .exit) ≡ overlay at (tree-run (now (tokens .entry)) results first (now (places .entry)) (now (numbers .entry)) i) (now (table .entry))) ⌝ }
+{
+    if i >= starts.len() {
+        return make_tree(
+            tokens,
+            results,
+            first,
+            places,
+            held,
+            starts,
+            members,
+            numbers,
+            i,
+            at,
+            table,
+        );
+    }
+    let from = starts[i] as usize;
+    let Run::Ends(end) = end_of(held, from) else {
+        return at;
+    };
+    if no_switch(&held[from..end]) {
+        put(&held[from..end], at, table);
+        return at + (end - from);
+    }
+    make_tree(
+        tokens,
+        results,
+        first,
+        places,
+        held,
+        starts,
+        members,
+        numbers,
+        i,
+        at,
+        table,
+    )
+}
+
 // Writes the rows of the let of number p from a place on; the place after them.
 pub fn write_let(
     tokens: &[u64],
@@ -485,8 +582,8 @@ pub fn write_let(
     ensures { λ r. ⌜ (r ≡ at + length (let-run (first + p) (tree-run (now (tokens .entry)) results first (now (places .entry)) (now (numbers .entry)) (results + p))))
         × (now (table .exit) ≡ overlay at (let-run (first + p) (tree-run (now (tokens .entry)) results first (now (places .entry)) (now (numbers .entry)) (results + p))) (now (table .entry))) ⌝ }
 {
-    let mut tree = [0u64; TREE];
-    let n = take_final(
+    put_word(FIRST_LET + NEXT_NAME * (first + p as u64), at, table);
+    write_tree(
         tokens,
         results,
         first,
@@ -496,11 +593,9 @@ pub fn write_let(
         members,
         numbers,
         results + p,
-        &mut tree,
-    );
-    put_word(FIRST_LET + NEXT_NAME * (first + p as u64), at, table);
-    put(&tree[..n], at + 1, table);
-    at + 1 + n
+        at + 1,
+        table,
+    )
 }
 
 // Writes the rows of value i from a place on; the place after them.
@@ -524,8 +619,8 @@ fn write_value(
     ensures { λ r. ⌜ (r ≡ at + length (value-run row (tree-run (now (tokens .entry)) results first (now (places .entry)) (now (numbers .entry)) i)))
         × (now (table .exit) ≡ overlay at (value-run row (tree-run (now (tokens .entry)) results first (now (places .entry)) (now (numbers .entry)) i)) (now (table .entry))) ⌝ }
 {
-    let mut tree = [0u64; TREE];
-    let n = take_final(
+    put_word(row, at, table);
+    write_tree(
         tokens,
         results,
         first,
@@ -535,11 +630,9 @@ fn write_value(
         members,
         numbers,
         i,
-        &mut tree,
-    );
-    put_word(row, at, table);
-    put(&tree[..n], at + 1, table);
-    at + 1 + n
+        at + 1,
+        table,
+    )
 }
 
 // Writes the rows of all values from a place on, each after a row of the kind that is given; the place after them.

@@ -8,11 +8,11 @@ use mathlib.Core.List.{List, [], _∷_, _++_, map}
 use lib.ListN.{length, getD, take, drop, length-append, length-drop, length-map}
 use lib.Seq.{take-at, length-take-le}
 use lib.Dec.{T, leb}
-use borrow.Author.Tests.{le-leb, lt-leb}
+use borrow.Author.Tests.{le-leb, lt-leb, leb-true, leb-false}
 use Rattle.spec_tree.specs.Outcome.{Refusal, Outcome, ok, refused, by, _>>=_}
 use Rattle.spec_tree.specs.Rows.{Row}
 use Rattle.spec_tree.specs.Tokens.{read, numbered, trees-in, name-in}
-use Rattle.spec_tree.proofs.TokenLaws.{complete-length}
+use Rattle.spec_tree.proofs.TokenLaws.{complete-length, complete-within}
 use Rattle.words.specs.words.Words.{some-trees}
 use Rattle.laws.specs.positions.Names.{is-number, symbols-pass}
 use Rattle.laws.specs.positions.Rounds.{next-number}
@@ -24,6 +24,7 @@ use Rattle.topo_sort.specs.treelist.Starts.{starts-of, tree-listing, listing-by
 use Rattle.topo_sort.proofs.treelist.Begins.{as-many}
 use Rattle.laws.specs.switches.Switches.{switch-places}
 use Rattle.laws.proofs.switches.GroupColumns.{every-at}
+use Rattle.laws.proofs.switches.Stepping.{places-end, places-few}
 use Rattle.fusion.specs.place.Overlay.{overlay}
 use Rattle.fusion.specs.place.Parts.{place-groups, ends-from, reciprocals-first, lets-count, trees-held, words-held, held-words}
 use Rattle.fusion.specs.place.Whole.{Told, Walk, stmts-count, ordered-scope, room-for, fused-scope}
@@ -33,7 +34,7 @@ use Rattle.scope_laws.proofs.sound.Columns.{members-count, groups-count}
 use Rattle.scope_laws.proofs.sound.Counting.{places-there, held-extractable, held-passes, held-trees, first-lets, trees-few, lets-few, held-trees-few}
 use Rattle.statements.specs.Prepared.{Prepared}
 use Rattle.cse_scoped.specs.one_scope.Answers.{walk-answer, Kept-so, Walk-wrote, walk-refusal, Holding-so}
-use Rattle.cse_scoped.specs.one_scope.Frame.{Holds, Ready, groups-told, grouped-scope, Numbered, Left, left-scope, Grouping-so}
+use Rattle.cse_scoped.specs.one_scope.Frame.{Holds, Ready, groups-told, grouped-scope, Numbered, Left, left-scope, Grouping-so, Switch-room, Room}
 use Rattle.cse_scoped.specs.declared.one_scope.Scoped.the-variants as scoped
 use Rattle.cse_scoped.specs.declared.one_scope.Holding.{Holding}
 use Rattle.cse_scoped.specs.declared.one_scope.Holding.the-variants as holding
@@ -277,38 +278,78 @@ module _ (rows : List Row) (ws : List ℕ) (k first : ℕ) (places : List ℕ) (
       members-are : length (take mm members) ≡ length (switch-places held)
       members-are = let r = ready-of rows after held held-good in ap length (g .members-are) ∙ members-count held (r .trees) (r .complete)
 
-      pub switches-here : length members ≡ 3640 → length (switch-places held) ≤ 3640
+      pub switches-here : length members ≤ 3640 → length (switch-places held) ≤ 3640
       switches-here long = omega (arith, members-are, length-take-le mm members (g .members-in), g .members-in, long)
 
-      pub groups-short : length members ≡ 3640 → gg ≤ 3640
+      pub groups-short : length members ≤ 3640 → gg ≤ 3640
       groups-short long =
           let r = ready-of rows after held held-good in
           omega (arith, groups-many held mm gg members ends g, groups-count held (r .trees) (r .complete), switches-here long)
 
-      pub members-short : length members ≡ 3640 → length (take mm members) ≤ 3640
-      members-short long = omega (arith, members-are, switches-here long)
+      -- a stop for each group, where they aren't too many
+      pub stops-enough : (stops : List ℕ) → (length stops < length (place-groups held) → 2048 < length (place-groups held)) → gg ≤ 2048 → length (take gg ends) ≤ length stops
+      stops-enough stops over few =
+          let n = groups-many held mm gg members ends g in
+          let e = length-take-le gg ends (g .ends-in) in
+          go (leb gg (length stops)) refl n e
+        where
+          go : (b : Bool) → leb gg (length stops) ≡ b → gg ≡ length (place-groups held) → length (take gg ends) ≡ gg → length (take gg ends) ≤ length stops
+          go true q n e = omega (arith, leb-true gg (length stops) q, e)
+          go false q n e = let f = over (omega (arith, leb-false gg (length stops) q, n)) in omega (arith, f, n, few)
+
+      pub members-within : (n : ℕ) → length members ≤ n → length (take mm members) ≤ n
+      members-within n h = omega (arith, length-take-le mm members (g .members-in), g .members-in, h)
 
     module _ (trees : ℕ) (whole : trees-in ws ≡ some trees) where
       pub trees-short : trees ≤ 1927
       trees-short = omega (arith, complete-length numbered ws trees whole, trees-few rows good k first ws (l .good) (l .pass) (l .few))
 
-      module _ (old starts : List ℕ) (lent : length old ≡ 1927) (listed : starts ≡ tree-listing held old .out) where
-        abbrev m : ℕ
-        m = length (trees-held ws (next-number k first (read numbered ws)) places)
+      abbrev m : ℕ
+      m = length (trees-held ws (next-number k first (read numbered ws)) places)
 
-        held-many : trees ≤ m
-        unfolding trees-held
-        held-many = omega (arith, complete-length numbered ws trees whole, length-append (map (settle-tree (map (numbered-at ws) places) (next-number k first (read numbered ws))) (read numbered ws)) (with-switches (settled-reciprocals (map (numbered-at ws) places) (next-number k first (read numbered ws)))), length-map (read numbered ws) (settle-tree (map (numbered-at ws) places) (next-number k first (read numbered ws))))
+      held-many : trees ≤ m
+      unfolding trees-held
+      held-many = omega (arith, complete-length numbered ws trees whole, length-append (map (settle-tree (map (numbered-at ws) places) (next-number k first (read numbered ws))) (read numbered ws)) (with-switches (settled-reciprocals (map (numbered-at ws) places) (next-number k first (read numbered ws)))), length-map (read numbered ws) (settle-tree (map (numbered-at ws) places) (next-number k first (read numbered ws))))
 
-        held-few : m ≤ 1927
-        held-few = at-places (λ ps. length (trees-held ws (next-number k first (read numbered ws)) ps) ≤ 1927) (held-trees-few rows good k first ws (l .good) (l .pass) (l .few))
+      held-few : m ≤ 1927
+      held-few = at-places (λ ps. length (trees-held ws (next-number k first (read numbered ws)) ps) ≤ 1927) (held-trees-few rows good k first ws (l .good) (l .pass) (l .few))
 
-        all-starts : length (starts-of held) ≡ m
-        all-starts = as-many held ∙ complete-length numbered held m trees-here
+      all-starts : length (starts-of held) ≡ m
+      all-starts = as-many held ∙ complete-length numbered held m trees-here
 
+      pub trees-listed : trees ≤ length (starts-of held)
+      trees-listed = omega (arith, all-starts, held-many)
+
+      -- arrays as long as the most, and short ones for few words
+      pub room-most : (starts members ends numbers stops : List ℕ) → length starts ≡ 1927 → length members ≡ 3640 → length ends ≡ 3640 → length numbers ≡ 3640 → length stops ≡ 2048
+          → Room held starts members ends numbers stops
+      room-most starts members ends numbers stops a b c d e =
+          record {
+            trees = omega (arith, a, all-starts, held-few);
+            switches = record { most = omega (arith, d); over = λ h. omega (arith, h, d) };
+            members-as = omega (arith, b, d);
+            ends-as = omega (arith, c, d);
+            stops-over = λ h. omega (arith, h, e);
+          }
+
+      pub room-few : length held ≤ 128 → (starts members ends numbers stops : List ℕ) → length starts ≡ 128 → length members ≡ 128 → length ends ≡ 128 → length numbers ≡ 128
+          → length stops ≡ 128 → Room held starts members ends numbers stops
+      room-few few starts members ends numbers stops a b c d e =
+          let r = ready-of rows after held held-good in
+          let n : length (switch-places held) ≤ length held = omega (arith, ap length (places-end held), places-few held (length held)) in
+          let g = groups-count held (r .trees) (r .complete) in
+          record {
+            trees = omega (arith, a, all-starts, complete-within held m trees-here, few);
+            switches = record { most = omega (arith, d); over = λ h. omega (arith, h, d, n, few) };
+            members-as = omega (arith, b, d);
+            ends-as = omega (arith, c, d);
+            stops-over = λ h. omega (arith, h, e, n, g, few);
+          }
+
+      module _ (old starts : List ℕ) (lent : length (starts-of held) ≤ length old) (listed : starts ≡ tree-listing held old .out) where
         starts-are : take trees starts ≡ take trees (starts-of held)
         starts-are =
-            ap (take trees) (listed ∙ starts-listed held old m trees-here (omega (arith, lent, held-few))) ∙ take-front trees (starts-of held) (drop m old) (omega (arith, all-starts, held-many))
+            ap (take trees) (listed ∙ starts-listed held old m trees-here (omega (arith, lent, all-starts))) ∙ take-front trees (starts-of held) (drop m old) (omega (arith, all-starts, held-many))
 
         pub starts-long : length (take trees starts) ≡ trees
         starts-long = ap length starts-are ∙ length-take-le trees (starts-of held) (omega (arith, all-starts, held-many))
@@ -395,9 +436,9 @@ module _ (rows : List Row) (fuel left row : ℕ) (work : List ℕ) (used k first
   abbrev as-left : Outcome Told
   as-left = left-scope rows fuel left row vs k first places
 
-  module _ (old tokens : List ℕ) (long : length old ≡ 1927) (copied : tokens ≡ overlay 0 vs old) where
+  module _ (old tokens : List ℕ) (long : used ≤ length old) (copied : tokens ≡ overlay 0 vs old) where
     pub tokens-are : take used tokens ≡ vs
-    tokens-are = ap (take used) (copied ∙ overlay-front vs old (omega (arith, used-long, used-few, long))) ∙ take-at vs (drop (length vs) old) used used-long
+    tokens-are = ap (take used) (copied ∙ overlay-front vs old (omega (arith, used-long, long))) ∙ take-at vs (drop (length vs) old) used used-long
 
     pub tokens-inside : length (take used tokens) ≤ length work
     tokens-inside = omega (arith, ap length tokens-are, used-long, there)

@@ -6,6 +6,7 @@ use mathlib.Core.Bool.{Bool, true, false, _&&_}
 use mathlib.Core.Option.{some}
 use mathlib.Core.List.{List, []}
 use lib.ListN.{length, take}
+use lib.Seq.{length-take-le}
 use lib.Dec.{T, leb}
 use borrow.Author.Tests.{le-leb, lt-leb, leb-true}
 use Rattle.spec_tree.specs.Outcome.{Outcome, refused, by, _>>=_}
@@ -91,6 +92,10 @@ module _ (rows : List Row) (left row next : ℕ) (ws : List ℕ) (at : ℕ) (old
 
           pub words-in : n ≤ length tokens
           words-in = so .3
+
+          -- rounds leave no more words
+          pub words-short : n ≤ length ws
+          words-short = omega (arith, rounds-short rows true (is-number rows) next ws sound pass (take n tokens) (so .0), length-take-le n tokens words-in)
 
           pub places-in : d ≤ length places
           places-in = so .4

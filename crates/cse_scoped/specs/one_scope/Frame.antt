@@ -137,6 +137,19 @@ unfoldable pub left-scope : List Row → ℕ → ℕ → ℕ → List ℕ → �
 unfolding held-words fused-scope
 left-scope rows fuel left row ws k first places = fused-scope (inner rows fuel (left - length (held-words ws k first places))) left row ws k first places
 
+-- as many places as there are switches, or else as the most that there may be
+pub record Switch-room (held places : List ℕ) : Type 0 where
+  pub most : length places ≤ 3640
+  pub over : length places < length (switch-places held) → 3640 < length (switch-places held)
+
+-- and the same of all that a scope keeps of what it holds
+pub record Room (held starts members ends numbers stops : List ℕ) : Type 0 where
+  pub trees : length (starts-of held) ≤ length starts
+  pub switches : Switch-room held numbers
+  pub members-as : length members ≡ length numbers
+  pub ends-as : length ends ≡ length numbers
+  pub stops-over : length stops < length (place-groups held) → 2048 < length (place-groups held)
+
 -- what the groups of words are put into
 pub record Grouping-so (held : List ℕ) (m g : ℕ) (members ends : List ℕ) : Type 0 where
   pub members-are : take m members ≡ joined-groups (place-groups held)

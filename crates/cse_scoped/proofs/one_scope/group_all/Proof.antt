@@ -27,7 +27,7 @@ same-length-2 : tie.Need-same-length-2
 same-length-2 c = search needs
 
 returns : tie.Need-returns
-returns c = let s = c .before .before .before .before .before .before .before .before .before .before .before .before .before in let a = s .args in omega (arith, switches-over (a .held .now) _ (c .before .before .before .before .before .before .list-all .result) (c .before .before .before .before .before .before .list-all .ensures) (c .enum-told .given .1), s .pre .1 .0, c .before .before .before .before .before .before .list-all .kept .1 .1 .0)
+returns c = let s = c .before .before .before .before .before .before .before .before .before .before .before .before .before in let a = s .args in s .pre .1 .0 .over (omega (arith, switches-over (a .held .now) _ (c .before .before .before .before .before .before .list-all .result) (c .before .before .before .before .before .before .list-all .ensures) (c .enum-told .given .1), c .before .before .before .before .before .before .list-all .kept .1 .1 .0))
 
 slice-reshare-prefix-group-listed : tie.Need-slice-reshare-prefix-group-listed
 slice-reshare-prefix-group-listed c = let s = c .before .before .before .before .before .before .before .before .before .before .before .before .before .before in let a = s .args in (switches-there (a .held .now) _ (c .before .before .before .before .before .before .before .list-all .result) (c .before .before .before .before .before .before .before .list-all .ensures) (c .before .listed .given .0 .0) (c .before .listed .given .1)) .1
@@ -36,7 +36,7 @@ slice-aggregate-group-listed : tie.Need-slice-aggregate-group-listed
 slice-aggregate-group-listed c = let s = c .before .before .before .before .before .before .before .before .before .before .before .before .before .before .before in let a = s .args in sym (length-take-le _ _ ((switches-there (a .held .now) _ (c .before .before .before .before .before .before .before .before .list-all .result) (c .before .before .before .before .before .before .before .before .list-all .ensures) (c .before .before .listed .given .0 .0) (c .before .before .listed .given .1)) .1))
 
 group-listed-requires : tie.Need-group-listed-requires
-group-listed-requires c κs = let s = c .before .before .before .before .before .before .before .before .before .before .before .before .before .before .before .before .before in let a = s .args in let k = c .before .before .before .before .before .before .before .before .before .before .list-all .kept in let places = c .before .before .before .before .before .before .before .before .before .before .list-all .last .1 .1 .0 in let l = switches-there (a .held .now) places (c .before .before .before .before .before .before .before .before .before .before .list-all .result) (c .before .before .before .before .before .before .before .before .before .before .list-all .ensures) (c .before .before .before .before .listed .given .0 .0) (c .before .before .before .before .listed .given .1) in ((s .pre .0 .0, l .0), let n = length-take-le _ places (l .1) in (omega (arith, n, l .1, s .pre .1 .0, s .pre .1 .1, k .1 .0, k .1 .1 .0), omega (arith, n, l .1, s .pre .1 .0, s .pre .1 .2, k .1 .1 .0)))
+group-listed-requires c κs = let s = c .before .before .before .before .before .before .before .before .before .before .before .before .before .before .before .before .before in let a = s .args in let k = c .before .before .before .before .before .before .before .before .before .before .list-all .kept in let places = c .before .before .before .before .before .before .before .before .before .before .list-all .last .1 .1 .0 in let l = switches-there (a .held .now) places (c .before .before .before .before .before .before .before .before .before .before .list-all .result) (c .before .before .before .before .before .before .before .before .before .before .list-all .ensures) (c .before .before .before .before .listed .given .0 .0) (c .before .before .before .before .listed .given .1) in ((s .pre .0 .0, l .0), let n = length-take-le _ places (l .1) in (omega (arith, n, l .1, s .pre .1 .1, k .1 .0, k .1 .1 .0), omega (arith, n, l .1, s .pre .1 .2, k .1 .1 .0)))
 
 same-length-3 : tie.Need-same-length-3
 same-length-3 c = search needs

@@ -21,49 +21,54 @@ use Rattle.cse_scoped.proofs.one_scope.Walking.{ends-many, ends-few, nu
 use Rattle.cse_scoped.proofs.one_scope.Writing.{head-fits, all-fits, ends-within, members-few, start-under, start-within, number-small, part-group, part-holds, part-fits, match-done, match-never, match-past, kept-low, match-kept}
 use Rattle.cse_scoped.proofs.one_scope.Statements.{rows-as, rows-exact, readied, grouped, lets-few, let-is, let-there, group-there, stop-in, stop-over, group-sized, number-holds as member-holds, match-is as stmt-match-is, stmts-begin, entry-fits, stmts-on, stmts-end}
 use Rattle.cse_scoped.proofs.one_scope.Ending.{done-as, extracted-low, count-here as statements-here, ring-done, never-broken, positions, stmts-fit, values-fit, all-done}
-use Rattle.cse_scoped.proofs.one_scope.Beginning.{lets-small, from-low, holds-from, ends-short, walk-refused, numbered-so, prepared-so, left-there, left-holds, held-whole as held-complete, trees-short, switches-here, groups-short, members-short, ready-so, too-many-switches, too-many-stmts, outcome-is, whole-so, trees-enough, trees-few-here, places-short, words-whole, too-many, held-in, held-are, used-few, tokens-left, tokens-whole, tokens-inside, same-outcome}
-use Rattle.cse_scoped.proofs.one_scope.Scoping.{too-deep, too-long, too-large, ten, words-in, places-in, left-so, scope-is, arm-too-many, left-now}
-use borrow.Author.Needs.{needs}
+use Rattle.cse_scoped.proofs.one_scope.Beginning.{trees-listed, room-most, room-few, stops-enough, members-within, lets-small, from-low, holds-from, ends-short, walk-refused, numbered-so, prepared-so, left-there, left-holds, held-whole as held-complete, trees-short, switches-here, groups-short, ready-so, too-many-switches, too-many-stmts, outcome-is, whole-so, trees-enough, trees-few-here, places-short, words-whole, too-many, held-in, held-are, used-few, tokens-left, tokens-whole, tokens-inside, same-outcome}
+use Rattle.cse_scoped.proofs.one_scope.Scoping.{words-short, too-deep, too-long, too-large, ten, words-in, places-in, left-so, scope-is, arm-too-many, left-now}
 use borrow.Author.Needs.{needs}
 use Prim.Native.Nat.{ℕ, _<_, _+_, _-_, _*_, _≤_}
 use borrow.Fn.Kinds.{In}
 use borrow.Fn.PlainCycle.{Measures, is, falls, and}
 use Rattle.cse_scoped.proofs.one_scope.arm.Reads as arm
 use Rattle.cse_scoped.proofs.one_scope.arm.Kinds as arm-kinds
-use Rattle.cse_scoped.proofs.one_scope.+arm+arms+measure+scope+scope_grouped+scope_held+scope_listed+walk+write_match+write_scope+write_stmt+write_stmts.Lts-arm as arm-lts
+use Rattle.cse_scoped.proofs.one_scope.+arm+arms+measure+scope+scope_grouped+scope_held+scope_in+scope_listed+scope_rounds+walk+write_match+write_scope+write_stmt+write_stmts.Lts-arm as arm-lts
 use Rattle.cse_scoped.proofs.one_scope.arms.Reads as arms
 use Rattle.cse_scoped.proofs.one_scope.arms.Kinds as arms-kinds
-use Rattle.cse_scoped.proofs.one_scope.+arm+arms+measure+scope+scope_grouped+scope_held+scope_listed+walk+write_match+write_scope+write_stmt+write_stmts.Lts-arms as arms-lts
+use Rattle.cse_scoped.proofs.one_scope.+arm+arms+measure+scope+scope_grouped+scope_held+scope_in+scope_listed+scope_rounds+walk+write_match+write_scope+write_stmt+write_stmts.Lts-arms as arms-lts
 use Rattle.cse_scoped.proofs.one_scope.measure.Reads as measure
 use Rattle.cse_scoped.proofs.one_scope.measure.Kinds as measure-kinds
-use Rattle.cse_scoped.proofs.one_scope.+arm+arms+measure+scope+scope_grouped+scope_held+scope_listed+walk+write_match+write_scope+write_stmt+write_stmts.Lts-measure as measure-lts
+use Rattle.cse_scoped.proofs.one_scope.+arm+arms+measure+scope+scope_grouped+scope_held+scope_in+scope_listed+scope_rounds+walk+write_match+write_scope+write_stmt+write_stmts.Lts-measure as measure-lts
 use Rattle.cse_scoped.proofs.one_scope.scope.Reads as scope
 use Rattle.cse_scoped.proofs.one_scope.scope.Kinds as scope-kinds
-use Rattle.cse_scoped.proofs.one_scope.+arm+arms+measure+scope+scope_grouped+scope_held+scope_listed+walk+write_match+write_scope+write_stmt+write_stmts.Lts-scope as scope-lts
+use Rattle.cse_scoped.proofs.one_scope.+arm+arms+measure+scope+scope_grouped+scope_held+scope_in+scope_listed+scope_rounds+walk+write_match+write_scope+write_stmt+write_stmts.Lts-scope as scope-lts
 use Rattle.cse_scoped.proofs.one_scope.scope_grouped.Reads as scope-grouped
 use Rattle.cse_scoped.proofs.one_scope.scope_grouped.Kinds as scope-grouped-kinds
-use Rattle.cse_scoped.proofs.one_scope.+arm+arms+measure+scope+scope_grouped+scope_held+scope_listed+walk+write_match+write_scope+write_stmt+write_stmts.Lts-scope_grouped as scope-grouped-lts
+use Rattle.cse_scoped.proofs.one_scope.+arm+arms+measure+scope+scope_grouped+scope_held+scope_in+scope_listed+scope_rounds+walk+write_match+write_scope+write_stmt+write_stmts.Lts-scope_grouped as scope-grouped-lts
 use Rattle.cse_scoped.proofs.one_scope.scope_held.Reads as scope-held
 use Rattle.cse_scoped.proofs.one_scope.scope_held.Kinds as scope-held-kinds
-use Rattle.cse_scoped.proofs.one_scope.+arm+arms+measure+scope+scope_grouped+scope_held+scope_listed+walk+write_match+write_scope+write_stmt+write_stmts.Lts-scope_held as scope-held-lts
+use Rattle.cse_scoped.proofs.one_scope.+arm+arms+measure+scope+scope_grouped+scope_held+scope_in+scope_listed+scope_rounds+walk+write_match+write_scope+write_stmt+write_stmts.Lts-scope_held as scope-held-lts
+use Rattle.cse_scoped.proofs.one_scope.scope_in.Reads as scope-in
+use Rattle.cse_scoped.proofs.one_scope.scope_in.Kinds as scope-in-kinds
+use Rattle.cse_scoped.proofs.one_scope.+arm+arms+measure+scope+scope_grouped+scope_held+scope_in+scope_listed+scope_rounds+walk+write_match+write_scope+write_stmt+write_stmts.Lts-scope_in as scope-in-lts
 use Rattle.cse_scoped.proofs.one_scope.scope_listed.Reads as scope-listed
 use Rattle.cse_scoped.proofs.one_scope.scope_listed.Kinds as scope-listed-kinds
-use Rattle.cse_scoped.proofs.one_scope.+arm+arms+measure+scope+scope_grouped+scope_held+scope_listed+walk+write_match+write_scope+write_stmt+write_stmts.Lts-scope_listed as scope-listed-lts
+use Rattle.cse_scoped.proofs.one_scope.+arm+arms+measure+scope+scope_grouped+scope_held+scope_in+scope_listed+scope_rounds+walk+write_match+write_scope+write_stmt+write_stmts.Lts-scope_listed as scope-listed-lts
+use Rattle.cse_scoped.proofs.one_scope.scope_rounds.Reads as scope-rounds
+use Rattle.cse_scoped.proofs.one_scope.scope_rounds.Kinds as scope-rounds-kinds
+use Rattle.cse_scoped.proofs.one_scope.+arm+arms+measure+scope+scope_grouped+scope_held+scope_in+scope_listed+scope_rounds+walk+write_match+write_scope+write_stmt+write_stmts.Lts-scope_rounds as scope-rounds-lts
 use Rattle.cse_scoped.proofs.one_scope.walk.Reads as walk
 use Rattle.cse_scoped.proofs.one_scope.walk.Kinds as walk-kinds
-use Rattle.cse_scoped.proofs.one_scope.+arm+arms+measure+scope+scope_grouped+scope_held+scope_listed+walk+write_match+write_scope+write_stmt+write_stmts.Lts-walk as walk-lts
+use Rattle.cse_scoped.proofs.one_scope.+arm+arms+measure+scope+scope_grouped+scope_held+scope_in+scope_listed+scope_rounds+walk+write_match+write_scope+write_stmt+write_stmts.Lts-walk as walk-lts
 use Rattle.cse_scoped.proofs.one_scope.write_match.Reads as write-match
 use Rattle.cse_scoped.proofs.one_scope.write_match.Kinds as write-match-kinds
-use Rattle.cse_scoped.proofs.one_scope.+arm+arms+measure+scope+scope_grouped+scope_held+scope_listed+walk+write_match+write_scope+write_stmt+write_stmts.Lts-write_match as write-match-lts
+use Rattle.cse_scoped.proofs.one_scope.+arm+arms+measure+scope+scope_grouped+scope_held+scope_in+scope_listed+scope_rounds+walk+write_match+write_scope+write_stmt+write_stmts.Lts-write_match as write-match-lts
 use Rattle.cse_scoped.proofs.one_scope.write_scope.Reads as write-scope
 use Rattle.cse_scoped.proofs.one_scope.write_scope.Kinds as write-scope-kinds
-use Rattle.cse_scoped.proofs.one_scope.+arm+arms+measure+scope+scope_grouped+scope_held+scope_listed+walk+write_match+write_scope+write_stmt+write_stmts.Lts-write_scope as write-scope-lts
+use Rattle.cse_scoped.proofs.one_scope.+arm+arms+measure+scope+scope_grouped+scope_held+scope_in+scope_listed+scope_rounds+walk+write_match+write_scope+write_stmt+write_stmts.Lts-write_scope as write-scope-lts
 use Rattle.cse_scoped.proofs.one_scope.write_stmt.Reads as write-stmt
 use Rattle.cse_scoped.proofs.one_scope.write_stmt.Kinds as write-stmt-kinds
-use Rattle.cse_scoped.proofs.one_scope.+arm+arms+measure+scope+scope_grouped+scope_held+scope_listed+walk+write_match+write_scope+write_stmt+write_stmts.Lts-write_stmt as write-stmt-lts
+use Rattle.cse_scoped.proofs.one_scope.+arm+arms+measure+scope+scope_grouped+scope_held+scope_in+scope_listed+scope_rounds+walk+write_match+write_scope+write_stmt+write_stmts.Lts-write_stmt as write-stmt-lts
 use Rattle.cse_scoped.proofs.one_scope.write_stmts.Reads as write-stmts
 use Rattle.cse_scoped.proofs.one_scope.write_stmts.Kinds as write-stmts-kinds
-use Rattle.cse_scoped.proofs.one_scope.+arm+arms+measure+scope+scope_grouped+scope_held+scope_listed+walk+write_match+write_scope+write_stmt+write_stmts.Lts-write_stmts as write-stmts-lts
+use Rattle.cse_scoped.proofs.one_scope.+arm+arms+measure+scope+scope_grouped+scope_held+scope_in+scope_listed+scope_rounds+walk+write_match+write_scope+write_stmt+write_stmts.Lts-write_stmts as write-stmts-lts
 use Rattle.cse_scoped.proofs.one_scope.copy_arm.Reads as copy-arm-reads
 use Rattle.cse_scoped.proofs.one_scope.count_arms.Reads as count-arms-reads
 use Rattle.cse_flat.proofs.extract_and_list.Reads as extract-and-list-reads
@@ -81,48 +86,54 @@ use Rattle.statements.proofs.write_values.Reads as write-values-reads
 use Rattle.fusion.proofs.tables.put.Reads as put-reads
 use Rattle.fusion.proofs.tables.put_word.Reads as put-word-reads
 use Rattle.topo_sort.proofs.treelist.list_trees.Reads as list-trees-reads
-use Rattle.cse_scoped.proofs.one_scope.+arm+arms+measure+scope+scope_grouped+scope_held+scope_listed+walk+write_match+write_scope+write_stmt+write_stmts.{
+use Rattle.cse_scoped.proofs.one_scope.+arm+arms+measure+scope+scope_grouped+scope_held+scope_in+scope_listed+scope_rounds+walk+write_match+write_scope+write_stmt+write_stmts.{
   statement,
 }
-use Rattle.cse_scoped.proofs.one_scope.+arm+arms+measure+scope+scope_grouped+scope_held+scope_listed+walk+write_match+write_scope+write_stmt+write_stmts.Tie.{
+use Rattle.cse_scoped.proofs.one_scope.+arm+arms+measure+scope+scope_grouped+scope_held+scope_in+scope_listed+scope_rounds+walk+write_match+write_scope+write_stmt+write_stmts.Tie.{
   close,
 }
 
 abbrev μ-arm : Measures 5 arm-kinds.ps ℕ
-μ-arm κs a = 16 * (a .1 .1 .1 .1 .1 .0) + 1
+μ-arm κs a = 16 * (a .1 .1 .1 .1 .1 .0) + 2
 
 abbrev μ-arms : Measures 5 arms-kinds.ps ℕ
-μ-arms κs a = 16 * (a .1 .1 .1 .1 .0) + 2
+μ-arms κs a = 16 * (a .1 .1 .1 .1 .0) + 3
 
 abbrev μ-measure : Measures 5 measure-kinds.ps ℕ
-μ-measure κs a = 16 * (a .1 .1 .1 .1 .0) + 3
+μ-measure κs a = 16 * (a .1 .1 .1 .1 .0) + 4
 
 abbrev μ-scope : Measures 4 scope-kinds.ps ℕ
-μ-scope κs a = 16 * (a .1 .1 .1 .0)
+μ-scope κs a = 16 * (a .1 .1 .1 .0) + 1
 
-abbrev μ-scope-grouped : Measures 10 scope-grouped-kinds.ps ℕ
-μ-scope-grouped κs a = 16 * (a .1 .1 .1 .1 .1 .1 .1 .1 .1 .1 .1 .0) + 9
+abbrev μ-scope-grouped : Measures 12 scope-grouped-kinds.ps ℕ
+μ-scope-grouped κs a = 16 * (a .1 .1 .1 .1 .1 .1 .1 .1 .1 .1 .1 .1 .1 .0) + 10
 
 abbrev μ-scope-held : Measures 6 scope-held-kinds.ps ℕ
-μ-scope-held κs a = 16 * (a .1 .1 .1 .1 .1 .1 .1 .1 .0) + 10
+μ-scope-held κs a = 16 * (a .1 .1 .1 .1 .1 .1 .1 .1 .0) + 12
 
-abbrev μ-scope-listed : Measures 5 scope-listed-kinds.ps ℕ
-μ-scope-listed κs a = 16 * (a .1 .1 .1 .1 .1 .1 .0) + 11
+abbrev μ-scope-in : Measures 12 scope-in-kinds.ps ℕ
+μ-scope-in κs a = 16 * (a .1 .1 .1 .1 .1 .1 .1 .1 .1 .1 .1 .1 .1 .1 .0) + 11
+
+abbrev μ-scope-listed : Measures 6 scope-listed-kinds.ps ℕ
+μ-scope-listed κs a = 16 * (a .1 .1 .1 .1 .1 .1 .1 .0) + 13
+
+abbrev μ-scope-rounds : Measures 6 scope-rounds-kinds.ps ℕ
+μ-scope-rounds κs a = 16 * (a .1 .1 .1 .0)
 
 abbrev μ-walk : Measures 8 walk-kinds.ps ℕ
-μ-walk κs a = 16 * (a .1 .1 .1 .1 .1 .0) + 4
+μ-walk κs a = 16 * (a .1 .1 .1 .1 .1 .0) + 5
 
 abbrev μ-write-match : Measures 8 write-match-kinds.ps ℕ
-μ-write-match κs a = 16 * (a .1 .1 .1 .1 .1 .1 .1 .1 .1 .1 .0) + 5
+μ-write-match κs a = 16 * (a .1 .1 .1 .1 .1 .1 .1 .1 .1 .1 .0) + 6
 
 abbrev μ-write-scope : Measures 12 write-scope-kinds.ps ℕ
-μ-write-scope κs a = 16 * (a .1 .1 .1 .1 .1 .1 .1 .1 .1 .1 .1 .1 .1 .0) + 8
+μ-write-scope κs a = 16 * (a .1 .1 .1 .1 .1 .1 .1 .1 .1 .1 .1 .1 .1 .0) + 9
 
 abbrev μ-write-stmt : Measures 12 write-stmt-kinds.ps ℕ
-μ-write-stmt κs a = 16 * (a .1 .1 .1 .1 .1 .1 .1 .1 .1 .1 .1 .1 .1 .1 .0) + 6
+μ-write-stmt κs a = 16 * (a .1 .1 .1 .1 .1 .1 .1 .1 .1 .1 .1 .1 .1 .1 .0) + 7
 
 abbrev μ-write-stmts : Measures 13 write-stmts-kinds.ps ℕ
-μ-write-stmts κs a = 16 * (a .1 .1 .1 .1 .1 .1 .1 .1 .1 .1 .1 .1 .1 .1 .0) + 7
+μ-write-stmts κs a = 16 * (a .1 .1 .1 .1 .1 .1 .1 .1 .1 .1 .1 .1 .1 .1 .0) + 8
 
 abbrev arm-at : ℕ → In 5 arm-kinds.ps
 arm-at t = and 5 arm-kinds.ps (is 5 arm-kinds.ps μ-arm t) arm.Pre
@@ -148,41 +159,35 @@ scope-at t = and 4 scope-kinds.ps (is 4 scope-kinds.ps μ-scope t) scope.Pre
 abbrev scope-below : ℕ → In 4 scope-kinds.ps
 scope-below t = and 4 scope-kinds.ps (falls 4 scope-kinds.ps _<_ μ-scope t) scope.Pre
 
-abbrev scope-grouped-at : ℕ → In 10 scope-grouped-kinds.ps
-scope-grouped-at t =
-    and
-    10
-    scope-grouped-kinds.ps
-    (is 10 scope-grouped-kinds.ps μ-scope-grouped t)
-    scope-grouped.Pre
+abbrev scope-grouped-at : ℕ → In 12 scope-grouped-kinds.ps
+scope-grouped-at t = and 12 scope-grouped-kinds.ps (is 12 scope-grouped-kinds.ps μ-scope-grouped t) scope-grouped.Pre
 
-abbrev scope-grouped-below : ℕ → In 10 scope-grouped-kinds.ps
-scope-grouped-below t =
-    and
-    10
-    scope-grouped-kinds.ps
-    (falls 10 scope-grouped-kinds.ps _<_ μ-scope-grouped t)
-    scope-grouped.Pre
+abbrev scope-grouped-below : ℕ → In 12 scope-grouped-kinds.ps
+scope-grouped-below t = and 12 scope-grouped-kinds.ps (falls 12 scope-grouped-kinds.ps _<_ μ-scope-grouped t) scope-grouped.Pre
 
 abbrev scope-held-at : ℕ → In 6 scope-held-kinds.ps
-scope-held-at t =
-    and 6 scope-held-kinds.ps (is 6 scope-held-kinds.ps μ-scope-held t) scope-held.Pre
+scope-held-at t = and 6 scope-held-kinds.ps (is 6 scope-held-kinds.ps μ-scope-held t) scope-held.Pre
 
 abbrev scope-held-below : ℕ → In 6 scope-held-kinds.ps
-scope-held-below t =
-    and 6 scope-held-kinds.ps (falls 6 scope-held-kinds.ps _<_ μ-scope-held t) scope-held.Pre
+scope-held-below t = and 6 scope-held-kinds.ps (falls 6 scope-held-kinds.ps _<_ μ-scope-held t) scope-held.Pre
 
-abbrev scope-listed-at : ℕ → In 5 scope-listed-kinds.ps
-scope-listed-at t =
-    and 5 scope-listed-kinds.ps (is 5 scope-listed-kinds.ps μ-scope-listed t) scope-listed.Pre
+abbrev scope-in-at : ℕ → In 12 scope-in-kinds.ps
+scope-in-at t = and 12 scope-in-kinds.ps (is 12 scope-in-kinds.ps μ-scope-in t) scope-in.Pre
 
-abbrev scope-listed-below : ℕ → In 5 scope-listed-kinds.ps
-scope-listed-below t =
-    and
-    5
-    scope-listed-kinds.ps
-    (falls 5 scope-listed-kinds.ps _<_ μ-scope-listed t)
-    scope-listed.Pre
+abbrev scope-in-below : ℕ → In 12 scope-in-kinds.ps
+scope-in-below t = and 12 scope-in-kinds.ps (falls 12 scope-in-kinds.ps _<_ μ-scope-in t) scope-in.Pre
+
+abbrev scope-listed-at : ℕ → In 6 scope-listed-kinds.ps
+scope-listed-at t = and 6 scope-listed-kinds.ps (is 6 scope-listed-kinds.ps μ-scope-listed t) scope-listed.Pre
+
+abbrev scope-listed-below : ℕ → In 6 scope-listed-kinds.ps
+scope-listed-below t = and 6 scope-listed-kinds.ps (falls 6 scope-listed-kinds.ps _<_ μ-scope-listed t) scope-listed.Pre
+
+abbrev scope-rounds-at : ℕ → In 6 scope-rounds-kinds.ps
+scope-rounds-at t = and 6 scope-rounds-kinds.ps (is 6 scope-rounds-kinds.ps μ-scope-rounds t) scope-rounds.Pre
+
+abbrev scope-rounds-below : ℕ → In 6 scope-rounds-kinds.ps
+scope-rounds-below t = and 6 scope-rounds-kinds.ps (falls 6 scope-rounds-kinds.ps _<_ μ-scope-rounds t) scope-rounds.Pre
 
 abbrev walk-at : ℕ → In 8 walk-kinds.ps
 walk-at t = and 8 walk-kinds.ps (is 8 walk-kinds.ps μ-walk t) walk.Pre
@@ -191,36 +196,28 @@ abbrev walk-below : ℕ → In 8 walk-kinds.ps
 walk-below t = and 8 walk-kinds.ps (falls 8 walk-kinds.ps _<_ μ-walk t) walk.Pre
 
 abbrev write-match-at : ℕ → In 8 write-match-kinds.ps
-write-match-at t =
-    and 8 write-match-kinds.ps (is 8 write-match-kinds.ps μ-write-match t) write-match.Pre
+write-match-at t = and 8 write-match-kinds.ps (is 8 write-match-kinds.ps μ-write-match t) write-match.Pre
 
 abbrev write-match-below : ℕ → In 8 write-match-kinds.ps
-write-match-below t =
-    and 8 write-match-kinds.ps (falls 8 write-match-kinds.ps _<_ μ-write-match t) write-match.Pre
+write-match-below t = and 8 write-match-kinds.ps (falls 8 write-match-kinds.ps _<_ μ-write-match t) write-match.Pre
 
 abbrev write-scope-at : ℕ → In 12 write-scope-kinds.ps
-write-scope-at t =
-    and 12 write-scope-kinds.ps (is 12 write-scope-kinds.ps μ-write-scope t) write-scope.Pre
+write-scope-at t = and 12 write-scope-kinds.ps (is 12 write-scope-kinds.ps μ-write-scope t) write-scope.Pre
 
 abbrev write-scope-below : ℕ → In 12 write-scope-kinds.ps
-write-scope-below t =
-    and 12 write-scope-kinds.ps (falls 12 write-scope-kinds.ps _<_ μ-write-scope t) write-scope.Pre
+write-scope-below t = and 12 write-scope-kinds.ps (falls 12 write-scope-kinds.ps _<_ μ-write-scope t) write-scope.Pre
 
 abbrev write-stmt-at : ℕ → In 12 write-stmt-kinds.ps
-write-stmt-at t =
-    and 12 write-stmt-kinds.ps (is 12 write-stmt-kinds.ps μ-write-stmt t) write-stmt.Pre
+write-stmt-at t = and 12 write-stmt-kinds.ps (is 12 write-stmt-kinds.ps μ-write-stmt t) write-stmt.Pre
 
 abbrev write-stmt-below : ℕ → In 12 write-stmt-kinds.ps
-write-stmt-below t =
-    and 12 write-stmt-kinds.ps (falls 12 write-stmt-kinds.ps _<_ μ-write-stmt t) write-stmt.Pre
+write-stmt-below t = and 12 write-stmt-kinds.ps (falls 12 write-stmt-kinds.ps _<_ μ-write-stmt t) write-stmt.Pre
 
 abbrev write-stmts-at : ℕ → In 13 write-stmts-kinds.ps
-write-stmts-at t =
-    and 13 write-stmts-kinds.ps (is 13 write-stmts-kinds.ps μ-write-stmts t) write-stmts.Pre
+write-stmts-at t = and 13 write-stmts-kinds.ps (is 13 write-stmts-kinds.ps μ-write-stmts t) write-stmts.Pre
 
 abbrev write-stmts-below : ℕ → In 13 write-stmts-kinds.ps
-write-stmts-below t =
-    and 13 write-stmts-kinds.ps (falls 13 write-stmts-kinds.ps _<_ μ-write-stmts t) write-stmts.Pre
+write-stmts-below t = and 13 write-stmts-kinds.ps (falls 13 write-stmts-kinds.ps _<_ μ-write-stmts t) write-stmts.Pre
 
 arm-returns : (t : ℕ) → arm-lts.Need-returns (copy-arm-reads.Asked, copy-arm-reads.Learnt, scope-below t, scope.Post, put-word-reads.Asked, put-word-reads.Learnt) (arm-at t) arm.Post
 arm-returns t c = let s = c .before .before .before .before .before .before in let a = s .args in (arm-too-deep (rows-in (a .rows .now)) (a .fuel) (length (a .work .now) - a .h) (a .next) (take (a .h) (a .work .now)) (a .group .now) (s .pre .1 .0 .1) (s .pre .1 .1 .0 .0) (a .a) (s .pre .1 .1 .0 .1) (c .if1 .taken) (a .at) (a .table .now), refl)
@@ -389,431 +386,6 @@ measure-same-length-3 t c = search needs
 measure-returns :
     (t : ℕ) → measure-lts.Need-returns (arms-below t, arms.Post) (measure-at t) measure.Post
 measure-returns t c = let s = c .before .before .before .before .before .before .before .before .before .before .before .before .before .before .before in let a = s .args in (group-is (rows-in (a .rows .now)) (a .fuel) (length (a .work .now) - a .h) (a .next) (take (a .h) (a .work .now)) (a .group .now) (a .at) _ _ _ (c .before .before .before .before .before .before .arms .ensures .0), c .before .before .before .before .before .before .arms .ensures .1)
-
-scope-returns : (t : ℕ) → scope-lts.Need-returns (tree-count-reads.Asked, tree-count-reads.Learnt, extract-and-list-reads.Asked, extract-and-list-reads.Learnt, scope-listed-below t, scope-listed.Post) (scope-at t) scope.Post
-scope-returns t c = let s = c .before .before .before .before .before in let a = s .args in too-deep (rows-in (a .rows .now)) (length (a .work .now)) (a .row) (a .next) (take (a .len) (a .work .now)) (a .at) (a .table .now) (a .fuel) (c .if1 .taken)
-
-scope-returns-2 : (t : ℕ) → scope-lts.Need-returns-2 (tree-count-reads.Asked, tree-count-reads.Learnt, extract-and-list-reads.Asked, extract-and-list-reads.Learnt, scope-listed-below t, scope-listed.Post) (scope-at t) scope.Post
-scope-returns-2 t c = let s = c .before .before .before .before .before .before in let a = s .args in too-long (rows-in (a .rows .now)) (length (a .work .now)) (a .row) (a .next) (take (a .len) (a .work .now)) (a .at) (a .table .now) (a .fuel) (omega (arith, c .before .if1 .left)) (omega (arith, length-take-le (a .len) (a .work .now) (s .pre .1 .1 .0 .inside), c .if2 .taken))
-
-scope-returns-3 : (t : ℕ) → scope-lts.Need-returns-3 (tree-count-reads.Asked, tree-count-reads.Learnt, extract-and-list-reads.Asked, extract-and-list-reads.Learnt, scope-listed-below t, scope-listed.Post) (scope-at t) scope.Post
-scope-returns-3 t c = let s = c .before .before .before .before .before .before .before in let a = s .args in too-large (rows-in (a .rows .now)) (length (a .work .now)) (a .row) (a .next) (take (a .len) (a .work .now)) (a .at) (a .table .now) (a .fuel) (omega (arith, c .before .before .if1 .left)) (omega (arith, c .if3 .taken))
-
-scope-slice-reshare-prefix-tree-count : (t : ℕ) → scope-lts.Need-slice-reshare-prefix-tree-count (tree-count-reads.Asked, tree-count-reads.Learnt, extract-and-list-reads.Asked, extract-and-list-reads.Learnt, scope-listed-below t, scope-listed.Post) (scope-at t) scope.Post
-scope-slice-reshare-prefix-tree-count t c = let s = c .before .before .before .before .before .before .before in s .pre .1 .1 .0 .inside
-
-scope-slice-aggregate-tree-count : (t : ℕ) → scope-lts.Need-slice-aggregate-tree-count (tree-count-reads.Asked, tree-count-reads.Learnt, extract-and-list-reads.Asked, extract-and-list-reads.Learnt, scope-listed-below t, scope-listed.Post) (scope-at t) scope.Post
-scope-slice-aggregate-tree-count t c = let s = c .before .before .before .before .before .before .before .before in sym (length-take-le _ _ (s .pre .1 .1 .0 .inside))
-
-scope-tree-count-requires : (t : ℕ) → scope-lts.Need-tree-count-requires (tree-count-reads.Asked, tree-count-reads.Learnt, extract-and-list-reads.Asked, extract-and-list-reads.Learnt, scope-listed-below t, scope-listed.Post) (scope-at t) scope.Post
-scope-tree-count-requires t c κs = let s = c .before .before .before .before .before .before .before .before in let a = s .args in whole-so (rows-in (a .rows .now)) (a .next) (take (a .len) (a .work .now)) (s .pre .1 .0 .0)
-
-scope-slice-aggregate-extract-and-list : (t : ℕ) → scope-lts.Need-slice-aggregate-extract-and-list (tree-count-reads.Asked, tree-count-reads.Learnt, extract-and-list-reads.Asked, extract-and-list-reads.Learnt, scope-listed-below t, scope-listed.Post) (scope-at t) scope.Post
-scope-slice-aggregate-extract-and-list t c = search needs
-
-scope-extract-and-list-requires : (t : ℕ) → scope-lts.Need-extract-and-list-requires (tree-count-reads.Asked, tree-count-reads.Learnt, extract-and-list-reads.Asked, extract-and-list-reads.Learnt, scope-listed-below t, scope-listed.Post) (scope-at t) scope.Post
-scope-extract-and-list-requires t c κs = let s = c .before .before .before .before .before .before .before .before .before .before .before .before in (s .pre .1 .0, ((omega (arith, c .before .before .before .before .before .before .if2 .left), s .pre .1 .1 .0 .inside, omega (arith, c .before .before .before .before .before .if3 .left)), (s .pre .1 .1 .0 .bytes, omega arith)))
-
-scope-enum-known-listed : (t : ℕ) → scope-lts.Need-enum-known-listed (tree-count-reads.Asked, tree-count-reads.Learnt, extract-and-list-reads.Asked, extract-and-list-reads.Learnt, scope-listed-below t, scope-listed.Post) (scope-at t) scope.Post
-scope-enum-known-listed t c = search needs
-
-scope-enum-told : (t : ℕ) → scope-lts.Need-enum-told (tree-count-reads.Asked, tree-count-reads.Learnt, extract-and-list-reads.Asked, extract-and-list-reads.Learnt, scope-listed-below t, scope-listed.Post) (scope-at t) scope.Post
-scope-enum-told t c = search needs
-
-scope-same-length : (t : ℕ) → scope-lts.Need-same-length (tree-count-reads.Asked, tree-count-reads.Learnt, extract-and-list-reads.Asked, extract-and-list-reads.Learnt, scope-listed-below t, scope-listed.Post) (scope-at t) scope.Post
-scope-same-length t c = search needs
-
-scope-same-length-2 : (t : ℕ) → scope-lts.Need-same-length-2 (tree-count-reads.Asked, tree-count-reads.Learnt, extract-and-list-reads.Asked, extract-and-list-reads.Learnt, scope-listed-below t, scope-listed.Post) (scope-at t) scope.Post
-scope-same-length-2 t c = search needs
-
-scope-returns-4 : (t : ℕ) → scope-lts.Need-returns-4 (tree-count-reads.Asked, tree-count-reads.Learnt, extract-and-list-reads.Asked, extract-and-list-reads.Learnt, scope-listed-below t, scope-listed.Post) (scope-at t) scope.Post
-scope-returns-4 t c = let s = c .before .before .before .before .before .before .before .before .before .before .before .before .before .before .before .before .before .before .before .before in let a = s .args in ten (rows-in (a .rows .now)) (length (a .work .now)) (a .row) (a .next) (take (a .len) (a .work .now)) (a .at) (a .table .now) (a .fuel) (omega (arith, c .before .before .before .before .before .before .before .before .before .before .before .before .before .before .before .if1 .left)) (omega (arith, length-take-le (a .len) (a .work .now) (s .pre .1 .1 .0 .inside), s .pre .1 .1 .0 .inside)) (omega (arith, length-take-le (a .len) (a .work .now) (s .pre .1 .1 .0 .inside), c .before .before .before .before .before .before .before .before .before .before .before .before .before .before .if2 .left)) (omega (arith, c .before .before .before .before .before .before .before .before .before .before .before .before .before .if3 .left)) (s .pre .1 .0 .0) (s .pre .1 .0 .1) (c .before .before .before .before .before .before .before .extract-and-list .result) _ _ (c .before .before .before .before .before .before .before .extract-and-list .ensures) (c .enum-told .given .1)
-
-scope-array-share-prefix-places : (t : ℕ) → scope-lts.Need-array-share-prefix-places (tree-count-reads.Asked, tree-count-reads.Learnt, extract-and-list-reads.Asked, extract-and-list-reads.Learnt, scope-listed-below t, scope-listed.Post) (scope-at t) scope.Post
-scope-array-share-prefix-places t c = let s = c .before .before .before .before .before .before .before .before .before .before .before .before .before .before .before .before .before .before .before .before .before .before in let a = s .args in places-in (rows-in (a .rows .now)) (length (a .work .now)) (a .row) (a .next) (take (a .len) (a .work .now)) (a .at) (a .table .now) (a .fuel) (omega (arith, c .before .before .before .before .before .before .before .before .before .before .before .before .before .before .before .before .before .if1 .left)) (omega (arith, length-take-le (a .len) (a .work .now) (s .pre .1 .1 .0 .inside), s .pre .1 .1 .0 .inside)) (omega (arith, length-take-le (a .len) (a .work .now) (s .pre .1 .1 .0 .inside), c .before .before .before .before .before .before .before .before .before .before .before .before .before .before .before .before .if2 .left)) (omega (arith, c .before .before .before .before .before .before .before .before .before .before .before .before .before .before .before .if3 .left)) (s .pre .1 .0 .0) (s .pre .1 .0 .1) (c .before .before .before .before .before .before .before .before .before .extract-and-list .result) _ _ (c .before .before .before .before .before .before .before .before .before .extract-and-list .ensures) _ _ _ (c .before .before .listed .given .1)
-
-scope-slice-aggregate-scope-listed : (t : ℕ) → scope-lts.Need-slice-aggregate-scope-listed (tree-count-reads.Asked, tree-count-reads.Learnt, extract-and-list-reads.Asked, extract-and-list-reads.Learnt, scope-listed-below t, scope-listed.Post) (scope-at t) scope.Post
-scope-slice-aggregate-scope-listed t c = let s = c .before .before .before .before .before .before .before .before .before .before .before .before .before .before .before .before .before .before .before .before .before .before .before in let a = s .args in sym (length-take-le _ _ (places-in (rows-in (a .rows .now)) (length (a .work .now)) (a .row) (a .next) (take (a .len) (a .work .now)) (a .at) (a .table .now) (a .fuel) (omega (arith, c .before .before .before .before .before .before .before .before .before .before .before .before .before .before .before .before .before .before .if1 .left)) (omega (arith, length-take-le (a .len) (a .work .now) (s .pre .1 .1 .0 .inside), s .pre .1 .1 .0 .inside)) (omega (arith, length-take-le (a .len) (a .work .now) (s .pre .1 .1 .0 .inside), c .before .before .before .before .before .before .before .before .before .before .before .before .before .before .before .before .before .if2 .left)) (omega (arith, c .before .before .before .before .before .before .before .before .before .before .before .before .before .before .before .before .if3 .left)) (s .pre .1 .0 .0) (s .pre .1 .0 .1) (c .before .before .before .before .before .before .before .before .before .before .extract-and-list .result) _ _ (c .before .before .before .before .before .before .before .before .before .before .extract-and-list .ensures) _ _ _ (c .before .before .before .listed .given .1)))
-
-scope-sub-scope-listed : (t : ℕ) → scope-lts.Need-sub-scope-listed (tree-count-reads.Asked, tree-count-reads.Learnt, extract-and-list-reads.Asked, extract-and-list-reads.Learnt, scope-listed-below t, scope-listed.Post) (scope-at t) scope.Post
-scope-sub-scope-listed t c = omega (arith, c .before .before .before .before .before .before .before .before .before .before .before .before .before .before .before .before .before .before .if1 .left)
-
-scope-scope-listed-requires : (t : ℕ) → scope-lts.Need-scope-listed-requires (tree-count-reads.Asked, tree-count-reads.Learnt, extract-and-list-reads.Asked, extract-and-list-reads.Learnt, scope-listed-below t, scope-listed.Post) (scope-at t) scope.Post
-scope-scope-listed-requires t c κs = let s = c .before .before .before .before .before .before .before .before .before .before .before .before .before .before .before .before .before .before .before .before .before .before .before .before .before in let a = s .args in (omega (arith, s .pre .0, c .before .before .before .before .before .before .before .before .before .before .before .before .before .before .before .before .before .before .before .before .if1 .left), ((record { words = omega (arith, s .pre .1 .1 .0 .words, (c .before .before .before .before .before .before .before .before .before .before .before .before .extract-and-list .kept .1 .0)); inside = words-in (rows-in (a .rows .now)) (length (a .work .now)) (a .row) (a .next) (take (a .len) (a .work .now)) (a .at) (a .table .now) (a .fuel) (omega (arith, c .before .before .before .before .before .before .before .before .before .before .before .before .before .before .before .before .before .before .before .before .if1 .left)) (omega (arith, length-take-le (a .len) (a .work .now) (s .pre .1 .1 .0 .inside), s .pre .1 .1 .0 .inside)) (omega (arith, length-take-le (a .len) (a .work .now) (s .pre .1 .1 .0 .inside), c .before .before .before .before .before .before .before .before .before .before .before .before .before .before .before .before .before .before .before .if2 .left)) (omega (arith, c .before .before .before .before .before .before .before .before .before .before .before .before .before .before .before .before .before .before .if3 .left)) (s .pre .1 .0 .0) (s .pre .1 .0 .1) (c .before .before .before .before .before .before .before .before .before .before .before .before .extract-and-list .result) _ _ (c .before .before .before .before .before .before .before .before .before .before .before .before .extract-and-list .ensures) _ _ _ (c .before .before .before .before .before .listed .given .1); bytes = omega (arith, s .pre .1 .1 .0 .bytes, (c .before .before .before .before .before .before .before .before .before .before .before .before .extract-and-list .kept .1 .1 .1 .1 .1 .0)) }, left-so (rows-in (a .rows .now)) (length (a .work .now)) (a .row) (a .next) (take (a .len) (a .work .now)) (a .at) (a .table .now) (a .fuel) (omega (arith, c .before .before .before .before .before .before .before .before .before .before .before .before .before .before .before .before .before .before .before .before .if1 .left)) (omega (arith, length-take-le (a .len) (a .work .now) (s .pre .1 .1 .0 .inside), s .pre .1 .1 .0 .inside)) (omega (arith, length-take-le (a .len) (a .work .now) (s .pre .1 .1 .0 .inside), c .before .before .before .before .before .before .before .before .before .before .before .before .before .before .before .before .before .before .before .if2 .left)) (omega (arith, c .before .before .before .before .before .before .before .before .before .before .before .before .before .before .before .before .before .before .if3 .left)) (s .pre .1 .0 .0) (s .pre .1 .0 .1) (c .before .before .before .before .before .before .before .before .before .before .before .before .extract-and-list .result) _ _ (c .before .before .before .before .before .before .before .before .before .before .before .before .extract-and-list .ensures) _ _ _ (c .before .before .before .before .before .listed .given .1) (c .before .before .before .before .before .before .before .before .before .before .before .before .before .before .before .before .tree-count .result) (c .before .before .before .before .before .before .before .before .before .before .before .before .before .before .before .before .tree-count .ensures)), subst (λ o. a .at + told-rows o ≤ most-rows) (scope-is (rows-in (a .rows .now)) (length (a .work .now)) (a .row) (a .next) (take (a .len) (a .work .now)) (a .at) (a .table .now) (a .fuel) (omega (arith, c .before .before .before .before .before .before .before .before .before .before .before .before .before .before .before .before .before .before .before .before .if1 .left)) (omega (arith, length-take-le (a .len) (a .work .now) (s .pre .1 .1 .0 .inside), s .pre .1 .1 .0 .inside)) (omega (arith, length-take-le (a .len) (a .work .now) (s .pre .1 .1 .0 .inside), c .before .before .before .before .before .before .before .before .before .before .before .before .before .before .before .before .before .before .before .if2 .left)) (omega (arith, c .before .before .before .before .before .before .before .before .before .before .before .before .before .before .before .before .before .before .if3 .left)) (s .pre .1 .0 .0) (s .pre .1 .0 .1) (c .before .before .before .before .before .before .before .before .before .before .before .before .extract-and-list .result) _ _ (c .before .before .before .before .before .before .before .before .before .before .before .before .extract-and-list .ensures) _ _ _ (c .before .before .before .before .before .listed .given .1) (c .before .before .before .before .before .before .before .before .before .before .before .before .before .before .before .before .tree-count .result) (c .before .before .before .before .before .before .before .before .before .before .before .before .before .before .before .before .tree-count .ensures) ∙ (left-now (rows-in (a .rows .now)) (a .fuel - 1) (a .row) _ _ (a .next) _ _ _ (c .before .before .before .before .before .before .before .before .before .before .before .before .extract-and-list .kept .1 .0))) (s .pre .1 .1 .1)))
-
-scope-same-length-3 : (t : ℕ) → scope-lts.Need-same-length-3 (tree-count-reads.Asked, tree-count-reads.Learnt, extract-and-list-reads.Asked, extract-and-list-reads.Learnt, scope-listed-below t, scope-listed.Post) (scope-at t) scope.Post
-scope-same-length-3 t c = search needs
-
-scope-same-length-4 : (t : ℕ) → scope-lts.Need-same-length-4 (tree-count-reads.Asked, tree-count-reads.Learnt, extract-and-list-reads.Asked, extract-and-list-reads.Learnt, scope-listed-below t, scope-listed.Post) (scope-at t) scope.Post
-scope-same-length-4 t c = search needs
-
-scope-same-length-5 : (t : ℕ) → scope-lts.Need-same-length-5 (tree-count-reads.Asked, tree-count-reads.Learnt, extract-and-list-reads.Asked, extract-and-list-reads.Learnt, scope-listed-below t, scope-listed.Post) (scope-at t) scope.Post
-scope-same-length-5 t c = search needs
-
-scope-returns-5 : (t : ℕ) → scope-lts.Need-returns-5 (tree-count-reads.Asked, tree-count-reads.Learnt, extract-and-list-reads.Asked, extract-and-list-reads.Learnt, scope-listed-below t, scope-listed.Post) (scope-at t) scope.Post
-scope-returns-5 t c = let s = c .before .before .before .before .before .before .before .before .before .before .before .before .before .before .before .before .before .before .before .before .before .before .before .before .before .before .before .before .before .before .before .before in let a = s .args in done-as _ _ (scope-is (rows-in (a .rows .now)) (length (a .work .now)) (a .row) (a .next) (take (a .len) (a .work .now)) (a .at) (a .table .now) (a .fuel) (omega (arith, c .before .before .before .before .before .before .before .before .before .before .before .before .before .before .before .before .before .before .before .before .before .before .before .before .before .before .before .if1 .left)) (omega (arith, length-take-le (a .len) (a .work .now) (s .pre .1 .1 .0 .inside), s .pre .1 .1 .0 .inside)) (omega (arith, length-take-le (a .len) (a .work .now) (s .pre .1 .1 .0 .inside), c .before .before .before .before .before .before .before .before .before .before .before .before .before .before .before .before .before .before .before .before .before .before .before .before .before .before .if2 .left)) (omega (arith, c .before .before .before .before .before .before .before .before .before .before .before .before .before .before .before .before .before .before .before .before .before .before .before .before .before .if3 .left)) (s .pre .1 .0 .0) (s .pre .1 .0 .1) (c .before .before .before .before .before .before .before .before .before .before .before .before .before .before .before .before .before .before .before .extract-and-list .result) _ _ (c .before .before .before .before .before .before .before .before .before .before .before .before .before .before .before .before .before .before .before .extract-and-list .ensures) _ _ _ (c .before .before .before .before .before .before .before .before .before .before .before .before .listed .given .1) (c .before .before .before .before .before .before .before .before .before .before .before .before .before .before .before .before .before .before .before .before .before .before .before .tree-count .result) (c .before .before .before .before .before .before .before .before .before .before .before .before .before .before .before .before .before .before .before .before .before .before .before .tree-count .ensures) ∙ (left-now (rows-in (a .rows .now)) (a .fuel - 1) (a .row) _ _ (a .next) _ _ _ (c .before .before .before .before .before .before .before .before .before .before .before .before .before .before .before .before .before .before .before .extract-and-list .kept .1 .0))) (a .at) (a .table .now) _ _ (c .before .before .before .before .before .before .scope-listed .ensures)
-
-scope-grouped-sub-next : (t : ℕ) → scope-grouped-lts.Need-sub-next (walk-below t, walk.Post, walk-refusal-reads.Asked, walk-refusal-reads.Learnt, write-scope-below t, write-scope.Post) (scope-grouped-at t) scope-grouped.Post
-scope-grouped-sub-next t c = let s = c .before .before .before .before .before .before .before .before .before .before in s .pre .1 .1 .0 .0 .enough
-
-scope-grouped-add-next : (t : ℕ) → scope-grouped-lts.Need-add-next (walk-below t, walk.Post, walk-refusal-reads.Asked, walk-refusal-reads.Learnt, write-scope-below t, write-scope.Post) (scope-grouped-at t) scope-grouped.Post
-scope-grouped-add-next t c = let s = c .before .before .before .before .before .before .before .before .before .before in let a = s .args in omega (arith, lets-small (rows-in (a .rows .now)) (a .fuel) (length (a .work .now) - a .h) (a .row) (a .tokens .now) (a .results) (a .first) (a .places .now) (take (a .h) (a .work .now)) (a .starts .now) (a .members .now) (a .ends .now) (s .pre .1 .0 .1) (s .pre .1 .1 .0 .0))
-
-scope-grouped-add-next-2 : (t : ℕ) → scope-grouped-lts.Need-add-next-2 (walk-below t, walk.Post, walk-refusal-reads.Asked, walk-refusal-reads.Learnt, write-scope-below t, write-scope.Post) (scope-grouped-at t) scope-grouped.Post
-scope-grouped-add-next-2 t c = let s = c .before .before .before .before .before .before .before .before .before .before in let a = s .args in omega (arith, from-low (rows-in (a .rows .now)) (a .fuel) (length (a .work .now) - a .h) (a .row) (a .tokens .now) (a .results) (a .first) (a .places .now) (take (a .h) (a .work .now)) (a .starts .now) (a .members .now) (a .ends .now) (s .pre .1 .0 .1) (s .pre .1 .1 .0 .0))
-
-scope-grouped-slice-aggregate-walk : (t : ℕ) → scope-grouped-lts.Need-slice-aggregate-walk (walk-below t, walk.Post, walk-refusal-reads.Asked, walk-refusal-reads.Learnt, write-scope-below t, write-scope.Post) (scope-grouped-at t) scope-grouped.Post
-scope-grouped-slice-aggregate-walk t c = search needs
-
-scope-grouped-slice-aggregate-walk-2 : (t : ℕ) → scope-grouped-lts.Need-slice-aggregate-walk-2 (walk-below t, walk.Post, walk-refusal-reads.Asked, walk-refusal-reads.Learnt, write-scope-below t, write-scope.Post) (scope-grouped-at t) scope-grouped.Post
-scope-grouped-slice-aggregate-walk-2 t c = search needs
-
-scope-grouped-walk-requires : (t : ℕ) → scope-grouped-lts.Need-walk-requires (walk-below t, walk.Post, walk-refusal-reads.Asked, walk-refusal-reads.Learnt, write-scope-below t, write-scope.Post) (scope-grouped-at t) scope-grouped.Post
-scope-grouped-walk-requires t c κs = let s = c .before .before .before .before .before .before .before .before .before .before .before .before .before .before .before in let a = s .args in (omega (arith, s .pre .0), ((s .pre .1 .0 .0, holds-from (rows-in (a .rows .now)) (a .fuel) (length (a .work .now) - a .h) (a .row) (a .tokens .now) (a .results) (a .first) (a .places .now) (take (a .h) (a .work .now)) (a .starts .now) (a .members .now) (a .ends .now) (s .pre .1 .0 .1) (s .pre .1 .1 .0 .0)), ((s .pre .1 .1 .0 .0 .grouped, omega (arith, from-low (rows-in (a .rows .now)) (a .fuel) (length (a .work .now) - a .h) (a .row) (a .tokens .now) (a .results) (a .first) (a .places .now) (take (a .h) (a .work .now)) (a .starts .now) (a .members .now) (a .ends .now) (s .pre .1 .0 .1) (s .pre .1 .1 .0 .0))), (s .pre .1 .1 .0 .1, omega (arith, ends-short (rows-in (a .rows .now)) (a .fuel) (length (a .work .now) - a .h) (a .row) (a .tokens .now) (a .results) (a .first) (a .places .now) (take (a .h) (a .work .now)) (a .starts .now) (a .members .now) (a .ends .now) (s .pre .1 .0 .1) (s .pre .1 .1 .0 .0))))))
-
-scope-grouped-enum-known-walked : (t : ℕ) → scope-grouped-lts.Need-enum-known-walked (walk-below t, walk.Post, walk-refusal-reads.Asked, walk-refusal-reads.Learnt, write-scope-below t, write-scope.Post) (scope-grouped-at t) scope-grouped.Post
-scope-grouped-enum-known-walked t c = search needs
-
-scope-grouped-enum-told : (t : ℕ) → scope-grouped-lts.Need-enum-told (walk-below t, walk.Post, walk-refusal-reads.Asked, walk-refusal-reads.Learnt, write-scope-below t, write-scope.Post) (scope-grouped-at t) scope-grouped.Post
-scope-grouped-enum-told t c = search needs
-
-scope-grouped-walk-refusal-requires : (t : ℕ) → scope-grouped-lts.Need-walk-refusal-requires (walk-below t, walk.Post, walk-refusal-reads.Asked, walk-refusal-reads.Learnt, write-scope-below t, write-scope.Post) (scope-grouped-at t) scope-grouped.Post
-scope-grouped-walk-refusal-requires t c κs = search needs
-
-scope-grouped-same-length : (t : ℕ) → scope-grouped-lts.Need-same-length (walk-below t, walk.Post, walk-refusal-reads.Asked, walk-refusal-reads.Learnt, write-scope-below t, write-scope.Post) (scope-grouped-at t) scope-grouped.Post
-scope-grouped-same-length t c = search needs
-
-scope-grouped-same-length-2 : (t : ℕ) → scope-grouped-lts.Need-same-length-2 (walk-below t, walk.Post, walk-refusal-reads.Asked, walk-refusal-reads.Learnt, write-scope-below t, write-scope.Post) (scope-grouped-at t) scope-grouped.Post
-scope-grouped-same-length-2 t c = search needs
-
-scope-grouped-same-length-3 : (t : ℕ) → scope-grouped-lts.Need-same-length-3 (walk-below t, walk.Post, walk-refusal-reads.Asked, walk-refusal-reads.Learnt, write-scope-below t, write-scope.Post) (scope-grouped-at t) scope-grouped.Post
-scope-grouped-same-length-3 t c = search needs
-
-scope-grouped-returns : (t : ℕ) → scope-grouped-lts.Need-returns (walk-below t, walk.Post, walk-refusal-reads.Asked, walk-refusal-reads.Learnt, write-scope-below t, write-scope.Post) (scope-grouped-at t) scope-grouped.Post
-scope-grouped-returns t c = let s = c .before .before .before .before .before .before .before .before .before .before .before .before .before .before .before .before .before .before .before .before .before .before .before .before .before .before .before in let a = s .args in walk-refused (rows-in (a .rows .now)) (a .fuel) (length (a .work .now) - a .h) (a .row) (a .tokens .now) (a .results) (a .first) (a .places .now) (take (a .h) (a .work .now)) (a .starts .now) (a .members .now) (a .ends .now) (s .pre .1 .0 .1) (s .pre .1 .1 .0 .0) (c .before .before .before .before .before .before .before .before .before .before .before .walk .result) _ _ _ (c .before .before .before .before .before .before .before .before .before .before .before .walk .ensures .0) _ (c .before .enum-told .given .1) _ (c .walk-refusal .ensures) (a .at) (a .table .now)
-
-scope-grouped-slice-reshare-prefix-write-scope :
-    (t : ℕ) → scope-grouped-lts.Need-slice-reshare-prefix-write-scope (
-      walk-below t,
-      walk.Post,
-      walk-refusal-reads.Asked,
-      walk-refusal-reads.Learnt,
-      write-scope-below t,
-      write-scope.Post,
-    ) (scope-grouped-at t) scope-grouped.Post
-scope-grouped-slice-reshare-prefix-write-scope t c = let s = c .before .before .before .before .before .before .before .before .before .before .before .before .before .before .before .before .before .before .before .before .before .before .before .before .before .before .before .before in omega (arith, s .pre .1 .1 .0 .1, c .before .before .before .before .before .before .before .before .before .before .before .before .walk .kept .1 .1 .1 .1 .1 .1 .1 .1 .0)
-
-scope-grouped-slice-aggregate-write-scope :
-    (t : ℕ) → scope-grouped-lts.Need-slice-aggregate-write-scope (
-      walk-below t,
-      walk.Post,
-      walk-refusal-reads.Asked,
-      walk-refusal-reads.Learnt,
-      write-scope-below t,
-      write-scope.Post,
-    ) (scope-grouped-at t) scope-grouped.Post
-scope-grouped-slice-aggregate-write-scope t c = let s = c .before .before .before .before .before .before .before .before .before .before .before .before .before .before .before .before .before .before .before .before .before .before .before .before .before .before .before .before .before in sym (length-take-le _ _ (omega (arith, s .pre .1 .1 .0 .1, c .before .before .before .before .before .before .before .before .before .before .before .before .before .walk .kept .1 .1 .1 .1 .1 .1 .1 .1 .0)))
-
-scope-grouped-array-share-prefix-stops : (t : ℕ) → scope-grouped-lts.Need-array-share-prefix-stops (walk-below t, walk.Post, walk-refusal-reads.Asked, walk-refusal-reads.Learnt, write-scope-below t, write-scope.Post) (scope-grouped-at t) scope-grouped.Post
-scope-grouped-array-share-prefix-stops t c = let s = c .before .before .before .before .before .before .before .before .before .before .before .before .before .before .before .before .before .before .before .before .before .before .before .before .before .before .before .before .before in let a = s .args in omega (arith, ends-short (rows-in (a .rows .now)) (a .fuel) (length (a .work .now) - a .h) (a .row) (a .tokens .now) (a .results) (a .first) (a .places .now) (take (a .h) (a .work .now)) (a .starts .now) (a .members .now) (a .ends .now) (s .pre .1 .0 .1) (s .pre .1 .1 .0 .0), c .before .before .before .before .before .before .before .before .before .before .before .before .before .walk .kept .1 .1 .1 .1 .1 .1 .1 .1 .1 .0)
-
-scope-grouped-slice-aggregate-write-scope-2 :
-    (t : ℕ) → scope-grouped-lts.Need-slice-aggregate-write-scope-2 (
-      walk-below t,
-      walk.Post,
-      walk-refusal-reads.Asked,
-      walk-refusal-reads.Learnt,
-      write-scope-below t,
-      write-scope.Post,
-    ) (scope-grouped-at t) scope-grouped.Post
-scope-grouped-slice-aggregate-write-scope-2 t c = let s = c .before .before .before .before .before .before .before .before .before .before .before .before .before .before .before .before .before .before .before .before .before .before .before .before .before .before .before .before .before .before in let a = s .args in sym (length-take-le _ _ (omega (arith, ends-short (rows-in (a .rows .now)) (a .fuel) (length (a .work .now) - a .h) (a .row) (a .tokens .now) (a .results) (a .first) (a .places .now) (take (a .h) (a .work .now)) (a .starts .now) (a .members .now) (a .ends .now) (s .pre .1 .0 .1) (s .pre .1 .1 .0 .0), c .before .before .before .before .before .before .before .before .before .before .before .before .before .before .walk .kept .1 .1 .1 .1 .1 .1 .1 .1 .1 .0)))
-
-scope-grouped-slice-aggregate-write-scope-3 :
-    (t : ℕ) → scope-grouped-lts.Need-slice-aggregate-write-scope-3 (
-      walk-below t,
-      walk.Post,
-      walk-refusal-reads.Asked,
-      walk-refusal-reads.Learnt,
-      write-scope-below t,
-      write-scope.Post,
-    ) (scope-grouped-at t) scope-grouped.Post
-scope-grouped-slice-aggregate-write-scope-3 t c = search needs
-
-scope-grouped-write-scope-requires : (t : ℕ) → scope-grouped-lts.Need-write-scope-requires (walk-below t, walk.Post, walk-refusal-reads.Asked, walk-refusal-reads.Learnt, write-scope-below t, write-scope.Post) (scope-grouped-at t) scope-grouped.Post
-scope-grouped-write-scope-requires t c κs = let s = c .before .before .before .before .before .before .before .before .before .before .before .before .before .before .before .before .before .before .before .before .before .before .before .before .before .before .before .before .before .before .before .before .before in let a = s .args in (omega (arith, s .pre .0), ((lent-on (a .h) (a .work .now) (a .text .now) _ _ (s .pre .1 .0 .0) (c .before .before .before .before .before .before .before .before .before .before .before .before .before .before .before .before .before .walk .kept .1 .0) (c .before .before .before .before .before .before .before .before .before .before .before .before .before .before .before .before .before .walk .kept .1 .1 .1 .1 .1 .1 .1 .0), holds-now (a .h) (a .work .now) _ (c .before .before .before .before .before .before .before .before .before .before .before .before .before .before .before .before .before .walk .ensures .1) (rows-in (a .rows .now)) _ (s .pre .1 .0 .1)), ((prepared-now (a .h) (a .work .now) _ (c .before .before .before .before .before .before .before .before .before .before .before .before .before .before .before .before .before .walk .ensures .1) (a .tokens .now) (a .results) (a .first) (a .places .now) _ _ _ _ (prepared-so (rows-in (a .rows .now)) (a .fuel) (length (a .work .now) - a .h) (a .row) (a .tokens .now) (a .results) (a .first) (a .places .now) (take (a .h) (a .work .now)) (a .starts .now) (a .members .now) (a .ends .now) (s .pre .1 .0 .1) (s .pre .1 .1 .0 .0) (c .before .before .before .before .before .before .before .before .before .before .before .before .before .before .before .before .before .walk .result) _ _ _ (c .before .before .before .before .before .before .before .before .before .before .before .before .before .before .before .before .before .walk .ensures .0) _ _ (c .before .before .before .before .before .before .before .walked .given .1)), numbered-now (a .h) (a .work .now) _ (c .before .before .before .before .before .before .before .before .before .before .before .before .before .before .before .before .before .walk .ensures .1) (c .before .before .before .before .before .before .before .before .before .before .before .before .before .before .before .before .before .walk .kept .1 .0) (rows-in (a .rows .now)) (a .fuel) _ _ _ _ _ _ (numbered-so (rows-in (a .rows .now)) (a .fuel) (length (a .work .now) - a .h) (a .row) (a .tokens .now) (a .results) (a .first) (a .places .now) (take (a .h) (a .work .now)) (a .starts .now) (a .members .now) (a .ends .now) (s .pre .1 .0 .1) (s .pre .1 .1 .0 .0) (c .before .before .before .before .before .before .before .before .before .before .before .before .before .before .before .before .before .walk .result) _ _ _ (c .before .before .before .before .before .before .before .before .before .before .before .before .before .before .before .before .before .walk .ensures .0) _ _ (c .before .before .before .before .before .before .before .walked .given .1))), now-so (a .h) (a .work .now) _ (c .before .before .before .before .before .before .before .before .before .before .before .before .before .before .before .before .before .walk .ensures .1) (c .before .before .before .before .before .before .before .before .before .before .before .before .before .before .before .before .before .walk .kept .1 .0) (λ hs left. a .at + told-rows (grouped-scope (rows-in (a .rows .now)) (a .fuel) left (a .row) (a .tokens .now) (a .results) (a .first) (a .places .now)) ≤ most-rows) (s .pre .1 .1 .1))))
-
-scope-grouped-same-length-4 : (t : ℕ) → scope-grouped-lts.Need-same-length-4 (walk-below t, walk.Post, walk-refusal-reads.Asked, walk-refusal-reads.Learnt, write-scope-below t, write-scope.Post) (scope-grouped-at t) scope-grouped.Post
-scope-grouped-same-length-4 t c = search needs
-
-scope-grouped-same-length-5 : (t : ℕ) → scope-grouped-lts.Need-same-length-5 (walk-below t, walk.Post, walk-refusal-reads.Asked, walk-refusal-reads.Learnt, write-scope-below t, write-scope.Post) (scope-grouped-at t) scope-grouped.Post
-scope-grouped-same-length-5 t c = search needs
-
-scope-grouped-same-length-6 : (t : ℕ) → scope-grouped-lts.Need-same-length-6 (walk-below t, walk.Post, walk-refusal-reads.Asked, walk-refusal-reads.Learnt, write-scope-below t, write-scope.Post) (scope-grouped-at t) scope-grouped.Post
-scope-grouped-same-length-6 t c = search needs
-
-scope-grouped-same-length-7 : (t : ℕ) → scope-grouped-lts.Need-same-length-7 (walk-below t, walk.Post, walk-refusal-reads.Asked, walk-refusal-reads.Learnt, write-scope-below t, write-scope.Post) (scope-grouped-at t) scope-grouped.Post
-scope-grouped-same-length-7 t c = search needs
-
-scope-grouped-returns-2 : (t : ℕ) → scope-grouped-lts.Need-returns-2 (walk-below t, walk.Post, walk-refusal-reads.Asked, walk-refusal-reads.Learnt, write-scope-below t, write-scope.Post) (scope-grouped-at t) scope-grouped.Post
-scope-grouped-returns-2 t c = let s = c .before .before .before .before .before .before .before .before .before .before .before .before .before .before .before .before .before .before .before .before .before .before .before .before .before .before .before .before .before .before .before .before .before .before .before .before .before .before .before .before in let a = s .args in grouped-before (a .h) (a .work .now) _ (c .before .before .before .before .before .before .before .before .before .before .before .before .before .before .before .before .before .before .before .before .before .before .before .before .walk .ensures .1) (c .before .before .before .before .before .before .before .before .before .before .before .before .before .before .before .before .before .before .before .before .before .before .before .before .walk .kept .1 .0) (rows-in (a .rows .now)) (a .fuel) (a .row) (a .tokens .now) (a .results) (a .first) (a .places .now) (a .at) (a .table .now) (c .before .before .before .before .before .before .write-scope .result) _ (c .before .before .before .before .before .before .write-scope .ensures)
-
-scope-held-slice-reshare-prefix-list-trees :
-    (t : ℕ) → scope-held-lts.Need-slice-reshare-prefix-list-trees (
-      list-trees-reads.Asked,
-      list-trees-reads.Learnt,
-      group-all-reads.Asked,
-      group-all-reads.Learnt,
-      scope-grouped-below t,
-      scope-grouped.Post,
-    ) (scope-held-at t) scope-held.Post
-scope-held-slice-reshare-prefix-list-trees t c = let s = c .before .before .before .before .before .before in s .pre .1 .0 .0 .inside
-
-scope-held-slice-aggregate-list-trees : (t : ℕ) → scope-held-lts.Need-slice-aggregate-list-trees (list-trees-reads.Asked, list-trees-reads.Learnt, group-all-reads.Asked, group-all-reads.Learnt, scope-grouped-below t, scope-grouped.Post) (scope-held-at t) scope-held.Post
-scope-held-slice-aggregate-list-trees t c = let s = c .before .before .before .before .before .before .before in sym (length-take-le _ _ (s .pre .1 .0 .0 .inside))
-
-scope-held-slice-aggregate-list-trees-2 :
-    (t : ℕ) → scope-held-lts.Need-slice-aggregate-list-trees-2 (
-      list-trees-reads.Asked,
-      list-trees-reads.Learnt,
-      group-all-reads.Asked,
-      group-all-reads.Learnt,
-      scope-grouped-below t,
-      scope-grouped.Post,
-    ) (scope-held-at t) scope-held.Post
-scope-held-slice-aggregate-list-trees-2 t c = search needs
-
-scope-held-list-trees-requires : (t : ℕ) → scope-held-lts.Need-list-trees-requires (list-trees-reads.Asked, list-trees-reads.Learnt, group-all-reads.Asked, group-all-reads.Learnt, scope-grouped-below t, scope-grouped.Post) (scope-held-at t) scope-held.Post
-scope-held-list-trees-requires t c κs = search needs
-
-scope-held-slice-reshare-prefix-group-all :
-    (t : ℕ) → scope-held-lts.Need-slice-reshare-prefix-group-all (
-      list-trees-reads.Asked,
-      list-trees-reads.Learnt,
-      group-all-reads.Asked,
-      group-all-reads.Learnt,
-      scope-grouped-below t,
-      scope-grouped.Post,
-    ) (scope-held-at t) scope-held.Post
-scope-held-slice-reshare-prefix-group-all t c = let s = c .before .before .before .before .before .before .before .before .before .before in s .pre .1 .0 .0 .inside
-
-scope-held-slice-aggregate-group-all : (t : ℕ) → scope-held-lts.Need-slice-aggregate-group-all (list-trees-reads.Asked, list-trees-reads.Learnt, group-all-reads.Asked, group-all-reads.Learnt, scope-grouped-below t, scope-grouped.Post) (scope-held-at t) scope-held.Post
-scope-held-slice-aggregate-group-all t c = let s = c .before .before .before .before .before .before .before .before .before .before .before in sym (length-take-le _ _ (s .pre .1 .0 .0 .inside))
-
-scope-held-slice-aggregate-group-all-2 : (t : ℕ) → scope-held-lts.Need-slice-aggregate-group-all-2 (list-trees-reads.Asked, list-trees-reads.Learnt, group-all-reads.Asked, group-all-reads.Learnt, scope-grouped-below t, scope-grouped.Post) (scope-held-at t) scope-held.Post
-scope-held-slice-aggregate-group-all-2 t c = search needs
-
-scope-held-slice-aggregate-group-all-3 : (t : ℕ) → scope-held-lts.Need-slice-aggregate-group-all-3 (list-trees-reads.Asked, list-trees-reads.Learnt, group-all-reads.Asked, group-all-reads.Learnt, scope-grouped-below t, scope-grouped.Post) (scope-held-at t) scope-held.Post
-scope-held-slice-aggregate-group-all-3 t c = search needs
-
-scope-held-slice-aggregate-group-all-4 : (t : ℕ) → scope-held-lts.Need-slice-aggregate-group-all-4 (list-trees-reads.Asked, list-trees-reads.Learnt, group-all-reads.Asked, group-all-reads.Learnt, scope-grouped-below t, scope-grouped.Post) (scope-held-at t) scope-held.Post
-scope-held-slice-aggregate-group-all-4 t c = search needs
-
-scope-held-group-all-requires : (t : ℕ) → scope-held-lts.Need-group-all-requires (list-trees-reads.Asked, list-trees-reads.Learnt, group-all-reads.Asked, group-all-reads.Learnt, scope-grouped-below t, scope-grouped.Post) (scope-held-at t) scope-held.Post
-scope-held-group-all-requires t c κs = let s = c .before .before .before .before .before .before .before .before .before .before .before .before .before .before in let a = s .args in ((held-complete (rows-in (a .rows .now)) (a .tokens .now) (a .results) (a .first) (a .places .now) (s .pre .1 .0 .1) (take (a .h) (a .work .now)) (s .pre .1 .1 .0 .1), omega (arith, (length-take-le (a .h) (a .work .now) (s .pre .1 .0 .0 .inside)), s .pre .1 .0 .0 .inside, s .pre .1 .0 .0 .words)), (refl, refl, refl))
-
-scope-held-enum-known-found : (t : ℕ) → scope-held-lts.Need-enum-known-found (list-trees-reads.Asked, list-trees-reads.Learnt, group-all-reads.Asked, group-all-reads.Learnt, scope-grouped-below t, scope-grouped.Post) (scope-held-at t) scope-held.Post
-scope-held-enum-known-found t c = search needs
-
-scope-held-enum-told : (t : ℕ) → scope-held-lts.Need-enum-told (list-trees-reads.Asked, list-trees-reads.Learnt, group-all-reads.Asked, group-all-reads.Learnt, scope-grouped-below t, scope-grouped.Post) (scope-held-at t) scope-held.Post
-scope-held-enum-told t c = search needs
-
-scope-held-same-length : (t : ℕ) → scope-held-lts.Need-same-length (list-trees-reads.Asked, list-trees-reads.Learnt, group-all-reads.Asked, group-all-reads.Learnt, scope-grouped-below t, scope-grouped.Post) (scope-held-at t) scope-held.Post
-scope-held-same-length t c = search needs
-
-scope-held-returns : (t : ℕ) → scope-held-lts.Need-returns (list-trees-reads.Asked, list-trees-reads.Learnt, group-all-reads.Asked, group-all-reads.Learnt, scope-grouped-below t, scope-grouped.Post) (scope-held-at t) scope-held.Post
-scope-held-returns t c = let s = c .before .before .before .before .before .before .before .before .before .before .before .before .before .before .before .before .before .before .before .before in let a = s .args in too-many-switches (rows-in (a .rows .now)) (a .fuel) (length (a .work .now)) (a .row) (a .tokens .now) (a .results) (a .first) (a .places .now) (take (a .h) (a .work .now)) (s .pre .1 .1 .0 .1) (found-none (take (a .h) (a .work .now)) (c .before .before .before .before .before .group-all .result) _ _ (c .before .before .before .before .before .group-all .ensures) (c .enum-told .given .1)) (a .at) (a .table .now)
-
-scope-held-sub-if1 : (t : ℕ) → scope-held-lts.Need-sub-if1 (list-trees-reads.Asked, list-trees-reads.Learnt, group-all-reads.Asked, group-all-reads.Learnt, scope-grouped-below t, scope-grouped.Post) (scope-held-at t) scope-held.Post
-scope-held-sub-if1 t c = let s = c .before .before .before .before .before .before .before .before .before .before .before .before .before .before .before .before .before .before .before .before .before in let a = s .args in trees-enough (rows-in (a .rows .now)) (a .fuel) (length (a .work .now)) (a .row) (a .tokens .now) (a .results) (a .first) (a .places .now) (s .pre .1 .0 .1) (a .trees) (s .pre .1 .1 .0 .0)
-
-scope-held-add-if1 : (t : ℕ) → scope-held-lts.Need-add-if1 (list-trees-reads.Asked, list-trees-reads.Learnt, group-all-reads.Asked, group-all-reads.Learnt, scope-grouped-below t, scope-grouped.Post) (scope-held-at t) scope-held.Post
-scope-held-add-if1 t c = let s = c .before .before .before .before .before .before .before .before .before .before .before .before .before .before .before .before .before .before .before .before .before in let a = s .args in omega (arith, trees-few-here (rows-in (a .rows .now)) (a .fuel) (length (a .work .now)) (a .row) (a .tokens .now) (a .results) (a .first) (a .places .now) (s .pre .1 .0 .1) (a .trees) (s .pre .1 .1 .0 .0), places-short (rows-in (a .rows .now)) (a .fuel) (length (a .work .now)) (a .row) (a .tokens .now) (a .results) (a .first) (a .places .now) (s .pre .1 .0 .1) (a .trees) (s .pre .1 .1 .0 .0))
-
-scope-held-add-if1-2 : (t : ℕ) → scope-held-lts.Need-add-if1-2 (list-trees-reads.Asked, list-trees-reads.Learnt, group-all-reads.Asked, group-all-reads.Learnt, scope-grouped-below t, scope-grouped.Post) (scope-held-at t) scope-held.Post
-scope-held-add-if1-2 t c = let s = c .before .before .before .before .before .before .before .before .before .before .before .before .before .before .before .before .before .before .before .before .before in let a = s .args in omega (arith, trees-few-here (rows-in (a .rows .now)) (a .fuel) (length (a .work .now)) (a .row) (a .tokens .now) (a .results) (a .first) (a .places .now) (s .pre .1 .0 .1) (a .trees) (s .pre .1 .1 .0 .0), places-short (rows-in (a .rows .now)) (a .fuel) (length (a .work .now)) (a .row) (a .tokens .now) (a .results) (a .first) (a .places .now) (s .pre .1 .0 .1) (a .trees) (s .pre .1 .1 .0 .0), groups-short (rows-in (a .rows .now)) (a .tokens .now) (a .results) (a .first) (a .places .now) (s .pre .1 .0 .1) (take (a .h) (a .work .now)) (s .pre .1 .1 .0 .1) _ _ _ _ (found-groups (take (a .h) (a .work .now)) (c .before .before .before .before .before .before .group-all .result) _ _ (c .before .before .before .before .before .before .group-all .ensures) _ _ (c .before .found .given .1)) (c .before .before .before .before .before .before .group-all .kept .1 .1 .0))
-
-scope-held-same-length-2 : (t : ℕ) → scope-held-lts.Need-same-length-2 (list-trees-reads.Asked, list-trees-reads.Learnt, group-all-reads.Asked, group-all-reads.Learnt, scope-grouped-below t, scope-grouped.Post) (scope-held-at t) scope-held.Post
-scope-held-same-length-2 t c = search needs
-
-scope-held-returns-2 : (t : ℕ) → scope-held-lts.Need-returns-2 (list-trees-reads.Asked, list-trees-reads.Learnt, group-all-reads.Asked, group-all-reads.Learnt, scope-grouped-below t, scope-grouped.Post) (scope-held-at t) scope-held.Post
-scope-held-returns-2 t c = let s = c .before .before .before .before .before .before .before .before .before .before .before .before .before .before .before .before .before .before .before .before .before .before in let a = s .args in too-many-stmts (rows-in (a .rows .now)) (a .fuel) (length (a .work .now)) (a .row) (a .tokens .now) (a .results) (a .first) (a .places .now) (take (a .h) (a .work .now)) (s .pre .1 .1 .0 .1) (a .trees) (s .pre .1 .1 .0 .0) _ _ _ _ (found-groups (take (a .h) (a .work .now)) (c .before .before .before .before .before .before .before .group-all .result) _ _ (c .before .before .before .before .before .before .before .group-all .ensures) _ _ (c .before .before .found .given .1)) (omega (arith, c .if1 .taken)) (a .at) (a .table .now)
-
-scope-held-array-share-prefix-starts : (t : ℕ) → scope-held-lts.Need-array-share-prefix-starts (list-trees-reads.Asked, list-trees-reads.Learnt, group-all-reads.Asked, group-all-reads.Learnt, scope-grouped-below t, scope-grouped.Post) (scope-held-at t) scope-held.Post
-scope-held-array-share-prefix-starts t c = let s = c .before .before .before .before .before .before .before .before .before .before .before .before .before .before .before .before .before .before .before .before .before .before .before in let a = s .args in (omega (arith, trees-short (rows-in (a .rows .now)) (a .tokens .now) (a .results) (a .first) (a .places .now) (s .pre .1 .0 .1) (take (a .h) (a .work .now)) (s .pre .1 .1 .0 .1) (a .trees) (s .pre .1 .1 .0 .0), c .before .before .before .before .before .before .before .before .before .before .before .before .before .before .list-trees .kept .1 .0))
-
-scope-held-slice-aggregate-scope-grouped :
-    (t : ℕ) → scope-held-lts.Need-slice-aggregate-scope-grouped (
-      list-trees-reads.Asked,
-      list-trees-reads.Learnt,
-      group-all-reads.Asked,
-      group-all-reads.Learnt,
-      scope-grouped-below t,
-      scope-grouped.Post,
-    ) (scope-held-at t) scope-held.Post
-scope-held-slice-aggregate-scope-grouped t c = let s = c .before .before .before .before .before .before .before .before .before .before .before .before .before .before .before .before .before .before .before .before .before .before .before .before in let a = s .args in sym (length-take-le _ _ (omega (arith, trees-short (rows-in (a .rows .now)) (a .tokens .now) (a .results) (a .first) (a .places .now) (s .pre .1 .0 .1) (take (a .h) (a .work .now)) (s .pre .1 .1 .0 .1) (a .trees) (s .pre .1 .1 .0 .0), c .before .before .before .before .before .before .before .before .before .before .before .before .before .before .before .list-trees .kept .1 .0)))
-
-scope-held-array-share-prefix-members : (t : ℕ) → scope-held-lts.Need-array-share-prefix-members (list-trees-reads.Asked, list-trees-reads.Learnt, group-all-reads.Asked, group-all-reads.Learnt, scope-grouped-below t, scope-grouped.Post) (scope-held-at t) scope-held.Post
-scope-held-array-share-prefix-members t c = let s = c .before .before .before .before .before .before .before .before .before .before .before .before .before .before .before .before .before .before .before .before .before .before .before .before in let a = s .args in (found-groups (take (a .h) (a .work .now)) (c .before .before .before .before .before .before .before .before .before .group-all .result) _ _ (c .before .before .before .before .before .before .before .before .before .group-all .ensures) _ _ (c .before .before .before .before .found .given .1)) .members-in
-
-scope-held-slice-aggregate-scope-grouped-2 :
-    (t : ℕ) → scope-held-lts.Need-slice-aggregate-scope-grouped-2 (
-      list-trees-reads.Asked,
-      list-trees-reads.Learnt,
-      group-all-reads.Asked,
-      group-all-reads.Learnt,
-      scope-grouped-below t,
-      scope-grouped.Post,
-    ) (scope-held-at t) scope-held.Post
-scope-held-slice-aggregate-scope-grouped-2 t c = let s = c .before .before .before .before .before .before .before .before .before .before .before .before .before .before .before .before .before .before .before .before .before .before .before .before .before in let a = s .args in sym (length-take-le _ _ ((found-groups (take (a .h) (a .work .now)) (c .before .before .before .before .before .before .before .before .before .before .group-all .result) _ _ (c .before .before .before .before .before .before .before .before .before .before .group-all .ensures) _ _ (c .before .before .before .before .before .found .given .1)) .members-in))
-
-scope-held-array-share-prefix-ends : (t : ℕ) → scope-held-lts.Need-array-share-prefix-ends (list-trees-reads.Asked, list-trees-reads.Learnt, group-all-reads.Asked, group-all-reads.Learnt, scope-grouped-below t, scope-grouped.Post) (scope-held-at t) scope-held.Post
-scope-held-array-share-prefix-ends t c = let s = c .before .before .before .before .before .before .before .before .before .before .before .before .before .before .before .before .before .before .before .before .before .before .before .before .before in let a = s .args in (found-groups (take (a .h) (a .work .now)) (c .before .before .before .before .before .before .before .before .before .before .group-all .result) _ _ (c .before .before .before .before .before .before .before .before .before .before .group-all .ensures) _ _ (c .before .before .before .before .before .found .given .1)) .ends-in
-
-scope-held-slice-aggregate-scope-grouped-3 :
-    (t : ℕ) → scope-held-lts.Need-slice-aggregate-scope-grouped-3 (
-      list-trees-reads.Asked,
-      list-trees-reads.Learnt,
-      group-all-reads.Asked,
-      group-all-reads.Learnt,
-      scope-grouped-below t,
-      scope-grouped.Post,
-    ) (scope-held-at t) scope-held.Post
-scope-held-slice-aggregate-scope-grouped-3 t c = let s = c .before .before .before .before .before .before .before .before .before .before .before .before .before .before .before .before .before .before .before .before .before .before .before .before .before .before in let a = s .args in sym (length-take-le _ _ ((found-groups (take (a .h) (a .work .now)) (c .before .before .before .before .before .before .before .before .before .before .before .group-all .result) _ _ (c .before .before .before .before .before .before .before .before .before .before .before .group-all .ensures) _ _ (c .before .before .before .before .before .before .found .given .1)) .ends-in))
-
-scope-held-slice-aggregate-scope-grouped-4 :
-    (t : ℕ) → scope-held-lts.Need-slice-aggregate-scope-grouped-4 (
-      list-trees-reads.Asked,
-      list-trees-reads.Learnt,
-      group-all-reads.Asked,
-      group-all-reads.Learnt,
-      scope-grouped-below t,
-      scope-grouped.Post,
-    ) (scope-held-at t) scope-held.Post
-scope-held-slice-aggregate-scope-grouped-4 t c = search needs
-
-scope-held-scope-grouped-requires : (t : ℕ) → scope-held-lts.Need-scope-grouped-requires (list-trees-reads.Asked, list-trees-reads.Learnt, group-all-reads.Asked, group-all-reads.Learnt, scope-grouped-below t, scope-grouped.Post) (scope-held-at t) scope-held.Post
-scope-held-scope-grouped-requires t c κs = let s = c .before .before .before .before .before .before .before .before .before .before .before .before .before .before .before .before .before .before .before .before .before .before .before .before .before .before .before .before .before in let a = s .args in (omega (arith, s .pre .0), ((s .pre .1 .0 .0, left-holds (rows-in (a .rows .now)) (a .tokens .now) (a .results) (a .first) (a .places .now) (s .pre .1 .0 .1) (take (a .h) (a .work .now)) (s .pre .1 .1 .0 .1) (omega (arith, (length-take-le (a .h) (a .work .now) (s .pre .1 .0 .0 .inside)), s .pre .1 .0 .0 .inside, s .pre .1 .0 .0 .words)) (switches-here (rows-in (a .rows .now)) (a .tokens .now) (a .results) (a .first) (a .places .now) (s .pre .1 .0 .1) (take (a .h) (a .work .now)) (s .pre .1 .1 .0 .1) _ _ _ _ (found-groups (take (a .h) (a .work .now)) (c .before .before .before .before .before .before .before .before .before .before .before .before .before .before .group-all .result) _ _ (c .before .before .before .before .before .before .before .before .before .before .before .before .before .before .group-all .ensures) _ _ (c .before .before .before .before .before .before .before .before .before .found .given .1)) (c .before .before .before .before .before .before .before .before .before .before .before .before .before .before .group-all .kept .1 .1 .0))), ((ready-so (rows-in (a .rows .now)) (a .tokens .now) (a .results) (a .first) (a .places .now) (s .pre .1 .0 .1) (take (a .h) (a .work .now)) (s .pre .1 .1 .0 .1) (a .trees) (s .pre .1 .1 .0 .0) _ _ refl (c .before .before .before .before .before .before .before .before .before .before .before .before .before .before .before .before .before .before .before .before .list-trees .ensures .1) _ _ _ _ (found-groups (take (a .h) (a .work .now)) (c .before .before .before .before .before .before .before .before .before .before .before .before .before .before .group-all .result) _ _ (c .before .before .before .before .before .before .before .before .before .before .before .before .before .before .group-all .ensures) _ _ (c .before .before .before .before .before .before .before .before .before .found .given .1)) (omega (arith, c .before .before .before .before .before .before .before .if1 .left)), omega (arith, members-short (rows-in (a .rows .now)) (a .tokens .now) (a .results) (a .first) (a .places .now) (s .pre .1 .0 .1) (take (a .h) (a .work .now)) (s .pre .1 .1 .0 .1) _ _ _ _ (found-groups (take (a .h) (a .work .now)) (c .before .before .before .before .before .before .before .before .before .before .before .before .before .before .group-all .result) _ _ (c .before .before .before .before .before .before .before .before .before .before .before .before .before .before .group-all .ensures) _ _ (c .before .before .before .before .before .before .before .before .before .found .given .1)) (c .before .before .before .before .before .before .before .before .before .before .before .before .before .before .group-all .kept .1 .1 .0), c .before .before .before .before .before .before .before .before .before .before .before .before .before .before .group-all .kept .1 .0)), subst (λ o. a .at + told-rows o ≤ most-rows) (outcome-is (rows-in (a .rows .now)) (a .fuel) (length (a .work .now)) (a .row) (a .tokens .now) (a .results) (a .first) (a .places .now) (take (a .h) (a .work .now)) (s .pre .1 .1 .0 .1) (a .trees) (s .pre .1 .1 .0 .0) _ _ _ _ (found-groups (take (a .h) (a .work .now)) (c .before .before .before .before .before .before .before .before .before .before .before .before .before .before .group-all .result) _ _ (c .before .before .before .before .before .before .before .before .before .before .before .before .before .before .group-all .ensures) _ _ (c .before .before .before .before .before .before .before .before .before .found .given .1)) (omega (arith, (length-take-le (a .h) (a .work .now) (s .pre .1 .0 .0 .inside)), s .pre .1 .0 .0 .inside)) (switches-here (rows-in (a .rows .now)) (a .tokens .now) (a .results) (a .first) (a .places .now) (s .pre .1 .0 .1) (take (a .h) (a .work .now)) (s .pre .1 .1 .0 .1) _ _ _ _ (found-groups (take (a .h) (a .work .now)) (c .before .before .before .before .before .before .before .before .before .before .before .before .before .before .group-all .result) _ _ (c .before .before .before .before .before .before .before .before .before .before .before .before .before .before .group-all .ensures) _ _ (c .before .before .before .before .before .before .before .before .before .found .given .1)) (c .before .before .before .before .before .before .before .before .before .before .before .before .before .before .group-all .kept .1 .1 .0)) (omega (arith, c .before .before .before .before .before .before .before .if1 .left)) (length (a .work .now) - a .h) (omega (arith, (length-take-le (a .h) (a .work .now) (s .pre .1 .0 .0 .inside))))) (s .pre .1 .1 .1))))
-
-scope-held-same-length-3 : (t : ℕ) → scope-held-lts.Need-same-length-3 (list-trees-reads.Asked, list-trees-reads.Learnt, group-all-reads.Asked, group-all-reads.Learnt, scope-grouped-below t, scope-grouped.Post) (scope-held-at t) scope-held.Post
-scope-held-same-length-3 t c = search needs
-
-scope-held-same-length-4 : (t : ℕ) → scope-held-lts.Need-same-length-4 (list-trees-reads.Asked, list-trees-reads.Learnt, group-all-reads.Asked, group-all-reads.Learnt, scope-grouped-below t, scope-grouped.Post) (scope-held-at t) scope-held.Post
-scope-held-same-length-4 t c = search needs
-
-scope-held-same-length-5 : (t : ℕ) → scope-held-lts.Need-same-length-5 (list-trees-reads.Asked, list-trees-reads.Learnt, group-all-reads.Asked, group-all-reads.Learnt, scope-grouped-below t, scope-grouped.Post) (scope-held-at t) scope-held.Post
-scope-held-same-length-5 t c = search needs
-
-scope-held-returns-3 : (t : ℕ) → scope-held-lts.Need-returns-3 (list-trees-reads.Asked, list-trees-reads.Learnt, group-all-reads.Asked, group-all-reads.Learnt, scope-grouped-below t, scope-grouped.Post) (scope-held-at t) scope-held.Post
-scope-held-returns-3 t c = let s = c .before .before .before .before .before .before .before .before .before .before .before .before .before .before .before .before .before .before .before .before .before .before .before .before .before .before .before .before .before .before .before .before .before .before .before .before .before in let a = s .args in done-as _ _ (outcome-is (rows-in (a .rows .now)) (a .fuel) (length (a .work .now)) (a .row) (a .tokens .now) (a .results) (a .first) (a .places .now) (take (a .h) (a .work .now)) (s .pre .1 .1 .0 .1) (a .trees) (s .pre .1 .1 .0 .0) _ _ _ _ (found-groups (take (a .h) (a .work .now)) (c .before .before .before .before .before .before .before .before .before .before .before .before .before .before .before .before .before .before .before .before .before .before .group-all .result) _ _ (c .before .before .before .before .before .before .before .before .before .before .before .before .before .before .before .before .before .before .before .before .before .before .group-all .ensures) _ _ (c .before .before .before .before .before .before .before .before .before .before .before .before .before .before .before .before .before .found .given .1)) (omega (arith, (length-take-le (a .h) (a .work .now) (s .pre .1 .0 .0 .inside)), s .pre .1 .0 .0 .inside)) (switches-here (rows-in (a .rows .now)) (a .tokens .now) (a .results) (a .first) (a .places .now) (s .pre .1 .0 .1) (take (a .h) (a .work .now)) (s .pre .1 .1 .0 .1) _ _ _ _ (found-groups (take (a .h) (a .work .now)) (c .before .before .before .before .before .before .before .before .before .before .before .before .before .before .before .before .before .before .before .before .before .before .group-all .result) _ _ (c .before .before .before .before .before .before .before .before .before .before .before .before .before .before .before .before .before .before .before .before .before .before .group-all .ensures) _ _ (c .before .before .before .before .before .before .before .before .before .before .before .before .before .before .before .before .before .found .given .1)) (c .before .before .before .before .before .before .before .before .before .before .before .before .before .before .before .before .before .before .before .before .before .before .group-all .kept .1 .1 .0)) (omega (arith, c .before .before .before .before .before .before .before .before .before .before .before .before .before .before .before .if1 .left)) (length (a .work .now) - a .h) (omega (arith, (length-take-le (a .h) (a .work .now) (s .pre .1 .0 .0 .inside))))) (a .at) (a .table .now) _ _ (c .before .before .before .before .before .before .before .scope-grouped .ensures)
-
-scope-listed-slice-reshare-prefix-put : (t : ℕ) → scope-listed-lts.Need-slice-reshare-prefix-put (put-reads.Asked, put-reads.Learnt, tree-count-reads.Asked, tree-count-reads.Learnt, hold-all-reads.Asked, hold-all-reads.Learnt, scope-held-below t, scope-held.Post) (scope-listed-at t) scope-listed.Post
-scope-listed-slice-reshare-prefix-put t c = let s = c .before .before .before .before .before in s .pre .1 .0 .0 .inside
-
-scope-listed-slice-aggregate-put : (t : ℕ) → scope-listed-lts.Need-slice-aggregate-put (put-reads.Asked, put-reads.Learnt, tree-count-reads.Asked, tree-count-reads.Learnt, hold-all-reads.Asked, hold-all-reads.Learnt, scope-held-below t, scope-held.Post) (scope-listed-at t) scope-listed.Post
-scope-listed-slice-aggregate-put t c = let s = c .before .before .before .before .before .before in sym (length-take-le _ _ (s .pre .1 .0 .0 .inside))
-
-scope-listed-slice-aggregate-put-2 : (t : ℕ) → scope-listed-lts.Need-slice-aggregate-put-2 (put-reads.Asked, put-reads.Learnt, tree-count-reads.Asked, tree-count-reads.Learnt, hold-all-reads.Asked, hold-all-reads.Learnt, scope-held-below t, scope-held.Post) (scope-listed-at t) scope-listed.Post
-scope-listed-slice-aggregate-put-2 t c = search needs
-
-scope-listed-put-requires : (t : ℕ) → scope-listed-lts.Need-put-requires (put-reads.Asked, put-reads.Learnt, tree-count-reads.Asked, tree-count-reads.Learnt, hold-all-reads.Asked, hold-all-reads.Learnt, scope-held-below t, scope-held.Post) (scope-listed-at t) scope-listed.Post
-scope-listed-put-requires t c κs = search needs
-
-scope-listed-array-share-prefix-tokens : (t : ℕ) → scope-listed-lts.Need-array-share-prefix-tokens (put-reads.Asked, put-reads.Learnt, tree-count-reads.Asked, tree-count-reads.Learnt, hold-all-reads.Asked, hold-all-reads.Learnt, scope-held-below t, scope-held.Post) (scope-listed-at t) scope-listed.Post
-scope-listed-array-share-prefix-tokens t c = let s = c .before .before .before .before .before .before .before .before .before in let a = s .args in omega (arith, used-few (rows-in (a .rows .now)) (a .fuel) (length (a .work .now)) (a .row) (a .work .now) (a .used) (a .results) (a .first) (a .places .now) (s .pre .1 .0 .0 .inside) (s .pre .1 .0 .1), c .before .put .kept .1 .1 .0)
-
-scope-listed-slice-aggregate-tree-count :
-    (t : ℕ) → scope-listed-lts.Need-slice-aggregate-tree-count (
-      put-reads.Asked,
-      put-reads.Learnt,
-      tree-count-reads.Asked,
-      tree-count-reads.Learnt,
-      hold-all-reads.Asked,
-      hold-all-reads.Learnt,
-      scope-held-below t,
-      scope-held.Post,
-    ) (scope-listed-at t) scope-listed.Post
-scope-listed-slice-aggregate-tree-count t c = let s = c .before .before .before .before .before .before .before .before .before .before in let a = s .args in sym (length-take-le _ _ (omega (arith, used-few (rows-in (a .rows .now)) (a .fuel) (length (a .work .now)) (a .row) (a .work .now) (a .used) (a .results) (a .first) (a .places .now) (s .pre .1 .0 .0 .inside) (s .pre .1 .0 .1), c .before .before .put .kept .1 .1 .0)))
-
-scope-listed-tree-count-requires : (t : ℕ) → scope-listed-lts.Need-tree-count-requires (put-reads.Asked, put-reads.Learnt, tree-count-reads.Asked, tree-count-reads.Learnt, hold-all-reads.Asked, hold-all-reads.Learnt, scope-held-below t, scope-held.Post) (scope-listed-at t) scope-listed.Post
-scope-listed-tree-count-requires t c κs = let s = c .before .before .before .before .before .before .before .before .before .before in let a = s .args in tokens-whole (rows-in (a .rows .now)) (a .fuel) (length (a .work .now)) (a .row) (a .work .now) (a .used) (a .results) (a .first) (a .places .now) (s .pre .1 .0 .0 .inside) (s .pre .1 .0 .1) _ _ refl (c .before .before .put .ensures)
-
-scope-listed-sub-number : (t : ℕ) → scope-listed-lts.Need-sub-number (put-reads.Asked, put-reads.Learnt, tree-count-reads.Asked, tree-count-reads.Learnt, hold-all-reads.Asked, hold-all-reads.Learnt, scope-held-below t, scope-held.Post) (scope-listed-at t) scope-listed.Post
-scope-listed-sub-number t c = let s = c .before .before .before .before .before .before .before .before .before .before .before in let a = s .args in trees-enough (rows-in (a .rows .now)) (a .fuel) (length (a .work .now)) (a .row) _ (a .results) (a .first) (a .places .now) (tokens-left (rows-in (a .rows .now)) (a .fuel) (length (a .work .now)) (a .row) (a .work .now) (a .used) (a .results) (a .first) (a .places .now) (s .pre .1 .0 .0 .inside) (s .pre .1 .0 .1) _ _ refl (c .before .before .before .put .ensures)) (c .tree-count .result) (c .tree-count .ensures)
-
-scope-listed-add-number : (t : ℕ) → scope-listed-lts.Need-add-number (put-reads.Asked, put-reads.Learnt, tree-count-reads.Asked, tree-count-reads.Learnt, hold-all-reads.Asked, hold-all-reads.Learnt, scope-held-below t, scope-held.Post) (scope-listed-at t) scope-listed.Post
-scope-listed-add-number t c = let s = c .before .before .before .before .before .before .before .before .before .before .before in let a = s .args in omega (arith, trees-few-here (rows-in (a .rows .now)) (a .fuel) (length (a .work .now)) (a .row) _ (a .results) (a .first) (a .places .now) (tokens-left (rows-in (a .rows .now)) (a .fuel) (length (a .work .now)) (a .row) (a .work .now) (a .used) (a .results) (a .first) (a .places .now) (s .pre .1 .0 .0 .inside) (s .pre .1 .0 .1) _ _ refl (c .before .before .before .put .ensures)) (c .tree-count .result) (c .tree-count .ensures), (tokens-left (rows-in (a .rows .now)) (a .fuel) (length (a .work .now)) (a .row) (a .work .now) (a .used) (a .results) (a .first) (a .places .now) (s .pre .1 .0 .0 .inside) (s .pre .1 .0 .1) _ _ refl (c .before .before .before .put .ensures)) .low)
-
-scope-listed-array-share-prefix-tokens-2 :
-    (t : ℕ) → scope-listed-lts.Need-array-share-prefix-tokens-2 (
-      put-reads.Asked,
-      put-reads.Learnt,
-      tree-count-reads.Asked,
-      tree-count-reads.Learnt,
-      hold-all-reads.Asked,
-      hold-all-reads.Learnt,
-      scope-held-below t,
-      scope-held.Post,
-    ) (scope-listed-at t) scope-listed.Post
-scope-listed-array-share-prefix-tokens-2 t c = let s = c .before .before .before .before .before .before .before .before .before .before .before in let a = s .args in omega (arith, used-few (rows-in (a .rows .now)) (a .fuel) (length (a .work .now)) (a .row) (a .work .now) (a .used) (a .results) (a .first) (a .places .now) (s .pre .1 .0 .0 .inside) (s .pre .1 .0 .1), c .before .before .before .put .kept .1 .1 .0)
-
-scope-listed-slice-aggregate-hold-all : (t : ℕ) → scope-listed-lts.Need-slice-aggregate-hold-all (put-reads.Asked, put-reads.Learnt, tree-count-reads.Asked, tree-count-reads.Learnt, hold-all-reads.Asked, hold-all-reads.Learnt, scope-held-below t, scope-held.Post) (scope-listed-at t) scope-listed.Post
-scope-listed-slice-aggregate-hold-all t c = let s = c .before .before .before .before .before .before .before .before .before .before .before .before in let a = s .args in sym (length-take-le _ _ (omega (arith, used-few (rows-in (a .rows .now)) (a .fuel) (length (a .work .now)) (a .row) (a .work .now) (a .used) (a .results) (a .first) (a .places .now) (s .pre .1 .0 .0 .inside) (s .pre .1 .0 .1), c .before .before .before .before .put .kept .1 .1 .0)))
-
-scope-listed-hold-all-requires : (t : ℕ) → scope-listed-lts.Need-hold-all-requires (put-reads.Asked, put-reads.Learnt, tree-count-reads.Asked, tree-count-reads.Learnt, hold-all-reads.Asked, hold-all-reads.Learnt, scope-held-below t, scope-held.Post) (scope-listed-at t) scope-listed.Post
-scope-listed-hold-all-requires t c κs = let s = c .before .before .before .before .before .before .before .before .before .before .before .before .before in let a = s .args in ((words-whole (rows-in (a .rows .now)) (a .fuel) (length (a .work .now)) (a .row) _ (a .results) (a .first) (a .places .now) (tokens-left (rows-in (a .rows .now)) (a .fuel) (length (a .work .now)) (a .row) (a .work .now) (a .used) (a .results) (a .first) (a .places .now) (s .pre .1 .0 .0 .inside) (s .pre .1 .0 .1) _ _ refl (c .before .before .before .before .before .put .ensures)) (c .before .before .tree-count .result) (c .before .before .tree-count .ensures), left-there (rows-in (a .rows .now)) _ (a .results) (a .first) (a .places .now) (tokens-left (rows-in (a .rows .now)) (a .fuel) (length (a .work .now)) (a .row) (a .work .now) (a .used) (a .results) (a .first) (a .places .now) (s .pre .1 .0 .0 .inside) (s .pre .1 .0 .1) _ _ refl (c .before .before .before .before .before .put .ensures))), ((tokens-left (rows-in (a .rows .now)) (a .fuel) (length (a .work .now)) (a .row) (a .work .now) (a .used) (a .results) (a .first) (a .places .now) (s .pre .1 .0 .0 .inside) (s .pre .1 .0 .1) _ _ refl (c .before .before .before .before .before .put .ensures)) .few, places-short (rows-in (a .rows .now)) (a .fuel) (length (a .work .now)) (a .row) _ (a .results) (a .first) (a .places .now) (tokens-left (rows-in (a .rows .now)) (a .fuel) (length (a .work .now)) (a .row) (a .work .now) (a .used) (a .results) (a .first) (a .places .now) (s .pre .1 .0 .0 .inside) (s .pre .1 .0 .1) _ _ refl (c .before .before .before .before .before .put .ensures)) (c .before .before .tree-count .result) (c .before .before .tree-count .ensures), omega (arith, trees-few-here (rows-in (a .rows .now)) (a .fuel) (length (a .work .now)) (a .row) _ (a .results) (a .first) (a .places .now) (tokens-left (rows-in (a .rows .now)) (a .fuel) (length (a .work .now)) (a .row) (a .work .now) (a .used) (a .results) (a .first) (a .places .now) (s .pre .1 .0 .0 .inside) (s .pre .1 .0 .1) _ _ refl (c .before .before .before .before .before .put .ensures)) (c .before .before .tree-count .result) (c .before .before .tree-count .ensures), (tokens-left (rows-in (a .rows .now)) (a .fuel) (length (a .work .now)) (a .row) (a .work .now) (a .used) (a .results) (a .first) (a .places .now) (s .pre .1 .0 .0 .inside) (s .pre .1 .0 .1) _ _ refl (c .before .before .before .before .before .put .ensures)) .low), tokens-inside (rows-in (a .rows .now)) (a .fuel) (length (a .work .now)) (a .row) (a .work .now) (a .used) (a .results) (a .first) (a .places .now) (s .pre .1 .0 .0 .inside) (s .pre .1 .0 .1) _ _ refl (c .before .before .before .before .before .put .ensures)))
-
-scope-listed-enum-known-holding : (t : ℕ) → scope-listed-lts.Need-enum-known-holding (put-reads.Asked, put-reads.Learnt, tree-count-reads.Asked, tree-count-reads.Learnt, hold-all-reads.Asked, hold-all-reads.Learnt, scope-held-below t, scope-held.Post) (scope-listed-at t) scope-listed.Post
-scope-listed-enum-known-holding t c = search needs
-
-scope-listed-enum-told : (t : ℕ) → scope-listed-lts.Need-enum-told (put-reads.Asked, put-reads.Learnt, tree-count-reads.Asked, tree-count-reads.Learnt, hold-all-reads.Asked, hold-all-reads.Learnt, scope-held-below t, scope-held.Post) (scope-listed-at t) scope-listed.Post
-scope-listed-enum-told t c = search needs
-
-scope-listed-same-length : (t : ℕ) → scope-listed-lts.Need-same-length (put-reads.Asked, put-reads.Learnt, tree-count-reads.Asked, tree-count-reads.Learnt, hold-all-reads.Asked, hold-all-reads.Learnt, scope-held-below t, scope-held.Post) (scope-listed-at t) scope-listed.Post
-scope-listed-same-length t c = search needs
-
-scope-listed-returns : (t : ℕ) → scope-listed-lts.Need-returns (put-reads.Asked, put-reads.Learnt, tree-count-reads.Asked, tree-count-reads.Learnt, hold-all-reads.Asked, hold-all-reads.Learnt, scope-held-below t, scope-held.Post) (scope-listed-at t) scope-listed.Post
-scope-listed-returns t c = let s = c .before .before .before .before .before .before .before .before .before .before .before .before .before .before .before .before .before .before in let a = s .args in done-as _ _ (same-outcome (rows-in (a .rows .now)) (a .fuel) (length (a .work .now)) (a .row) (a .work .now) (a .used) (a .results) (a .first) (a .places .now) (s .pre .1 .0 .0 .inside) (s .pre .1 .0 .1) _ _ refl (c .before .before .before .before .before .before .before .before .before .before .put .ensures)) (a .at) (a .table .now) _ _ (too-many (rows-in (a .rows .now)) (a .fuel) (length (a .work .now)) (a .row) _ (a .results) (a .first) (a .places .now) (tokens-left (rows-in (a .rows .now)) (a .fuel) (length (a .work .now)) (a .row) (a .work .now) (a .used) (a .results) (a .first) (a .places .now) (s .pre .1 .0 .0 .inside) (s .pre .1 .0 .1) _ _ refl (c .before .before .before .before .before .before .before .before .before .before .put .ensures)) (c .before .before .before .before .before .before .before .tree-count .result) (c .before .before .before .before .before .before .before .tree-count .ensures) (c .before .before .before .before .hold-all .result) _ (c .before .before .before .before .hold-all .ensures) (c .enum-told .given .1) (c .before .before .before .before .hold-all .kept .1 .1 .1 .0) (a .at) (a .table .now))
-
-scope-listed-array-share-prefix-tokens-3 :
-    (t : ℕ) → scope-listed-lts.Need-array-share-prefix-tokens-3 (
-      put-reads.Asked,
-      put-reads.Learnt,
-      tree-count-reads.Asked,
-      tree-count-reads.Learnt,
-      hold-all-reads.Asked,
-      hold-all-reads.Learnt,
-      scope-held-below t,
-      scope-held.Post,
-    ) (scope-listed-at t) scope-listed.Post
-scope-listed-array-share-prefix-tokens-3 t c = let s = c .before .before .before .before .before .before .before .before .before .before .before .before .before .before .before .before .before .before .before .before in let a = s .args in (omega (arith, used-few (rows-in (a .rows .now)) (a .fuel) (length (a .work .now)) (a .row) (a .work .now) (a .used) (a .results) (a .first) (a .places .now) (s .pre .1 .0 .0 .inside) (s .pre .1 .0 .1), c .before .before .before .before .before .before .before .before .before .before .before .before .put .kept .1 .1 .0))
-
-scope-listed-slice-aggregate-scope-held :
-    (t : ℕ) → scope-listed-lts.Need-slice-aggregate-scope-held (
-      put-reads.Asked,
-      put-reads.Learnt,
-      tree-count-reads.Asked,
-      tree-count-reads.Learnt,
-      hold-all-reads.Asked,
-      hold-all-reads.Learnt,
-      scope-held-below t,
-      scope-held.Post,
-    ) (scope-listed-at t) scope-listed.Post
-scope-listed-slice-aggregate-scope-held t c = let s = c .before .before .before .before .before .before .before .before .before .before .before .before .before .before .before .before .before .before .before .before .before in let a = s .args in sym (length-take-le _ _ (omega (arith, used-few (rows-in (a .rows .now)) (a .fuel) (length (a .work .now)) (a .row) (a .work .now) (a .used) (a .results) (a .first) (a .places .now) (s .pre .1 .0 .0 .inside) (s .pre .1 .0 .1), c .before .before .before .before .before .before .before .before .before .before .before .before .before .put .kept .1 .1 .0)))
-
-scope-listed-scope-held-requires : (t : ℕ) → scope-listed-lts.Need-scope-held-requires (put-reads.Asked, put-reads.Learnt, tree-count-reads.Asked, tree-count-reads.Learnt, hold-all-reads.Asked, hold-all-reads.Learnt, scope-held-below t, scope-held.Post) (scope-listed-at t) scope-listed.Post
-scope-listed-scope-held-requires t c κs = let s = c .before .before .before .before .before .before .before .before .before .before .before .before .before .before .before .before .before .before .before .before .before .before .before in let a = s .args in (omega (arith, s .pre .0), ((record { words = omega (arith, s .pre .1 .0 .0 .words, c .before .before .before .before .before .before .before .before .before .hold-all .kept .1 .1 .1 .0); inside = held-in (rows-in (a .rows .now)) (a .fuel) (length (a .work .now)) (a .row) _ (a .results) (a .first) (a .places .now) (tokens-left (rows-in (a .rows .now)) (a .fuel) (length (a .work .now)) (a .row) (a .work .now) (a .used) (a .results) (a .first) (a .places .now) (s .pre .1 .0 .0 .inside) (s .pre .1 .0 .1) _ _ refl (c .before .before .before .before .before .before .before .before .before .before .before .before .before .before .before .put .ensures)) (c .before .before .before .before .before .before .before .before .before .before .before .before .tree-count .result) (c .before .before .before .before .before .before .before .before .before .before .before .before .tree-count .ensures) (c .before .before .before .before .before .before .before .before .before .hold-all .result) _ (c .before .before .before .before .before .before .before .before .before .hold-all .ensures) _ (c .before .before .before .before .before .holding .given .1); bytes = s .pre .1 .0 .0 .bytes }, (tokens-left (rows-in (a .rows .now)) (a .fuel) (length (a .work .now)) (a .row) (a .work .now) (a .used) (a .results) (a .first) (a .places .now) (s .pre .1 .0 .0 .inside) (s .pre .1 .0 .1) _ _ refl (c .before .before .before .before .before .before .before .before .before .before .before .before .before .before .before .put .ensures))), ((c .before .before .before .before .before .before .before .before .before .before .before .before .tree-count .ensures, held-are (rows-in (a .rows .now)) (a .fuel) (length (a .work .now)) (a .row) _ (a .results) (a .first) (a .places .now) (tokens-left (rows-in (a .rows .now)) (a .fuel) (length (a .work .now)) (a .row) (a .work .now) (a .used) (a .results) (a .first) (a .places .now) (s .pre .1 .0 .0 .inside) (s .pre .1 .0 .1) _ _ refl (c .before .before .before .before .before .before .before .before .before .before .before .before .before .before .before .put .ensures)) (c .before .before .before .before .before .before .before .before .before .before .before .before .tree-count .result) (c .before .before .before .before .before .before .before .before .before .before .before .before .tree-count .ensures) (c .before .before .before .before .before .before .before .before .before .hold-all .result) _ (c .before .before .before .before .before .before .before .before .before .hold-all .ensures) _ (c .before .before .before .before .before .holding .given .1)), subst (λ o. a .at + told-rows o ≤ most-rows) (same-outcome (rows-in (a .rows .now)) (a .fuel) (length (a .work .now)) (a .row) (a .work .now) (a .used) (a .results) (a .first) (a .places .now) (s .pre .1 .0 .0 .inside) (s .pre .1 .0 .1) _ _ refl (c .before .before .before .before .before .before .before .before .before .before .before .before .before .before .before .put .ensures) ∙ left-now (rows-in (a .rows .now)) (a .fuel) (a .row) _ (a .results) (a .first) (a .places .now) _ _ (c .before .before .before .before .before .before .before .before .before .hold-all .kept .1 .1 .1 .0)) (s .pre .1 .1))))
-
-scope-listed-same-length-2 : (t : ℕ) → scope-listed-lts.Need-same-length-2 (put-reads.Asked, put-reads.Learnt, tree-count-reads.Asked, tree-count-reads.Learnt, hold-all-reads.Asked, hold-all-reads.Learnt, scope-held-below t, scope-held.Post) (scope-listed-at t) scope-listed.Post
-scope-listed-same-length-2 t c = search needs
-
-scope-listed-same-length-3 : (t : ℕ) → scope-listed-lts.Need-same-length-3 (put-reads.Asked, put-reads.Learnt, tree-count-reads.Asked, tree-count-reads.Learnt, hold-all-reads.Asked, hold-all-reads.Learnt, scope-held-below t, scope-held.Post) (scope-listed-at t) scope-listed.Post
-scope-listed-same-length-3 t c = search needs
-
-scope-listed-same-length-4 : (t : ℕ) → scope-listed-lts.Need-same-length-4 (put-reads.Asked, put-reads.Learnt, tree-count-reads.Asked, tree-count-reads.Learnt, hold-all-reads.Asked, hold-all-reads.Learnt, scope-held-below t, scope-held.Post) (scope-listed-at t) scope-listed.Post
-scope-listed-same-length-4 t c = search needs
-
-scope-listed-returns-2 : (t : ℕ) → scope-listed-lts.Need-returns-2 (put-reads.Asked, put-reads.Learnt, tree-count-reads.Asked, tree-count-reads.Learnt, hold-all-reads.Asked, hold-all-reads.Learnt, scope-held-below t, scope-held.Post) (scope-listed-at t) scope-listed.Post
-scope-listed-returns-2 t c = let s = c .before .before .before .before .before .before .before .before .before .before .before .before .before .before .before .before .before .before .before .before .before .before .before .before .before .before .before .before .before .before in let a = s .args in done-as _ _ (same-outcome (rows-in (a .rows .now)) (a .fuel) (length (a .work .now)) (a .row) (a .work .now) (a .used) (a .results) (a .first) (a .places .now) (s .pre .1 .0 .0 .inside) (s .pre .1 .0 .1) _ _ refl (c .before .before .before .before .before .before .before .before .before .before .before .before .before .before .before .before .before .before .before .before .before .before .put .ensures) ∙ left-now (rows-in (a .rows .now)) (a .fuel) (a .row) _ (a .results) (a .first) (a .places .now) _ _ (c .before .before .before .before .before .before .before .before .before .before .before .before .before .before .before .before .hold-all .kept .1 .1 .1 .0)) (a .at) (a .table .now) _ _ (c .before .before .before .before .before .before .scope-held .ensures)
 
 abbrev walk-Inv-loop : walk-lts.InvT-loop
 walk-Inv-loop rows work₀ h members ends fuel next text₀ numbers₀ stops₀ kept₀ number₀ extracted₀ start₀ to₀ g₀ work text numbers stops kept number extracted start to g = (g ≤ length ends) × Walk-so (inner (rows-in rows) fuel (length work₀ - h)) (take h work₀) (place-groups (take h work₀)) next g number extracted start to numbers stops kept × (length work ≡ length work₀) × (length text ≡ length text₀) × (length numbers ≡ length numbers₀) × (length stops ≡ length stops₀) × (length kept ≡ length kept₀) × (take h work ≡ take h work₀)
@@ -1301,9 +873,453 @@ write-stmts-returns :
     write-stmts-μ-loop
 write-stmts-returns t c = let s = c .before .before .before .before .before .before .before .before .before .before .before .before .before .before .before in let a = s .args in (stmts-end (rows-in (a .rows .now)) (a .fuel) (length (a .work .now) - a .h) (a .tokens .now) (a .results) (a .first) (a .places .now) (take (a .h) (a .work .now)) (a .starts .now) (a .members .now) (a .ends .now) (a .numbers .now) (a .stops .now) (a .kept .now) (s .pre .1 .0 .1) (s .pre .1 .1 .0 .0) (s .pre .1 .1 .0 .1) (a .taken .now) (a .at) (a .table .now) (s .pre .1 .1 .1 .1) (c .before .loop .q) (c .before .loop .to) _ (record { to-is = c .before .loop .inv .1; table-is = c .before .loop .inv .2 }) (omega (arith, c .before .loop .inv .0, c .loop-test .left)), c .before .loop .inv .6)
 
-pub +arm+arms+measure+scope+scope-grouped+scope-held+scope-listed+walk+write-match+write-scope+write-stmt+write-stmts-spec :
+scope-returns : (t : ℕ) → scope-lts.Need-returns (scope-rounds-below t, scope-rounds.Post) (scope-at t) scope.Post
+scope-returns t c = let s = c .before .before .before .before .before in let a = s .args in too-deep (rows-in (a .rows .now)) (length (a .work .now)) (a .row) (a .next) (take (a .len) (a .work .now)) (a .at) (a .table .now) (a .fuel) (c .if1 .taken)
+
+scope-returns-2 : (t : ℕ) → scope-lts.Need-returns-2 (scope-rounds-below t, scope-rounds.Post) (scope-at t) scope.Post
+scope-returns-2 t c = let s = c .before .before .before .before .before .before in let a = s .args in too-long (rows-in (a .rows .now)) (length (a .work .now)) (a .row) (a .next) (take (a .len) (a .work .now)) (a .at) (a .table .now) (a .fuel) (omega (arith, c .before .if1 .left)) (omega (arith, length-take-le (a .len) (a .work .now) (s .pre .1 .1 .0 .inside), c .if2 .taken))
+
+scope-returns-3 : (t : ℕ) → scope-lts.Need-returns-3 (scope-rounds-below t, scope-rounds.Post) (scope-at t) scope.Post
+scope-returns-3 t c = let s = c .before .before .before .before .before .before .before in let a = s .args in too-large (rows-in (a .rows .now)) (length (a .work .now)) (a .row) (a .next) (take (a .len) (a .work .now)) (a .at) (a .table .now) (a .fuel) (omega (arith, c .before .before .if1 .left)) (omega (arith, c .if3 .taken))
+
+scope-slice-aggregate-scope-rounds : (t : ℕ) → scope-lts.Need-slice-aggregate-scope-rounds (scope-rounds-below t, scope-rounds.Post) (scope-at t) scope.Post
+scope-slice-aggregate-scope-rounds t c = search needs
+
+scope-slice-aggregate-scope-rounds-2 : (t : ℕ) → scope-lts.Need-slice-aggregate-scope-rounds-2 (scope-rounds-below t, scope-rounds.Post) (scope-at t) scope.Post
+scope-slice-aggregate-scope-rounds-2 t c = search needs
+
+scope-scope-rounds-requires : (t : ℕ) → scope-lts.Need-scope-rounds-requires (scope-rounds-below t, scope-rounds.Post) (scope-at t) scope.Post
+scope-scope-rounds-requires t c κs = let s = c .before .before .before .before .before .before .before .before .before .before .before .before .before in (omega (arith, s .pre .0), (s .pre .1 .0, (s .pre .1 .1 .0, (s .pre .1 .1 .1, ((omega (arith, c .before .before .before .before .before .before .before .before .if1 .left), omega (arith, c .before .before .before .before .before .before .before .if2 .left), omega (arith, c .before .before .before .before .before .before .if3 .left)), (omega (arith, c .before .before .before .before .before .if4 .taken), omega (arith, c .before .before .before .before .before .if4 .taken)))))))
+
+scope-same-length : (t : ℕ) → scope-lts.Need-same-length (scope-rounds-below t, scope-rounds.Post) (scope-at t) scope.Post
+scope-same-length t c = search needs
+
+scope-same-length-2 : (t : ℕ) → scope-lts.Need-same-length-2 (scope-rounds-below t, scope-rounds.Post) (scope-at t) scope.Post
+scope-same-length-2 t c = search needs
+
+scope-same-length-3 : (t : ℕ) → scope-lts.Need-same-length-3 (scope-rounds-below t, scope-rounds.Post) (scope-at t) scope.Post
+scope-same-length-3 t c = search needs
+
+scope-returns-4 : (t : ℕ) → scope-lts.Need-returns-4 (scope-rounds-below t, scope-rounds.Post) (scope-at t) scope.Post
+scope-returns-4 t c = c .before .before .before .before .before .before .before .before .scope-rounds .ensures
+
+scope-slice-aggregate-scope-rounds-3 : (t : ℕ) → scope-lts.Need-slice-aggregate-scope-rounds-3 (scope-rounds-below t, scope-rounds.Post) (scope-at t) scope.Post
+scope-slice-aggregate-scope-rounds-3 t c = search needs
+
+scope-slice-aggregate-scope-rounds-4 : (t : ℕ) → scope-lts.Need-slice-aggregate-scope-rounds-4 (scope-rounds-below t, scope-rounds.Post) (scope-at t) scope.Post
+scope-slice-aggregate-scope-rounds-4 t c = search needs
+
+scope-scope-rounds-requires-2 : (t : ℕ) → scope-lts.Need-scope-rounds-requires-2 (scope-rounds-below t, scope-rounds.Post) (scope-at t) scope.Post
+scope-scope-rounds-requires-2 t c κs = let s = c .before .before .before .before .before .before .before .before .before .before .before .before .before in (omega (arith, s .pre .0), (s .pre .1 .0, (s .pre .1 .1 .0, (s .pre .1 .1 .1, ((omega (arith, c .before .before .before .before .before .before .before .before .if1 .left), omega (arith, c .before .before .before .before .before .before .before .if2 .left), omega (arith, c .before .before .before .before .before .before .if3 .left)), (omega (arith, c .before .before .before .before .before .before .before .if2 .left), omega (arith, c .before .before .before .before .before .before .before .if2 .left)))))))
+
+scope-same-length-4 : (t : ℕ) → scope-lts.Need-same-length-4 (scope-rounds-below t, scope-rounds.Post) (scope-at t) scope.Post
+scope-same-length-4 t c = search needs
+
+scope-same-length-5 : (t : ℕ) → scope-lts.Need-same-length-5 (scope-rounds-below t, scope-rounds.Post) (scope-at t) scope.Post
+scope-same-length-5 t c = search needs
+
+scope-same-length-6 : (t : ℕ) → scope-lts.Need-same-length-6 (scope-rounds-below t, scope-rounds.Post) (scope-at t) scope.Post
+scope-same-length-6 t c = search needs
+
+scope-returns-5 : (t : ℕ) → scope-lts.Need-returns-5 (scope-rounds-below t, scope-rounds.Post) (scope-at t) scope.Post
+scope-returns-5 t c = c .before .before .before .before .before .before .before .before .scope-rounds2 .ensures
+
+scope-grouped-sub-next : (t : ℕ) → scope-grouped-lts.Need-sub-next (walk-below t, walk.Post, walk-refusal-reads.Asked, walk-refusal-reads.Learnt, write-scope-below t, write-scope.Post) (scope-grouped-at t) scope-grouped.Post
+scope-grouped-sub-next t c = let s = c .before .before .before .before .before .before .before .before .before .before .before .before in s .pre .1 .1 .0 .0 .enough
+
+scope-grouped-add-next : (t : ℕ) → scope-grouped-lts.Need-add-next (walk-below t, walk.Post, walk-refusal-reads.Asked, walk-refusal-reads.Learnt, write-scope-below t, write-scope.Post) (scope-grouped-at t) scope-grouped.Post
+scope-grouped-add-next t c = let s = c .before .before .before .before .before .before .before .before .before .before .before .before in let a = s .args in omega (arith, lets-small (rows-in (a .rows .now)) (a .fuel) (length (a .work .now) - a .h) (a .row) (a .tokens .now) (a .results) (a .first) (a .places .now) (take (a .h) (a .work .now)) (a .starts .now) (a .members .now) (a .ends .now) (s .pre .1 .0 .1) (s .pre .1 .1 .0 .0))
+
+scope-grouped-add-next-2 : (t : ℕ) → scope-grouped-lts.Need-add-next-2 (walk-below t, walk.Post, walk-refusal-reads.Asked, walk-refusal-reads.Learnt, write-scope-below t, write-scope.Post) (scope-grouped-at t) scope-grouped.Post
+scope-grouped-add-next-2 t c = let s = c .before .before .before .before .before .before .before .before .before .before .before .before in let a = s .args in omega (arith, from-low (rows-in (a .rows .now)) (a .fuel) (length (a .work .now) - a .h) (a .row) (a .tokens .now) (a .results) (a .first) (a .places .now) (take (a .h) (a .work .now)) (a .starts .now) (a .members .now) (a .ends .now) (s .pre .1 .0 .1) (s .pre .1 .1 .0 .0))
+
+scope-grouped-walk-requires : (t : ℕ) → scope-grouped-lts.Need-walk-requires (walk-below t, walk.Post, walk-refusal-reads.Asked, walk-refusal-reads.Learnt, write-scope-below t, write-scope.Post) (scope-grouped-at t) scope-grouped.Post
+scope-grouped-walk-requires t c κs = let s = c .before .before .before .before .before .before .before .before .before .before .before .before .before .before .before .before .before in let a = s .args in (omega (arith, s .pre .0), ((s .pre .1 .0 .0, holds-from (rows-in (a .rows .now)) (a .fuel) (length (a .work .now) - a .h) (a .row) (a .tokens .now) (a .results) (a .first) (a .places .now) (take (a .h) (a .work .now)) (a .starts .now) (a .members .now) (a .ends .now) (s .pre .1 .0 .1) (s .pre .1 .1 .0 .0)), ((s .pre .1 .1 .0 .0 .grouped, omega (arith, from-low (rows-in (a .rows .now)) (a .fuel) (length (a .work .now) - a .h) (a .row) (a .tokens .now) (a .results) (a .first) (a .places .now) (take (a .h) (a .work .now)) (a .starts .now) (a .members .now) (a .ends .now) (s .pre .1 .0 .1) (s .pre .1 .1 .0 .0))), (s .pre .1 .1 .0 .1, s .pre .1 .1 .0 .2))))
+
+scope-grouped-enum-known-walked : (t : ℕ) → scope-grouped-lts.Need-enum-known-walked (walk-below t, walk.Post, walk-refusal-reads.Asked, walk-refusal-reads.Learnt, write-scope-below t, write-scope.Post) (scope-grouped-at t) scope-grouped.Post
+scope-grouped-enum-known-walked t c = search needs
+
+scope-grouped-enum-told : (t : ℕ) → scope-grouped-lts.Need-enum-told (walk-below t, walk.Post, walk-refusal-reads.Asked, walk-refusal-reads.Learnt, write-scope-below t, write-scope.Post) (scope-grouped-at t) scope-grouped.Post
+scope-grouped-enum-told t c = search needs
+
+scope-grouped-walk-refusal-requires : (t : ℕ) → scope-grouped-lts.Need-walk-refusal-requires (walk-below t, walk.Post, walk-refusal-reads.Asked, walk-refusal-reads.Learnt, write-scope-below t, write-scope.Post) (scope-grouped-at t) scope-grouped.Post
+scope-grouped-walk-refusal-requires t c κs = search needs
+
+scope-grouped-same-length : (t : ℕ) → scope-grouped-lts.Need-same-length (walk-below t, walk.Post, walk-refusal-reads.Asked, walk-refusal-reads.Learnt, write-scope-below t, write-scope.Post) (scope-grouped-at t) scope-grouped.Post
+scope-grouped-same-length t c = search needs
+
+scope-grouped-same-length-2 : (t : ℕ) → scope-grouped-lts.Need-same-length-2 (walk-below t, walk.Post, walk-refusal-reads.Asked, walk-refusal-reads.Learnt, write-scope-below t, write-scope.Post) (scope-grouped-at t) scope-grouped.Post
+scope-grouped-same-length-2 t c = search needs
+
+scope-grouped-same-length-3 : (t : ℕ) → scope-grouped-lts.Need-same-length-3 (walk-below t, walk.Post, walk-refusal-reads.Asked, walk-refusal-reads.Learnt, write-scope-below t, write-scope.Post) (scope-grouped-at t) scope-grouped.Post
+scope-grouped-same-length-3 t c = search needs
+
+scope-grouped-same-length-4 : (t : ℕ) → scope-grouped-lts.Need-same-length-4 (walk-below t, walk.Post, walk-refusal-reads.Asked, walk-refusal-reads.Learnt, write-scope-below t, write-scope.Post) (scope-grouped-at t) scope-grouped.Post
+scope-grouped-same-length-4 t c = search needs
+
+scope-grouped-same-length-5 : (t : ℕ) → scope-grouped-lts.Need-same-length-5 (walk-below t, walk.Post, walk-refusal-reads.Asked, walk-refusal-reads.Learnt, write-scope-below t, write-scope.Post) (scope-grouped-at t) scope-grouped.Post
+scope-grouped-same-length-5 t c = search needs
+
+scope-grouped-returns : (t : ℕ) → scope-grouped-lts.Need-returns (walk-below t, walk.Post, walk-refusal-reads.Asked, walk-refusal-reads.Learnt, write-scope-below t, write-scope.Post) (scope-grouped-at t) scope-grouped.Post
+scope-grouped-returns t c = let s = c .before .before .before .before .before .before .before .before .before .before .before .before .before .before .before .before .before .before .before .before .before .before .before .before .before .before .before .before .before .before .before in let a = s .args in walk-refused (rows-in (a .rows .now)) (a .fuel) (length (a .work .now) - a .h) (a .row) (a .tokens .now) (a .results) (a .first) (a .places .now) (take (a .h) (a .work .now)) (a .starts .now) (a .members .now) (a .ends .now) (s .pre .1 .0 .1) (s .pre .1 .1 .0 .0) (c .before .before .before .before .before .before .before .before .before .before .before .before .before .walk .result) _ _ _ (c .before .before .before .before .before .before .before .before .before .before .before .before .before .walk .ensures .0) _ (c .before .enum-told .given .1) _ (c .walk-refusal .ensures) (a .at) (a .table .now)
+
+scope-grouped-slice-reshare-prefix-write-scope : (t : ℕ) → scope-grouped-lts.Need-slice-reshare-prefix-write-scope (walk-below t, walk.Post, walk-refusal-reads.Asked, walk-refusal-reads.Learnt, write-scope-below t, write-scope.Post) (scope-grouped-at t) scope-grouped.Post
+scope-grouped-slice-reshare-prefix-write-scope t c = let s = c .before .before .before .before .before .before .before .before .before .before .before .before .before .before .before .before .before .before .before .before .before .before .before .before .before .before .before .before .before .before .before .before in omega (arith, s .pre .1 .1 .0 .1, c .before .before .before .before .before .before .before .before .before .before .before .before .before .before .walk .kept .1 .1 .1 .1 .1 .1 .1 .1 .0)
+
+scope-grouped-slice-aggregate-write-scope : (t : ℕ) → scope-grouped-lts.Need-slice-aggregate-write-scope (walk-below t, walk.Post, walk-refusal-reads.Asked, walk-refusal-reads.Learnt, write-scope-below t, write-scope.Post) (scope-grouped-at t) scope-grouped.Post
+scope-grouped-slice-aggregate-write-scope t c = let s = c .before .before .before .before .before .before .before .before .before .before .before .before .before .before .before .before .before .before .before .before .before .before .before .before .before .before .before .before .before .before .before .before .before in sym (length-take-le _ _ (omega (arith, s .pre .1 .1 .0 .1, c .before .before .before .before .before .before .before .before .before .before .before .before .before .before .before .walk .kept .1 .1 .1 .1 .1 .1 .1 .1 .0)))
+
+scope-grouped-slice-reshare-prefix-write-scope-2 : (t : ℕ) → scope-grouped-lts.Need-slice-reshare-prefix-write-scope-2 (walk-below t, walk.Post, walk-refusal-reads.Asked, walk-refusal-reads.Learnt, write-scope-below t, write-scope.Post) (scope-grouped-at t) scope-grouped.Post
+scope-grouped-slice-reshare-prefix-write-scope-2 t c = let s = c .before .before .before .before .before .before .before .before .before .before .before .before .before .before .before .before .before .before .before .before .before .before .before .before .before .before .before .before .before .before .before .before .before in omega (arith, s .pre .1 .1 .0 .2, c .before .before .before .before .before .before .before .before .before .before .before .before .before .before .before .walk .kept .1 .1 .1 .1 .1 .1 .1 .1 .1 .0)
+
+scope-grouped-slice-aggregate-write-scope-2 : (t : ℕ) → scope-grouped-lts.Need-slice-aggregate-write-scope-2 (walk-below t, walk.Post, walk-refusal-reads.Asked, walk-refusal-reads.Learnt, write-scope-below t, write-scope.Post) (scope-grouped-at t) scope-grouped.Post
+scope-grouped-slice-aggregate-write-scope-2 t c = let s = c .before .before .before .before .before .before .before .before .before .before .before .before .before .before .before .before .before .before .before .before .before .before .before .before .before .before .before .before .before .before .before .before .before .before in sym (length-take-le _ _ (omega (arith, s .pre .1 .1 .0 .2, c .before .before .before .before .before .before .before .before .before .before .before .before .before .before .before .before .walk .kept .1 .1 .1 .1 .1 .1 .1 .1 .1 .0)))
+
+scope-grouped-write-scope-requires : (t : ℕ) → scope-grouped-lts.Need-write-scope-requires (walk-below t, walk.Post, walk-refusal-reads.Asked, walk-refusal-reads.Learnt, write-scope-below t, write-scope.Post) (scope-grouped-at t) scope-grouped.Post
+scope-grouped-write-scope-requires t c κs = let s = c .before .before .before .before .before .before .before .before .before .before .before .before .before .before .before .before .before .before .before .before .before .before .before .before .before .before .before .before .before .before .before .before .before .before .before .before .before in let a = s .args in (omega (arith, s .pre .0), ((lent-on (a .h) (a .work .now) (a .text .now) _ _ (s .pre .1 .0 .0) (c .before .before .before .before .before .before .before .before .before .before .before .before .before .before .before .before .before .before .before .walk .kept .1 .0) (c .before .before .before .before .before .before .before .before .before .before .before .before .before .before .before .before .before .before .before .walk .kept .1 .1 .1 .1 .1 .1 .1 .0), holds-now (a .h) (a .work .now) _ (c .before .before .before .before .before .before .before .before .before .before .before .before .before .before .before .before .before .before .before .walk .ensures .1) (rows-in (a .rows .now)) _ (s .pre .1 .0 .1)), ((prepared-now (a .h) (a .work .now) _ (c .before .before .before .before .before .before .before .before .before .before .before .before .before .before .before .before .before .before .before .walk .ensures .1) (a .tokens .now) (a .results) (a .first) (a .places .now) _ _ _ _ (prepared-so (rows-in (a .rows .now)) (a .fuel) (length (a .work .now) - a .h) (a .row) (a .tokens .now) (a .results) (a .first) (a .places .now) (take (a .h) (a .work .now)) (a .starts .now) (a .members .now) (a .ends .now) (s .pre .1 .0 .1) (s .pre .1 .1 .0 .0) (c .before .before .before .before .before .before .before .before .before .before .before .before .before .before .before .before .before .before .before .walk .result) _ _ _ (c .before .before .before .before .before .before .before .before .before .before .before .before .before .before .before .before .before .before .before .walk .ensures .0) _ _ (c .before .before .before .before .before .before .before .walked .given .1)), numbered-now (a .h) (a .work .now) _ (c .before .before .before .before .before .before .before .before .before .before .before .before .before .before .before .before .before .before .before .walk .ensures .1) (c .before .before .before .before .before .before .before .before .before .before .before .before .before .before .before .before .before .before .before .walk .kept .1 .0) (rows-in (a .rows .now)) (a .fuel) _ _ _ _ _ _ (numbered-so (rows-in (a .rows .now)) (a .fuel) (length (a .work .now) - a .h) (a .row) (a .tokens .now) (a .results) (a .first) (a .places .now) (take (a .h) (a .work .now)) (a .starts .now) (a .members .now) (a .ends .now) (s .pre .1 .0 .1) (s .pre .1 .1 .0 .0) (c .before .before .before .before .before .before .before .before .before .before .before .before .before .before .before .before .before .before .before .walk .result) _ _ _ (c .before .before .before .before .before .before .before .before .before .before .before .before .before .before .before .before .before .before .before .walk .ensures .0) _ _ (c .before .before .before .before .before .before .before .walked .given .1))), now-so (a .h) (a .work .now) _ (c .before .before .before .before .before .before .before .before .before .before .before .before .before .before .before .before .before .before .before .walk .ensures .1) (c .before .before .before .before .before .before .before .before .before .before .before .before .before .before .before .before .before .before .before .walk .kept .1 .0) (λ hs left. a .at + told-rows (grouped-scope (rows-in (a .rows .now)) (a .fuel) left (a .row) (a .tokens .now) (a .results) (a .first) (a .places .now)) ≤ most-rows) (s .pre .1 .1 .1))))
+
+scope-grouped-same-length-6 : (t : ℕ) → scope-grouped-lts.Need-same-length-6 (walk-below t, walk.Post, walk-refusal-reads.Asked, walk-refusal-reads.Learnt, write-scope-below t, write-scope.Post) (scope-grouped-at t) scope-grouped.Post
+scope-grouped-same-length-6 t c = search needs
+
+scope-grouped-same-length-7 : (t : ℕ) → scope-grouped-lts.Need-same-length-7 (walk-below t, walk.Post, walk-refusal-reads.Asked, walk-refusal-reads.Learnt, write-scope-below t, write-scope.Post) (scope-grouped-at t) scope-grouped.Post
+scope-grouped-same-length-7 t c = search needs
+
+scope-grouped-same-length-8 : (t : ℕ) → scope-grouped-lts.Need-same-length-8 (walk-below t, walk.Post, walk-refusal-reads.Asked, walk-refusal-reads.Learnt, write-scope-below t, write-scope.Post) (scope-grouped-at t) scope-grouped.Post
+scope-grouped-same-length-8 t c = search needs
+
+scope-grouped-same-length-9 : (t : ℕ) → scope-grouped-lts.Need-same-length-9 (walk-below t, walk.Post, walk-refusal-reads.Asked, walk-refusal-reads.Learnt, write-scope-below t, write-scope.Post) (scope-grouped-at t) scope-grouped.Post
+scope-grouped-same-length-9 t c = search needs
+
+scope-grouped-same-length-10 : (t : ℕ) → scope-grouped-lts.Need-same-length-10 (walk-below t, walk.Post, walk-refusal-reads.Asked, walk-refusal-reads.Learnt, write-scope-below t, write-scope.Post) (scope-grouped-at t) scope-grouped.Post
+scope-grouped-same-length-10 t c = search needs
+
+scope-grouped-same-length-11 : (t : ℕ) → scope-grouped-lts.Need-same-length-11 (walk-below t, walk.Post, walk-refusal-reads.Asked, walk-refusal-reads.Learnt, write-scope-below t, write-scope.Post) (scope-grouped-at t) scope-grouped.Post
+scope-grouped-same-length-11 t c = search needs
+
+scope-grouped-returns-2 : (t : ℕ) → scope-grouped-lts.Need-returns-2 (walk-below t, walk.Post, walk-refusal-reads.Asked, walk-refusal-reads.Learnt, write-scope-below t, write-scope.Post) (scope-grouped-at t) scope-grouped.Post
+scope-grouped-returns-2 t c = let s = c .before .before .before .before .before .before .before .before .before .before .before .before .before .before .before .before .before .before .before .before .before .before .before .before .before .before .before .before .before .before .before .before .before .before .before .before .before .before .before .before .before .before .before .before in let a = s .args in grouped-before (a .h) (a .work .now) _ (c .before .before .before .before .before .before .before .before .before .before .before .before .before .before .before .before .before .before .before .before .before .before .before .before .before .before .walk .ensures .1) (c .before .before .before .before .before .before .before .before .before .before .before .before .before .before .before .before .before .before .before .before .before .before .before .before .before .before .walk .kept .1 .0) (rows-in (a .rows .now)) (a .fuel) (a .row) (a .tokens .now) (a .results) (a .first) (a .places .now) (a .at) (a .table .now) (c .before .before .before .before .before .before .write-scope .result) _ (c .before .before .before .before .before .before .write-scope .ensures)
+
+scope-held-slice-aggregate-scope-in : (t : ℕ) → scope-held-lts.Need-slice-aggregate-scope-in (scope-in-below t, scope-in.Post) (scope-held-at t) scope-held.Post
+scope-held-slice-aggregate-scope-in t c = search needs
+
+scope-held-slice-aggregate-scope-in-2 : (t : ℕ) → scope-held-lts.Need-slice-aggregate-scope-in-2 (scope-in-below t, scope-in.Post) (scope-held-at t) scope-held.Post
+scope-held-slice-aggregate-scope-in-2 t c = search needs
+
+scope-held-slice-aggregate-scope-in-3 : (t : ℕ) → scope-held-lts.Need-slice-aggregate-scope-in-3 (scope-in-below t, scope-in.Post) (scope-held-at t) scope-held.Post
+scope-held-slice-aggregate-scope-in-3 t c = search needs
+
+scope-held-slice-aggregate-scope-in-4 : (t : ℕ) → scope-held-lts.Need-slice-aggregate-scope-in-4 (scope-in-below t, scope-in.Post) (scope-held-at t) scope-held.Post
+scope-held-slice-aggregate-scope-in-4 t c = search needs
+
+scope-held-slice-aggregate-scope-in-5 : (t : ℕ) → scope-held-lts.Need-slice-aggregate-scope-in-5 (scope-in-below t, scope-in.Post) (scope-held-at t) scope-held.Post
+scope-held-slice-aggregate-scope-in-5 t c = search needs
+
+scope-held-slice-aggregate-scope-in-6 : (t : ℕ) → scope-held-lts.Need-slice-aggregate-scope-in-6 (scope-in-below t, scope-in.Post) (scope-held-at t) scope-held.Post
+scope-held-slice-aggregate-scope-in-6 t c = search needs
+
+scope-held-scope-in-requires : (t : ℕ) → scope-held-lts.Need-scope-in-requires (scope-in-below t, scope-in.Post) (scope-held-at t) scope-held.Post
+scope-held-scope-in-requires t c κs = let s = c .before .before .before .before .before .before .before .before .before .before .before .before .before .before .before .before in let a = s .args in (omega (arith, s .pre .0), (s .pre .1 .0, (s .pre .1 .1 .0, (s .pre .1 .1 .1, room-few (rows-in (a .rows .now)) (a .tokens .now) (a .results) (a .first) (a .places .now) (s .pre .1 .0 .1) (take (a .h) (a .work .now)) (s .pre .1 .1 .0 .1) (a .trees) (s .pre .1 .1 .0 .0) (omega (arith, length-take-le (a .h) (a .work .now) (s .pre .1 .0 .0 .inside), c .before .before .before .before .before .before .before .before .before .if1 .taken)) _ _ _ _ _ refl refl refl refl refl))))
+
+scope-held-same-length : (t : ℕ) → scope-held-lts.Need-same-length (scope-in-below t, scope-in.Post) (scope-held-at t) scope-held.Post
+scope-held-same-length t c = search needs
+
+scope-held-same-length-2 : (t : ℕ) → scope-held-lts.Need-same-length-2 (scope-in-below t, scope-in.Post) (scope-held-at t) scope-held.Post
+scope-held-same-length-2 t c = search needs
+
+scope-held-same-length-3 : (t : ℕ) → scope-held-lts.Need-same-length-3 (scope-in-below t, scope-in.Post) (scope-held-at t) scope-held.Post
+scope-held-same-length-3 t c = search needs
+
+scope-held-returns : (t : ℕ) → scope-held-lts.Need-returns (scope-in-below t, scope-in.Post) (scope-held-at t) scope-held.Post
+scope-held-returns t c = c .before .before .before .before .before .before .before .before .before .before .before .before .scope-in .ensures
+
+scope-held-slice-aggregate-scope-in-7 : (t : ℕ) → scope-held-lts.Need-slice-aggregate-scope-in-7 (scope-in-below t, scope-in.Post) (scope-held-at t) scope-held.Post
+scope-held-slice-aggregate-scope-in-7 t c = search needs
+
+scope-held-slice-aggregate-scope-in-8 : (t : ℕ) → scope-held-lts.Need-slice-aggregate-scope-in-8 (scope-in-below t, scope-in.Post) (scope-held-at t) scope-held.Post
+scope-held-slice-aggregate-scope-in-8 t c = search needs
+
+scope-held-slice-aggregate-scope-in-9 : (t : ℕ) → scope-held-lts.Need-slice-aggregate-scope-in-9 (scope-in-below t, scope-in.Post) (scope-held-at t) scope-held.Post
+scope-held-slice-aggregate-scope-in-9 t c = search needs
+
+scope-held-slice-aggregate-scope-in-10 : (t : ℕ) → scope-held-lts.Need-slice-aggregate-scope-in-10 (scope-in-below t, scope-in.Post) (scope-held-at t) scope-held.Post
+scope-held-slice-aggregate-scope-in-10 t c = search needs
+
+scope-held-slice-aggregate-scope-in-11 : (t : ℕ) → scope-held-lts.Need-slice-aggregate-scope-in-11 (scope-in-below t, scope-in.Post) (scope-held-at t) scope-held.Post
+scope-held-slice-aggregate-scope-in-11 t c = search needs
+
+scope-held-slice-aggregate-scope-in-12 : (t : ℕ) → scope-held-lts.Need-slice-aggregate-scope-in-12 (scope-in-below t, scope-in.Post) (scope-held-at t) scope-held.Post
+scope-held-slice-aggregate-scope-in-12 t c = search needs
+
+scope-held-scope-in-requires-2 : (t : ℕ) → scope-held-lts.Need-scope-in-requires-2 (scope-in-below t, scope-in.Post) (scope-held-at t) scope-held.Post
+scope-held-scope-in-requires-2 t c κs = let s = c .before .before .before .before .before .before .before .before .before .before .before .before .before .before .before .before in let a = s .args in (omega (arith, s .pre .0), (s .pre .1 .0, (s .pre .1 .1 .0, (s .pre .1 .1 .1, room-most (rows-in (a .rows .now)) (a .tokens .now) (a .results) (a .first) (a .places .now) (s .pre .1 .0 .1) (take (a .h) (a .work .now)) (s .pre .1 .1 .0 .1) (a .trees) (s .pre .1 .1 .0 .0) _ _ _ _ _ refl refl refl refl refl))))
+
+scope-held-same-length-4 : (t : ℕ) → scope-held-lts.Need-same-length-4 (scope-in-below t, scope-in.Post) (scope-held-at t) scope-held.Post
+scope-held-same-length-4 t c = search needs
+
+scope-held-same-length-5 : (t : ℕ) → scope-held-lts.Need-same-length-5 (scope-in-below t, scope-in.Post) (scope-held-at t) scope-held.Post
+scope-held-same-length-5 t c = search needs
+
+scope-held-same-length-6 : (t : ℕ) → scope-held-lts.Need-same-length-6 (scope-in-below t, scope-in.Post) (scope-held-at t) scope-held.Post
+scope-held-same-length-6 t c = search needs
+
+scope-held-returns-2 : (t : ℕ) → scope-held-lts.Need-returns-2 (scope-in-below t, scope-in.Post) (scope-held-at t) scope-held.Post
+scope-held-returns-2 t c = c .before .before .before .before .before .before .before .before .before .before .before .before .scope-in2 .ensures
+
+scope-in-slice-reshare-prefix-list-trees : (t : ℕ) → scope-in-lts.Need-slice-reshare-prefix-list-trees (list-trees-reads.Asked, list-trees-reads.Learnt, group-all-reads.Asked, group-all-reads.Learnt, scope-grouped-below t, scope-grouped.Post) (scope-in-at t) scope-in.Post
+scope-in-slice-reshare-prefix-list-trees t c = let s = c .before .before .before .before .before .before .before .before .before .before .before .before in s .pre .1 .0 .0 .inside
+
+scope-in-slice-aggregate-list-trees : (t : ℕ) → scope-in-lts.Need-slice-aggregate-list-trees (list-trees-reads.Asked, list-trees-reads.Learnt, group-all-reads.Asked, group-all-reads.Learnt, scope-grouped-below t, scope-grouped.Post) (scope-in-at t) scope-in.Post
+scope-in-slice-aggregate-list-trees t c = let s = c .before .before .before .before .before .before .before .before .before .before .before .before .before in sym (length-take-le _ _ (s .pre .1 .0 .0 .inside))
+
+scope-in-list-trees-requires : (t : ℕ) → scope-in-lts.Need-list-trees-requires (list-trees-reads.Asked, list-trees-reads.Learnt, group-all-reads.Asked, group-all-reads.Learnt, scope-grouped-below t, scope-grouped.Post) (scope-in-at t) scope-in.Post
+scope-in-list-trees-requires t c κs = search needs
+
+scope-in-slice-reshare-prefix-group-all : (t : ℕ) → scope-in-lts.Need-slice-reshare-prefix-group-all (list-trees-reads.Asked, list-trees-reads.Learnt, group-all-reads.Asked, group-all-reads.Learnt, scope-grouped-below t, scope-grouped.Post) (scope-in-at t) scope-in.Post
+scope-in-slice-reshare-prefix-group-all t c = let s = c .before .before .before .before .before .before .before .before .before .before .before .before .before .before .before .before .before in s .pre .1 .0 .0 .inside
+
+scope-in-slice-aggregate-group-all : (t : ℕ) → scope-in-lts.Need-slice-aggregate-group-all (list-trees-reads.Asked, list-trees-reads.Learnt, group-all-reads.Asked, group-all-reads.Learnt, scope-grouped-below t, scope-grouped.Post) (scope-in-at t) scope-in.Post
+scope-in-slice-aggregate-group-all t c = let s = c .before .before .before .before .before .before .before .before .before .before .before .before .before .before .before .before .before .before in sym (length-take-le _ _ (s .pre .1 .0 .0 .inside))
+
+scope-in-group-all-requires : (t : ℕ) → scope-in-lts.Need-group-all-requires (list-trees-reads.Asked, list-trees-reads.Learnt, group-all-reads.Asked, group-all-reads.Learnt, scope-grouped-below t, scope-grouped.Post) (scope-in-at t) scope-in.Post
+scope-in-group-all-requires t c κs = let s = c .before .before .before .before .before .before .before .before .before .before .before .before .before .before .before .before .before .before .before .before .before in let a = s .args in ((held-complete (rows-in (a .rows .now)) (a .tokens .now) (a .results) (a .first) (a .places .now) (s .pre .1 .0 .1) (take (a .h) (a .work .now)) (s .pre .1 .1 .0 .1), omega (arith, (length-take-le (a .h) (a .work .now) (s .pre .1 .0 .0 .inside)), s .pre .1 .0 .0 .inside, s .pre .1 .0 .0 .words)), (s .pre .1 .1 .1 .1 .switches, s .pre .1 .1 .1 .1 .members-as, s .pre .1 .1 .1 .1 .ends-as))
+
+scope-in-enum-known-found : (t : ℕ) → scope-in-lts.Need-enum-known-found (list-trees-reads.Asked, list-trees-reads.Learnt, group-all-reads.Asked, group-all-reads.Learnt, scope-grouped-below t, scope-grouped.Post) (scope-in-at t) scope-in.Post
+scope-in-enum-known-found t c = search needs
+
+scope-in-enum-told : (t : ℕ) → scope-in-lts.Need-enum-told (list-trees-reads.Asked, list-trees-reads.Learnt, group-all-reads.Asked, group-all-reads.Learnt, scope-grouped-below t, scope-grouped.Post) (scope-in-at t) scope-in.Post
+scope-in-enum-told t c = search needs
+
+scope-in-same-length : (t : ℕ) → scope-in-lts.Need-same-length (list-trees-reads.Asked, list-trees-reads.Learnt, group-all-reads.Asked, group-all-reads.Learnt, scope-grouped-below t, scope-grouped.Post) (scope-in-at t) scope-in.Post
+scope-in-same-length t c = search needs
+
+scope-in-same-length-2 : (t : ℕ) → scope-in-lts.Need-same-length-2 (list-trees-reads.Asked, list-trees-reads.Learnt, group-all-reads.Asked, group-all-reads.Learnt, scope-grouped-below t, scope-grouped.Post) (scope-in-at t) scope-in.Post
+scope-in-same-length-2 t c = search needs
+
+scope-in-same-length-3 : (t : ℕ) → scope-in-lts.Need-same-length-3 (list-trees-reads.Asked, list-trees-reads.Learnt, group-all-reads.Asked, group-all-reads.Learnt, scope-grouped-below t, scope-grouped.Post) (scope-in-at t) scope-in.Post
+scope-in-same-length-3 t c = search needs
+
+scope-in-same-length-4 : (t : ℕ) → scope-in-lts.Need-same-length-4 (list-trees-reads.Asked, list-trees-reads.Learnt, group-all-reads.Asked, group-all-reads.Learnt, scope-grouped-below t, scope-grouped.Post) (scope-in-at t) scope-in.Post
+scope-in-same-length-4 t c = search needs
+
+scope-in-same-length-5 : (t : ℕ) → scope-in-lts.Need-same-length-5 (list-trees-reads.Asked, list-trees-reads.Learnt, group-all-reads.Asked, group-all-reads.Learnt, scope-grouped-below t, scope-grouped.Post) (scope-in-at t) scope-in.Post
+scope-in-same-length-5 t c = search needs
+
+scope-in-returns : (t : ℕ) → scope-in-lts.Need-returns (list-trees-reads.Asked, list-trees-reads.Learnt, group-all-reads.Asked, group-all-reads.Learnt, scope-grouped-below t, scope-grouped.Post) (scope-in-at t) scope-in.Post
+scope-in-returns t c = let s = c .before .before .before .before .before .before .before .before .before .before .before .before .before .before .before .before .before .before .before .before .before .before .before .before .before .before .before .before .before .before in let a = s .args in too-many-switches (rows-in (a .rows .now)) (a .fuel) (length (a .work .now)) (a .row) (a .tokens .now) (a .results) (a .first) (a .places .now) (take (a .h) (a .work .now)) (s .pre .1 .1 .0 .1) (found-none (take (a .h) (a .work .now)) (c .before .before .before .before .before .before .before .before .group-all .result) _ _ (c .before .before .before .before .before .before .before .before .group-all .ensures) (c .enum-told .given .1)) (a .at) (a .table .now)
+
+scope-in-sub-if1 : (t : ℕ) → scope-in-lts.Need-sub-if1 (list-trees-reads.Asked, list-trees-reads.Learnt, group-all-reads.Asked, group-all-reads.Learnt, scope-grouped-below t, scope-grouped.Post) (scope-in-at t) scope-in.Post
+scope-in-sub-if1 t c = let s = c .before .before .before .before .before .before .before .before .before .before .before .before .before .before .before .before .before .before .before .before .before .before .before .before .before .before .before .before .before .before .before in let a = s .args in trees-enough (rows-in (a .rows .now)) (a .fuel) (length (a .work .now)) (a .row) (a .tokens .now) (a .results) (a .first) (a .places .now) (s .pre .1 .0 .1) (a .trees) (s .pre .1 .1 .0 .0)
+
+scope-in-add-if1 : (t : ℕ) → scope-in-lts.Need-add-if1 (list-trees-reads.Asked, list-trees-reads.Learnt, group-all-reads.Asked, group-all-reads.Learnt, scope-grouped-below t, scope-grouped.Post) (scope-in-at t) scope-in.Post
+scope-in-add-if1 t c = let s = c .before .before .before .before .before .before .before .before .before .before .before .before .before .before .before .before .before .before .before .before .before .before .before .before .before .before .before .before .before .before .before in let a = s .args in omega (arith, trees-few-here (rows-in (a .rows .now)) (a .fuel) (length (a .work .now)) (a .row) (a .tokens .now) (a .results) (a .first) (a .places .now) (s .pre .1 .0 .1) (a .trees) (s .pre .1 .1 .0 .0), places-short (rows-in (a .rows .now)) (a .fuel) (length (a .work .now)) (a .row) (a .tokens .now) (a .results) (a .first) (a .places .now) (s .pre .1 .0 .1) (a .trees) (s .pre .1 .1 .0 .0))
+
+scope-in-add-if1-2 : (t : ℕ) → scope-in-lts.Need-add-if1-2 (list-trees-reads.Asked, list-trees-reads.Learnt, group-all-reads.Asked, group-all-reads.Learnt, scope-grouped-below t, scope-grouped.Post) (scope-in-at t) scope-in.Post
+scope-in-add-if1-2 t c = let s = c .before .before .before .before .before .before .before .before .before .before .before .before .before .before .before .before .before .before .before .before .before .before .before .before .before .before .before .before .before .before .before in let a = s .args in omega (arith, trees-few-here (rows-in (a .rows .now)) (a .fuel) (length (a .work .now)) (a .row) (a .tokens .now) (a .results) (a .first) (a .places .now) (s .pre .1 .0 .1) (a .trees) (s .pre .1 .1 .0 .0), places-short (rows-in (a .rows .now)) (a .fuel) (length (a .work .now)) (a .row) (a .tokens .now) (a .results) (a .first) (a .places .now) (s .pre .1 .0 .1) (a .trees) (s .pre .1 .1 .0 .0), groups-short (rows-in (a .rows .now)) (a .tokens .now) (a .results) (a .first) (a .places .now) (s .pre .1 .0 .1) (take (a .h) (a .work .now)) (s .pre .1 .1 .0 .1) _ _ _ _ (found-groups (take (a .h) (a .work .now)) (c .before .before .before .before .before .before .before .before .before .group-all .result) _ _ (c .before .before .before .before .before .before .before .before .before .group-all .ensures) _ _ (c .before .found .given .1)) (omega (arith, c .before .before .before .before .before .before .before .before .before .group-all .kept .1 .1 .0, s .pre .1 .1 .1 .1 .members-as, s .pre .1 .1 .1 .1 .switches .most)))
+
+scope-in-same-length-6 : (t : ℕ) → scope-in-lts.Need-same-length-6 (list-trees-reads.Asked, list-trees-reads.Learnt, group-all-reads.Asked, group-all-reads.Learnt, scope-grouped-below t, scope-grouped.Post) (scope-in-at t) scope-in.Post
+scope-in-same-length-6 t c = search needs
+
+scope-in-same-length-7 : (t : ℕ) → scope-in-lts.Need-same-length-7 (list-trees-reads.Asked, list-trees-reads.Learnt, group-all-reads.Asked, group-all-reads.Learnt, scope-grouped-below t, scope-grouped.Post) (scope-in-at t) scope-in.Post
+scope-in-same-length-7 t c = search needs
+
+scope-in-same-length-8 : (t : ℕ) → scope-in-lts.Need-same-length-8 (list-trees-reads.Asked, list-trees-reads.Learnt, group-all-reads.Asked, group-all-reads.Learnt, scope-grouped-below t, scope-grouped.Post) (scope-in-at t) scope-in.Post
+scope-in-same-length-8 t c = search needs
+
+scope-in-same-length-9 : (t : ℕ) → scope-in-lts.Need-same-length-9 (list-trees-reads.Asked, list-trees-reads.Learnt, group-all-reads.Asked, group-all-reads.Learnt, scope-grouped-below t, scope-grouped.Post) (scope-in-at t) scope-in.Post
+scope-in-same-length-9 t c = search needs
+
+scope-in-same-length-10 : (t : ℕ) → scope-in-lts.Need-same-length-10 (list-trees-reads.Asked, list-trees-reads.Learnt, group-all-reads.Asked, group-all-reads.Learnt, scope-grouped-below t, scope-grouped.Post) (scope-in-at t) scope-in.Post
+scope-in-same-length-10 t c = search needs
+
+scope-in-returns-2 : (t : ℕ) → scope-in-lts.Need-returns-2 (list-trees-reads.Asked, list-trees-reads.Learnt, group-all-reads.Asked, group-all-reads.Learnt, scope-grouped-below t, scope-grouped.Post) (scope-in-at t) scope-in.Post
+scope-in-returns-2 t c = let s = c .before .before .before .before .before .before .before .before .before .before .before .before .before .before .before .before .before .before .before .before .before .before .before .before .before .before .before .before .before .before .before .before in let a = s .args in too-many-stmts (rows-in (a .rows .now)) (a .fuel) (length (a .work .now)) (a .row) (a .tokens .now) (a .results) (a .first) (a .places .now) (take (a .h) (a .work .now)) (s .pre .1 .1 .0 .1) (a .trees) (s .pre .1 .1 .0 .0) _ _ _ _ (found-groups (take (a .h) (a .work .now)) (c .before .before .before .before .before .before .before .before .before .before .group-all .result) _ _ (c .before .before .before .before .before .before .before .before .before .before .group-all .ensures) _ _ (c .before .before .found .given .1)) (omega (arith, c .if1 .taken)) (a .at) (a .table .now)
+
+scope-in-slice-reshare-prefix-scope-grouped : (t : ℕ) → scope-in-lts.Need-slice-reshare-prefix-scope-grouped (list-trees-reads.Asked, list-trees-reads.Learnt, group-all-reads.Asked, group-all-reads.Learnt, scope-grouped-below t, scope-grouped.Post) (scope-in-at t) scope-in.Post
+scope-in-slice-reshare-prefix-scope-grouped t c = let s = c .before .before .before .before .before .before .before .before .before .before .before .before .before .before .before .before .before .before .before .before .before .before .before .before .before .before .before .before .before .before .before .before .before in let a = s .args in (omega (arith, trees-listed (rows-in (a .rows .now)) (a .tokens .now) (a .results) (a .first) (a .places .now) (s .pre .1 .0 .1) (take (a .h) (a .work .now)) (s .pre .1 .1 .0 .1) (a .trees) (s .pre .1 .1 .0 .0), s .pre .1 .1 .1 .1 .trees, c .before .before .before .before .before .before .before .before .before .before .before .before .before .before .before .before .before .before .list-trees .kept .1 .0))
+
+scope-in-slice-aggregate-scope-grouped : (t : ℕ) → scope-in-lts.Need-slice-aggregate-scope-grouped (list-trees-reads.Asked, list-trees-reads.Learnt, group-all-reads.Asked, group-all-reads.Learnt, scope-grouped-below t, scope-grouped.Post) (scope-in-at t) scope-in.Post
+scope-in-slice-aggregate-scope-grouped t c = let s = c .before .before .before .before .before .before .before .before .before .before .before .before .before .before .before .before .before .before .before .before .before .before .before .before .before .before .before .before .before .before .before .before .before .before in let a = s .args in sym (length-take-le _ _ (omega (arith, trees-listed (rows-in (a .rows .now)) (a .tokens .now) (a .results) (a .first) (a .places .now) (s .pre .1 .0 .1) (take (a .h) (a .work .now)) (s .pre .1 .1 .0 .1) (a .trees) (s .pre .1 .1 .0 .0), s .pre .1 .1 .1 .1 .trees, c .before .before .before .before .before .before .before .before .before .before .before .before .before .before .before .before .before .before .before .list-trees .kept .1 .0)))
+
+scope-in-slice-reshare-prefix-scope-grouped-2 : (t : ℕ) → scope-in-lts.Need-slice-reshare-prefix-scope-grouped-2 (list-trees-reads.Asked, list-trees-reads.Learnt, group-all-reads.Asked, group-all-reads.Learnt, scope-grouped-below t, scope-grouped.Post) (scope-in-at t) scope-in.Post
+scope-in-slice-reshare-prefix-scope-grouped-2 t c = let s = c .before .before .before .before .before .before .before .before .before .before .before .before .before .before .before .before .before .before .before .before .before .before .before .before .before .before .before .before .before .before .before .before .before .before in let a = s .args in (found-groups (take (a .h) (a .work .now)) (c .before .before .before .before .before .before .before .before .before .before .before .before .group-all .result) _ _ (c .before .before .before .before .before .before .before .before .before .before .before .before .group-all .ensures) _ _ (c .before .before .before .before .found .given .1)) .members-in
+
+scope-in-slice-aggregate-scope-grouped-2 : (t : ℕ) → scope-in-lts.Need-slice-aggregate-scope-grouped-2 (list-trees-reads.Asked, list-trees-reads.Learnt, group-all-reads.Asked, group-all-reads.Learnt, scope-grouped-below t, scope-grouped.Post) (scope-in-at t) scope-in.Post
+scope-in-slice-aggregate-scope-grouped-2 t c = let s = c .before .before .before .before .before .before .before .before .before .before .before .before .before .before .before .before .before .before .before .before .before .before .before .before .before .before .before .before .before .before .before .before .before .before .before in let a = s .args in sym (length-take-le _ _ ((found-groups (take (a .h) (a .work .now)) (c .before .before .before .before .before .before .before .before .before .before .before .before .before .group-all .result) _ _ (c .before .before .before .before .before .before .before .before .before .before .before .before .before .group-all .ensures) _ _ (c .before .before .before .before .before .found .given .1)) .members-in))
+
+scope-in-slice-reshare-prefix-scope-grouped-3 : (t : ℕ) → scope-in-lts.Need-slice-reshare-prefix-scope-grouped-3 (list-trees-reads.Asked, list-trees-reads.Learnt, group-all-reads.Asked, group-all-reads.Learnt, scope-grouped-below t, scope-grouped.Post) (scope-in-at t) scope-in.Post
+scope-in-slice-reshare-prefix-scope-grouped-3 t c = let s = c .before .before .before .before .before .before .before .before .before .before .before .before .before .before .before .before .before .before .before .before .before .before .before .before .before .before .before .before .before .before .before .before .before .before .before in let a = s .args in (found-groups (take (a .h) (a .work .now)) (c .before .before .before .before .before .before .before .before .before .before .before .before .before .group-all .result) _ _ (c .before .before .before .before .before .before .before .before .before .before .before .before .before .group-all .ensures) _ _ (c .before .before .before .before .before .found .given .1)) .ends-in
+
+scope-in-slice-aggregate-scope-grouped-3 : (t : ℕ) → scope-in-lts.Need-slice-aggregate-scope-grouped-3 (list-trees-reads.Asked, list-trees-reads.Learnt, group-all-reads.Asked, group-all-reads.Learnt, scope-grouped-below t, scope-grouped.Post) (scope-in-at t) scope-in.Post
+scope-in-slice-aggregate-scope-grouped-3 t c = let s = c .before .before .before .before .before .before .before .before .before .before .before .before .before .before .before .before .before .before .before .before .before .before .before .before .before .before .before .before .before .before .before .before .before .before .before .before in let a = s .args in sym (length-take-le _ _ ((found-groups (take (a .h) (a .work .now)) (c .before .before .before .before .before .before .before .before .before .before .before .before .before .before .group-all .result) _ _ (c .before .before .before .before .before .before .before .before .before .before .before .before .before .before .group-all .ensures) _ _ (c .before .before .before .before .before .before .found .given .1)) .ends-in))
+
+scope-in-scope-grouped-requires : (t : ℕ) → scope-in-lts.Need-scope-grouped-requires (list-trees-reads.Asked, list-trees-reads.Learnt, group-all-reads.Asked, group-all-reads.Learnt, scope-grouped-below t, scope-grouped.Post) (scope-in-at t) scope-in.Post
+scope-in-scope-grouped-requires t c κs = let s = c .before .before .before .before .before .before .before .before .before .before .before .before .before .before .before .before .before .before .before .before .before .before .before .before .before .before .before .before .before .before .before .before .before .before .before .before .before .before .before .before .before in let a = s .args in (omega (arith, s .pre .0), ((s .pre .1 .0 .0, left-holds (rows-in (a .rows .now)) (a .tokens .now) (a .results) (a .first) (a .places .now) (s .pre .1 .0 .1) (take (a .h) (a .work .now)) (s .pre .1 .1 .0 .1) (omega (arith, (length-take-le (a .h) (a .work .now) (s .pre .1 .0 .0 .inside)), s .pre .1 .0 .0 .inside, s .pre .1 .0 .0 .words)) (switches-here (rows-in (a .rows .now)) (a .tokens .now) (a .results) (a .first) (a .places .now) (s .pre .1 .0 .1) (take (a .h) (a .work .now)) (s .pre .1 .1 .0 .1) _ _ _ _ (found-groups (take (a .h) (a .work .now)) (c .before .before .before .before .before .before .before .before .before .before .before .before .before .before .before .before .before .before .before .group-all .result) _ _ (c .before .before .before .before .before .before .before .before .before .before .before .before .before .before .before .before .before .before .before .group-all .ensures) _ _ (c .before .before .before .before .before .before .before .before .before .before .before .found .given .1)) (omega (arith, c .before .before .before .before .before .before .before .before .before .before .before .before .before .before .before .before .before .before .before .group-all .kept .1 .1 .0, s .pre .1 .1 .1 .1 .members-as, s .pre .1 .1 .1 .1 .switches .most)))), ((ready-so (rows-in (a .rows .now)) (a .tokens .now) (a .results) (a .first) (a .places .now) (s .pre .1 .0 .1) (take (a .h) (a .work .now)) (s .pre .1 .1 .0 .1) (a .trees) (s .pre .1 .1 .0 .0) _ _ (s .pre .1 .1 .1 .1 .trees) (c .before .before .before .before .before .before .before .before .before .before .before .before .before .before .before .before .before .before .before .before .before .before .before .before .before .before .list-trees .ensures .1) _ _ _ _ (found-groups (take (a .h) (a .work .now)) (c .before .before .before .before .before .before .before .before .before .before .before .before .before .before .before .before .before .before .before .group-all .result) _ _ (c .before .before .before .before .before .before .before .before .before .before .before .before .before .before .before .before .before .before .before .group-all .ensures) _ _ (c .before .before .before .before .before .before .before .before .before .before .before .found .given .1)) (omega (arith, c .before .before .before .before .before .before .before .before .before .if1 .left)), members-within (rows-in (a .rows .now)) (a .tokens .now) (a .results) (a .first) (a .places .now) (s .pre .1 .0 .1) (take (a .h) (a .work .now)) (s .pre .1 .1 .0 .1) _ _ _ _ (found-groups (take (a .h) (a .work .now)) (c .before .before .before .before .before .before .before .before .before .before .before .before .before .before .before .before .before .before .before .group-all .result) _ _ (c .before .before .before .before .before .before .before .before .before .before .before .before .before .before .before .before .before .before .before .group-all .ensures) _ _ (c .before .before .before .before .before .before .before .before .before .before .before .found .given .1)) _ (omega (arith, c .before .before .before .before .before .before .before .before .before .before .before .before .before .before .before .before .before .before .before .group-all .kept .1 .1 .0, c .before .before .before .before .before .before .before .before .before .before .before .before .before .before .before .before .before .before .before .group-all .kept .1 .0, s .pre .1 .1 .1 .1 .members-as)), stops-enough (rows-in (a .rows .now)) (a .tokens .now) (a .results) (a .first) (a .places .now) (s .pre .1 .0 .1) (take (a .h) (a .work .now)) (s .pre .1 .1 .0 .1) _ _ _ _ (found-groups (take (a .h) (a .work .now)) (c .before .before .before .before .before .before .before .before .before .before .before .before .before .before .before .before .before .before .before .group-all .result) _ _ (c .before .before .before .before .before .before .before .before .before .before .before .before .before .before .before .before .before .before .before .group-all .ensures) _ _ (c .before .before .before .before .before .before .before .before .before .before .before .found .given .1)) (a .stops .now) (s .pre .1 .1 .1 .1 .stops-over) (omega (arith, c .before .before .before .before .before .before .before .before .before .if1 .left))), subst (λ o. a .at + told-rows o ≤ most-rows) (outcome-is (rows-in (a .rows .now)) (a .fuel) (length (a .work .now)) (a .row) (a .tokens .now) (a .results) (a .first) (a .places .now) (take (a .h) (a .work .now)) (s .pre .1 .1 .0 .1) (a .trees) (s .pre .1 .1 .0 .0) _ _ _ _ (found-groups (take (a .h) (a .work .now)) (c .before .before .before .before .before .before .before .before .before .before .before .before .before .before .before .before .before .before .before .group-all .result) _ _ (c .before .before .before .before .before .before .before .before .before .before .before .before .before .before .before .before .before .before .before .group-all .ensures) _ _ (c .before .before .before .before .before .before .before .before .before .before .before .found .given .1)) (omega (arith, (length-take-le (a .h) (a .work .now) (s .pre .1 .0 .0 .inside)), s .pre .1 .0 .0 .inside)) (switches-here (rows-in (a .rows .now)) (a .tokens .now) (a .results) (a .first) (a .places .now) (s .pre .1 .0 .1) (take (a .h) (a .work .now)) (s .pre .1 .1 .0 .1) _ _ _ _ (found-groups (take (a .h) (a .work .now)) (c .before .before .before .before .before .before .before .before .before .before .before .before .before .before .before .before .before .before .before .group-all .result) _ _ (c .before .before .before .before .before .before .before .before .before .before .before .before .before .before .before .before .before .before .before .group-all .ensures) _ _ (c .before .before .before .before .before .before .before .before .before .before .before .found .given .1)) (omega (arith, c .before .before .before .before .before .before .before .before .before .before .before .before .before .before .before .before .before .before .before .group-all .kept .1 .1 .0, s .pre .1 .1 .1 .1 .members-as, s .pre .1 .1 .1 .1 .switches .most))) (omega (arith, c .before .before .before .before .before .before .before .before .before .if1 .left)) (length (a .work .now) - a .h) (omega (arith, (length-take-le (a .h) (a .work .now) (s .pre .1 .0 .0 .inside))))) (s .pre .1 .1 .1 .0))))
+
+scope-in-same-length-11 : (t : ℕ) → scope-in-lts.Need-same-length-11 (list-trees-reads.Asked, list-trees-reads.Learnt, group-all-reads.Asked, group-all-reads.Learnt, scope-grouped-below t, scope-grouped.Post) (scope-in-at t) scope-in.Post
+scope-in-same-length-11 t c = search needs
+
+scope-in-same-length-12 : (t : ℕ) → scope-in-lts.Need-same-length-12 (list-trees-reads.Asked, list-trees-reads.Learnt, group-all-reads.Asked, group-all-reads.Learnt, scope-grouped-below t, scope-grouped.Post) (scope-in-at t) scope-in.Post
+scope-in-same-length-12 t c = c .before .before .before .before .before .before .before .before .before .before .before .before .before .before .before .before .before .before .before .before .before .before .before .before .before .before .before .before .before .before .before .before .before .before .before .before .before .before .before .list-trees .kept .1 .0
+
+scope-in-same-length-13 : (t : ℕ) → scope-in-lts.Need-same-length-13 (list-trees-reads.Asked, list-trees-reads.Learnt, group-all-reads.Asked, group-all-reads.Learnt, scope-grouped-below t, scope-grouped.Post) (scope-in-at t) scope-in.Post
+scope-in-same-length-13 t c = search needs
+
+scope-in-same-length-14 : (t : ℕ) → scope-in-lts.Need-same-length-14 (list-trees-reads.Asked, list-trees-reads.Learnt, group-all-reads.Asked, group-all-reads.Learnt, scope-grouped-below t, scope-grouped.Post) (scope-in-at t) scope-in.Post
+scope-in-same-length-14 t c = search needs
+
+scope-in-same-length-15 : (t : ℕ) → scope-in-lts.Need-same-length-15 (list-trees-reads.Asked, list-trees-reads.Learnt, group-all-reads.Asked, group-all-reads.Learnt, scope-grouped-below t, scope-grouped.Post) (scope-in-at t) scope-in.Post
+scope-in-same-length-15 t c = search needs
+
+scope-in-same-length-16 : (t : ℕ) → scope-in-lts.Need-same-length-16 (list-trees-reads.Asked, list-trees-reads.Learnt, group-all-reads.Asked, group-all-reads.Learnt, scope-grouped-below t, scope-grouped.Post) (scope-in-at t) scope-in.Post
+scope-in-same-length-16 t c = search needs
+
+scope-in-same-length-17 : (t : ℕ) → scope-in-lts.Need-same-length-17 (list-trees-reads.Asked, list-trees-reads.Learnt, group-all-reads.Asked, group-all-reads.Learnt, scope-grouped-below t, scope-grouped.Post) (scope-in-at t) scope-in.Post
+scope-in-same-length-17 t c = search needs
+
+scope-in-same-length-18 : (t : ℕ) → scope-in-lts.Need-same-length-18 (list-trees-reads.Asked, list-trees-reads.Learnt, group-all-reads.Asked, group-all-reads.Learnt, scope-grouped-below t, scope-grouped.Post) (scope-in-at t) scope-in.Post
+scope-in-same-length-18 t c = search needs
+
+scope-in-same-length-19 : (t : ℕ) → scope-in-lts.Need-same-length-19 (list-trees-reads.Asked, list-trees-reads.Learnt, group-all-reads.Asked, group-all-reads.Learnt, scope-grouped-below t, scope-grouped.Post) (scope-in-at t) scope-in.Post
+scope-in-same-length-19 t c = search needs
+
+scope-in-returns-3 : (t : ℕ) → scope-in-lts.Need-returns-3 (list-trees-reads.Asked, list-trees-reads.Learnt, group-all-reads.Asked, group-all-reads.Learnt, scope-grouped-below t, scope-grouped.Post) (scope-in-at t) scope-in.Post
+scope-in-returns-3 t c = let s = c .before .before .before .before .before .before .before .before .before .before .before .before .before .before .before .before .before .before .before .before .before .before .before .before .before .before .before .before .before .before .before .before .before .before .before .before .before .before .before .before .before .before .before .before .before .before .before .before .before .before .before .before .before .before in let a = s .args in done-as _ _ (outcome-is (rows-in (a .rows .now)) (a .fuel) (length (a .work .now)) (a .row) (a .tokens .now) (a .results) (a .first) (a .places .now) (take (a .h) (a .work .now)) (s .pre .1 .1 .0 .1) (a .trees) (s .pre .1 .1 .0 .0) _ _ _ _ (found-groups (take (a .h) (a .work .now)) (c .before .before .before .before .before .before .before .before .before .before .before .before .before .before .before .before .before .before .before .before .before .before .before .before .before .before .before .before .before .before .before .before .group-all .result) _ _ (c .before .before .before .before .before .before .before .before .before .before .before .before .before .before .before .before .before .before .before .before .before .before .before .before .before .before .before .before .before .before .before .before .group-all .ensures) _ _ (c .before .before .before .before .before .before .before .before .before .before .before .before .before .before .before .before .before .before .before .before .before .before .before .before .found .given .1)) (omega (arith, (length-take-le (a .h) (a .work .now) (s .pre .1 .0 .0 .inside)), s .pre .1 .0 .0 .inside)) (switches-here (rows-in (a .rows .now)) (a .tokens .now) (a .results) (a .first) (a .places .now) (s .pre .1 .0 .1) (take (a .h) (a .work .now)) (s .pre .1 .1 .0 .1) _ _ _ _ (found-groups (take (a .h) (a .work .now)) (c .before .before .before .before .before .before .before .before .before .before .before .before .before .before .before .before .before .before .before .before .before .before .before .before .before .before .before .before .before .before .before .before .group-all .result) _ _ (c .before .before .before .before .before .before .before .before .before .before .before .before .before .before .before .before .before .before .before .before .before .before .before .before .before .before .before .before .before .before .before .before .group-all .ensures) _ _ (c .before .before .before .before .before .before .before .before .before .before .before .before .before .before .before .before .before .before .before .before .before .before .before .before .found .given .1)) (omega (arith, c .before .before .before .before .before .before .before .before .before .before .before .before .before .before .before .before .before .before .before .before .before .before .before .before .before .before .before .before .before .before .before .before .group-all .kept .1 .1 .0, s .pre .1 .1 .1 .1 .members-as, s .pre .1 .1 .1 .1 .switches .most))) (omega (arith, c .before .before .before .before .before .before .before .before .before .before .before .before .before .before .before .before .before .before .before .before .before .before .if1 .left)) (length (a .work .now) - a .h) (omega (arith, (length-take-le (a .h) (a .work .now) (s .pre .1 .0 .0 .inside))))) (a .at) (a .table .now) _ _ (c .before .before .before .before .before .before .before .before .before .before .before .before .scope-grouped .ensures)
+
+scope-listed-slice-reshare-prefix-put : (t : ℕ) → scope-listed-lts.Need-slice-reshare-prefix-put (put-reads.Asked, put-reads.Learnt, tree-count-reads.Asked, tree-count-reads.Learnt, hold-all-reads.Asked, hold-all-reads.Learnt, scope-held-below t, scope-held.Post) (scope-listed-at t) scope-listed.Post
+scope-listed-slice-reshare-prefix-put t c = let s = c .before .before .before .before .before .before in s .pre .1 .0 .0 .inside
+
+scope-listed-slice-aggregate-put : (t : ℕ) → scope-listed-lts.Need-slice-aggregate-put (put-reads.Asked, put-reads.Learnt, tree-count-reads.Asked, tree-count-reads.Learnt, hold-all-reads.Asked, hold-all-reads.Learnt, scope-held-below t, scope-held.Post) (scope-listed-at t) scope-listed.Post
+scope-listed-slice-aggregate-put t c = let s = c .before .before .before .before .before .before .before in sym (length-take-le _ _ (s .pre .1 .0 .0 .inside))
+
+scope-listed-put-requires : (t : ℕ) → scope-listed-lts.Need-put-requires (put-reads.Asked, put-reads.Learnt, tree-count-reads.Asked, tree-count-reads.Learnt, hold-all-reads.Asked, hold-all-reads.Learnt, scope-held-below t, scope-held.Post) (scope-listed-at t) scope-listed.Post
+scope-listed-put-requires t c κs = search needs
+
+scope-listed-slice-reshare-prefix-tree-count : (t : ℕ) → scope-listed-lts.Need-slice-reshare-prefix-tree-count (put-reads.Asked, put-reads.Learnt, tree-count-reads.Asked, tree-count-reads.Learnt, hold-all-reads.Asked, hold-all-reads.Learnt, scope-held-below t, scope-held.Post) (scope-listed-at t) scope-listed.Post
+scope-listed-slice-reshare-prefix-tree-count t c = let s = c .before .before .before .before .before .before .before .before .before .before .before in omega (arith, s .pre .1 .1 .1, c .before .before .put .kept .1 .1 .0)
+
+scope-listed-slice-aggregate-tree-count : (t : ℕ) → scope-listed-lts.Need-slice-aggregate-tree-count (put-reads.Asked, put-reads.Learnt, tree-count-reads.Asked, tree-count-reads.Learnt, hold-all-reads.Asked, hold-all-reads.Learnt, scope-held-below t, scope-held.Post) (scope-listed-at t) scope-listed.Post
+scope-listed-slice-aggregate-tree-count t c = let s = c .before .before .before .before .before .before .before .before .before .before .before .before in let a = s .args in sym (length-take-le _ _ (omega (arith, s .pre .1 .1 .1, c .before .before .before .put .kept .1 .1 .0)))
+
+scope-listed-tree-count-requires : (t : ℕ) → scope-listed-lts.Need-tree-count-requires (put-reads.Asked, put-reads.Learnt, tree-count-reads.Asked, tree-count-reads.Learnt, hold-all-reads.Asked, hold-all-reads.Learnt, scope-held-below t, scope-held.Post) (scope-listed-at t) scope-listed.Post
+scope-listed-tree-count-requires t c κs = let s = c .before .before .before .before .before .before .before .before .before .before .before .before in let a = s .args in tokens-whole (rows-in (a .rows .now)) (a .fuel) (length (a .work .now)) (a .row) (a .work .now) (a .used) (a .results) (a .first) (a .places .now) (s .pre .1 .0 .0 .inside) (s .pre .1 .0 .1) _ _ (s .pre .1 .1 .1) (c .before .before .before .put .ensures)
+
+scope-listed-sub-number : (t : ℕ) → scope-listed-lts.Need-sub-number (put-reads.Asked, put-reads.Learnt, tree-count-reads.Asked, tree-count-reads.Learnt, hold-all-reads.Asked, hold-all-reads.Learnt, scope-held-below t, scope-held.Post) (scope-listed-at t) scope-listed.Post
+scope-listed-sub-number t c = let s = c .before .before .before .before .before .before .before .before .before .before .before .before .before in let a = s .args in trees-enough (rows-in (a .rows .now)) (a .fuel) (length (a .work .now)) (a .row) _ (a .results) (a .first) (a .places .now) (tokens-left (rows-in (a .rows .now)) (a .fuel) (length (a .work .now)) (a .row) (a .work .now) (a .used) (a .results) (a .first) (a .places .now) (s .pre .1 .0 .0 .inside) (s .pre .1 .0 .1) _ _ (s .pre .1 .1 .1) (c .before .before .before .before .put .ensures)) (c .tree-count .result) (c .tree-count .ensures)
+
+scope-listed-add-number : (t : ℕ) → scope-listed-lts.Need-add-number (put-reads.Asked, put-reads.Learnt, tree-count-reads.Asked, tree-count-reads.Learnt, hold-all-reads.Asked, hold-all-reads.Learnt, scope-held-below t, scope-held.Post) (scope-listed-at t) scope-listed.Post
+scope-listed-add-number t c = let s = c .before .before .before .before .before .before .before .before .before .before .before .before .before in let a = s .args in omega (arith, trees-few-here (rows-in (a .rows .now)) (a .fuel) (length (a .work .now)) (a .row) _ (a .results) (a .first) (a .places .now) (tokens-left (rows-in (a .rows .now)) (a .fuel) (length (a .work .now)) (a .row) (a .work .now) (a .used) (a .results) (a .first) (a .places .now) (s .pre .1 .0 .0 .inside) (s .pre .1 .0 .1) _ _ (s .pre .1 .1 .1) (c .before .before .before .before .put .ensures)) (c .tree-count .result) (c .tree-count .ensures), (tokens-left (rows-in (a .rows .now)) (a .fuel) (length (a .work .now)) (a .row) (a .work .now) (a .used) (a .results) (a .first) (a .places .now) (s .pre .1 .0 .0 .inside) (s .pre .1 .0 .1) _ _ (s .pre .1 .1 .1) (c .before .before .before .before .put .ensures)) .low)
+
+scope-listed-slice-reshare-prefix-hold-all : (t : ℕ) → scope-listed-lts.Need-slice-reshare-prefix-hold-all (put-reads.Asked, put-reads.Learnt, tree-count-reads.Asked, tree-count-reads.Learnt, hold-all-reads.Asked, hold-all-reads.Learnt, scope-held-below t, scope-held.Post) (scope-listed-at t) scope-listed.Post
+scope-listed-slice-reshare-prefix-hold-all t c = let s = c .before .before .before .before .before .before .before .before .before .before .before .before .before in omega (arith, s .pre .1 .1 .1, c .before .before .before .before .put .kept .1 .1 .0)
+
+scope-listed-slice-aggregate-hold-all : (t : ℕ) → scope-listed-lts.Need-slice-aggregate-hold-all (put-reads.Asked, put-reads.Learnt, tree-count-reads.Asked, tree-count-reads.Learnt, hold-all-reads.Asked, hold-all-reads.Learnt, scope-held-below t, scope-held.Post) (scope-listed-at t) scope-listed.Post
+scope-listed-slice-aggregate-hold-all t c = let s = c .before .before .before .before .before .before .before .before .before .before .before .before .before .before in let a = s .args in sym (length-take-le _ _ (omega (arith, s .pre .1 .1 .1, c .before .before .before .before .before .put .kept .1 .1 .0)))
+
+scope-listed-hold-all-requires : (t : ℕ) → scope-listed-lts.Need-hold-all-requires (put-reads.Asked, put-reads.Learnt, tree-count-reads.Asked, tree-count-reads.Learnt, hold-all-reads.Asked, hold-all-reads.Learnt, scope-held-below t, scope-held.Post) (scope-listed-at t) scope-listed.Post
+scope-listed-hold-all-requires t c κs = let s = c .before .before .before .before .before .before .before .before .before .before .before .before .before .before .before in let a = s .args in ((words-whole (rows-in (a .rows .now)) (a .fuel) (length (a .work .now)) (a .row) _ (a .results) (a .first) (a .places .now) (tokens-left (rows-in (a .rows .now)) (a .fuel) (length (a .work .now)) (a .row) (a .work .now) (a .used) (a .results) (a .first) (a .places .now) (s .pre .1 .0 .0 .inside) (s .pre .1 .0 .1) _ _ (s .pre .1 .1 .1) (c .before .before .before .before .before .before .put .ensures)) (c .before .before .tree-count .result) (c .before .before .tree-count .ensures), left-there (rows-in (a .rows .now)) _ (a .results) (a .first) (a .places .now) (tokens-left (rows-in (a .rows .now)) (a .fuel) (length (a .work .now)) (a .row) (a .work .now) (a .used) (a .results) (a .first) (a .places .now) (s .pre .1 .0 .0 .inside) (s .pre .1 .0 .1) _ _ (s .pre .1 .1 .1) (c .before .before .before .before .before .before .put .ensures))), ((tokens-left (rows-in (a .rows .now)) (a .fuel) (length (a .work .now)) (a .row) (a .work .now) (a .used) (a .results) (a .first) (a .places .now) (s .pre .1 .0 .0 .inside) (s .pre .1 .0 .1) _ _ (s .pre .1 .1 .1) (c .before .before .before .before .before .before .put .ensures)) .few, places-short (rows-in (a .rows .now)) (a .fuel) (length (a .work .now)) (a .row) _ (a .results) (a .first) (a .places .now) (tokens-left (rows-in (a .rows .now)) (a .fuel) (length (a .work .now)) (a .row) (a .work .now) (a .used) (a .results) (a .first) (a .places .now) (s .pre .1 .0 .0 .inside) (s .pre .1 .0 .1) _ _ (s .pre .1 .1 .1) (c .before .before .before .before .before .before .put .ensures)) (c .before .before .tree-count .result) (c .before .before .tree-count .ensures), omega (arith, trees-few-here (rows-in (a .rows .now)) (a .fuel) (length (a .work .now)) (a .row) _ (a .results) (a .first) (a .places .now) (tokens-left (rows-in (a .rows .now)) (a .fuel) (length (a .work .now)) (a .row) (a .work .now) (a .used) (a .results) (a .first) (a .places .now) (s .pre .1 .0 .0 .inside) (s .pre .1 .0 .1) _ _ (s .pre .1 .1 .1) (c .before .before .before .before .before .before .put .ensures)) (c .before .before .tree-count .result) (c .before .before .tree-count .ensures), (tokens-left (rows-in (a .rows .now)) (a .fuel) (length (a .work .now)) (a .row) (a .work .now) (a .used) (a .results) (a .first) (a .places .now) (s .pre .1 .0 .0 .inside) (s .pre .1 .0 .1) _ _ (s .pre .1 .1 .1) (c .before .before .before .before .before .before .put .ensures)) .low), tokens-inside (rows-in (a .rows .now)) (a .fuel) (length (a .work .now)) (a .row) (a .work .now) (a .used) (a .results) (a .first) (a .places .now) (s .pre .1 .0 .0 .inside) (s .pre .1 .0 .1) _ _ (s .pre .1 .1 .1) (c .before .before .before .before .before .before .put .ensures)))
+
+scope-listed-enum-known-holding : (t : ℕ) → scope-listed-lts.Need-enum-known-holding (put-reads.Asked, put-reads.Learnt, tree-count-reads.Asked, tree-count-reads.Learnt, hold-all-reads.Asked, hold-all-reads.Learnt, scope-held-below t, scope-held.Post) (scope-listed-at t) scope-listed.Post
+scope-listed-enum-known-holding t c = search needs
+
+scope-listed-enum-told : (t : ℕ) → scope-listed-lts.Need-enum-told (put-reads.Asked, put-reads.Learnt, tree-count-reads.Asked, tree-count-reads.Learnt, hold-all-reads.Asked, hold-all-reads.Learnt, scope-held-below t, scope-held.Post) (scope-listed-at t) scope-listed.Post
+scope-listed-enum-told t c = search needs
+
+scope-listed-same-length : (t : ℕ) → scope-listed-lts.Need-same-length (put-reads.Asked, put-reads.Learnt, tree-count-reads.Asked, tree-count-reads.Learnt, hold-all-reads.Asked, hold-all-reads.Learnt, scope-held-below t, scope-held.Post) (scope-listed-at t) scope-listed.Post
+scope-listed-same-length t c = search needs
+
+scope-listed-same-length-2 : (t : ℕ) → scope-listed-lts.Need-same-length-2 (put-reads.Asked, put-reads.Learnt, tree-count-reads.Asked, tree-count-reads.Learnt, hold-all-reads.Asked, hold-all-reads.Learnt, scope-held-below t, scope-held.Post) (scope-listed-at t) scope-listed.Post
+scope-listed-same-length-2 t c = search needs
+
+scope-listed-returns : (t : ℕ) → scope-listed-lts.Need-returns (put-reads.Asked, put-reads.Learnt, tree-count-reads.Asked, tree-count-reads.Learnt, hold-all-reads.Asked, hold-all-reads.Learnt, scope-held-below t, scope-held.Post) (scope-listed-at t) scope-listed.Post
+scope-listed-returns t c = let s = c .before .before .before .before .before .before .before .before .before .before .before .before .before .before .before .before .before .before .before .before in let a = s .args in done-as _ _ (same-outcome (rows-in (a .rows .now)) (a .fuel) (length (a .work .now)) (a .row) (a .work .now) (a .used) (a .results) (a .first) (a .places .now) (s .pre .1 .0 .0 .inside) (s .pre .1 .0 .1) _ _ (s .pre .1 .1 .1) (c .before .before .before .before .before .before .before .before .before .before .before .put .ensures)) (a .at) (a .table .now) _ _ (too-many (rows-in (a .rows .now)) (a .fuel) (length (a .work .now)) (a .row) _ (a .results) (a .first) (a .places .now) (tokens-left (rows-in (a .rows .now)) (a .fuel) (length (a .work .now)) (a .row) (a .work .now) (a .used) (a .results) (a .first) (a .places .now) (s .pre .1 .0 .0 .inside) (s .pre .1 .0 .1) _ _ (s .pre .1 .1 .1) (c .before .before .before .before .before .before .before .before .before .before .before .put .ensures)) (c .before .before .before .before .before .before .before .tree-count .result) (c .before .before .before .before .before .before .before .tree-count .ensures) (c .before .before .before .before .hold-all .result) _ (c .before .before .before .before .hold-all .ensures) (c .enum-told .given .1) (c .before .before .before .before .hold-all .kept .1 .1 .1 .0) (a .at) (a .table .now))
+
+scope-listed-slice-reshare-prefix-scope-held : (t : ℕ) → scope-listed-lts.Need-slice-reshare-prefix-scope-held (put-reads.Asked, put-reads.Learnt, tree-count-reads.Asked, tree-count-reads.Learnt, hold-all-reads.Asked, hold-all-reads.Learnt, scope-held-below t, scope-held.Post) (scope-listed-at t) scope-listed.Post
+scope-listed-slice-reshare-prefix-scope-held t c = let s = c .before .before .before .before .before .before .before .before .before .before .before .before .before .before .before .before .before .before .before .before .before .before in omega (arith, s .pre .1 .1 .1, c .before .before .before .before .before .before .before .before .before .before .before .before .before .put .kept .1 .1 .0)
+
+scope-listed-slice-aggregate-scope-held : (t : ℕ) → scope-listed-lts.Need-slice-aggregate-scope-held (put-reads.Asked, put-reads.Learnt, tree-count-reads.Asked, tree-count-reads.Learnt, hold-all-reads.Asked, hold-all-reads.Learnt, scope-held-below t, scope-held.Post) (scope-listed-at t) scope-listed.Post
+scope-listed-slice-aggregate-scope-held t c = let s = c .before .before .before .before .before .before .before .before .before .before .before .before .before .before .before .before .before .before .before .before .before .before .before in let a = s .args in sym (length-take-le _ _ (omega (arith, s .pre .1 .1 .1, c .before .before .before .before .before .before .before .before .before .before .before .before .before .before .put .kept .1 .1 .0)))
+
+scope-listed-scope-held-requires : (t : ℕ) → scope-listed-lts.Need-scope-held-requires (put-reads.Asked, put-reads.Learnt, tree-count-reads.Asked, tree-count-reads.Learnt, hold-all-reads.Asked, hold-all-reads.Learnt, scope-held-below t, scope-held.Post) (scope-listed-at t) scope-listed.Post
+scope-listed-scope-held-requires t c κs = let s = c .before .before .before .before .before .before .before .before .before .before .before .before .before .before .before .before .before .before .before .before .before .before .before .before .before in let a = s .args in (omega (arith, s .pre .0), ((record { words = omega (arith, s .pre .1 .0 .0 .words, c .before .before .before .before .before .before .before .before .before .hold-all .kept .1 .1 .1 .0); inside = held-in (rows-in (a .rows .now)) (a .fuel) (length (a .work .now)) (a .row) _ (a .results) (a .first) (a .places .now) (tokens-left (rows-in (a .rows .now)) (a .fuel) (length (a .work .now)) (a .row) (a .work .now) (a .used) (a .results) (a .first) (a .places .now) (s .pre .1 .0 .0 .inside) (s .pre .1 .0 .1) _ _ (s .pre .1 .1 .1) (c .before .before .before .before .before .before .before .before .before .before .before .before .before .before .before .before .put .ensures)) (c .before .before .before .before .before .before .before .before .before .before .before .before .tree-count .result) (c .before .before .before .before .before .before .before .before .before .before .before .before .tree-count .ensures) (c .before .before .before .before .before .before .before .before .before .hold-all .result) _ (c .before .before .before .before .before .before .before .before .before .hold-all .ensures) _ (c .before .before .before .before .before .holding .given .1); bytes = s .pre .1 .0 .0 .bytes }, (tokens-left (rows-in (a .rows .now)) (a .fuel) (length (a .work .now)) (a .row) (a .work .now) (a .used) (a .results) (a .first) (a .places .now) (s .pre .1 .0 .0 .inside) (s .pre .1 .0 .1) _ _ (s .pre .1 .1 .1) (c .before .before .before .before .before .before .before .before .before .before .before .before .before .before .before .before .put .ensures))), ((c .before .before .before .before .before .before .before .before .before .before .before .before .tree-count .ensures, held-are (rows-in (a .rows .now)) (a .fuel) (length (a .work .now)) (a .row) _ (a .results) (a .first) (a .places .now) (tokens-left (rows-in (a .rows .now)) (a .fuel) (length (a .work .now)) (a .row) (a .work .now) (a .used) (a .results) (a .first) (a .places .now) (s .pre .1 .0 .0 .inside) (s .pre .1 .0 .1) _ _ (s .pre .1 .1 .1) (c .before .before .before .before .before .before .before .before .before .before .before .before .before .before .before .before .put .ensures)) (c .before .before .before .before .before .before .before .before .before .before .before .before .tree-count .result) (c .before .before .before .before .before .before .before .before .before .before .before .before .tree-count .ensures) (c .before .before .before .before .before .before .before .before .before .hold-all .result) _ (c .before .before .before .before .before .before .before .before .before .hold-all .ensures) _ (c .before .before .before .before .before .holding .given .1)), subst (λ o. a .at + told-rows o ≤ most-rows) (same-outcome (rows-in (a .rows .now)) (a .fuel) (length (a .work .now)) (a .row) (a .work .now) (a .used) (a .results) (a .first) (a .places .now) (s .pre .1 .0 .0 .inside) (s .pre .1 .0 .1) _ _ (s .pre .1 .1 .1) (c .before .before .before .before .before .before .before .before .before .before .before .before .before .before .before .before .put .ensures) ∙ left-now (rows-in (a .rows .now)) (a .fuel) (a .row) _ (a .results) (a .first) (a .places .now) _ _ (c .before .before .before .before .before .before .before .before .before .hold-all .kept .1 .1 .1 .0)) (s .pre .1 .1 .0))))
+
+scope-listed-same-length-3 : (t : ℕ) → scope-listed-lts.Need-same-length-3 (put-reads.Asked, put-reads.Learnt, tree-count-reads.Asked, tree-count-reads.Learnt, hold-all-reads.Asked, hold-all-reads.Learnt, scope-held-below t, scope-held.Post) (scope-listed-at t) scope-listed.Post
+scope-listed-same-length-3 t c = search needs
+
+scope-listed-same-length-4 : (t : ℕ) → scope-listed-lts.Need-same-length-4 (put-reads.Asked, put-reads.Learnt, tree-count-reads.Asked, tree-count-reads.Learnt, hold-all-reads.Asked, hold-all-reads.Learnt, scope-held-below t, scope-held.Post) (scope-listed-at t) scope-listed.Post
+scope-listed-same-length-4 t c = search needs
+
+scope-listed-same-length-5 : (t : ℕ) → scope-listed-lts.Need-same-length-5 (put-reads.Asked, put-reads.Learnt, tree-count-reads.Asked, tree-count-reads.Learnt, hold-all-reads.Asked, hold-all-reads.Learnt, scope-held-below t, scope-held.Post) (scope-listed-at t) scope-listed.Post
+scope-listed-same-length-5 t c = search needs
+
+scope-listed-same-length-6 : (t : ℕ) → scope-listed-lts.Need-same-length-6 (put-reads.Asked, put-reads.Learnt, tree-count-reads.Asked, tree-count-reads.Learnt, hold-all-reads.Asked, hold-all-reads.Learnt, scope-held-below t, scope-held.Post) (scope-listed-at t) scope-listed.Post
+scope-listed-same-length-6 t c = search needs
+
+scope-listed-returns-2 : (t : ℕ) → scope-listed-lts.Need-returns-2 (put-reads.Asked, put-reads.Learnt, tree-count-reads.Asked, tree-count-reads.Learnt, hold-all-reads.Asked, hold-all-reads.Learnt, scope-held-below t, scope-held.Post) (scope-listed-at t) scope-listed.Post
+scope-listed-returns-2 t c = let s = c .before .before .before .before .before .before .before .before .before .before .before .before .before .before .before .before .before .before .before .before .before .before .before .before .before .before .before .before .before .before .before .before in let a = s .args in done-as _ _ (same-outcome (rows-in (a .rows .now)) (a .fuel) (length (a .work .now)) (a .row) (a .work .now) (a .used) (a .results) (a .first) (a .places .now) (s .pre .1 .0 .0 .inside) (s .pre .1 .0 .1) _ _ (s .pre .1 .1 .1) (c .before .before .before .before .before .before .before .before .before .before .before .before .before .before .before .before .before .before .before .before .before .before .before .put .ensures) ∙ left-now (rows-in (a .rows .now)) (a .fuel) (a .row) _ (a .results) (a .first) (a .places .now) _ _ (c .before .before .before .before .before .before .before .before .before .before .before .before .before .before .before .before .hold-all .kept .1 .1 .1 .0)) (a .at) (a .table .now) _ _ (c .before .before .before .before .before .before .scope-held .ensures)
+
+scope-rounds-slice-reshare-prefix-tree-count : (t : ℕ) → scope-rounds-lts.Need-slice-reshare-prefix-tree-count (tree-count-reads.Asked, tree-count-reads.Learnt, extract-and-list-reads.Asked, extract-and-list-reads.Learnt, scope-listed-below t, scope-listed.Post) (scope-rounds-at t) scope-rounds.Post
+scope-rounds-slice-reshare-prefix-tree-count t c = let s = c .before .before .before .before .before .before in s .pre .1 .1 .0 .inside
+
+scope-rounds-slice-aggregate-tree-count : (t : ℕ) → scope-rounds-lts.Need-slice-aggregate-tree-count (tree-count-reads.Asked, tree-count-reads.Learnt, extract-and-list-reads.Asked, extract-and-list-reads.Learnt, scope-listed-below t, scope-listed.Post) (scope-rounds-at t) scope-rounds.Post
+scope-rounds-slice-aggregate-tree-count t c = let s = c .before .before .before .before .before .before .before in sym (length-take-le _ _ (s .pre .1 .1 .0 .inside))
+
+scope-rounds-tree-count-requires : (t : ℕ) → scope-rounds-lts.Need-tree-count-requires (tree-count-reads.Asked, tree-count-reads.Learnt, extract-and-list-reads.Asked, extract-and-list-reads.Learnt, scope-listed-below t, scope-listed.Post) (scope-rounds-at t) scope-rounds.Post
+scope-rounds-tree-count-requires t c κs = let s = c .before .before .before .before .before .before .before in let a = s .args in whole-so (rows-in (a .rows .now)) (a .next) (take (a .len) (a .work .now)) (s .pre .1 .0 .0)
+
+scope-rounds-extract-and-list-requires : (t : ℕ) → scope-rounds-lts.Need-extract-and-list-requires (tree-count-reads.Asked, tree-count-reads.Learnt, extract-and-list-reads.Asked, extract-and-list-reads.Learnt, scope-listed-below t, scope-listed.Post) (scope-rounds-at t) scope-rounds.Post
+scope-rounds-extract-and-list-requires t c κs = let s = c .before .before .before .before .before .before .before .before .before .before .before in (s .pre .1 .0, ((omega (arith, s .pre .1 .1 .1 .1 .0 .1), s .pre .1 .1 .0 .inside, omega (arith, s .pre .1 .1 .1 .1 .0 .2)), (s .pre .1 .1 .0 .bytes, s .pre .1 .1 .1 .1 .1 .0)))
+
+scope-rounds-enum-known-listed : (t : ℕ) → scope-rounds-lts.Need-enum-known-listed (tree-count-reads.Asked, tree-count-reads.Learnt, extract-and-list-reads.Asked, extract-and-list-reads.Learnt, scope-listed-below t, scope-listed.Post) (scope-rounds-at t) scope-rounds.Post
+scope-rounds-enum-known-listed t c = search needs
+
+scope-rounds-enum-told : (t : ℕ) → scope-rounds-lts.Need-enum-told (tree-count-reads.Asked, tree-count-reads.Learnt, extract-and-list-reads.Asked, extract-and-list-reads.Learnt, scope-listed-below t, scope-listed.Post) (scope-rounds-at t) scope-rounds.Post
+scope-rounds-enum-told t c = search needs
+
+scope-rounds-same-length : (t : ℕ) → scope-rounds-lts.Need-same-length (tree-count-reads.Asked, tree-count-reads.Learnt, extract-and-list-reads.Asked, extract-and-list-reads.Learnt, scope-listed-below t, scope-listed.Post) (scope-rounds-at t) scope-rounds.Post
+scope-rounds-same-length t c = search needs
+
+scope-rounds-same-length-2 : (t : ℕ) → scope-rounds-lts.Need-same-length-2 (tree-count-reads.Asked, tree-count-reads.Learnt, extract-and-list-reads.Asked, extract-and-list-reads.Learnt, scope-listed-below t, scope-listed.Post) (scope-rounds-at t) scope-rounds.Post
+scope-rounds-same-length-2 t c = search needs
+
+scope-rounds-same-length-3 : (t : ℕ) → scope-rounds-lts.Need-same-length-3 (tree-count-reads.Asked, tree-count-reads.Learnt, extract-and-list-reads.Asked, extract-and-list-reads.Learnt, scope-listed-below t, scope-listed.Post) (scope-rounds-at t) scope-rounds.Post
+scope-rounds-same-length-3 t c = search needs
+
+scope-rounds-returns : (t : ℕ) → scope-rounds-lts.Need-returns (tree-count-reads.Asked, tree-count-reads.Learnt, extract-and-list-reads.Asked, extract-and-list-reads.Learnt, scope-listed-below t, scope-listed.Post) (scope-rounds-at t) scope-rounds.Post
+scope-rounds-returns t c = let s = c .before .before .before .before .before .before .before .before .before .before .before .before .before .before .before .before .before .before .before .before in let a = s .args in ten (rows-in (a .rows .now)) (length (a .work .now)) (a .row) (a .next) (take (a .len) (a .work .now)) (a .at) (a .table .now) (a .fuel) (omega (arith, s .pre .1 .1 .1 .1 .0 .0)) (omega (arith, length-take-le (a .len) (a .work .now) (s .pre .1 .1 .0 .inside), s .pre .1 .1 .0 .inside)) (omega (arith, length-take-le (a .len) (a .work .now) (s .pre .1 .1 .0 .inside), s .pre .1 .1 .1 .1 .0 .1)) (omega (arith, s .pre .1 .1 .1 .1 .0 .2)) (s .pre .1 .0 .0) (s .pre .1 .0 .1) (c .before .before .before .before .before .before .before .before .extract-and-list .result) _ _ (c .before .before .before .before .before .before .before .before .extract-and-list .ensures) (c .enum-told .given .1)
+
+scope-rounds-slice-reshare-prefix-scope-listed : (t : ℕ) → scope-rounds-lts.Need-slice-reshare-prefix-scope-listed (tree-count-reads.Asked, tree-count-reads.Learnt, extract-and-list-reads.Asked, extract-and-list-reads.Learnt, scope-listed-below t, scope-listed.Post) (scope-rounds-at t) scope-rounds.Post
+scope-rounds-slice-reshare-prefix-scope-listed t c = let s = c .before .before .before .before .before .before .before .before .before .before .before .before .before .before .before .before .before .before .before .before .before .before in let a = s .args in places-in (rows-in (a .rows .now)) (length (a .work .now)) (a .row) (a .next) (take (a .len) (a .work .now)) (a .at) (a .table .now) (a .fuel) (omega (arith, s .pre .1 .1 .1 .1 .0 .0)) (omega (arith, length-take-le (a .len) (a .work .now) (s .pre .1 .1 .0 .inside), s .pre .1 .1 .0 .inside)) (omega (arith, length-take-le (a .len) (a .work .now) (s .pre .1 .1 .0 .inside), s .pre .1 .1 .1 .1 .0 .1)) (omega (arith, s .pre .1 .1 .1 .1 .0 .2)) (s .pre .1 .0 .0) (s .pre .1 .0 .1) (c .before .before .before .before .before .before .before .before .before .before .extract-and-list .result) _ _ (c .before .before .before .before .before .before .before .before .before .before .extract-and-list .ensures) _ _ _ (c .before .before .listed .given .1)
+
+scope-rounds-slice-aggregate-scope-listed : (t : ℕ) → scope-rounds-lts.Need-slice-aggregate-scope-listed (tree-count-reads.Asked, tree-count-reads.Learnt, extract-and-list-reads.Asked, extract-and-list-reads.Learnt, scope-listed-below t, scope-listed.Post) (scope-rounds-at t) scope-rounds.Post
+scope-rounds-slice-aggregate-scope-listed t c = let s = c .before .before .before .before .before .before .before .before .before .before .before .before .before .before .before .before .before .before .before .before .before .before .before in let a = s .args in sym (length-take-le _ _ (places-in (rows-in (a .rows .now)) (length (a .work .now)) (a .row) (a .next) (take (a .len) (a .work .now)) (a .at) (a .table .now) (a .fuel) (omega (arith, s .pre .1 .1 .1 .1 .0 .0)) (omega (arith, length-take-le (a .len) (a .work .now) (s .pre .1 .1 .0 .inside), s .pre .1 .1 .0 .inside)) (omega (arith, length-take-le (a .len) (a .work .now) (s .pre .1 .1 .0 .inside), s .pre .1 .1 .1 .1 .0 .1)) (omega (arith, s .pre .1 .1 .1 .1 .0 .2)) (s .pre .1 .0 .0) (s .pre .1 .0 .1) (c .before .before .before .before .before .before .before .before .before .before .before .extract-and-list .result) _ _ (c .before .before .before .before .before .before .before .before .before .before .before .extract-and-list .ensures) _ _ _ (c .before .before .before .listed .given .1)))
+
+scope-rounds-sub-scope-listed : (t : ℕ) → scope-rounds-lts.Need-sub-scope-listed (tree-count-reads.Asked, tree-count-reads.Learnt, extract-and-list-reads.Asked, extract-and-list-reads.Learnt, scope-listed-below t, scope-listed.Post) (scope-rounds-at t) scope-rounds.Post
+scope-rounds-sub-scope-listed t c = let s = c .before .before .before .before .before .before .before .before .before .before .before .before .before .before .before .before .before .before .before .before .before .before .before .before in omega (arith, s .pre .1 .1 .1 .1 .0 .0)
+
+scope-rounds-scope-listed-requires : (t : ℕ) → scope-rounds-lts.Need-scope-listed-requires (tree-count-reads.Asked, tree-count-reads.Learnt, extract-and-list-reads.Asked, extract-and-list-reads.Learnt, scope-listed-below t, scope-listed.Post) (scope-rounds-at t) scope-rounds.Post
+scope-rounds-scope-listed-requires t c κs = let s = c .before .before .before .before .before .before .before .before .before .before .before .before .before .before .before .before .before .before .before .before .before .before .before .before .before .before in let a = s .args in (omega (arith, s .pre .0, s .pre .1 .1 .1 .1 .0 .0), ((record { words = omega (arith, s .pre .1 .1 .0 .words, (c .before .before .before .before .before .before .before .before .before .before .before .before .before .before .extract-and-list .kept .1 .0)); inside = words-in (rows-in (a .rows .now)) (length (a .work .now)) (a .row) (a .next) (take (a .len) (a .work .now)) (a .at) (a .table .now) (a .fuel) (omega (arith, s .pre .1 .1 .1 .1 .0 .0)) (omega (arith, length-take-le (a .len) (a .work .now) (s .pre .1 .1 .0 .inside), s .pre .1 .1 .0 .inside)) (omega (arith, length-take-le (a .len) (a .work .now) (s .pre .1 .1 .0 .inside), s .pre .1 .1 .1 .1 .0 .1)) (omega (arith, s .pre .1 .1 .1 .1 .0 .2)) (s .pre .1 .0 .0) (s .pre .1 .0 .1) (c .before .before .before .before .before .before .before .before .before .before .before .before .before .before .extract-and-list .result) _ _ (c .before .before .before .before .before .before .before .before .before .before .before .before .before .before .extract-and-list .ensures) _ _ _ (c .before .before .before .before .before .before .listed .given .1); bytes = omega (arith, s .pre .1 .1 .0 .bytes, (c .before .before .before .before .before .before .before .before .before .before .before .before .before .before .extract-and-list .kept .1 .1 .1 .1 .1 .0)) }, left-so (rows-in (a .rows .now)) (length (a .work .now)) (a .row) (a .next) (take (a .len) (a .work .now)) (a .at) (a .table .now) (a .fuel) (omega (arith, s .pre .1 .1 .1 .1 .0 .0)) (omega (arith, length-take-le (a .len) (a .work .now) (s .pre .1 .1 .0 .inside), s .pre .1 .1 .0 .inside)) (omega (arith, length-take-le (a .len) (a .work .now) (s .pre .1 .1 .0 .inside), s .pre .1 .1 .1 .1 .0 .1)) (omega (arith, s .pre .1 .1 .1 .1 .0 .2)) (s .pre .1 .0 .0) (s .pre .1 .0 .1) (c .before .before .before .before .before .before .before .before .before .before .before .before .before .before .extract-and-list .result) _ _ (c .before .before .before .before .before .before .before .before .before .before .before .before .before .before .extract-and-list .ensures) _ _ _ (c .before .before .before .before .before .before .listed .given .1) (c .before .before .before .before .before .before .before .before .before .before .before .before .before .before .before .before .before .before .tree-count .result) (c .before .before .before .before .before .before .before .before .before .before .before .before .before .before .before .before .before .before .tree-count .ensures)), (subst (λ o. a .at + told-rows o ≤ most-rows) (scope-is (rows-in (a .rows .now)) (length (a .work .now)) (a .row) (a .next) (take (a .len) (a .work .now)) (a .at) (a .table .now) (a .fuel) (omega (arith, s .pre .1 .1 .1 .1 .0 .0)) (omega (arith, length-take-le (a .len) (a .work .now) (s .pre .1 .1 .0 .inside), s .pre .1 .1 .0 .inside)) (omega (arith, length-take-le (a .len) (a .work .now) (s .pre .1 .1 .0 .inside), s .pre .1 .1 .1 .1 .0 .1)) (omega (arith, s .pre .1 .1 .1 .1 .0 .2)) (s .pre .1 .0 .0) (s .pre .1 .0 .1) (c .before .before .before .before .before .before .before .before .before .before .before .before .before .before .extract-and-list .result) _ _ (c .before .before .before .before .before .before .before .before .before .before .before .before .before .before .extract-and-list .ensures) _ _ _ (c .before .before .before .before .before .before .listed .given .1) (c .before .before .before .before .before .before .before .before .before .before .before .before .before .before .before .before .before .before .tree-count .result) (c .before .before .before .before .before .before .before .before .before .before .before .before .before .before .before .before .before .before .tree-count .ensures) ∙ (left-now (rows-in (a .rows .now)) (a .fuel - 1) (a .row) _ _ (a .next) _ _ _ (c .before .before .before .before .before .before .before .before .before .before .before .before .before .before .extract-and-list .kept .1 .0))) (s .pre .1 .1 .1 .0), omega (arith, words-short (rows-in (a .rows .now)) (length (a .work .now)) (a .row) (a .next) (take (a .len) (a .work .now)) (a .at) (a .table .now) (a .fuel) (omega (arith, s .pre .1 .1 .1 .1 .0 .0)) (omega (arith, length-take-le (a .len) (a .work .now) (s .pre .1 .1 .0 .inside), s .pre .1 .1 .0 .inside)) (omega (arith, length-take-le (a .len) (a .work .now) (s .pre .1 .1 .0 .inside), s .pre .1 .1 .1 .1 .0 .1)) (omega (arith, s .pre .1 .1 .1 .1 .0 .2)) (s .pre .1 .0 .0) (s .pre .1 .0 .1) (c .before .before .before .before .before .before .before .before .before .before .before .before .before .before .extract-and-list .result) _ _ (c .before .before .before .before .before .before .before .before .before .before .before .before .before .before .extract-and-list .ensures) _ _ _ (c .before .before .before .before .before .before .listed .given .1), length-take-le (a .len) (a .work .now) (s .pre .1 .1 .0 .inside), s .pre .1 .1 .1 .1 .1 .1))))
+
+scope-rounds-same-length-4 : (t : ℕ) → scope-rounds-lts.Need-same-length-4 (tree-count-reads.Asked, tree-count-reads.Learnt, extract-and-list-reads.Asked, extract-and-list-reads.Learnt, scope-listed-below t, scope-listed.Post) (scope-rounds-at t) scope-rounds.Post
+scope-rounds-same-length-4 t c = search needs
+
+scope-rounds-same-length-5 : (t : ℕ) → scope-rounds-lts.Need-same-length-5 (tree-count-reads.Asked, tree-count-reads.Learnt, extract-and-list-reads.Asked, extract-and-list-reads.Learnt, scope-listed-below t, scope-listed.Post) (scope-rounds-at t) scope-rounds.Post
+scope-rounds-same-length-5 t c = search needs
+
+scope-rounds-same-length-6 : (t : ℕ) → scope-rounds-lts.Need-same-length-6 (tree-count-reads.Asked, tree-count-reads.Learnt, extract-and-list-reads.Asked, extract-and-list-reads.Learnt, scope-listed-below t, scope-listed.Post) (scope-rounds-at t) scope-rounds.Post
+scope-rounds-same-length-6 t c = search needs
+
+scope-rounds-same-length-7 : (t : ℕ) → scope-rounds-lts.Need-same-length-7 (tree-count-reads.Asked, tree-count-reads.Learnt, extract-and-list-reads.Asked, extract-and-list-reads.Learnt, scope-listed-below t, scope-listed.Post) (scope-rounds-at t) scope-rounds.Post
+scope-rounds-same-length-7 t c = search needs
+
+scope-rounds-same-length-8 : (t : ℕ) → scope-rounds-lts.Need-same-length-8 (tree-count-reads.Asked, tree-count-reads.Learnt, extract-and-list-reads.Asked, extract-and-list-reads.Learnt, scope-listed-below t, scope-listed.Post) (scope-rounds-at t) scope-rounds.Post
+scope-rounds-same-length-8 t c = search needs
+
+scope-rounds-returns-2 : (t : ℕ) → scope-rounds-lts.Need-returns-2 (tree-count-reads.Asked, tree-count-reads.Learnt, extract-and-list-reads.Asked, extract-and-list-reads.Learnt, scope-listed-below t, scope-listed.Post) (scope-rounds-at t) scope-rounds.Post
+scope-rounds-returns-2 t c = let s = c .before .before .before .before .before .before .before .before .before .before .before .before .before .before .before .before .before .before .before .before .before .before .before .before .before .before .before .before .before .before .before .before .before .before .before in let a = s .args in done-as _ _ (scope-is (rows-in (a .rows .now)) (length (a .work .now)) (a .row) (a .next) (take (a .len) (a .work .now)) (a .at) (a .table .now) (a .fuel) (omega (arith, s .pre .1 .1 .1 .1 .0 .0)) (omega (arith, length-take-le (a .len) (a .work .now) (s .pre .1 .1 .0 .inside), s .pre .1 .1 .0 .inside)) (omega (arith, length-take-le (a .len) (a .work .now) (s .pre .1 .1 .0 .inside), s .pre .1 .1 .1 .1 .0 .1)) (omega (arith, s .pre .1 .1 .1 .1 .0 .2)) (s .pre .1 .0 .0) (s .pre .1 .0 .1) (c .before .before .before .before .before .before .before .before .before .before .before .before .before .before .before .before .before .before .before .before .before .before .before .extract-and-list .result) _ _ (c .before .before .before .before .before .before .before .before .before .before .before .before .before .before .before .before .before .before .before .before .before .before .before .extract-and-list .ensures) _ _ _ (c .before .before .before .before .before .before .before .before .before .before .before .before .before .before .before .listed .given .1) (c .before .before .before .before .before .before .before .before .before .before .before .before .before .before .before .before .before .before .before .before .before .before .before .before .before .before .before .tree-count .result) (c .before .before .before .before .before .before .before .before .before .before .before .before .before .before .before .before .before .before .before .before .before .before .before .before .before .before .before .tree-count .ensures) ∙ (left-now (rows-in (a .rows .now)) (a .fuel - 1) (a .row) _ _ (a .next) _ _ _ (c .before .before .before .before .before .before .before .before .before .before .before .before .before .before .before .before .before .before .before .before .before .before .before .extract-and-list .kept .1 .0))) (a .at) (a .table .now) _ _ (c .before .before .before .before .before .before .before .before .scope-listed .ensures)
+
+pub +arm+arms+measure+scope+scope-grouped+scope-held+scope-in+scope-listed+scope-rounds+walk+write-match+write-scope+write-stmt+write-stmts-spec :
     {M : Type 1} → statement M
-+arm+arms+measure+scope+scope-grouped+scope-held+scope-listed+walk+write-match+write-scope+write-stmt+write-stmts-spec =
++arm+arms+measure+scope+scope-grouped+scope-held+scope-in+scope-listed+scope-rounds+walk+write-match+write-scope+write-stmt+write-stmts-spec =
     close
     μ-arm
     μ-arms
@@ -1311,20 +1327,15 @@ pub +arm+arms+measure+scope+scope-grouped+scope-held+scope-listed+walk+write-mat
     μ-scope
     μ-scope-grouped
     μ-scope-held
+    μ-scope-in
     μ-scope-listed
+    μ-scope-rounds
     μ-walk
     μ-write-match
     μ-write-scope
     μ-write-stmt
     μ-write-stmts
-    (λ t. arm-lts.spec (
-      copy-arm-reads.Asked,
-      copy-arm-reads.Learnt,
-      scope-below t,
-      scope.Post,
-      put-word-reads.Asked,
-      put-word-reads.Learnt,
-    )
+    (λ t. arm-lts.spec (copy-arm-reads.Asked, copy-arm-reads.Learnt, scope-below t, scope.Post, put-word-reads.Asked, put-word-reads.Learnt)
     (arm-at t)
     arm.Post
     (arm-returns t)
@@ -1353,14 +1364,7 @@ pub +arm+arms+measure+scope+scope-grouped+scope-held+scope-listed+walk+write-mat
     (arm-same-length-6 t)
     (arm-same-length-7 t)
     (arm-returns-4 t))
-    (λ t. arms-lts.spec (
-      count-arms-reads.Asked,
-      count-arms-reads.Learnt,
-      arm-below t,
-      arm.Post,
-      refusal-of-reads.Asked,
-      refusal-of-reads.Learnt,
-    )
+    (λ t. arms-lts.spec (count-arms-reads.Asked, count-arms-reads.Learnt, arm-below t, arm.Post, refusal-of-reads.Asked, refusal-of-reads.Learnt)
     (arms-at t)
     arms.Post
     arms-Inv-loop
@@ -1385,8 +1389,7 @@ pub +arm+arms+measure+scope+scope-grouped+scope-held+scope-listed+walk+write-mat
     (arms-same-length-5 t)
     (arms-same-length-6 t)
     (arms-returns-2 t))
-    (λ t. measure-lts.spec
-    (arms-below t, arms.Post)
+    (λ t. measure-lts.spec (arms-below t, arms.Post)
     (measure-at t)
     measure.Post
     (measure-add-first t)
@@ -1395,52 +1398,32 @@ pub +arm+arms+measure+scope+scope-grouped+scope-held+scope-listed+walk+write-mat
     (measure-same-length-2 t)
     (measure-same-length-3 t)
     (measure-returns t))
-    (λ t. scope-lts.spec (
-      tree-count-reads.Asked,
-      tree-count-reads.Learnt,
-      extract-and-list-reads.Asked,
-      extract-and-list-reads.Learnt,
-      scope-listed-below t,
-      scope-listed.Post,
-    )
+    (λ t. scope-lts.spec (scope-rounds-below t, scope-rounds.Post)
     (scope-at t)
     scope.Post
     (scope-returns t)
     (scope-returns-2 t)
     (scope-returns-3 t)
-    (scope-slice-reshare-prefix-tree-count t)
-    (scope-slice-aggregate-tree-count t)
-    (scope-tree-count-requires t)
-    (scope-slice-aggregate-extract-and-list t)
-    (scope-extract-and-list-requires t)
-    (scope-enum-known-listed t)
-    (scope-enum-told t)
+    (scope-slice-aggregate-scope-rounds t)
+    (scope-slice-aggregate-scope-rounds-2 t)
+    (scope-scope-rounds-requires t)
     (scope-same-length t)
     (scope-same-length-2 t)
-    (scope-returns-4 t)
-    (scope-array-share-prefix-places t)
-    (scope-slice-aggregate-scope-listed t)
-    (scope-sub-scope-listed t)
-    (scope-scope-listed-requires t)
     (scope-same-length-3 t)
+    (scope-returns-4 t)
+    (scope-slice-aggregate-scope-rounds-3 t)
+    (scope-slice-aggregate-scope-rounds-4 t)
+    (scope-scope-rounds-requires-2 t)
     (scope-same-length-4 t)
     (scope-same-length-5 t)
+    (scope-same-length-6 t)
     (scope-returns-5 t))
-    (λ t. scope-grouped-lts.spec (
-      walk-below t,
-      walk.Post,
-      walk-refusal-reads.Asked,
-      walk-refusal-reads.Learnt,
-      write-scope-below t,
-      write-scope.Post,
-    )
+    (λ t. scope-grouped-lts.spec (walk-below t, walk.Post, walk-refusal-reads.Asked, walk-refusal-reads.Learnt, write-scope-below t, write-scope.Post)
     (scope-grouped-at t)
     scope-grouped.Post
     (scope-grouped-sub-next t)
     (scope-grouped-add-next t)
     (scope-grouped-add-next-2 t)
-    (scope-grouped-slice-aggregate-walk t)
-    (scope-grouped-slice-aggregate-walk-2 t)
     (scope-grouped-walk-requires t)
     (scope-grouped-enum-known-walked t)
     (scope-grouped-enum-told t)
@@ -1448,102 +1431,140 @@ pub +arm+arms+measure+scope+scope-grouped+scope-held+scope-listed+walk+write-mat
     (scope-grouped-same-length t)
     (scope-grouped-same-length-2 t)
     (scope-grouped-same-length-3 t)
+    (scope-grouped-same-length-4 t)
+    (scope-grouped-same-length-5 t)
     (scope-grouped-returns t)
     (scope-grouped-slice-reshare-prefix-write-scope t)
     (scope-grouped-slice-aggregate-write-scope t)
-    (scope-grouped-array-share-prefix-stops t)
+    (scope-grouped-slice-reshare-prefix-write-scope-2 t)
     (scope-grouped-slice-aggregate-write-scope-2 t)
-    (scope-grouped-slice-aggregate-write-scope-3 t)
     (scope-grouped-write-scope-requires t)
-    (scope-grouped-same-length-4 t)
-    (scope-grouped-same-length-5 t)
     (scope-grouped-same-length-6 t)
     (scope-grouped-same-length-7 t)
+    (scope-grouped-same-length-8 t)
+    (scope-grouped-same-length-9 t)
+    (scope-grouped-same-length-10 t)
+    (scope-grouped-same-length-11 t)
     (scope-grouped-returns-2 t))
-    (λ t. scope-held-lts.spec (
-      list-trees-reads.Asked,
-      list-trees-reads.Learnt,
-      group-all-reads.Asked,
-      group-all-reads.Learnt,
-      scope-grouped-below t,
-      scope-grouped.Post,
-    )
+    (λ t. scope-held-lts.spec (scope-in-below t, scope-in.Post)
     (scope-held-at t)
     scope-held.Post
-    (scope-held-slice-reshare-prefix-list-trees t)
-    (scope-held-slice-aggregate-list-trees t)
-    (scope-held-slice-aggregate-list-trees-2 t)
-    (scope-held-list-trees-requires t)
-    (scope-held-slice-reshare-prefix-group-all t)
-    (scope-held-slice-aggregate-group-all t)
-    (scope-held-slice-aggregate-group-all-2 t)
-    (scope-held-slice-aggregate-group-all-3 t)
-    (scope-held-slice-aggregate-group-all-4 t)
-    (scope-held-group-all-requires t)
-    (scope-held-enum-known-found t)
-    (scope-held-enum-told t)
+    (scope-held-slice-aggregate-scope-in t)
+    (scope-held-slice-aggregate-scope-in-2 t)
+    (scope-held-slice-aggregate-scope-in-3 t)
+    (scope-held-slice-aggregate-scope-in-4 t)
+    (scope-held-slice-aggregate-scope-in-5 t)
+    (scope-held-slice-aggregate-scope-in-6 t)
+    (scope-held-scope-in-requires t)
     (scope-held-same-length t)
-    (scope-held-returns t)
-    (scope-held-sub-if1 t)
-    (scope-held-add-if1 t)
-    (scope-held-add-if1-2 t)
     (scope-held-same-length-2 t)
-    (scope-held-returns-2 t)
-    (scope-held-array-share-prefix-starts t)
-    (scope-held-slice-aggregate-scope-grouped t)
-    (scope-held-array-share-prefix-members t)
-    (scope-held-slice-aggregate-scope-grouped-2 t)
-    (scope-held-array-share-prefix-ends t)
-    (scope-held-slice-aggregate-scope-grouped-3 t)
-    (scope-held-slice-aggregate-scope-grouped-4 t)
-    (scope-held-scope-grouped-requires t)
     (scope-held-same-length-3 t)
+    (scope-held-returns t)
+    (scope-held-slice-aggregate-scope-in-7 t)
+    (scope-held-slice-aggregate-scope-in-8 t)
+    (scope-held-slice-aggregate-scope-in-9 t)
+    (scope-held-slice-aggregate-scope-in-10 t)
+    (scope-held-slice-aggregate-scope-in-11 t)
+    (scope-held-slice-aggregate-scope-in-12 t)
+    (scope-held-scope-in-requires-2 t)
     (scope-held-same-length-4 t)
     (scope-held-same-length-5 t)
-    (scope-held-returns-3 t))
-    (λ t. scope-listed-lts.spec (
-      put-reads.Asked,
-      put-reads.Learnt,
-      tree-count-reads.Asked,
-      tree-count-reads.Learnt,
-      hold-all-reads.Asked,
-      hold-all-reads.Learnt,
-      scope-held-below t,
-      scope-held.Post,
-    )
+    (scope-held-same-length-6 t)
+    (scope-held-returns-2 t))
+    (λ t. scope-in-lts.spec (list-trees-reads.Asked, list-trees-reads.Learnt, group-all-reads.Asked, group-all-reads.Learnt, scope-grouped-below t, scope-grouped.Post)
+    (scope-in-at t)
+    scope-in.Post
+    (scope-in-slice-reshare-prefix-list-trees t)
+    (scope-in-slice-aggregate-list-trees t)
+    (scope-in-list-trees-requires t)
+    (scope-in-slice-reshare-prefix-group-all t)
+    (scope-in-slice-aggregate-group-all t)
+    (scope-in-group-all-requires t)
+    (scope-in-enum-known-found t)
+    (scope-in-enum-told t)
+    (scope-in-same-length t)
+    (scope-in-same-length-2 t)
+    (scope-in-same-length-3 t)
+    (scope-in-same-length-4 t)
+    (scope-in-same-length-5 t)
+    (scope-in-returns t)
+    (scope-in-sub-if1 t)
+    (scope-in-add-if1 t)
+    (scope-in-add-if1-2 t)
+    (scope-in-same-length-6 t)
+    (scope-in-same-length-7 t)
+    (scope-in-same-length-8 t)
+    (scope-in-same-length-9 t)
+    (scope-in-same-length-10 t)
+    (scope-in-returns-2 t)
+    (scope-in-slice-reshare-prefix-scope-grouped t)
+    (scope-in-slice-aggregate-scope-grouped t)
+    (scope-in-slice-reshare-prefix-scope-grouped-2 t)
+    (scope-in-slice-aggregate-scope-grouped-2 t)
+    (scope-in-slice-reshare-prefix-scope-grouped-3 t)
+    (scope-in-slice-aggregate-scope-grouped-3 t)
+    (scope-in-scope-grouped-requires t)
+    (scope-in-same-length-11 t)
+    (scope-in-same-length-12 t)
+    (scope-in-same-length-13 t)
+    (scope-in-same-length-14 t)
+    (scope-in-same-length-15 t)
+    (scope-in-same-length-16 t)
+    (scope-in-same-length-17 t)
+    (scope-in-same-length-18 t)
+    (scope-in-same-length-19 t)
+    (scope-in-returns-3 t))
+    (λ t. scope-listed-lts.spec (put-reads.Asked, put-reads.Learnt, tree-count-reads.Asked, tree-count-reads.Learnt, hold-all-reads.Asked, hold-all-reads.Learnt, scope-held-below t, scope-held.Post)
     (scope-listed-at t)
     scope-listed.Post
     (scope-listed-slice-reshare-prefix-put t)
     (scope-listed-slice-aggregate-put t)
-    (scope-listed-slice-aggregate-put-2 t)
     (scope-listed-put-requires t)
-    (scope-listed-array-share-prefix-tokens t)
+    (scope-listed-slice-reshare-prefix-tree-count t)
     (scope-listed-slice-aggregate-tree-count t)
     (scope-listed-tree-count-requires t)
     (scope-listed-sub-number t)
     (scope-listed-add-number t)
-    (scope-listed-array-share-prefix-tokens-2 t)
+    (scope-listed-slice-reshare-prefix-hold-all t)
     (scope-listed-slice-aggregate-hold-all t)
     (scope-listed-hold-all-requires t)
     (scope-listed-enum-known-holding t)
     (scope-listed-enum-told t)
     (scope-listed-same-length t)
+    (scope-listed-same-length-2 t)
     (scope-listed-returns t)
-    (scope-listed-array-share-prefix-tokens-3 t)
+    (scope-listed-slice-reshare-prefix-scope-held t)
     (scope-listed-slice-aggregate-scope-held t)
     (scope-listed-scope-held-requires t)
-    (scope-listed-same-length-2 t)
     (scope-listed-same-length-3 t)
     (scope-listed-same-length-4 t)
+    (scope-listed-same-length-5 t)
+    (scope-listed-same-length-6 t)
     (scope-listed-returns-2 t))
-    (λ t. walk-lts.spec (
-      number-members-reads.Asked,
-      number-members-reads.Learnt,
-      measure-below t,
-      measure.Post,
-      refusal-of-reads.Asked,
-      refusal-of-reads.Learnt,
-    )
+    (λ t. scope-rounds-lts.spec (tree-count-reads.Asked, tree-count-reads.Learnt, extract-and-list-reads.Asked, extract-and-list-reads.Learnt, scope-listed-below t, scope-listed.Post)
+    (scope-rounds-at t)
+    scope-rounds.Post
+    (scope-rounds-slice-reshare-prefix-tree-count t)
+    (scope-rounds-slice-aggregate-tree-count t)
+    (scope-rounds-tree-count-requires t)
+    (scope-rounds-extract-and-list-requires t)
+    (scope-rounds-enum-known-listed t)
+    (scope-rounds-enum-told t)
+    (scope-rounds-same-length t)
+    (scope-rounds-same-length-2 t)
+    (scope-rounds-same-length-3 t)
+    (scope-rounds-returns t)
+    (scope-rounds-slice-reshare-prefix-scope-listed t)
+    (scope-rounds-slice-aggregate-scope-listed t)
+    (scope-rounds-sub-scope-listed t)
+    (scope-rounds-scope-listed-requires t)
+    (scope-rounds-same-length-4 t)
+    (scope-rounds-same-length-5 t)
+    (scope-rounds-same-length-6 t)
+    (scope-rounds-same-length-7 t)
+    (scope-rounds-same-length-8 t)
+    (scope-rounds-returns-2 t))
+    (λ t. walk-lts.spec (number-members-reads.Asked, number-members-reads.Learnt, measure-below t, measure.Post, refusal-of-reads.Asked, refusal-of-reads.Learnt)
     (walk-at t)
     walk.Post
     walk-Inv-loop
@@ -1579,16 +1600,7 @@ pub +arm+arms+measure+scope+scope-grouped+scope-held+scope-listed+walk+write-mat
     (walk-same-length-9 t)
     (walk-same-length-10 t)
     (walk-returns-2 t))
-    (λ t. write-match-lts.spec (
-      write-match-head-reads.Asked,
-      write-match-head-reads.Learnt,
-      put-reads.Asked,
-      put-reads.Learnt,
-      group-begin-reads.Asked,
-      group-begin-reads.Learnt,
-      arms-below t,
-      arms.Post,
-    )
+    (λ t. write-match-lts.spec (write-match-head-reads.Asked, write-match-head-reads.Learnt, put-reads.Asked, put-reads.Learnt, group-begin-reads.Asked, group-begin-reads.Learnt, arms-below t, arms.Post)
     (write-match-at t)
     write-match.Post
     (write-match-slice-reshare-prefix-write-match-head t)
@@ -1632,14 +1644,7 @@ pub +arm+arms+measure+scope+scope-grouped+scope-held+scope-listed+walk+write-mat
     (write-match-same-length-9 t)
     (write-match-same-length-10 t)
     (write-match-returns-4 t))
-    (λ t. write-scope-lts.spec (
-      order-stmts-reads.Asked,
-      order-stmts-reads.Learnt,
-      write-stmts-below t,
-      write-stmts.Post,
-      write-values-reads.Asked,
-      write-values-reads.Learnt,
-    )
+    (λ t. write-scope-lts.spec (order-stmts-reads.Asked, order-stmts-reads.Learnt, write-stmts-below t, write-stmts.Post, write-values-reads.Asked, write-values-reads.Learnt)
     (write-scope-at t)
     write-scope.Post
     (write-scope-sub-made t)
@@ -1667,14 +1672,7 @@ pub +arm+arms+measure+scope+scope-grouped+scope-held+scope-listed+walk+write-mat
     (write-scope-returns-2 t)
     (write-scope-same-length-5 t)
     (write-scope-returns-3 t))
-    (λ t. write-stmt-lts.spec (
-      write-let-reads.Asked,
-      write-let-reads.Learnt,
-      group-begin-reads.Asked,
-      group-begin-reads.Learnt,
-      write-match-below t,
-      write-match.Post,
-    )
+    (λ t. write-stmt-lts.spec (write-let-reads.Asked, write-let-reads.Learnt, group-begin-reads.Asked, group-begin-reads.Learnt, write-match-below t, write-match.Post)
     (write-stmt-at t)
     write-stmt.Post
     (write-stmt-sub-lets t)
@@ -1694,8 +1692,7 @@ pub +arm+arms+measure+scope+scope-grouped+scope-held+scope-listed+walk+write-mat
     (write-stmt-same-length-4 t)
     (write-stmt-same-length-5 t)
     (write-stmt-returns-2 t))
-    λ t. write-stmts-lts.spec
-    (write-stmt-below t, write-stmt.Post)
+    (λ t. write-stmts-lts.spec (write-stmt-below t, write-stmt.Post)
     (write-stmts-at t)
     write-stmts.Post
     write-stmts-Inv-loop
@@ -1710,4 +1707,4 @@ pub +arm+arms+measure+scope+scope-grouped+scope-held+scope-listed+walk+write-mat
     (write-stmts-same-length t)
     (write-stmts-same-length-2 t)
     (write-stmts-same-length-3 t)
-    (write-stmts-returns t)
+    (write-stmts-returns t))
