@@ -22,7 +22,6 @@ use crate::ending::finish;
 use crate::workarea::is_short;
 use node_rows::unfolded::Unfolded;
 use node_rows::unfolded::unfold;
-use reciprocals::divisors::ToBind;
 use reciprocals::divisors::divisors_to_bind;
 use rounds::Rounds;
 use rounds::extract_all;
@@ -53,7 +52,7 @@ pub enum Listed {
     Refused,
 }
 
-// The rounds on the first `len` words, and then the places of the divisors to bind. That these can't be listed never comes up: rounds keep words that print takes.
+// The rounds on the first `len` words, and then the places of the divisors to bind: rounds keep words that print takes.
 pub fn extract_and_list(
     rows: &[u64],
     tokens: &mut [u64],
@@ -72,10 +71,7 @@ pub fn extract_and_list(
     let Rounds::Done(words, made) = rounds else {
         return Listed::Refused;
     };
-    let listed = divisors_to_bind(rows, &tokens[..words], scoped, text, places);
-    let ToBind::Count(divisors) = listed else {
-        return Listed::Refused;
-    };
+    let divisors = divisors_to_bind(rows, &tokens[..words], scoped, text, places);
     Listed::Words(words, made, divisors)
 }
 

@@ -5,4 +5,3 @@ pub mod Counting
 pub mod Choosing
 pub mod Sorting
 pub mod Giving
-pub mod Definition

@@ -4,3 +4,4 @@ pub mod Binding
 pub mod Reading
 pub mod Made
 pub mod Whole
+pub mod Plain

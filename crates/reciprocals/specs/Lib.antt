@@ -1,3 +1,4 @@
+pub mod atonce
 pub mod divisors
 pub mod settle
 pub mod reciprocal

@@ -3,44 +3,29 @@
 ghost use mathlib.Core.Path.{_≡_};
 ghost use mathlib.Core.List.{_++_};
 ghost use Prim.Native.Nat.{_≤_, _<_};
-ghost use lib.ListN.{length, drop, getD};
+ghost use lib.ListN.{length, take, drop, getD};
+ghost use lib.Dec.{T};
 ghost use Rattle.words.specs.words.Words.{Complete};
-ghost use Rattle.reciprocals.specs.divisors.Listing.{second-answer, all-places, listing};
+ghost use Rattle.reciprocals.specs.divisors.Listing.{second-answer, all-places};
 ghost use Rattle.spec_tree.specs.Bytes.{every};
 ghost use Rattle.spec_tree.specs.Tree.{eq-tree};
 ghost use Rattle.spec_tree.specs.Tokens.{name-in};
 ghost use Rattle.spec_tree.specs.text.Text.{before};
 ghost use Rattle.fmt.specs.checked.Check.{rows-in, word-ok};
-ghost use Rattle.laws.specs.positions.Places.{numbered-at, count-places, text-at, insert-place, sort-places};
+ghost use Rattle.laws.specs.positions.Places.{numbered-at, count-places, text-at, insert-place, sort-places, divisors-to-bind};
 ghost use Rattle.rounds.specs.choice.Leading.{HasMarks, Writable};
 ghost use Rattle.reciprocals.specs.divisors.Places.{Inside, Listed, marked-second, outside-places, chosen-at, chosen-places};
-ghost use Rattle.reciprocals.specs.divisors.Answers.{to-bind-answer};
-use fmt::checked::Checked;
-use fmt::checked::tree_ok;
 use fmt::order::before_at;
 use rounds::uses::mark_outside;
 use words::layout::DIV;
 use words::layout::KINDS;
 use words::tokens::Equality;
 use words::tokens::Run;
-use words::tokens::Trees;
-use words::tokens::count_trees;
 use words::tokens::end_of;
 use words::tokens::same;
 
-// So many words at most, which the arrays hold; and bytes for two texts.
+// So many words at most, which the arrays hold.
 const MOST_WORDS: usize = 1927;
-
-const TEXT_BYTES: usize = 131072;
-
-pub enum Divisors {
-    // How many places were written.
-    Count(usize),
-    // A word lacks operands.
-    Broken,
-    // Fewer places than words.
-    NoRoom,
-}
 
 // Where the divisor of the division at p stands, or 0 where no division is: no divisor stands there.
 fn second_operand(tokens: &[u64], p: usize) -> usize
@@ -80,45 +65,6 @@ fn list(tokens: &[u64], places: &mut [u64]) -> usize
         }
     }
     n
-}
-
-// The places of all divisors of the trees, those of equal divisors too.
-pub fn list_divisors(tokens: &[u64], places: &mut [u64]) -> Divisors
-    ensures { λ r. ⌜ (r ≡ listing (now (tokens .entry)) (now (places .entry)) .answer)
-        × (now (places .exit) ≡ listing (now (tokens .entry)) (now (places .entry)) .out) ⌝ }
-{
-    let Trees::Count(_) = count_trees(tokens) else {
-        return Divisors::Broken;
-    };
-    if places.len() < tokens.len() {
-        return Divisors::NoRoom;
-    }
-    let n = list(tokens, places);
-    Divisors::Count(n)
-}
-
-pub enum ToBind {
-    // How many places were written.
-    Count(usize),
-    // A word lacks operands, or isn't one of a tree of an answer.
-    Broken,
-    // Too many words, or too little lent for them.
-    NoRoom,
-}
-
-// Whether every word is one of a tree that print takes.
-fn words_pass(rows: &[u64], tokens: &[u64]) -> bool
-    requires { ⌜ Complete (now tokens) ⌝ }
-    ensures { λ r. ⌜ r ≡ every (word-ok (rows-in (now (rows .entry)))) (now (tokens .entry)) ⌝ }
-{
-    let mut at = 0;
-    while at < tokens.len() {
-        let Checked::Ends(end) = tree_ok(rows, tokens, at) else {
-            return false;
-        };
-        at = end;
-    }
-    true
 }
 
 // The same for a division at a marked place, and else 0.
@@ -241,15 +187,9 @@ fn gather(tokens: &[u64], scoped: bool, places: &mut [u64]) -> usize
 {
     let mut all = [0u64; MOST_WORDS];
     let mut outside = [0u64; MOST_WORDS];
-    let listed = list_divisors(tokens, &mut all);
-    match listed {
-        Divisors::Count(n) => {
-            let m = list_outside(tokens, scoped, &mut outside);
-            choose(tokens, &all[..n], &outside[..m], places)
-        }
-        Divisors::Broken => 0,
-        Divisors::NoRoom => 0,
-    }
+    let n = list(tokens, &mut all);
+    let m = list_outside(tokens, scoped, &mut outside);
+    choose(tokens, &all[..n], &outside[..m], places)
 }
 
 // Whether the text at a place comes before that at another.
@@ -296,33 +236,23 @@ fn sort(rows: &[u64], tokens: &[u64], text: &mut [u8], places: &mut [u64])
     }
 }
 
-// The places of the divisors to bind, in front of what stood after as many. The text is worked in; what is left there is free.
+// The places of the divisors to bind, in front. The text is worked in; what is left there and after the places is free. Where there are fewer than two divisions
+// no array is needed.
 pub fn divisors_to_bind(
     rows: &[u64],
     tokens: &[u64],
     scoped: bool,
     text: &mut [u8],
     places: &mut [u64],
-) -> ToBind
-    ensures { λ r. ⌜ (r ≡ to-bind-answer (rows-in (now (rows .entry))) (now (tokens .entry)) scoped (length (now (text .entry))) (now (places .entry)) .answer)
-        × (now (places .exit) ≡ to-bind-answer (rows-in (now (rows .entry))) (now (tokens .entry)) scoped (length (now (text .entry))) (now (places .entry)) .places) ⌝ }
+) -> usize
+    requires { ⌜ Complete (now tokens) × T (every (word-ok (rows-in (now rows))) (now tokens)) ⌝ }
+    requires { ⌜ (length (now tokens) ≤ 1927) × (length (now tokens) ≤ length (now places)) × (131072 ≤ length (now text)) ⌝ }
+    ensures { λ r. ⌜ (take r (now (places .exit)) ≡ divisors-to-bind (now (tokens .entry)) (name-in (rows-in (now (rows .entry)))) scoped) × (r ≤ length (now (places .exit))) ⌝ }
 {
-    if tokens.len() > MOST_WORDS {
-        return ToBind::NoRoom;
-    }
-    if places.len() < tokens.len() {
-        return ToBind::NoRoom;
-    }
-    if text.len() < TEXT_BYTES {
-        return ToBind::NoRoom;
-    }
-    let Trees::Count(_) = count_trees(tokens) else {
-        return ToBind::Broken;
-    };
-    if !words_pass(rows, tokens) {
-        return ToBind::Broken;
+    if list(tokens, places) < 2 {
+        return 0;
     }
     let n = gather(tokens, scoped, places);
     sort(rows, tokens, text, &mut places[..n]);
-    ToBind::Count(n)
+    n
 }

@@ -97,6 +97,30 @@ fn steps(
     Stepped::Words(n)
 }
 
+// The same in place, by way of two areas, where there is something to replace.
+fn settle_some(
+    base: &[u64],
+    places: &[u64],
+    from: usize,
+    first: u64,
+    tokens: &mut [u64],
+    len: usize,
+) -> Settled
+    requires { ⌜ (len ≤ length (now tokens)) × Complete (take len (now tokens)) ⌝ }
+    requires { ⌜ (len ≤ 9362) × (first ≤ 4294967296) × (length (now places) ≤ 4294967296) ⌝ }
+    ensures { λ r. ⌜ (r ≡ settling (now (base .entry)) (now (places .entry)) from first (now (tokens .entry)) len .answer)
+        × (now (tokens .exit) ≡ settling (now (base .entry)) (now (places .entry)) from first (now (tokens .entry)) len .out) ⌝ }
+{
+    let mut work = [0u64; AREA];
+    let mut spare = [0u64; AREA];
+    copy(&tokens[..len], &mut work);
+    let Stepped::Words(n) = steps(base, places, from, first, &mut work, len, &mut spare) else {
+        return Settled::Broken;
+    };
+    copy(&work[..n], tokens);
+    Settled::Words(n)
+}
+
 // Settles the first `len` words of tokens: the divisors at the places from number `from` on are replaced in order, the divisor at place k by `__x(first + k)`.
 pub fn settle(
     base: &[u64],
@@ -124,12 +148,8 @@ pub fn settle(
     if places.len() as u64 > NUMBERS {
         return Settled::NoRoom;
     }
-    let mut work = [0u64; AREA];
-    let mut spare = [0u64; AREA];
-    copy(&tokens[..len], &mut work);
-    let Stepped::Words(n) = steps(base, places, from, first, &mut work, len, &mut spare) else {
-        return Settled::Broken;
-    };
-    copy(&work[..n], tokens);
-    Settled::Words(n)
+    if from >= places.len() {
+        return Settled::Words(len);
+    }
+    settle_some(base, places, from, first, tokens, len)
 }

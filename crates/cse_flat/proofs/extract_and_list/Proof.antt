@@ -1,7 +1,7 @@
 -- `cse_flat::extract_and_list` meets its contract. Assumes nothing.
 use lib.ListN.{length}
 use Rattle.fmt.specs.checked.Check.{rows-in}
-use Rattle.cse_flat.proofs.refined.Listing.{given-so, rounds-refused, vs-long, vs-there, never-unlisted, all-listed}
+use Rattle.cse_flat.proofs.refined.Listing.{given-so, rounds-refused, vs-long, vs-there, writable, all-listed}
 use borrow.Author.Needs.{needs}
 use Rattle.cse_flat.proofs.extract_and_list.Statement.{statement}
 use Rattle.cse_flat.proofs.extract_and_list.Tie as tie
@@ -17,13 +17,8 @@ extract-and-list-spec =
     (λ c. let s = c .before .before .before .before .before .before .before .before .before .before .before .before in let a = s .args in let x = c .before .before .before .before .before .extract-all in rounds-refused (rows-in (a .rows .now)) (a .tokens .now) (a .len) (a .scoped) (a .first) (length (a .text .now)) (given-so (rows-in (a .rows .now)) (a .tokens .now) (a .len) (a .scoped) (a .first) (length (a .text .now)) (s .pre .0) (s .pre .1 .0) (s .pre .1 .1 .0)) (x .result) _ (x .ensures) (c .match .keys2))
     (λ c. let s = c .before .before .before .before .before .before .before .before .before .before .before .before .before .before in let a = s .args in let x = c .before .before .before .before .before .before .before .extract-all in let r = c .before .rounds .given in vs-there (rows-in (a .rows .now)) (a .tokens .now) (a .len) (a .scoped) (a .first) (length (a .text .now)) (given-so (rows-in (a .rows .now)) (a .tokens .now) (a .len) (a .scoped) (a .first) (length (a .text .now)) (s .pre .0) (s .pre .1 .0) (s .pre .1 .1 .0)) (x .result) _ (x .ensures) (r .0 .0) (r .0 .1 .0) (r .1))
     (λ c. let s = c .before .before .before .before .before .before .before .before .before .before .before .before .before .before .before in let a = s .args in let x = c .before .before .before .before .before .before .before .before .extract-all in let r = c .before .before .rounds .given in vs-long (rows-in (a .rows .now)) (a .tokens .now) (a .len) (a .scoped) (a .first) (length (a .text .now)) (given-so (rows-in (a .rows .now)) (a .tokens .now) (a .len) (a .scoped) (a .first) (length (a .text .now)) (s .pre .0) (s .pre .1 .0) (s .pre .1 .1 .0)) (x .result) _ (x .ensures) (r .0 .0) (r .0 .1 .0) (r .1))
-    (λ c κs. search needs)
+    (λ c κs. let s = c .before .before .before .before .before .before .before .before .before .before .before .before .before .before .before .before .before in let a = s .args in let x = c .before .before .before .before .before .before .before .before .before .before .extract-all in let r = c .before .before .before .before .rounds .given in writable (rows-in (a .rows .now)) (a .tokens .now) (a .len) (a .scoped) (a .first) (length (a .text .now)) (given-so (rows-in (a .rows .now)) (a .tokens .now) (a .len) (a .scoped) (a .first) (length (a .text .now)) (s .pre .0) (s .pre .1 .0) (s .pre .1 .1 .0)) (x .result) _ (x .ensures) (r .0 .0) (r .0 .1 .0) (r .1) _ (x .kept .1 .1 .1 .1 .1 .0) _ (s .pre .1 .1 .1))
     (λ c. search needs)
     (λ c. search needs)
     (λ c. search needs)
-    (λ c. search needs)
-    (λ c. let s = c .before .before .before .before .before .before .before .before .before .before .before .before .before .before .before .before .before .before .before .before .before .before .before in let a = s .args in let x = c .before .before .before .before .before .before .before .before .before .before .before .before .before .before .before .before .extract-all in let r = c .before .before .before .before .before .before .before .before .before .before .rounds .given in let d = c .before .before .before .before .before .divisors-to-bind in absurd (never-unlisted (rows-in (a .rows .now)) (a .tokens .now) (a .len) (a .scoped) (a .first) (length (a .text .now)) (given-so (rows-in (a .rows .now)) (a .tokens .now) (a .len) (a .scoped) (a .first) (length (a .text .now)) (s .pre .0) (s .pre .1 .0) (s .pre .1 .1 .0)) (x .result) _ (x .ensures) (r .0 .0) (r .0 .1 .0) (r .1) (a .places .now) (s .pre .1 .1 .1) _ (x .kept .1 .1 .1 .1 .1 .0) (d .result) _ (d .ensures) (c .match2 .keys2)))
-    (λ c. search needs)
-    (λ c. search needs)
-    (λ c. search needs)
-    (λ c. let s = c .before .before .before .before .before .before .before .before .before .before .before .before .before .before .before .before .before .before .before .before .before .before .before .before .before in let a = s .args in let x = c .before .before .before .before .before .before .before .before .before .before .before .before .before .before .before .before .before .before .extract-all in let r = c .before .before .before .before .before .before .before .before .before .before .before .before .rounds .given in let d = c .before .before .before .before .before .before .before .divisors-to-bind in all-listed (rows-in (a .rows .now)) (a .tokens .now) (a .len) (a .scoped) (a .first) (length (a .text .now)) (given-so (rows-in (a .rows .now)) (a .tokens .now) (a .len) (a .scoped) (a .first) (length (a .text .now)) (s .pre .0) (s .pre .1 .0) (s .pre .1 .1 .0)) (x .result) _ (x .ensures) (r .0 .0) (r .0 .1 .0) (r .1) (a .places .now) (s .pre .1 .1 .1) _ (x .kept .1 .1 .1 .1 .1 .0) (d .result) _ (d .ensures) (c .before .listed .given .0 .0) (c .before .listed .given .1)))
+    (λ c. let s = c .before .before .before .before .before .before .before .before .before .before .before .before .before .before .before .before .before .before .before .before .before .before in let a = s .args in let x = c .before .before .before .before .before .before .before .before .before .before .before .before .before .before .before .extract-all in let r = c .before .before .before .before .before .before .before .before .before .rounds .given in all-listed (rows-in (a .rows .now)) (a .tokens .now) (a .len) (a .scoped) (a .first) (length (a .text .now)) (given-so (rows-in (a .rows .now)) (a .tokens .now) (a .len) (a .scoped) (a .first) (length (a .text .now)) (s .pre .0) (s .pre .1 .0) (s .pre .1 .1 .0)) (x .result) _ (x .ensures) (r .0 .0) (r .0 .1 .0) (r .1) _ _ (c .before .before .before .before .divisors-to-bind .ensures)))

@@ -3,21 +3,18 @@ use Prim.Native.Nat.{ℕ, _≤_}
 use native.Mathlib.Omega.{arith}
 use types.Run
 use denote.Enum.Declared
-use mathlib.Core.Path.{_≡_, refl, sym, _∙_, ap, ap₂, subst}
+use mathlib.Core.Path.{_≡_, refl, subst}
 use mathlib.Core.Logic.{inl, inr}
-use mathlib.Core.Bool.{Bool, true, false, _&&_, _||_}
-use mathlib.Core.Option.{Option}
-use mathlib.Core.List.{List, [], _∷_, _++_}
-use lib.ListN.{length, take, drop, length-append}
-use lib.Seq.{take-at, length-take-le}
-use lib.Dec.{T, ltb}
+use mathlib.Core.Bool.{Bool}
+use mathlib.Core.List.{List, [], _∷_}
+use lib.ListN.{length, take}
+use lib.Seq.{length-take-le}
+use lib.Dec.{T}
 use Rattle.spec_tree.specs.Bytes.{every}
 use Rattle.spec_tree.specs.Rows.{Row}
-use Rattle.spec_tree.specs.Tokens.{read, numbered, name-in, trees-in}
-use Rattle.spec_tree.proofs.Logic.{and-both}
-use Rattle.spec_tree.proofs.Tests.{is-true}
+use Rattle.spec_tree.specs.Tokens.{read, numbered, name-in}
 use Rattle.fmt.specs.checked.Check.{word-ok}
-use Rattle.words.specs.words.Words.{some-trees}
+use Rattle.words.specs.words.Words.{Complete}
 use Rattle.laws.specs.positions.Names.{is-number, symbols-pass}
 use Rattle.laws.specs.positions.Places.{divisors-to-bind}
 use Rattle.rounds.specs.kept.Sound.{extractable}
@@ -25,14 +22,9 @@ use Rattle.rounds.proofs.kept.Steps.{ready-of}
 use Rattle.rounds.specs.Rounds.{all-rounds, rounds-answer, Leaves-words}
 use Rattle.rounds.specs.declared.Rounds.{Rounds}
 use Rattle.rounds.specs.declared.Rounds.the-variants as rounds
-use Rattle.reciprocals.specs.divisors.Answers.{to-bind-short, to-bind-by, to-bind-answer}
-use Rattle.reciprocals.specs.declared.divisors.ToBind.{ToBind}
-use Rattle.reciprocals.specs.declared.divisors.ToBind.the-variants as tobind
-use Rattle.reciprocals.proofs.divisors.ToBind as tobind-enum
 use Rattle.cse_flat.proofs.refined.Rounding.{Rounded, rounded}
-use Rattle.cse_flat.proofs.refined.Leaving.{Left, rounds-leave, left-complete, left-words, left-short}
+use Rattle.cse_flat.proofs.refined.Leaving.{Left, rounds-leave, left-trees, left-complete, left-words, left-short}
 use Rattle.cse_flat.specs.refined.Parts.{Rounds-listed, Rounds-refused}
-use borrow.Author.Tests.{le-ltb}
 use Rattle.spec_tree.proofs.Lists.{fits-in}
 
 -- ---- words in front
@@ -84,54 +76,14 @@ module _ (rows : List Row) (old : List ℕ) (len : ℕ) (scoped : Bool) (first t
 
       -- ---- the divisors are listed
 
-      abbrev new : List ℕ
-      new = divisors-to-bind vs (name-in rows) scoped
+      pub writable : (b : ℕ) → b ≡ text → (places : ℕ) → len ≤ places
+          → (Complete vs × T (every (word-ok rows) vs)) × ((length vs ≤ 1927) × (length vs ≤ places) × (131072 ≤ b))
+      writable b kept places lent =
+          let k = length (read numbered ws) in (
+            ((left-trees rows scoped k first ws vs left, left-complete rows scoped k first ws vs left), left-words rows scoped k first ws vs left),
+            (omega (arith, vs-few, g .few), omega (arith, vs-few, lent), omega (arith, kept, g .bytes)),
+          )
 
-      module _ (places : List ℕ) (lent : len ≤ length places) (bytes : ℕ) (kept : bytes ≡ text) (b : ToBind) (now : List ℕ)
-          (bound : (b ≡ to-bind-answer rows vs scoped bytes places .answer) × (now ≡ to-bind-answer rows vs scoped bytes places .places)) where
-        has-room : to-bind-short (length vs) (length places) bytes ≡ false
-        unfolding to-bind-short
-        has-room =
-            none (ltb 1927 (length vs)) (ltb (length places) (length vs)) (ltb bytes 131072) (le-ltb 1927 (length vs) (omega (arith, vs-few, g .few)))
-            (le-ltb (length places) (length vs) (omega (arith, vs-few, lent))) (le-ltb bytes 131072 (omega (arith, kept, g .bytes)))
-          where
-            none : (x y z : Bool) → x ≡ false → y ≡ false → z ≡ false → (x || (y || z)) ≡ false
-            none x y z e f h = rw (e, f, h)
-
-        writable : (some-trees (trees-in vs) && every (word-ok rows) vs) ≡ true
-        unfolding some-trees
-        writable =
-            let k = length (read numbered ws) in
-            is-true (some-trees (trees-in vs) && every (word-ok rows) vs)
-            (and-both (some-trees (trees-in vs)) (every (word-ok rows) vs)
-            (subst (λ (o : Option ℕ). T (some-trees o)) (sym (left-complete rows scoped k first ws vs left)) tt) (left-words rows scoped k first ws vs left))
-
-        lists-them : to-bind-answer rows vs scoped bytes places ≡ to-bind-by false true new places
-        unfolding to-bind-answer
-        lists-them = ap₂ (λ (x y : Bool). to-bind-by x y new places) has-room writable
-
-        counted : b ≡ tobind.Count (length new)
-        unfolding to-bind-by
-        counted = bound .0 ∙ ap (λ (z : _). z .answer) lists-them
-
-        placed : now ≡ new ++ drop (length new) places
-        unfolding to-bind-by
-        placed = bound .1 ∙ ap (λ (z : _). z .places) lists-them
-
-        pub never-unlisted : Run.OneOf (1 ∷ 2 ∷ []) (Declared.tagOf tobind-enum.the-type b) → ⊥
-        never-unlisted k = go (subst (λ (q : ToBind). Run.OneOf (1 ∷ 2 ∷ []) (Declared.tagOf tobind-enum.the-type q)) counted k)
-          where
-            go : Run.OneOf (1 ∷ 2 ∷ []) (Declared.tagOf tobind-enum.the-type (tobind.Count (length new))) → ⊥
-            go (inl e) = omega arith
-            go (inr e) = omega arith
-
-        pub all-listed : (d : ℕ) → b ≡ tobind.Count d → Rounds-listed rows scoped first ws n m d out now
-        all-listed d e =
-            let s : d ≡ length new = let z = sym e ∙ counted in cc in
-            let long = ap length placed in (
-              done .0,
-              done .2,
-              ap (take d) placed ∙ take-at new (drop (length new) places) d (sym s),
-              vs-there,
-              omega (arith, s, long, length-append new (drop (length new) places)),
-            )
+      pub all-listed :
+          (places : List ℕ) (d : ℕ) → (take d places ≡ divisors-to-bind vs (name-in rows) scoped) × (d ≤ length places) → Rounds-listed rows scoped first ws n m d out places
+      all-listed places d e = (done .0, done .2, e .0, vs-there, e .1)

@@ -1,26 +1,23 @@
 -- Where a divisor stands, and the list of all so far: how it starts, goes on and ends. Assumes nothing.
 use Prim.Native.Nat.{ℕ, zero, suc, _+_, _≤_, _<_}
 use native.Mathlib.Omega.{arith}
-use mathlib.Core.Path.{_≡_, refl, sym, _∙_, ap, subst}
+use mathlib.Core.Path.{_≡_, refl, sym, _∙_, ap}
 use mathlib.Core.Bool.{Bool, true, false, _&&_}
-use mathlib.Core.Option.{Option, none, some}
+use mathlib.Core.Option.{some}
 use mathlib.Core.List.{List, [], _∷_, _++_, append-nil, append-assoc}
 use borrow.Author.Tests.{eq-eqb, ne-eqb, le-leb, lt-leb}
-use lib.ListN.{length, getD, take, drop, set, length-append, length-drop}
+use lib.ListN.{length, getD, drop, set, length-append, length-drop}
 use lib.Seq.{drop-cons, set-at}
-use lib.Dec.{eqb, leb}
-use Rattle.spec_tree.specs.Tree.{Tree}
+use lib.Dec.{leb}
 use Rattle.spec_tree.specs.Facts.{size}
-use Rattle.spec_tree.specs.Tokens.{kind-of, below-of, takes, read, numbered, run-at, trees-in}
+use Rattle.spec_tree.specs.Tokens.{kind-of, below-of, takes, read, numbered, run-at}
 use Rattle.spec_tree.proofs.TokenLaws.{operation-takes, run-size}
 use Rattle.words.specs.tokens.Answers.{end-answer}
 use Rattle.words.specs.declared.tokens.Run.the-variants as run
 use Rattle.laws.specs.positions.Places.{numbered-at, divides-at, second-at, divisor-places}
 use Rattle.laws.proofs.positions.DivisorPlaces.{enough}
-use Rattle.words.specs.words.Words.{some-trees, Complete}
-use Rattle.reciprocals.specs.divisors.Listing.{second-answer, all-places, Listing, listing-by, listing}
-use Rattle.reciprocals.specs.declared.divisors.Divisors.{Divisors}
-use Rattle.reciprocals.specs.declared.divisors.Divisors.the-variants as divisors
+use Rattle.words.specs.words.Words.{Complete}
+use Rattle.reciprocals.specs.divisors.Listing.{second-answer, all-places}
 
 -- ---- one place
 
@@ -153,34 +150,3 @@ module _ (ws : List ℕ) where
       let i : p ≡ length ws = omega (arith, state .inside, h) in
       let c : n ≡ length (so-far (length ws)) = state .count ∙ ap (λ (x : ℕ). length (so-far x)) i in
       (c, state .places ∙ (ap (λ (x : ℕ). so-far x ++ drop n old) i ∙ ap (λ (k : ℕ). so-far (length ws) ++ drop k old) c))
-
--- ---- what listing answers and leaves
-
-module _ (ws old : List ℕ) where
-  abbrev pub Answers : Divisors → List ℕ → Type 0
-  Answers r out = (r ≡ listing ws old .answer) × (out ≡ listing ws old .out)
-
-  answers-by : (a b : Bool) → some-trees (trees-in ws) ≡ a → leb (length ws) (length old) ≡ b → (r : Divisors) (out : List ℕ) → listing-by a b (all-places ws) old ≡ record { answer = r; out = out } → Answers r out
-  unfolding listing
-  answers-by a b e f r out q =
-      let s : listing ws old ≡ record { answer = r; out = out } =
-      ap (λ (x : Bool). listing-by x (leb (length ws) (length old)) (all-places ws) old) e ∙ (ap (λ (y : Bool). listing-by a y (all-places ws) old) f ∙ q) in
-      (sym (ap (λ (x : Listing). x .answer) s), sym (ap (λ (x : Listing). x .out) s))
-
-  pub broken : trees-in ws ≡ none → Answers divisors.Broken old
-  unfolding listing-by some-trees
-  broken e = answers-by false (leb (length ws) (length old)) (ap some-trees e) refl divisors.Broken old refl
-
-  module _ (complete : Complete ws) where
-    pub full : length old < length ws → Answers divisors.NoRoom old
-    unfolding listing-by some-trees
-    full h = answers-by true false (ap some-trees (complete .1)) (lt-leb (length ws) (length old) h) divisors.NoRoom old refl
-
-    pub listed :
-        length ws ≤ length old → (n : ℕ) (out : List ℕ) → n ≡ length (all-places ws) → out ≡ all-places ws ++ drop (length (all-places ws)) old
-        → Answers (divisors.Count n) out
-    unfolding listing-by some-trees
-    listed h n out c w =
-        answers-by true true (ap some-trees (complete .1)) (le-leb (length ws) (length old) h) (divisors.Count n) out
-        (ap (λ (i : ℕ). record { answer = divisors.Count i; out = all-places ws ++ drop (length (all-places ws)) old }) (sym c)
-        ∙ ap (λ (l : List ℕ). record { answer = divisors.Count n; out = l }) (sym w))

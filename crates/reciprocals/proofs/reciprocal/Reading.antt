@@ -37,13 +37,13 @@ read-over w d e =
     ap (λ (l : List Tree). tree-of-word numbered 134 (take 2 (tree-of-word numbered 129 [] ∷ l)) ∷ drop 2 (tree-of-word numbered 129 [] ∷ l)) e
 
 module _ (base : List ℕ) (place n : ℕ) (stands : run-at base place ≡ some n) where
-  abbrev divisor : Tree
+  abbrev pub divisor : Tree
   divisor = numbered-at base place
 
-  abbrev run : List ℕ
+  abbrev pub run : List ℕ
   run = take n (drop place base)
 
-  run-within : n ≤ length (drop place base)
+  pub run-within : n ≤ length (drop place base)
   unfolding run-at
   run-within = segment (drop place base) 1 n stands .within
 
@@ -60,12 +60,15 @@ module _ (base : List ℕ) (place n : ℕ) (stands : run-at base place ≡ some 
       ap (λ (l : List Tree). getD l 0 (Op 0 nil)) (segment (drop place base) 1 n stands .first)
       ∙ (first-of-one (read numbered (drop place base)) ∙ tree-there base place)
 
+  -- its words are the divisor's
+  pub run-words : tokens number divisor ≡ run
+  run-words = sym (one-tree-words (λ (t : Tree). t) divisor) ∙ (ap (λ (t : Tree). all-tokens number (t ∷ [])) (sym run-read) ∙ one-written run one-run)
+
   -- as many words as the divisor has nodes
   pub run-long : n ≡ size divisor
   run-long =
       let l : length run ≡ n = length-take-le n (drop place base) run-within in
-      let e : tokens number divisor ≡ run = sym (one-tree-words (λ (t : Tree). t) divisor) ∙ (ap (λ (t : Tree). all-tokens number (t ∷ [])) (sym run-read) ∙ one-written run one-run) in
-      omega (arith, l, ap length e, tokens-length number divisor)
+      omega (arith, l, ap length run-words, tokens-length number divisor)
 
   pub over-complete : trees-in (one-over base place n) ≡ some 1
   over-complete = one-tree-over base place n one-run

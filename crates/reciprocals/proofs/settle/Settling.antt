@@ -1,12 +1,12 @@
 -- Step after step, and what settling answers: the words so far, with the steps to come, are the whole. Assumes nothing.
 use Prim.Native.Nat.{ℕ, suc, _+_, _-_, _*_, _/_, _%_, _≤_, _<_}
 use native.Mathlib.Omega.{arith}
-use mathlib.Core.Path.{_≡_, refl, sym, _∙_, ap, subst}
+use mathlib.Core.Path.{_≡_, refl, sym, _∙_, ap, ap₂, subst}
 use mathlib.Core.Bool.{Bool, true, false}
 use mathlib.Core.Option.{Option, none, some}
 use mathlib.Core.List.{List, [], _∷_, _++_}
 use borrow.Author.Tests.{le-leb, lt-leb}
-use lib.ListN.{length, getD, take, drop}
+use lib.ListN.{length, getD, take, drop, take-append-drop}
 use lib.Seq.{length-take-le, take-at, drop-cons}
 use Rattle.spec_tree.specs.Tree.{Name, xname}
 use Rattle.spec_tree.specs.Tokens.{kind-of, below-of, name-by, run-at, trees-in}
@@ -204,6 +204,18 @@ module _ (base places : List ℕ) (from first : ℕ) (old : List ℕ) (len : ℕ
           room : room-for len first (length places) ≡ true
           unfolding room-for
           room = rw (le-leb len 9362 short) (rw (le-leb first 4294967296 low) (rw (le-leb (length places) 4294967296 few) refl))
+
+          -- no divisor is left to replace
+          pub nothing-to-settle : length places ≤ from → Answers (settled.Words len) old
+          unfolding settling-by settled-words
+          nothing-to-settle g =
+              let l = length-take-le len old h in
+              let e : became ≡ some (take len old) = ap (λ (q : List ℕ). settled-words base q (first + from) (take len old)) (none-left from places g) in
+              let w : take len old ++ drop (length (take len old)) old ≡ old =
+              ap (λ (i : ℕ). take len old ++ drop i old) l ∙ take-append-drop len old in
+              answers-by true true there room (settled.Words len) old
+              (ap (λ (o : Option (List ℕ)). settling-by true true o old) e
+              ∙ ap₂ (λ (i : ℕ) (o : List ℕ). record { answer = settled.Words i; out = o }) l w)
 
           -- the words are copied to an area
           module _ (area copied : List ℕ) (copies : copied ≡ take len old ++ drop (length (take len old)) area) where

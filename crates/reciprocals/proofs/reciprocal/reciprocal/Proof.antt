@@ -1,9 +1,8 @@
--- `reciprocals::reciprocal::reciprocal` meets its contract: the quotient is written to an area, settled there and copied. Assumes nothing.
-use native.Mathlib.Omega.{arith}
-use mathlib.Core.Path.{sym, _∙_}
-use lib.ListN.{length, getD}
-use Rattle.reciprocals.proofs.settle.Stepping.{divisor-there}
-use Rattle.reciprocals.proofs.reciprocal.Binding.{no-number, no-divisor, too-long, unsettled, full, in-area, taken-long, small-out, bound-so}
+-- `reciprocals::reciprocal::reciprocal` meets its contract. Assumes nothing.
+use mathlib.Core.Path.{sym, subst}
+use lib.Dec.{T}
+use Rattle.reciprocals.proofs.reciprocal.Binding.{no-number}
+use Rattle.reciprocals.proofs.reciprocal.Plain.{plain-inside, plain-answers}
 use borrow.Author.Needs.{needs}
 use Rattle.reciprocals.proofs.reciprocal.reciprocal.Statement.{statement}
 use Rattle.reciprocals.proofs.reciprocal.reciprocal.Tie as tie
@@ -12,31 +11,13 @@ pub reciprocal-spec : {M : Type 1} → statement M
 reciprocal-spec =
     tie.close
     (tie.spec
-    (λ c. no-number (c .before .before .before .before .args .base .now) (c .before .before .before .before .args .places .now) (c .before .before .before .before .args .first) (c .before .before .before .before .args .j) (c .before .before .before .before .args .out .now) (c .if1 .taken))
-    (λ c. search needs)
-    (λ c. search needs)
+    (λ c. let a = c .before .before .before .before .args in let b = a .base .now in let p = a .places .now in no-number b p (a .first) (a .j) (a .out .now) (c .if1 .taken))
     (λ c κs. search needs)
     (λ c. search needs)
     (λ c. search needs)
-    (λ c. no-divisor (c .before .before .before .before .before .before .before .before .args .base .now) (c .before .before .before .before .before .before .before .before .args .places .now) (c .before .before .before .before .before .before .before .before .args .first) (c .before .before .before .before .before .before .before .before .args .j) (c .before .before .before .before .before .before .before .before .args .out .now) (omega (arith, c .before .before .before .before .if1 .left)) (sym (c .enum-told .given .1) ∙ c .before .before .end-of .ensures))
-    (λ c. (divisor-there (c .before .before .before .before .before .before .before .before .before .args .base .now) (getD (c .before .before .before .before .before .before .before .before .before .args .places .now) (c .before .before .before .before .before .before .before .before .before .args .j) 0) _ (sym (c .before .end .given .1) ∙ c .before .before .before .end-of .ensures)) .after)
+    (λ c κs. let a = c .before .before .before .before .before .before .before .before .args in let b = a .base .now in let p = a .places .now in plain-inside b p (a .first) (a .j) (c .before .before .before .before .before .before .before .before .pre) (c .before .before .before .before .if1 .left) (subst T (c .before .before .before .is-plain .ensures) (subst T (sym (c .before .before .if2 .taken)) tt)))
     (λ c. search needs)
-    (λ c. too-long (c .before .before .before .before .before .before .before .before .before .before .args .base .now) (c .before .before .before .before .before .before .before .before .before .before .args .places .now) (c .before .before .before .before .before .before .before .before .before .before .args .first) (c .before .before .before .before .before .before .before .before .before .before .args .j) (c .before .before .before .before .before .before .before .before .before .before .args .out .now) (omega (arith, c .before .before .before .before .before .before .if1 .left)) _ (divisor-there (c .before .before .before .before .before .before .before .before .before .before .args .base .now) (getD (c .before .before .before .before .before .before .before .before .before .before .args .places .now) (c .before .before .before .before .before .before .before .before .before .before .args .j) 0) _ (sym (c .before .before .end .given .1) ∙ c .before .before .before .before .end-of .ensures)) (c .if2 .taken))
-    (λ c. search needs)
-    (λ c κs. (((divisor-there (c .before .before .before .before .before .before .before .before .before .before .before .args .base .now) (getD (c .before .before .before .before .before .before .before .before .before .before .before .args .places .now) (c .before .before .before .before .before .before .before .before .before .before .before .args .j) 0) _ (sym (c .before .before .before .end .given .1) ∙ c .before .before .before .before .before .end-of .ensures)) .after, (divisor-there (c .before .before .before .before .before .before .before .before .before .before .before .args .base .now) (getD (c .before .before .before .before .before .before .before .before .before .before .before .args .places .now) (c .before .before .before .before .before .before .before .before .before .before .before .args .j) 0) _ (sym (c .before .before .before .end .given .1) ∙ c .before .before .before .before .before .end-of .ensures)) .within), omega (arith, c .before .if2 .left)))
-    (λ c. search needs)
-    (λ c. search needs)
-    (λ c. (divisor-there (c .before .before .before .before .before .before .before .before .before .before .before .before .before .before .args .base .now) (getD (c .before .before .before .before .before .before .before .before .before .before .before .before .before .before .args .places .now) (c .before .before .before .before .before .before .before .before .before .before .before .before .before .before .args .j) 0) _ (sym (c .before .before .before .before .before .before .end .given .1) ∙ c .before .before .before .before .before .before .before .before .end-of .ensures)) .after)
-    (λ c. search needs)
+    (λ c. let a = c .before .before .before .before .before .before .before .before .before .before .before .args in let b = a .base .now in let p = a .places .now in plain-answers b p (a .first) (a .j) (c .before .before .before .before .before .before .before .before .before .before .before .pre) (c .before .before .before .before .before .before .before .if1 .left) (subst T (c .before .before .before .before .before .before .is-plain .ensures) (subst T (sym (c .before .before .before .before .before .if2 .taken)) tt)) (a .out .now) _ _ (c .before .before .write-plain .ensures))
     (λ c κs. search needs)
     (λ c. search needs)
-    (λ c. small-out (c .before .before .before .before .before .before .before .before .before .before .before .before .before .before .before .before .before .before .before .before .args .base .now) (c .before .before .before .before .before .before .before .before .before .before .before .before .before .before .before .before .before .before .before .before .args .places .now) (c .before .before .before .before .before .before .before .before .before .before .before .before .before .before .before .before .before .before .before .before .args .first) (c .before .before .before .before .before .before .before .before .before .before .before .before .before .before .before .before .before .before .before .before .args .j) (c .before .before .before .before .before .before .before .before .before .before .before .before .before .before .before .before .before .before .before .before .args .out .now) (omega (arith, c .before .before .before .before .before .before .before .before .before .before .before .before .before .before .before .before .if1 .left)) _ (divisor-there (c .before .before .before .before .before .before .before .before .before .before .before .before .before .before .before .before .before .before .before .before .args .base .now) (getD (c .before .before .before .before .before .before .before .before .before .before .before .before .before .before .before .before .before .before .before .before .args .places .now) (c .before .before .before .before .before .before .before .before .before .before .before .before .before .before .before .before .before .before .before .before .args .j) 0) _ (sym (c .before .before .before .before .before .before .before .before .before .before .before .before .end .given .1) ∙ c .before .before .before .before .before .before .before .before .before .before .before .before .before .before .end-of .ensures)) _ _ (c .before .before .before .before .before .before .before .before .write-quotient .ensures) _ _ (sym (c .before .before .settled .given .1) ∙ c .before .before .before .before .before .settle .ensures .0) (c .before .before .before .before .before .settle .ensures .1) (c .if3 .taken))
-    (λ c. omega (arith, in-area (c .before .before .before .before .before .before .before .before .before .before .before .before .before .before .before .before .before .before .before .before .args .base .now) (c .before .before .before .before .before .before .before .before .before .before .before .before .before .before .before .before .before .before .before .before .args .places .now) (c .before .before .before .before .before .before .before .before .before .before .before .before .before .before .before .before .before .before .before .before .args .first) (c .before .before .before .before .before .before .before .before .before .before .before .before .before .before .before .before .before .before .before .before .args .j) (c .before .before .before .before .before .before .before .before .before .before .before .before .before .before .before .before .before .before .before .before .args .out .now) (omega (arith, c .before .before .before .before .before .before .before .before .before .before .before .before .before .before .before .before .if1 .left)) _ (divisor-there (c .before .before .before .before .before .before .before .before .before .before .before .before .before .before .before .before .before .before .before .before .args .base .now) (getD (c .before .before .before .before .before .before .before .before .before .before .before .before .before .before .before .before .before .before .before .before .args .places .now) (c .before .before .before .before .before .before .before .before .before .before .before .before .before .before .before .before .before .before .before .before .args .j) 0) _ (sym (c .before .before .before .before .before .before .before .before .before .before .before .before .end .given .1) ∙ c .before .before .before .before .before .before .before .before .before .before .before .before .before .before .end-of .ensures)) _ _ (c .before .before .before .before .before .before .before .before .write-quotient .ensures) _ _ (sym (c .before .before .settled .given .1) ∙ c .before .before .before .before .before .settle .ensures .0) (c .before .before .before .before .before .settle .ensures .1), c .before .before .before .before .before .settle .kept))
-    (λ c. sym (taken-long (c .before .before .before .before .before .before .before .before .before .before .before .before .before .before .before .before .before .before .before .before .before .args .base .now) (c .before .before .before .before .before .before .before .before .before .before .before .before .before .before .before .before .before .before .before .before .before .args .places .now) (c .before .before .before .before .before .before .before .before .before .before .before .before .before .before .before .before .before .before .before .before .before .args .first) (c .before .before .before .before .before .before .before .before .before .before .before .before .before .before .before .before .before .before .before .before .before .args .j) (c .before .before .before .before .before .before .before .before .before .before .before .before .before .before .before .before .before .before .before .before .before .args .out .now) (omega (arith, c .before .before .before .before .before .before .before .before .before .before .before .before .before .before .before .before .before .if1 .left)) _ (divisor-there (c .before .before .before .before .before .before .before .before .before .before .before .before .before .before .before .before .before .before .before .before .before .args .base .now) (getD (c .before .before .before .before .before .before .before .before .before .before .before .before .before .before .before .before .before .before .before .before .before .args .places .now) (c .before .before .before .before .before .before .before .before .before .before .before .before .before .before .before .before .before .before .before .before .before .args .j) 0) _ (sym (c .before .before .before .before .before .before .before .before .before .before .before .before .before .end .given .1) ∙ c .before .before .before .before .before .before .before .before .before .before .before .before .before .before .before .end-of .ensures)) _ _ (c .before .before .before .before .before .before .before .before .before .write-quotient .ensures) _ _ (sym (c .before .before .before .settled .given .1) ∙ c .before .before .before .before .before .before .settle .ensures .0) (c .before .before .before .before .before .before .settle .ensures .1)))
-    (λ c κs. omega (arith, taken-long (c .before .before .before .before .before .before .before .before .before .before .before .before .before .before .before .before .before .before .before .before .before .before .args .base .now) (c .before .before .before .before .before .before .before .before .before .before .before .before .before .before .before .before .before .before .before .before .before .before .args .places .now) (c .before .before .before .before .before .before .before .before .before .before .before .before .before .before .before .before .before .before .before .before .before .before .args .first) (c .before .before .before .before .before .before .before .before .before .before .before .before .before .before .before .before .before .before .before .before .before .before .args .j) (c .before .before .before .before .before .before .before .before .before .before .before .before .before .before .before .before .before .before .before .before .before .before .args .out .now) (omega (arith, c .before .before .before .before .before .before .before .before .before .before .before .before .before .before .before .before .before .before .if1 .left)) _ (divisor-there (c .before .before .before .before .before .before .before .before .before .before .before .before .before .before .before .before .before .before .before .before .before .before .args .base .now) (getD (c .before .before .before .before .before .before .before .before .before .before .before .before .before .before .before .before .before .before .before .before .before .before .args .places .now) (c .before .before .before .before .before .before .before .before .before .before .before .before .before .before .before .before .before .before .before .before .before .before .args .j) 0) _ (sym (c .before .before .before .before .before .before .before .before .before .before .before .before .before .before .end .given .1) ∙ c .before .before .before .before .before .before .before .before .before .before .before .before .before .before .before .before .end-of .ensures)) _ _ (c .before .before .before .before .before .before .before .before .before .before .write-quotient .ensures) _ _ (sym (c .before .before .before .before .settled .given .1) ∙ c .before .before .before .before .before .before .before .settle .ensures .0) (c .before .before .before .before .before .before .before .settle .ensures .1), c .before .before .if3 .left))
-    (λ c. search needs)
-    (λ c. search needs)
-    (λ c. search needs)
-    (λ c. bound-so (c .before .before .before .before .before .before .before .before .before .before .before .before .before .before .before .before .before .before .before .before .before .before .before .before .before .args .base .now) (c .before .before .before .before .before .before .before .before .before .before .before .before .before .before .before .before .before .before .before .before .before .before .before .before .before .args .places .now) (c .before .before .before .before .before .before .before .before .before .before .before .before .before .before .before .before .before .before .before .before .before .before .before .before .before .args .first) (c .before .before .before .before .before .before .before .before .before .before .before .before .before .before .before .before .before .before .before .before .before .before .before .before .before .args .j) (c .before .before .before .before .before .before .before .before .before .before .before .before .before .before .before .before .before .before .before .before .before .before .before .before .before .args .out .now) (omega (arith, c .before .before .before .before .before .before .before .before .before .before .before .before .before .before .before .before .before .before .before .before .before .if1 .left)) _ (divisor-there (c .before .before .before .before .before .before .before .before .before .before .before .before .before .before .before .before .before .before .before .before .before .before .before .before .before .args .base .now) (getD (c .before .before .before .before .before .before .before .before .before .before .before .before .before .before .before .before .before .before .before .before .before .before .before .before .before .args .places .now) (c .before .before .before .before .before .before .before .before .before .before .before .before .before .before .before .before .before .before .before .before .before .before .before .before .before .args .j) 0) _ (sym (c .before .before .before .before .before .before .before .before .before .before .before .before .before .before .before .before .before .end .given .1) ∙ c .before .before .before .before .before .before .before .before .before .before .before .before .before .before .before .before .before .before .before .end-of .ensures)) _ _ (c .before .before .before .before .before .before .before .before .before .before .before .before .before .write-quotient .ensures) _ _ (sym (c .before .before .before .before .before .before .before .settled .given .1) ∙ c .before .before .before .before .before .before .before .before .before .before .settle .ensures .0) (c .before .before .before .before .before .before .before .before .before .before .settle .ensures .1) (c .before .before .before .before .before .if3 .left) _ (c .before .before .copy .ensures))
-    (λ c. unsettled (c .before .before .before .before .before .before .before .before .before .before .before .before .before .before .before .before .before .before .args .base .now) (c .before .before .before .before .before .before .before .before .before .before .before .before .before .before .before .before .before .before .args .places .now) (c .before .before .before .before .before .before .before .before .before .before .before .before .before .before .before .before .before .before .args .first) (c .before .before .before .before .before .before .before .before .before .before .before .before .before .before .before .before .before .before .args .j) (c .before .before .before .before .before .before .before .before .before .before .before .before .before .before .before .before .before .before .args .out .now) (omega (arith, c .before .before .before .before .before .before .before .before .before .before .before .before .before .before .if1 .left)) _ (divisor-there (c .before .before .before .before .before .before .before .before .before .before .before .before .before .before .before .before .before .before .args .base .now) (getD (c .before .before .before .before .before .before .before .before .before .before .before .before .before .before .before .before .before .before .args .places .now) (c .before .before .before .before .before .before .before .before .before .before .before .before .before .before .before .before .before .before .args .j) 0) _ (sym (c .before .before .before .before .before .before .before .before .before .before .end .given .1) ∙ c .before .before .before .before .before .before .before .before .before .before .before .before .end-of .ensures)) _ _ (c .before .before .before .before .before .before .write-quotient .ensures) (sym (c .enum-told2 .given .1) ∙ c .before .before .before .settle .ensures .0))
-    (λ c. full (c .before .before .before .before .before .before .before .before .before .before .before .before .before .before .before .before .before .before .args .base .now) (c .before .before .before .before .before .before .before .before .before .before .before .before .before .before .before .before .before .before .args .places .now) (c .before .before .before .before .before .before .before .before .before .before .before .before .before .before .before .before .before .before .args .first) (c .before .before .before .before .before .before .before .before .before .before .before .before .before .before .before .before .before .before .args .j) (c .before .before .before .before .before .before .before .before .before .before .before .before .before .before .before .before .before .before .args .out .now) (omega (arith, c .before .before .before .before .before .before .before .before .before .before .before .before .before .before .if1 .left)) _ (divisor-there (c .before .before .before .before .before .before .before .before .before .before .before .before .before .before .before .before .before .before .args .base .now) (getD (c .before .before .before .before .before .before .before .before .before .before .before .before .before .before .before .before .before .before .args .places .now) (c .before .before .before .before .before .before .before .before .before .before .before .before .before .before .before .before .before .before .args .j) 0) _ (sym (c .before .before .before .before .before .before .before .before .before .before .end .given .1) ∙ c .before .before .before .before .before .before .before .before .before .before .before .before .end-of .ensures)) _ _ (c .before .before .before .before .before .before .write-quotient .ensures) (sym (c .enum-told3 .given .1) ∙ c .before .before .before .settle .ensures .0)))
+    (λ c. search needs))

@@ -1,12 +1,10 @@
--- `reciprocals::settle::settle` meets its contract: the words are copied to an area, settled there and copied back. Assumes nothing.
-use native.Mathlib.Omega.{arith}
-use mathlib.Core.Path.{_≡_, sym, _∙_, subst}
-use lib.ListN.{length, take}
+-- `reciprocals::settle::settle` meets its contract. Assumes nothing.
+use mathlib.Core.Path.{sym, _∙_}
+use lib.ListN.{take}
 use lib.Seq.{length-take-le}
 use Rattle.spec_tree.specs.Tokens.{trees-in}
-use Rattle.words.specs.words.Words.{Complete}
-use Rattle.words.proofs.words.Requests.{counted, uncounted}
-use Rattle.reciprocals.proofs.settle.Settling.{too-few, incomplete, long-list, high-number, many-places, copied-front, unsettled, no-more, in-area, goes-back, settled-so}
+use Rattle.words.proofs.words.Requests.{uncounted, complete-by}
+use Rattle.reciprocals.proofs.settle.Settling.{too-few, incomplete, long-list, high-number, many-places, nothing-to-settle}
 use borrow.Author.Needs.{needs}
 use Rattle.reciprocals.proofs.settle.settle.Statement.{statement}
 use Rattle.reciprocals.proofs.settle.settle.Tie as tie
@@ -15,33 +13,22 @@ pub settle-spec : {M : Type 1} → statement M
 settle-spec =
     tie.close
     (tie.spec
-    (λ c. too-few (c .before .before .before .before .args .base .now) (c .before .before .before .before .args .places .now) (c .before .before .before .before .args .from) (c .before .before .before .before .args .first) (c .before .before .before .before .args .tokens .now) (c .before .before .before .before .args .len) (c .if1 .taken))
+    (λ c. let a = c .before .before .before .before .args in too-few (a .base .now) (a .places .now) (a .from) (a .first) (a .tokens .now) (a .len) (c .if1 .taken))
     (λ c. search needs)
-    (λ c. sym (length-take-le (c .before .before .before .before .before .args .len) (c .before .before .before .before .before .args .tokens .now) (c .before .if1 .left)))
+    (λ c. let a = c .before .before .before .before .before .args in sym (length-take-le (a .len) (a .tokens .now) (c .before .if1 .left)))
     (λ c κs. search needs)
     (λ c. search needs)
     (λ c. search needs)
     (λ c. search needs)
-    (λ c. incomplete (c .before .before .before .before .before .before .before .before .args .base .now) (c .before .before .before .before .before .before .before .before .args .places .now) (c .before .before .before .before .before .before .before .before .args .from) (c .before .before .before .before .before .before .before .before .args .first) (c .before .before .before .before .before .before .before .before .args .tokens .now) (c .before .before .before .before .before .before .before .before .args .len) (uncounted (trees-in (take (c .before .before .before .before .before .before .before .before .args .len) (c .before .before .before .before .before .before .before .before .args .tokens .now))) (sym (c .enum-told2 .given .1) ∙ c .before .before .count-trees .ensures)) (c .before .before .before .before .if1 .left))
+    (λ c. let a = c .before .before .before .before .before .before .before .before .args in incomplete (a .base .now) (a .places .now) (a .from) (a .first) (a .tokens .now) (a .len) (uncounted (trees-in (take (a .len) (a .tokens .now))) (sym (c .enum-told2 .given .1) ∙ c .before .before .count-trees .ensures)) (c .before .before .before .before .if1 .left))
     (λ c. search needs)
-    (λ c. long-list (c .before .before .before .before .before .before .before .before .before .args .base .now) (c .before .before .before .before .before .before .before .before .before .args .places .now) (c .before .before .before .before .before .before .before .before .before .args .from) (c .before .before .before .before .before .before .before .before .before .args .first) (c .before .before .before .before .before .before .before .before .before .args .tokens .now) (c .before .before .before .before .before .before .before .before .before .args .len) (c .before .before .before .before .before .if1 .left) (c .before .enum-told .given .0 .0, counted (c .before .enum-told .given .0 .0) (trees-in (take (c .before .before .before .before .before .before .before .before .before .args .len) (c .before .before .before .before .before .before .before .before .before .args .tokens .now))) (sym (c .before .enum-told .given .1) ∙ c .before .before .before .count-trees .ensures)) (c .if2 .taken))
+    (λ c. let a = c .before .before .before .before .before .before .before .before .before .args in long-list (a .base .now) (a .places .now) (a .from) (a .first) (a .tokens .now) (a .len) (c .before .before .before .before .before .if1 .left) (complete-by (take (a .len) (a .tokens .now)) (c .before .enum-told .given .0 .0) (sym (c .before .enum-told .given .1) ∙ c .before .before .before .count-trees .ensures)) (c .if2 .taken))
     (λ c. search needs)
-    (λ c. high-number (c .before .before .before .before .before .before .before .before .before .before .args .base .now) (c .before .before .before .before .before .before .before .before .before .before .args .places .now) (c .before .before .before .before .before .before .before .before .before .before .args .from) (c .before .before .before .before .before .before .before .before .before .before .args .first) (c .before .before .before .before .before .before .before .before .before .before .args .tokens .now) (c .before .before .before .before .before .before .before .before .before .before .args .len) (c .before .before .before .before .before .before .if1 .left) (c .before .before .enum-told .given .0 .0, counted (c .before .before .enum-told .given .0 .0) (trees-in (take (c .before .before .before .before .before .before .before .before .before .before .args .len) (c .before .before .before .before .before .before .before .before .before .before .args .tokens .now))) (sym (c .before .before .enum-told .given .1) ∙ c .before .before .before .before .count-trees .ensures)) (c .before .if2 .left) (c .if3 .taken))
+    (λ c. let a = c .before .before .before .before .before .before .before .before .before .before .args in high-number (a .base .now) (a .places .now) (a .from) (a .first) (a .tokens .now) (a .len) (c .before .before .before .before .before .before .if1 .left) (complete-by (take (a .len) (a .tokens .now)) (c .before .before .enum-told .given .0 .0) (sym (c .before .before .enum-told .given .1) ∙ c .before .before .before .before .count-trees .ensures)) (c .before .if2 .left) (c .if3 .taken))
     (λ c. search needs)
-    (λ c. many-places (c .before .before .before .before .before .before .before .before .before .before .before .args .base .now) (c .before .before .before .before .before .before .before .before .before .before .before .args .places .now) (c .before .before .before .before .before .before .before .before .before .before .before .args .from) (c .before .before .before .before .before .before .before .before .before .before .before .args .first) (c .before .before .before .before .before .before .before .before .before .before .before .args .tokens .now) (c .before .before .before .before .before .before .before .before .before .before .before .args .len) (c .before .before .before .before .before .before .before .if1 .left) (c .before .before .before .enum-told .given .0 .0, counted (c .before .before .before .enum-told .given .0 .0) (trees-in (take (c .before .before .before .before .before .before .before .before .before .before .before .args .len) (c .before .before .before .before .before .before .before .before .before .before .before .args .tokens .now))) (sym (c .before .before .before .enum-told .given .1) ∙ c .before .before .before .before .before .count-trees .ensures)) (c .before .before .if2 .left) (c .before .if3 .left) (c .if4 .taken))
+    (λ c. let a = c .before .before .before .before .before .before .before .before .before .before .before .args in many-places (a .base .now) (a .places .now) (a .from) (a .first) (a .tokens .now) (a .len) (c .before .before .before .before .before .before .before .if1 .left) (complete-by (take (a .len) (a .tokens .now)) (c .before .before .before .enum-told .given .0 .0) (sym (c .before .before .before .enum-told .given .1) ∙ c .before .before .before .before .before .count-trees .ensures)) (c .before .before .if2 .left) (c .before .if3 .left) (c .if4 .taken))
     (λ c. search needs)
-    (λ c. sym (length-take-le (c .before .before .before .before .before .before .before .before .before .before .before .before .args .len) (c .before .before .before .before .before .before .before .before .before .before .before .before .args .tokens .now) (c .before .before .before .before .before .before .before .before .if1 .left)))
+    (λ c. let a = c .before .before .before .before .before .before .before .before .before .before .before .before .args in nothing-to-settle (a .base .now) (a .places .now) (a .from) (a .first) (a .tokens .now) (a .len) (c .before .before .before .before .before .before .before .before .if1 .left) (complete-by (take (a .len) (a .tokens .now)) (c .before .before .before .before .enum-told .given .0 .0) (sym (c .before .before .before .before .enum-told .given .1) ∙ c .before .before .before .before .before .before .count-trees .ensures)) (c .before .before .before .if2 .left) (c .before .before .if3 .left) (c .before .if4 .left) (c .if5 .taken))
+    (λ c κs. let a = c .before .before .before .before .before .before .before .before .before .before .before .before .before .args in ((c .before .before .before .before .before .before .before .before .before .if1 .left, (complete-by (take (a .len) (a .tokens .now)) (c .before .before .before .before .before .enum-told .given .0 .0) (sym (c .before .before .before .before .before .enum-told .given .1) ∙ c .before .before .before .before .before .before .before .count-trees .ensures))), (c .before .before .before .before .if2 .left, c .before .before .before .if3 .left, c .before .before .if4 .left)))
     (λ c. search needs)
-    (λ c κs. omega (arith, length-take-le (c .before .before .before .before .before .before .before .before .before .before .before .before .before .args .len) (c .before .before .before .before .before .before .before .before .before .before .before .before .before .args .tokens .now) (c .before .before .before .before .before .before .before .before .before .if1 .left), c .before .before .before .before .if2 .left))
-    (λ c. search needs)
-    (λ c. search needs)
-    (λ c κs. ((omega (arith, c .before .before .before .copy .kept .1 .0, c .before .before .before .before .before .before .before .before .if2 .left), subst Complete (sym (copied-front (c .before .before .before .before .before .before .before .before .before .before .before .before .before .before .before .before .before .args .base .now) (c .before .before .before .before .before .before .before .before .before .before .before .before .before .before .before .before .before .args .places .now) (c .before .before .before .before .before .before .before .before .before .before .before .before .before .before .before .before .before .args .from) (c .before .before .before .before .before .before .before .before .before .before .before .before .before .before .before .before .before .args .first) (c .before .before .before .before .before .before .before .before .before .before .before .before .before .before .before .before .before .args .tokens .now) (c .before .before .before .before .before .before .before .before .before .before .before .before .before .before .before .before .before .args .len) (c .before .before .before .before .before .before .before .before .before .before .before .before .before .if1 .left) (c .before .before .before .before .before .before .before .before .before .enum-told .given .0 .0, counted (c .before .before .before .before .before .before .before .before .before .enum-told .given .0 .0) (trees-in (take (c .before .before .before .before .before .before .before .before .before .before .before .before .before .before .before .before .before .args .len) (c .before .before .before .before .before .before .before .before .before .before .before .before .before .before .before .before .before .args .tokens .now))) (sym (c .before .before .before .before .before .before .before .before .before .enum-told .given .1) ∙ c .before .before .before .before .before .before .before .before .before .before .before .count-trees .ensures)) (c .before .before .before .before .before .before .before .before .if2 .left) (c .before .before .before .before .before .before .before .if3 .left) (c .before .before .before .before .before .before .if4 .left) _ _ (c .before .before .before .copy .ensures))) (c .before .before .before .before .before .before .before .before .before .enum-told .given .0 .0, counted (c .before .before .before .before .before .before .before .before .before .enum-told .given .0 .0) (trees-in (take (c .before .before .before .before .before .before .before .before .before .before .before .before .before .before .before .before .before .args .len) (c .before .before .before .before .before .before .before .before .before .before .before .before .before .before .before .before .before .args .tokens .now))) (sym (c .before .before .before .before .before .before .before .before .before .enum-told .given .1) ∙ c .before .before .before .before .before .before .before .before .before .before .before .count-trees .ensures))), ((c .before .before .before .before .before .before .before .if3 .left, c .before .before .before .before .before .before .if4 .left), omega (arith, c .before .before .before .copy .kept .1 .0))))
-    (λ c. search needs)
-    (λ c. search needs)
-    (λ c. search needs)
-    (λ c. unsettled (c .before .before .before .before .before .before .before .before .before .before .before .before .before .before .before .before .before .before .before .before .before .before .args .base .now) (c .before .before .before .before .before .before .before .before .before .before .before .before .before .before .before .before .before .before .before .before .before .before .args .places .now) (c .before .before .before .before .before .before .before .before .before .before .before .before .before .before .before .before .before .before .before .before .before .before .args .from) (c .before .before .before .before .before .before .before .before .before .before .before .before .before .before .before .before .before .before .before .before .before .before .args .first) (c .before .before .before .before .before .before .before .before .before .before .before .before .before .before .before .before .before .before .before .before .before .before .args .tokens .now) (c .before .before .before .before .before .before .before .before .before .before .before .before .before .before .before .before .before .before .before .before .before .before .args .len) (c .before .before .before .before .before .before .before .before .before .before .before .before .before .before .before .before .before .before .if1 .left) (c .before .before .before .before .before .before .before .before .before .before .before .before .before .before .enum-told .given .0 .0, counted (c .before .before .before .before .before .before .before .before .before .before .before .before .before .before .enum-told .given .0 .0) (trees-in (take (c .before .before .before .before .before .before .before .before .before .before .before .before .before .before .before .before .before .before .before .before .before .before .args .len) (c .before .before .before .before .before .before .before .before .before .before .before .before .before .before .before .before .before .before .before .before .before .before .args .tokens .now))) (sym (c .before .before .before .before .before .before .before .before .before .before .before .before .before .before .enum-told .given .1) ∙ c .before .before .before .before .before .before .before .before .before .before .before .before .before .before .before .before .count-trees .ensures)) (c .before .before .before .before .before .before .before .before .before .before .before .before .before .if2 .left) (c .before .before .before .before .before .before .before .before .before .before .before .before .if3 .left) (c .before .before .before .before .before .before .before .before .before .before .before .if4 .left) _ _ (c .before .before .before .before .before .before .before .before .copy .ensures) (sym (c .enum-told3 .given .1) ∙ c .before .before .before .before .steps .ensures .0))
-    (λ c. omega (arith, no-more (c .before .before .before .before .before .before .before .before .before .before .before .before .before .before .before .before .before .before .before .before .before .before .before .args .base .now) (c .before .before .before .before .before .before .before .before .before .before .before .before .before .before .before .before .before .before .before .before .before .before .before .args .places .now) (c .before .before .before .before .before .before .before .before .before .before .before .before .before .before .before .before .before .before .before .before .before .before .before .args .from) (c .before .before .before .before .before .before .before .before .before .before .before .before .before .before .before .before .before .before .before .before .before .before .before .args .first) (c .before .before .before .before .before .before .before .before .before .before .before .before .before .before .before .before .before .before .before .before .before .before .before .args .tokens .now) (c .before .before .before .before .before .before .before .before .before .before .before .before .before .before .before .before .before .before .before .before .before .before .before .args .len) (c .before .before .before .before .before .before .before .before .before .before .before .before .before .before .before .before .before .before .before .if1 .left) (c .before .before .before .before .before .before .before .before .before .before .before .before .before .before .before .enum-told .given .0 .0, counted (c .before .before .before .before .before .before .before .before .before .before .before .before .before .before .before .enum-told .given .0 .0) (trees-in (take (c .before .before .before .before .before .before .before .before .before .before .before .before .before .before .before .before .before .before .before .before .before .before .before .args .len) (c .before .before .before .before .before .before .before .before .before .before .before .before .before .before .before .before .before .before .before .before .before .before .before .args .tokens .now))) (sym (c .before .before .before .before .before .before .before .before .before .before .before .before .before .before .before .enum-told .given .1) ∙ c .before .before .before .before .before .before .before .before .before .before .before .before .before .before .before .before .before .count-trees .ensures)) (c .before .before .before .before .before .before .before .before .before .before .before .before .before .before .if2 .left) (c .before .before .before .before .before .before .before .before .before .before .before .before .before .if3 .left) (c .before .before .before .before .before .before .before .before .before .before .before .before .if4 .left) _ _ (c .before .before .before .before .before .before .before .before .before .copy .ensures) _ _ (sym (c .before .n .given .1) ∙ c .before .before .before .before .before .steps .ensures .0) (c .before .before .before .before .before .steps .ensures .1), c .before .before .before .before .before .before .before .before .before .before .before .before .before .before .if2 .left))
-    (λ c. sym (length-take-le _ _ (in-area (c .before .before .before .before .before .before .before .before .before .before .before .before .before .before .before .before .before .before .before .before .before .before .before .before .args .base .now) (c .before .before .before .before .before .before .before .before .before .before .before .before .before .before .before .before .before .before .before .before .before .before .before .before .args .places .now) (c .before .before .before .before .before .before .before .before .before .before .before .before .before .before .before .before .before .before .before .before .before .before .before .before .args .from) (c .before .before .before .before .before .before .before .before .before .before .before .before .before .before .before .before .before .before .before .before .before .before .before .before .args .first) (c .before .before .before .before .before .before .before .before .before .before .before .before .before .before .before .before .before .before .before .before .before .before .before .before .args .tokens .now) (c .before .before .before .before .before .before .before .before .before .before .before .before .before .before .before .before .before .before .before .before .before .before .before .before .args .len) (c .before .before .before .before .before .before .before .before .before .before .before .before .before .before .before .before .before .before .before .before .if1 .left) (c .before .before .before .before .before .before .before .before .before .before .before .before .before .before .before .before .enum-told .given .0 .0, counted (c .before .before .before .before .before .before .before .before .before .before .before .before .before .before .before .before .enum-told .given .0 .0) (trees-in (take (c .before .before .before .before .before .before .before .before .before .before .before .before .before .before .before .before .before .before .before .before .before .before .before .before .args .len) (c .before .before .before .before .before .before .before .before .before .before .before .before .before .before .before .before .before .before .before .before .before .before .before .before .args .tokens .now))) (sym (c .before .before .before .before .before .before .before .before .before .before .before .before .before .before .before .before .enum-told .given .1) ∙ c .before .before .before .before .before .before .before .before .before .before .before .before .before .before .before .before .before .before .count-trees .ensures)) (c .before .before .before .before .before .before .before .before .before .before .before .before .before .before .before .if2 .left) (c .before .before .before .before .before .before .before .before .before .before .before .before .before .before .if3 .left) (c .before .before .before .before .before .before .before .before .before .before .before .before .before .if4 .left) _ _ (c .before .before .before .before .before .before .before .before .before .before .copy .ensures) _ _ (sym (c .before .before .n .given .1) ∙ c .before .before .before .before .before .before .steps .ensures .0) (c .before .before .before .before .before .before .steps .ensures .1))))
-    (λ c κs. goes-back (c .before .before .before .before .before .before .before .before .before .before .before .before .before .before .before .before .before .before .before .before .before .before .before .before .before .args .base .now) (c .before .before .before .before .before .before .before .before .before .before .before .before .before .before .before .before .before .before .before .before .before .before .before .before .before .args .places .now) (c .before .before .before .before .before .before .before .before .before .before .before .before .before .before .before .before .before .before .before .before .before .before .before .before .before .args .from) (c .before .before .before .before .before .before .before .before .before .before .before .before .before .before .before .before .before .before .before .before .before .before .before .before .before .args .first) (c .before .before .before .before .before .before .before .before .before .before .before .before .before .before .before .before .before .before .before .before .before .before .before .before .before .args .tokens .now) (c .before .before .before .before .before .before .before .before .before .before .before .before .before .before .before .before .before .before .before .before .before .before .before .before .before .args .len) (c .before .before .before .before .before .before .before .before .before .before .before .before .before .before .before .before .before .before .before .before .before .if1 .left) (c .before .before .before .before .before .before .before .before .before .before .before .before .before .before .before .before .before .enum-told .given .0 .0, counted (c .before .before .before .before .before .before .before .before .before .before .before .before .before .before .before .before .before .enum-told .given .0 .0) (trees-in (take (c .before .before .before .before .before .before .before .before .before .before .before .before .before .before .before .before .before .before .before .before .before .before .before .before .before .args .len) (c .before .before .before .before .before .before .before .before .before .before .before .before .before .before .before .before .before .before .before .before .before .before .before .before .before .args .tokens .now))) (sym (c .before .before .before .before .before .before .before .before .before .before .before .before .before .before .before .before .before .enum-told .given .1) ∙ c .before .before .before .before .before .before .before .before .before .before .before .before .before .before .before .before .before .before .before .count-trees .ensures)) (c .before .before .before .before .before .before .before .before .before .before .before .before .before .before .before .before .if2 .left) (c .before .before .before .before .before .before .before .before .before .before .before .before .before .before .before .if3 .left) (c .before .before .before .before .before .before .before .before .before .before .before .before .before .before .if4 .left) _ _ (c .before .before .before .before .before .before .before .before .before .before .before .copy .ensures) _ _ (sym (c .before .before .before .n .given .1) ∙ c .before .before .before .before .before .before .before .steps .ensures .0) (c .before .before .before .before .before .before .before .steps .ensures .1))
-    (λ c. search needs)
-    (λ c. settled-so (c .before .before .before .before .before .before .before .before .before .before .before .before .before .before .before .before .before .before .before .before .before .before .before .before .before .before .before .before .args .base .now) (c .before .before .before .before .before .before .before .before .before .before .before .before .before .before .before .before .before .before .before .before .before .before .before .before .before .before .before .before .args .places .now) (c .before .before .before .before .before .before .before .before .before .before .before .before .before .before .before .before .before .before .before .before .before .before .before .before .before .before .before .before .args .from) (c .before .before .before .before .before .before .before .before .before .before .before .before .before .before .before .before .before .before .before .before .before .before .before .before .before .before .before .before .args .first) (c .before .before .before .before .before .before .before .before .before .before .before .before .before .before .before .before .before .before .before .before .before .before .before .before .before .before .before .before .args .tokens .now) (c .before .before .before .before .before .before .before .before .before .before .before .before .before .before .before .before .before .before .before .before .before .before .before .before .before .before .before .before .args .len) (c .before .before .before .before .before .before .before .before .before .before .before .before .before .before .before .before .before .before .before .before .before .before .before .before .if1 .left) (c .before .before .before .before .before .before .before .before .before .before .before .before .before .before .before .before .before .before .before .before .enum-told .given .0 .0, counted (c .before .before .before .before .before .before .before .before .before .before .before .before .before .before .before .before .before .before .before .before .enum-told .given .0 .0) (trees-in (take (c .before .before .before .before .before .before .before .before .before .before .before .before .before .before .before .before .before .before .before .before .before .before .before .before .before .before .before .before .args .len) (c .before .before .before .before .before .before .before .before .before .before .before .before .before .before .before .before .before .before .before .before .before .before .before .before .before .before .before .before .args .tokens .now))) (sym (c .before .before .before .before .before .before .before .before .before .before .before .before .before .before .before .before .before .before .before .before .enum-told .given .1) ∙ c .before .before .before .before .before .before .before .before .before .before .before .before .before .before .before .before .before .before .before .before .before .before .count-trees .ensures)) (c .before .before .before .before .before .before .before .before .before .before .before .before .before .before .before .before .before .before .before .if2 .left) (c .before .before .before .before .before .before .before .before .before .before .before .before .before .before .before .before .before .before .if3 .left) (c .before .before .before .before .before .before .before .before .before .before .before .before .before .before .before .before .before .if4 .left) _ _ (c .before .before .before .before .before .before .before .before .before .before .before .before .before .before .copy .ensures) _ _ (sym (c .before .before .before .before .before .before .n .given .1) ∙ c .before .before .before .before .before .before .before .before .before .before .steps .ensures .0) (c .before .before .before .before .before .before .before .before .before .before .steps .ensures .1) _ (c .before .before .copy2 .ensures)))
+    (λ c. search needs))

@@ -1,0 +1,14 @@
+pub mod Bits
+pub mod RuleLaws
+pub mod Turns
+pub mod Dividing
+pub mod ListRanks
+pub mod Once
+pub mod Reciprocals
+pub mod Places
+pub mod DividingAt
+pub mod Ends
+pub mod Writing
+pub mod Scanning
+pub mod Marks
+pub mod Words
