@@ -22,6 +22,7 @@ use Rattle.rounds.proofs.kept.Steps.{ready-of}
 use Rattle.rounds.specs.Rounds.{all-rounds, rounds-answer, Leaves-words}
 use Rattle.rounds.specs.declared.Rounds.{Rounds}
 use Rattle.rounds.specs.declared.Rounds.the-variants as rounds
+use Rattle.rounds.proofs.Rounds as rounds-enum
 use Rattle.cse_flat.proofs.refined.Rounding.{Rounded, rounded}
 use Rattle.cse_flat.proofs.refined.Leaving.{Left, rounds-leave, left-trees, left-complete, left-words, left-short}
 use Rattle.cse_flat.specs.refined.Parts.{Rounds-listed, Rounds-refused}
@@ -51,8 +52,12 @@ module _ (rows : List Row) (old : List ℕ) (len : ℕ) (scoped : Bool) (first t
 
     -- ---- rounds that are not done are refused
 
-    pub rounds-refused : r ≡ rounds.Refused → Rounds-refused rows scoped first ws
-    rounds-refused e = subst (λ (q : Rounds). Rounded rows scoped first ws q out) e after-rounds
+    not-done : (q : Rounds) → Rounded rows scoped first ws q out → Run.OneOf (1 ∷ []) (Declared.tagOf rounds-enum.the-type q) → Rounds-refused rows scoped first ws
+    not-done (rounds.Done n m) h e = absurd (omega arith)
+    not-done rounds.Refused h e = h
+
+    pub rounds-refused : Run.OneOf (1 ∷ []) (Declared.tagOf rounds-enum.the-type r) → Rounds-refused rows scoped first ws
+    rounds-refused k = not-done r after-rounds k
 
     module _ (n m : ℕ) (is-done : r ≡ rounds.Done n m) where
       abbrev pub vs : List ℕ
