@@ -1,12 +1,12 @@
 // Node rows lent as words: whether they are within every limit of 01's first section, and the test for refusal 9, whether rows and roots are ones that load lays out
 // for some sheet.
 ghost use mathlib.Core.Path.{_≡_};
-ghost use Prim.Native.Nat.{suc, _+_, _*_, _≤_, _<_, max};
+ghost use Prim.Native.Nat.{suc, _+_, _*_, _/_, _≤_, _<_, max};
 ghost use lib.Dec.{T};
 ghost use lib.ListN.{length, getD};
 ghost use Rattle.spec_tree.specs.Facts.{total, greatest};
 ghost use Rattle.node_rows.specs.fields.Below.{below};
-ghost use Rattle.node_rows.specs.rows.Check.{checked, check-domain, row-test};
+ghost use Rattle.node_rows.specs.rows.Check.{checked, check-domain, row-test, Numbered};
 ghost use Rattle.node_rows.specs.rows.Measure.{pick, capped-size, capped-level, level-by, row-operands, Filled};
 ghost use Rattle.node_rows.specs.rows.Nine.{check-rows};
 use crate::fields::all_below;
@@ -112,6 +112,24 @@ struct Measure {
     level: u64,
 }
 
+// The occurrences under some rows together, and the deepest of their levels, in one pass.
+fn measure_all(sizes: &[u64], levels: &[u64], numbers: &[u64]) -> Measure
+    requires { ⌜ T (below (length (now sizes)) (now numbers)) × T (below (length (now levels)) (now numbers)) ⌝ }
+    ensures { λ r. ⌜ (r .size ≡ capped-size (total (pick (now (sizes .entry)) (now (numbers .entry)))))
+        × (r .level ≡ greatest (pick (now (levels .entry)) (now (numbers .entry)))) ⌝ }
+{
+    let mut size = 0;
+    let mut level = 0;
+    let mut i = 0;
+    while i < numbers.len() {
+        let at = numbers[i] as usize;
+        size = capped_sum(size, sizes[at]);
+        level = larger(level, levels[at]);
+        i += 1;
+    }
+    Measure { size, level }
+}
+
 // The size and the level of a row's tree, from those of the rows before it.
 fn measure_row(row: &[u64], sizes: &[u64], levels: &[u64]) -> Measure
     requires { ⌜ (length (now row) ≡ 35) × (getD (now row) 2 0 ≤ 32) ⌝ }
@@ -124,9 +142,16 @@ fn measure_row(row: &[u64], sizes: &[u64], levels: &[u64]) -> Measure
     }
     let end = 3 + row[2] as usize;
     let operands = &row[3..end];
-    let below = total_size(sizes, operands);
+    let below = measure_all(sizes, levels, operands);
+    let size = capped_sum(1, below.size);
+    if row[0] < BRANCH {
+        return Measure {
+            size,
+            level: capped(below.level),
+        };
+    }
     Measure {
-        size: capped_sum(1, below),
+        size,
         level: level_of(row[0], levels, operands),
     }
 }
@@ -154,6 +179,49 @@ fn fill(rows: &[u64], n: usize, sizes: &mut [u64], levels: &mut [u64]) -> bool
     true
 }
 
+// Rows and roots of the right numbers, with a place for each row's size and level.
+fn check_with(rows: &[u64], roots: &[u64], sizes: &mut [u64], levels: &mut [u64]) -> Checked
+    requires { ⌜ Numbered (now rows) (now roots) ⌝ }
+    requires { ⌜ (length (now rows) / 35 ≤ length (now sizes)) × (length (now rows) / 35 ≤ length (now levels)) ⌝ }
+    ensures { λ r. ⌜ checked r ≡ check-domain (now (rows .entry)) (now (roots .entry)) ⌝ }
+{
+    let n = rows.len() / ROW_WIDTH;
+    if !fill(rows, n, sizes, levels) {
+        return Checked::Refused;
+    }
+    if !all_below(roots, n as u64) {
+        return Checked::Refused;
+    }
+    if deepest(levels, roots) > 8 {
+        return Checked::Refused;
+    }
+    let occurrences = total_size(sizes, roots);
+    if occurrences > 1024 {
+        return Checked::Refused;
+    }
+    Checked::Laid(occurrences as usize)
+}
+
+// The places are cleared, which is much of the time that few rows take.
+fn check_few(rows: &[u64], roots: &[u64]) -> Checked
+    requires { ⌜ Numbered (now rows) (now roots) ⌝ }
+    requires { ⌜ length (now rows) / 35 ≤ 128 ⌝ }
+    ensures { λ r. ⌜ checked r ≡ check-domain (now (rows .entry)) (now (roots .entry)) ⌝ }
+{
+    let mut sizes = [0u64; 128];
+    let mut levels = [0u64; 128];
+    check_with(rows, roots, &mut sizes, &mut levels)
+}
+
+fn check_many(rows: &[u64], roots: &[u64]) -> Checked
+    requires { ⌜ Numbered (now rows) (now roots) ⌝ }
+    ensures { λ r. ⌜ checked r ≡ check-domain (now (rows .entry)) (now (roots .entry)) ⌝ }
+{
+    let mut sizes = [0u64; 1024];
+    let mut levels = [0u64; 1024];
+    check_with(rows, roots, &mut sizes, &mut levels)
+}
+
 // Whether the words are the rows of a list within every limit of 01's first section: the occurrences under all roots, or else Refused. The length of their sheet is tested elsewhere.
 pub fn check_domain(rows: &[u64], roots: &[u64]) -> Checked
     ensures { λ r. ⌜ checked r ≡ check-domain (now (rows .entry)) (now (roots .entry)) ⌝ }
@@ -168,22 +236,10 @@ pub fn check_domain(rows: &[u64], roots: &[u64]) -> Checked
     if roots.len() > 64 {
         return Checked::Refused;
     }
-    let mut sizes = [0u64; 1024];
-    let mut levels = [0u64; 1024];
-    if !fill(rows, n, &mut sizes, &mut levels) {
-        return Checked::Refused;
+    if n <= 128 {
+        return check_few(rows, roots);
     }
-    if !all_below(roots, n as u64) {
-        return Checked::Refused;
-    }
-    if deepest(&levels, roots) > 8 {
-        return Checked::Refused;
-    }
-    let occurrences = total_size(&sizes, roots);
-    if occurrences > 1024 {
-        return Checked::Refused;
-    }
-    Checked::Laid(occurrences as usize)
+    check_many(rows, roots)
 }
 
 // The occurrences under all roots, or refusal 9.

@@ -1,7 +1,7 @@
 // Node rows unfolded into the words of their roots' trees: one word for each occurrence, a node before its operands, left to right. `unfold` is
 // for callers. The functions before it ask that the rows are laid out as load lays them out, which `check_rows` decides before they are called.
 ghost use mathlib.Core.Path.{_≡_};
-ghost use Prim.Native.Nat.{_+_, _*_, _≤_, _<_, _^_};
+ghost use Prim.Native.Nat.{_+_, _*_, _/_, _≤_, _<_, _^_};
 ghost use lib.Dec.{T, ltb};
 ghost use lib.ListN.{length, getD};
 ghost use Rattle.spec_tree.specs.Bytes.{eq-bytes, every};
@@ -145,17 +145,16 @@ fn node_word(rows: &[u64], r: usize, heads: &mut [u64], next: &mut [u64]) -> u64
 }
 
 // The words of all rows' nodes.
-fn node_words(rows: &[u64], words: &mut [u64])
+fn node_words(rows: &[u64], words: &mut [u64], next: &mut [u64])
     requires { ⌜ Rows-laid (now rows) ⌝ }
-    requires { ⌜ row-count (now rows) ≤ length (now words) ⌝ }
+    requires { ⌜ (row-count (now rows) ≤ length (now words)) × (row-count (now rows) ≤ length (now next)) ⌝ }
     ensures { λ _. ⌜ Node-words (now (rows .entry)) (row-count (now (rows .entry))) (now (words .exit)) ⌝ }
 {
     let n = rows.len() / ROW_WIDTH;
     let mut heads = [0u64; 256];
-    let mut next = [0u64; 1024];
     let mut r = 0;
     while r < n {
-        words[r] = node_word(rows, r, &mut heads, &mut next);
+        words[r] = node_word(rows, r, &mut heads, next);
         r += 1;
     }
 }
@@ -205,8 +204,40 @@ fn unfold_each(rows: &[u64], words: &[u64], list: &[u64], out: &mut [u64], at: u
     to
 }
 
-// The roots' trees, written from the start on; gives how many words they are.
-fn unfold_roots(rows: &[u64], roots: &[u64], out: &mut [u64]) -> usize
+// The roots' trees, written from the start on; gives how many words they are. Each row has a word, and a link.
+fn unfold_with(
+    rows: &[u64],
+    roots: &[u64],
+    words: &mut [u64],
+    next: &mut [u64],
+    out: &mut [u64],
+) -> usize
+    requires { ⌜ T (laid-out (now rows) (now roots)) ⌝ }
+    requires { ⌜ 1024 ≤ length (now out) ⌝ }
+    requires { ⌜ (row-count (now rows) ≤ length (now words)) × (row-count (now rows) ≤ length (now next)) ⌝ }
+    ensures { λ e. ⌜ Wrote (now (out .entry)) 0
+        (all-tokens (number-in (table-of (now (rows .entry)) (now (roots .entry)) .rows)) (trees (table-of (now (rows .entry)) (now (roots .entry)))))
+        e (now (out .exit)) ⌝ }
+{
+    node_words(rows, words, next);
+    unfold_each(rows, words, roots, out, 0)
+}
+
+// As in the test, few rows have few places.
+fn unfold_few(rows: &[u64], roots: &[u64], out: &mut [u64]) -> usize
+    requires { ⌜ T (laid-out (now rows) (now roots)) ⌝ }
+    requires { ⌜ 1024 ≤ length (now out) ⌝ }
+    requires { ⌜ length (now rows) / 35 ≤ 128 ⌝ }
+    ensures { λ e. ⌜ Wrote (now (out .entry)) 0
+        (all-tokens (number-in (table-of (now (rows .entry)) (now (roots .entry)) .rows)) (trees (table-of (now (rows .entry)) (now (roots .entry)))))
+        e (now (out .exit)) ⌝ }
+{
+    let mut words = [0u64; 128];
+    let mut next = [0u64; 128];
+    unfold_with(rows, roots, &mut words, &mut next, out)
+}
+
+fn unfold_many(rows: &[u64], roots: &[u64], out: &mut [u64]) -> usize
     requires { ⌜ T (laid-out (now rows) (now roots)) ⌝ }
     requires { ⌜ 1024 ≤ length (now out) ⌝ }
     ensures { λ e. ⌜ Wrote (now (out .entry)) 0
@@ -214,8 +245,21 @@ fn unfold_roots(rows: &[u64], roots: &[u64], out: &mut [u64]) -> usize
         e (now (out .exit)) ⌝ }
 {
     let mut words = [0u64; 1024];
-    node_words(rows, &mut words);
-    unfold_each(rows, &words, roots, out, 0)
+    let mut next = [0u64; 1024];
+    unfold_with(rows, roots, &mut words, &mut next, out)
+}
+
+fn unfold_roots(rows: &[u64], roots: &[u64], out: &mut [u64]) -> usize
+    requires { ⌜ T (laid-out (now rows) (now roots)) ⌝ }
+    requires { ⌜ 1024 ≤ length (now out) ⌝ }
+    ensures { λ e. ⌜ Wrote (now (out .entry)) 0
+        (all-tokens (number-in (table-of (now (rows .entry)) (now (roots .entry)) .rows)) (trees (table-of (now (rows .entry)) (now (roots .entry)))))
+        e (now (out .exit)) ⌝ }
+{
+    if rows.len() / ROW_WIDTH <= 128 {
+        return unfold_few(rows, roots, out);
+    }
+    unfold_many(rows, roots, out)
 }
 
 // The words of the roots' trees, first in `out`, which every list fits; or 9, where load could lay out no such rows. What stands in `out` past the words stays, and all

@@ -12,7 +12,7 @@ use lib.ListN.{length, getD, drop, set, replicate, length-set, length-replicate,
 use lib.Seq.{drop-cons, getD-set-same, getD-set-other}
 use Rattle.spec_tree.specs.Rows.{Row}
 use Rattle.spec_tree.specs.Layout.{row-fields}
-use Rattle.node_rows.specs.unfolded.Unfold.{row-count, row-at, row-number, run, Rows-laid}
+use Rattle.node_rows.specs.unfolded.Unfold.{row-count, row-at, row-number, run}
 use Rattle.node_rows.specs.unfolded.Chain.{mixed, bucket, bucket-at, None-before, First-named, First, Link, Nexts, Chains}
 
 -- ---- the bucket
@@ -145,12 +145,12 @@ not-first {ws} {r} {e} f h g = g .1 e h (f .same)
 
 -- ---- no rows
 
-pub chains-begin : {ws : List ℕ} → Rows-laid ws → Chains ws 0 (replicate 256 0) (replicate 1024 0)
-chains-begin {ws} laid =
+pub chains-begin : {ws next : List ℕ} → row-count ws ≤ length next → Chains ws 0 (replicate 256 0) next
+chains-begin {ws} h =
     record {
       buckets = length-replicate {A = ℕ} 256 0;
-      long = rw (length-replicate {A = ℕ} 1024 0) (laid .few);
-      heads-are = λ b h. rw (getD-replicate {A = ℕ} 256 b 0 0 h) none;
+      long = h;
+      heads-are = λ b k. rw (getD-replicate {A = ℕ} 256 b 0 0 k) none;
       nexts-are = λ k h f. absurd (omega arith);
     }
   where

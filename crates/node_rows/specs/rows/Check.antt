@@ -1,9 +1,10 @@
 -- The limits of 01's first section on rows, which are refusal 9 but for the length of their sheet, and the tests that the code makes of one row after another, in its order.
 -- TableLaws shows that together they are `laid-in-domain`. Assumes nothing.
-use Prim.Native.Nat.{ℕ, zero, suc, _+_}
+use Prim.Native.Nat.{ℕ, zero, suc, _+_, _*_, _/_, _≤_}
+use mathlib.Core.Path.{_≡_}
 use mathlib.Core.Bool.{Bool, true, _&&_, cond}
 use mathlib.Core.List.{List}
-use lib.ListN.{getD, take, drop}
+use lib.ListN.{length, getD, take, drop}
 use lib.Dec.{leb}
 use Rattle.spec_tree.specs.Outcome.{Outcome, ok, refused, by, _>>=_}
 use Rattle.spec_tree.specs.Bytes.{eq-bytes, every}
@@ -40,3 +41,9 @@ unfoldable pub rows-test : ℕ → ℕ → List ℕ → Bool
 unfolding row-test
 rows-test i zero ws = true
 rows-test i (suc n) ws = row-test i (take 35 ws) && rows-test (suc i) n (drop 35 ws)
+
+-- whole rows, and no more rows and roots than 01 lets a list have
+pub record Numbered (ws ns : List ℕ) : Type 0 where
+  pub whole : length ws ≡ length ws / 35 * 35
+  pub few-rows : length ws / 35 ≤ 1024
+  pub few-roots : length ns ≤ 64
