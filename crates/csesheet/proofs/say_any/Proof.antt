@@ -1,11 +1,11 @@
--- `csesheet::say_sheet` is safe. Assumes nothing.
+-- `csesheet::say_any` is safe. Assumes nothing.
 use Rattle.flat_sheet.proofs.Steps.{parts-inside}
 use borrow.Author.Needs.{needs}
-use Rattle.csesheet.proofs.say_sheet.Statement.{statement}
-use Rattle.csesheet.proofs.say_sheet.Tie as tie
+use Rattle.csesheet.proofs.say_any.Statement.{statement}
+use Rattle.csesheet.proofs.say_any.Tie as tie
 
-pub say-sheet-spec : {M : Type 1} → statement M
-say-sheet-spec =
+pub say-any-spec : {M : Type 1} → statement M
+say-any-spec =
     tie.close
     (tie.spec
     (λ c. search needs)
