@@ -1,2 +1,3 @@
 pub mod Ends
 pub mod Entering
+pub mod Linking

@@ -1,20 +1,25 @@
 // The end of flat extraction on words (01, "Reciprocals", "Order", "Turned down", refusal 12): the divisors at the places to bind are bound, the bindings are put in
 // the order of their needs, and the answer's rows are counted and written. The trees from before are settled once; a reciprocal is made when it is needed.
 ghost use mathlib.Core.Path.{_≡_};
+ghost use mathlib.Core.Bool.{true};
 ghost use mathlib.Core.List.{_++_};
 ghost use Prim.Native.Nat.{_+_, _-_, _*_, _≤_, _<_};
 ghost use lib.ListN.{length, getD, take, drop, replicate};
 ghost use Rattle.topo_sort.specs.reads.Marks.{with-needs};
+ghost use Rattle.topo_sort.specs.links.Links.{Lent, Stmt-linked, Linked};
 ghost use Rattle.reciprocals.specs.final.Entries.{final-run, entry-row, entry-tree, entry, entries};
 ghost use Rattle.reciprocals.specs.final.Final.{final-rows};
 ghost use Rattle.reciprocals.specs.final.Ready.{There, Settled-front, Ready, Stands, marks, binding-run, final-order, In-order, Positions, lent-rows};
 ghost use Rattle.cse_flat.specs.ending.Answers.{finish-outcome, finishing};
+ghost use Rattle.cse_flat.specs.ending.Needs.{needs-of};
 use reciprocals::reciprocal::Bound;
 use reciprocals::reciprocal::all_there;
 use reciprocals::reciprocal::reciprocal;
 use reciprocals::settle::Settled;
 use reciprocals::settle::settle;
 use topo_sort::Ordered;
+use topo_sort::links::link_stmt;
+use topo_sort::links::order_linked;
 use topo_sort::order;
 use topo_sort::reads::mark_needs;
 use topo_sort::treelist::list_trees;
@@ -28,15 +33,18 @@ use words::tokens::count_trees;
 // The most words, and the most bindings.
 const MOST: usize = 1024;
 
+// The links that there is room for: a binding's are no more than its words.
+const LINKS: usize = 4096;
+
+// The same for few bindings, so that most lists needn't clear the large arrays.
+const FEW: usize = 64;
+
+const FEW_LINKS: usize = 1024;
+
 // The words of a row of a table of bits, and of a table with a row for each of the most bindings.
 const ROW: usize = 32;
 
 const BITS: usize = 32768;
-
-// The same for few bindings, so that most lists needn't clear the large table.
-const FEW: usize = 64;
-
-const FEW_BITS: usize = 2048;
 
 // The most words of a tree: a reciprocal has two besides its divisor's.
 const TREE: usize = 1026;
@@ -188,6 +196,80 @@ fn mark_all(
     }
 }
 
+// The links of binding j, after the first n; how many there are then, or more than there is room for.
+fn link_one(
+    tokens: &[u64],
+    settled: &[u64],
+    starts: &[u64],
+    places: &[u64],
+    results: usize,
+    j: usize,
+    tree: &mut [u64],
+    heads: &mut [u64],
+    links: &mut [u64],
+    waiting: &mut [u64],
+    n: usize,
+) -> usize
+    requires { ⌜ Ready (now tokens) (now settled) (now starts) (now places) results ⌝ }
+    requires { ⌜ (j < (length (now starts) - results) + length (now places)) × (1026 ≤ length (now tree)) ⌝ }
+    requires { ⌜ Lent (length (now heads)) n (now heads) (now links) (now waiting) × (j < length (now heads)) ⌝ }
+    ensures { λ r. ⌜ (r ≤ length (now (links .entry)) → Stmt-linked (binding-run results (now (places .entry)) (now (tokens .entry)) j) (length (now (heads .entry))) j
+        (now (heads .entry)) (now (links .entry)) (now (waiting .entry)) r (now (heads .exit)) (now (links .exit)) (now (waiting .exit))) ⌝ }
+{
+    let i = results + j;
+    if i < starts.len() {
+        let at = starts[i] as usize;
+        let end = end_settled(tokens, settled, starts, places, results, i);
+        return link_stmt(&settled[at..end], j, heads, links, waiting, n);
+    }
+    let k = i - starts.len();
+    let len = take_reciprocal(tokens, settled, starts, places, results, k, tree);
+    link_stmt(&tree[..len], j, heads, links, waiting, n)
+}
+
+// The links of all bindings, from the last to the first, in lists that are empty. False where there is no room for them.
+fn link_all(
+    tokens: &[u64],
+    settled: &[u64],
+    starts: &[u64],
+    places: &[u64],
+    results: usize,
+    tree: &mut [u64],
+    heads: &mut [u64],
+    links: &mut [u64],
+    waiting: &mut [u64],
+) -> bool
+    requires { ⌜ Ready (now tokens) (now settled) (now starts) (now places) results ⌝ }
+    requires { ⌜ (length (now heads) ≡ (length (now starts) - results) + length (now places)) × (1026 ≤ length (now tree)) ⌝ }
+    requires { ⌜ (length (now links) ≤ 65536) × (length (now heads) ≤ length (now waiting)) ⌝ }
+    requires { ⌜ now heads ≡ replicate (length (now heads)) 0 ⌝ }
+    ensures { λ r. ⌜ (r ≡ true → Linked (needs-of results (now (places .entry)) (now (tokens .entry)) (length (now (heads .entry)))) (length (now (heads .entry)))
+        (now (heads .exit)) (now (links .exit)) (now (waiting .exit))) ⌝ }
+{
+    let mut n = 0;
+    let mut j = heads.len();
+    while j > 0 {
+        n = link_one(
+            tokens,
+            settled,
+            starts,
+            places,
+            results,
+            j - 1,
+            tree,
+            heads,
+            links,
+            waiting,
+            n,
+        );
+        if n > links.len() {
+            return false;
+        }
+        j -= 1;
+    }
+    true
+}
+
 // The positions of the bindings in the order in which they are taken, by a table of bits that has a row for each and is all no.
 fn order_in(
     tokens: &[u64],
@@ -196,71 +278,35 @@ fn order_in(
     places: &[u64],
     results: usize,
     count: usize,
+    tree: &mut [u64],
     bits: &mut [u64],
     taken: &mut [u64],
 ) -> Ordered
     requires { ⌜ Ready (now tokens) (now settled) (now starts) (now places) results ⌝ }
     requires { ⌜ (count ≡ (length (now starts) - results) + length (now places)) × (count ≤ length (now taken)) ⌝ }
-    requires { ⌜ now bits ≡ replicate (32 * count) 0 ⌝ }
+    requires { ⌜ (now bits ≡ replicate (32 * count) 0) × (1026 ≤ length (now tree)) ⌝ }
     ensures { λ r. ⌜ In-order (final-order results (now (places .entry)) (now (tokens .entry)) count) count (now (taken .entry)) (now (taken .exit)) r ⌝ }
 {
-    let mut tree = [0u64; TREE];
     let mut waiting = [0u64; MOST];
     let mut stack = [0u64; MOST];
-    mark_all(
-        tokens,
-        settled,
-        starts,
-        places,
-        results,
-        count,
-        &mut tree,
-        bits,
-    );
+    mark_all(tokens, settled, starts, places, results, count, tree, bits);
     order(bits, count, &mut waiting, &mut stack, taken)
 }
 
-// The same for few bindings, in a small table.
-fn order_few(
+// The same with a table of its own.
+fn order_by_bits(
     tokens: &[u64],
     settled: &[u64],
     starts: &[u64],
     places: &[u64],
     results: usize,
     count: usize,
+    tree: &mut [u64],
     taken: &mut [u64],
 ) -> Ordered
     requires { ⌜ Ready (now tokens) (now settled) (now starts) (now places) results ⌝ }
     requires { ⌜ (count ≡ (length (now starts) - results) + length (now places)) × (count ≤ length (now taken)) ⌝ }
-    requires { ⌜ count ≤ 64 ⌝ }
-    ensures { λ r. ⌜ In-order (final-order results (now (places .entry)) (now (tokens .entry)) count) count (now (taken .entry)) (now (taken .exit)) r ⌝ }
-{
-    let mut bits = [0u64; FEW_BITS];
-    let end = ROW * count;
-    order_in(
-        tokens,
-        settled,
-        starts,
-        places,
-        results,
-        count,
-        &mut bits[..end],
-        taken,
-    )
-}
-
-// The same for any number of bindings, in a large table.
-fn order_many(
-    tokens: &[u64],
-    settled: &[u64],
-    starts: &[u64],
-    places: &[u64],
-    results: usize,
-    count: usize,
-    taken: &mut [u64],
-) -> Ordered
-    requires { ⌜ Ready (now tokens) (now settled) (now starts) (now places) results ⌝ }
-    requires { ⌜ (count ≡ (length (now starts) - results) + length (now places)) × (count ≤ length (now taken)) ⌝ }
+    requires { ⌜ 1026 ≤ length (now tree) ⌝ }
     ensures { λ r. ⌜ In-order (final-order results (now (places .entry)) (now (tokens .entry)) count) count (now (taken .entry)) (now (taken .exit)) r ⌝ }
 {
     let mut bits = [0u64; BITS];
@@ -272,7 +318,117 @@ fn order_many(
         places,
         results,
         count,
+        tree,
         &mut bits[..end],
+        taken,
+    )
+}
+
+// The same by links in lists that are empty, and by a table of bits where there is no room for them.
+fn order_with(
+    tokens: &[u64],
+    settled: &[u64],
+    starts: &[u64],
+    places: &[u64],
+    results: usize,
+    tree: &mut [u64],
+    heads: &mut [u64],
+    links: &mut [u64],
+    waiting: &mut [u64],
+    stack: &mut [u64],
+    taken: &mut [u64],
+) -> Ordered
+    requires { ⌜ Ready (now tokens) (now settled) (now starts) (now places) results ⌝ }
+    requires { ⌜ (length (now heads) ≡ (length (now starts) - results) + length (now places)) × (1026 ≤ length (now tree)) ⌝ }
+    requires { ⌜ (length (now links) ≤ 65536) × (length (now heads) ≤ length (now waiting)) ⌝ }
+    requires { ⌜ (length (now heads) ≤ length (now stack)) × (length (now heads) ≤ length (now taken)) ⌝ }
+    requires { ⌜ now heads ≡ replicate (length (now heads)) 0 ⌝ }
+    ensures { λ r. ⌜ In-order (final-order results (now (places .entry)) (now (tokens .entry)) (length (now (heads .entry)))) (length (now (heads .entry))) (now (taken .entry)) (now (taken .exit)) r ⌝ }
+{
+    let count = heads.len();
+    let room = link_all(
+        tokens,
+        settled,
+        starts,
+        places,
+        results,
+        tree,
+        heads,
+        links,
+        waiting,
+    );
+    if room {
+        return order_linked(heads, links, count, waiting, stack, taken);
+    }
+    order_by_bits(tokens, settled, starts, places, results, count, tree, taken)
+}
+
+// The same in arrays for any number of bindings.
+fn order_many(
+    tokens: &[u64],
+    settled: &[u64],
+    starts: &[u64],
+    places: &[u64],
+    results: usize,
+    count: usize,
+    tree: &mut [u64],
+    taken: &mut [u64],
+) -> Ordered
+    requires { ⌜ Ready (now tokens) (now settled) (now starts) (now places) results ⌝ }
+    requires { ⌜ (count ≡ (length (now starts) - results) + length (now places)) × (count ≤ length (now taken)) ⌝ }
+    requires { ⌜ 1026 ≤ length (now tree) ⌝ }
+    ensures { λ r. ⌜ In-order (final-order results (now (places .entry)) (now (tokens .entry)) count) count (now (taken .entry)) (now (taken .exit)) r ⌝ }
+{
+    let mut heads = [0u64; MOST];
+    let mut links = [0u64; LINKS];
+    let mut waiting = [0u64; MOST];
+    let mut stack = [0u64; MOST];
+    order_with(
+        tokens,
+        settled,
+        starts,
+        places,
+        results,
+        tree,
+        &mut heads[..count],
+        &mut links,
+        &mut waiting,
+        &mut stack,
+        taken,
+    )
+}
+
+// The same in arrays for few bindings.
+fn order_few(
+    tokens: &[u64],
+    settled: &[u64],
+    starts: &[u64],
+    places: &[u64],
+    results: usize,
+    count: usize,
+    tree: &mut [u64],
+    taken: &mut [u64],
+) -> Ordered
+    requires { ⌜ Ready (now tokens) (now settled) (now starts) (now places) results ⌝ }
+    requires { ⌜ (count ≡ (length (now starts) - results) + length (now places)) × (count ≤ length (now taken)) ⌝ }
+    requires { ⌜ (1026 ≤ length (now tree)) × (count ≤ 64) ⌝ }
+    ensures { λ r. ⌜ In-order (final-order results (now (places .entry)) (now (tokens .entry)) count) count (now (taken .entry)) (now (taken .exit)) r ⌝ }
+{
+    let mut heads = [0u64; FEW];
+    let mut links = [0u64; FEW_LINKS];
+    let mut waiting = [0u64; FEW];
+    let mut stack = [0u64; FEW];
+    order_with(
+        tokens,
+        settled,
+        starts,
+        places,
+        results,
+        tree,
+        &mut heads[..count],
+        &mut links,
+        &mut waiting,
+        &mut stack,
         taken,
     )
 }
@@ -285,16 +441,18 @@ fn take_in_order(
     places: &[u64],
     results: usize,
     count: usize,
+    tree: &mut [u64],
     taken: &mut [u64],
 ) -> Ordered
     requires { ⌜ Ready (now tokens) (now settled) (now starts) (now places) results ⌝ }
     requires { ⌜ (count ≡ (length (now starts) - results) + length (now places)) × (count ≤ length (now taken)) ⌝ }
+    requires { ⌜ 1026 ≤ length (now tree) ⌝ }
     ensures { λ r. ⌜ In-order (final-order results (now (places .entry)) (now (tokens .entry)) count) count (now (taken .entry)) (now (taken .exit)) r ⌝ }
 {
     if count <= FEW {
-        return order_few(tokens, settled, starts, places, results, count, taken);
+        return order_few(tokens, settled, starts, places, results, count, tree, taken);
     }
-    order_many(tokens, settled, starts, places, results, count, taken)
+    order_many(tokens, settled, starts, places, results, count, tree, taken)
 }
 
 // The row that entry q of the answer begins with: the bindings in order, and then the results.
@@ -508,28 +666,20 @@ fn write_answer(
     places: &[u64],
     results: usize,
     taken: &[u64],
+    tree: &mut [u64],
     table: &mut [u64],
 ) -> Finished
     requires { ⌜ Ready (now tokens) (now settled) (now starts) (now places) results ⌝ }
     requires { ⌜ Positions (now taken) ((length (now starts) - results) + length (now places)) ⌝ }
+    requires { ⌜ 1026 ≤ length (now tree) ⌝ }
     ensures { λ r. ⌜ (r ≡ finish-outcome (lent-rows (length (now (table .entry))) (entries results (now (places .entry)) (now (tokens .entry)) (now (taken .entry)) (length (now (taken .entry)) + results)) (length (now (starts .entry)) - results)) (now (table .entry)) .answer)
         × (now (table .exit) ≡ finish-outcome (lent-rows (length (now (table .entry))) (entries results (now (places .entry)) (now (tokens .entry)) (now (taken .entry)) (length (now (taken .entry)) + results)) (length (now (starts .entry)) - results)) (now (table .entry)) .table) ⌝ }
 {
-    let mut tree = [0u64; TREE];
-    let rows = count_rows(tokens, settled, starts, places, results, taken, &mut tree);
+    let rows = count_rows(tokens, settled, starts, places, results, taken, tree);
     if rows > table.len() {
         return Finished::Refused(TOO_MANY);
     }
-    write_rows(
-        tokens,
-        settled,
-        starts,
-        places,
-        results,
-        taken,
-        &mut tree,
-        table,
-    );
+    write_rows(tokens, settled, starts, places, results, taken, tree, table);
     Finished::Rows(rows)
 }
 
@@ -546,9 +696,19 @@ fn finish_settled(
     ensures { λ r. ⌜ (r ≡ finish-outcome (final-rows (length (now (table .entry))) results (now (places .entry)) (now (tokens .entry))) (now (table .entry)) .answer)
         × (now (table .exit) ≡ finish-outcome (final-rows (length (now (table .entry))) results (now (places .entry)) (now (tokens .entry))) (now (table .entry)) .table) ⌝ }
 {
+    let mut tree = [0u64; TREE];
     let mut taken = [0u64; MOST];
     let count = starts.len() - results + places.len();
-    let ordered = take_in_order(tokens, settled, starts, places, results, count, &mut taken);
+    let ordered = take_in_order(
+        tokens,
+        settled,
+        starts,
+        places,
+        results,
+        count,
+        &mut tree,
+        &mut taken,
+    );
     match ordered {
         Ordered::All => {
             write_answer(
@@ -558,6 +718,7 @@ fn finish_settled(
                 places,
                 results,
                 &taken[..count],
+                &mut tree,
                 table,
             )
         }
