@@ -21,6 +21,9 @@ use words::words::Rewritten;
 // The most words that can be fused.
 const AREA: usize = 1929;
 
+// Most trees are no more words than this, so that most needn't clear long areas.
+const FEW: usize = 128;
+
 // The largest number of a member.
 const NUMBERS: u64 = 549755813888;
 
@@ -110,6 +113,30 @@ fn steps(
     Stepped::Words(n)
 }
 
+// Fuses the first `len` words of tokens, which are there and have room, in two areas: nothing is written unless all members are there.
+fn fuse_in(
+    base: &[u64],
+    places: &[u64],
+    numbers: &[u64],
+    tokens: &mut [u64],
+    len: usize,
+    work: &mut [u64],
+    spare: &mut [u64],
+) -> Fused
+    requires { ⌜ (len ≤ length (now tokens)) × Complete (take len (now tokens)) × (length (now places) ≤ length (now numbers)) ⌝ }
+    requires { ⌜ (len ≤ 1929) × (all-small (take (length (now places)) (now numbers)) ≡ true) ⌝ }
+    requires { ⌜ (len ≤ length (now work)) × (length (now work) ≤ length (now spare)) ⌝ }
+    ensures { λ r. ⌜ (r ≡ fusing (now (base .entry)) (now (places .entry)) (now (numbers .entry)) (now (tokens .entry)) len .answer)
+        × (now (tokens .exit) ≡ fusing (now (base .entry)) (now (places .entry)) (now (numbers .entry)) (now (tokens .entry)) len .out) ⌝ }
+{
+    copy(&tokens[..len], work);
+    let Stepped::Words(n) = steps(base, places, numbers, work, len, spare) else {
+        return Fused::Broken;
+    };
+    copy(&work[..n], tokens);
+    Fused::Words(n)
+}
+
 // Fuses the first `len` words of tokens: the members at the places are replaced in order, each by `__mN` with the number beside its place.
 pub fn fuse(base: &[u64], places: &[u64], numbers: &[u64], tokens: &mut [u64], len: usize) -> Fused
     ensures { λ r. ⌜ (r ≡ fusing (now (base .entry)) (now (places .entry)) (now (numbers .entry)) (now (tokens .entry)) len .answer)
@@ -130,12 +157,28 @@ pub fn fuse(base: &[u64], places: &[u64], numbers: &[u64], tokens: &mut [u64], l
     if !small(&numbers[..places.len()]) {
         return Fused::NoRoom;
     }
+    if len <= FEW {
+        let mut work = [0u64; FEW];
+        let mut spare = [0u64; FEW];
+        return fuse_in(
+            base,
+            places,
+            numbers,
+            tokens,
+            len,
+            &mut work,
+            &mut spare,
+        );
+    }
     let mut work = [0u64; AREA];
     let mut spare = [0u64; AREA];
-    copy(&tokens[..len], &mut work);
-    let Stepped::Words(n) = steps(base, places, numbers, &mut work, len, &mut spare) else {
-        return Fused::Broken;
-    };
-    copy(&work[..n], tokens);
-    Fused::Words(n)
+    fuse_in(
+        base,
+        places,
+        numbers,
+        tokens,
+        len,
+        &mut work,
+        &mut spare,
+    )
 }

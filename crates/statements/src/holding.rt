@@ -125,13 +125,16 @@ fn hold_reciprocals(
     n
 }
 
-// Settles all trees in a copy. That it can't be done never comes up.
+// Settles all trees in a copy; without a divisor they stay as they are. That it can't be done never comes up.
 fn settle_all(tokens: &[u64], places: &[u64], first: u64, work: &mut [u64]) -> usize
     requires { ⌜ Ready (now tokens) (now places) first × (length (now tokens) ≤ length (now work)) ⌝ }
     ensures { λ r. ⌜ r ≡ length (settled-held (now (tokens .entry)) first (now (places .entry))) ⌝ }
     ensures { λ _. ⌜ now (work .exit) ≡ overlay 0 (settled-held (now (tokens .entry)) first (now (places .entry))) (overlay 0 (now (tokens .entry)) (now (work .entry))) ⌝ }
 {
     put(tokens, 0, work);
+    if places.len() == 0 {
+        return tokens.len();
+    }
     let done = settle(tokens, places, 0, first, work, tokens.len());
     match done {
         Settled::Words(n) => n,

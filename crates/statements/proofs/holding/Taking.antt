@@ -4,20 +4,21 @@ use Prim.Native.Nat.{ℕ, suc, _+_, _≤_, _<_}
 use native.Mathlib.Omega.{arith}
 use mathlib.Core.Path.{_≡_, refl, sym, _∙_, ap, subst}
 use mathlib.Core.Bool.{Bool, true, false, _&&_}
+use mathlib.Core.Option.{some}
 use mathlib.Core.List.{List, [], _∷_, _++_, map}
 use lib.ListN.{length, take, drop, length-map, drop-of-length-le}
-use lib.Seq.{drop-cons, take-at}
+use lib.Seq.{drop-at, drop-cons, take-at}
 use lib.Dec.{T}
 use Rattle.spec_tree.specs.Tree.{Tree}
-use Rattle.spec_tree.specs.Tokens.{all-tokens}
-use Rattle.spec_tree.proofs.TokenCode.{all-tokens-append}
+use Rattle.spec_tree.specs.Tokens.{all-tokens, read, numbered, trees-in}
+use Rattle.spec_tree.proofs.TokenCode.{all-tokens-append, unnumbered, writes-back}
 use Rattle.spec_tree.proofs.Logic.{and-left, and-both, same-test}
 use Rattle.words.specs.words.Words.{number}
 use Rattle.laws.specs.positions.Places.{numbered-at}
 use Rattle.reciprocals.specs.settle.Answers.{Settling, settling}
 use Rattle.reciprocals.specs.declared.settle.Settled.{Settled}
 use Rattle.reciprocals.specs.declared.settle.Settled.the-variants as settled
-use Rattle.reciprocals.proofs.bindings.Parts.{settled-reciprocals, All-there}
+use Rattle.reciprocals.proofs.bindings.Parts.{settle-tree, settled-reciprocals, All-there}
 use Rattle.reciprocals.specs.reciprocal.Bindings.{Binding, reciprocal-answer}
 use Rattle.reciprocals.specs.declared.reciprocal.Bound.{Bound}
 use Rattle.reciprocals.specs.declared.reciprocal.Bound.the-variants as bound
@@ -40,6 +41,22 @@ hold-first t l = go (switchless t)
         (elim b as (λ _. List Tree) [ true ↦ [] | false ↦ t ∷ [] ] ++ with-switches l)
     go true = refl
     go false = refl
+
+stays : (n : ℕ) (l : List Tree) → map (settle-tree [] n) l ≡ l
+stays n [] = refl
+stays n (t ∷ l) = ap (λ (r : List Tree). t ∷ r) (stays n l)
+
+none-settled : (ws places : List ℕ) (n m : ℕ) → trees-in ws ≡ some m → length places ≡ 0 → settled-held ws n places ≡ ws
+unfolding settled-held
+none-settled ws [] n m e z = ap (all-tokens unnumbered) (stays n (read numbered ws)) ∙ writes-back ws m e
+none-settled ws (p ∷ l) n m e z = absurd (omega arith)
+
+overlay-again : (ws old : List ℕ) → length ws ≤ length old → overlay 0 ws (overlay 0 ws old) ≡ overlay 0 ws old
+overlay-again ws old long =
+    let front = overlay-front ws old long in
+    overlay-front ws (overlay 0 ws old) (omega (arith, long, overlay-length 0 ws old))
+    ∙ (ap (λ (l : List ℕ). ws ++ drop (length ws) l) front
+    ∙ (ap (λ (l : List ℕ). ws ++ l) (drop-at ws (drop (length ws) old) (length ws) refl) ∙ sym front))
 
 module _ (ws places : List ℕ) (first : ℕ) (ready : Ready ws places first) where
   there : All-there ws places
@@ -83,6 +100,12 @@ module _ (ws places : List ℕ) (first : ℕ) (ready : Ready ws places first) wh
               ∙ (ap (λ (s : Settling). s .out) settling-so
               ∙ (sym (overlay-front S mid (omega (arith, long, mid-long, settled-within))) ∙ ap (λ (m : List ℕ). overlay 0 (settled-held ws first places) m) copy)),
         )
+
+    -- without a divisor
+    pub settled-none : length places ≡ 0 → (length ws ≡ length (settled-held ws first places)) × (mid ≡ overlay 0 (settled-held ws first places) (overlay 0 ws old))
+    settled-none none =
+        let same = none-settled ws places first (ready .0 .0 .0) (ready .0 .0 .1) none in
+        (ap length (sym same), copy ∙ (sym (overlay-again ws old long) ∙ ap (λ (l : List ℕ). overlay 0 l (overlay 0 ws old)) (sym same)))
 
     pub settled-always : (b : Settled) → b ≡ settling ws places 0 first mid (length ws) .answer → (b ≡ settled.Broken → ⊥) × (b ≡ settled.NoRoom → ⊥)
     settled-always b e =

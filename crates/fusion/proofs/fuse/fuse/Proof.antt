@@ -1,22 +1,15 @@
--- `fusion::fuse::fuse` meets its contract: the words are copied to an area, fused there and copied back. Assumes nothing.
+-- `fusion::fuse::fuse` meets its contract: the words are fused in areas of its own. Assumes nothing.
 use borrow.Author.Tests.{not-true, not-false}
 use native.Mathlib.Omega.{arith}
-use mathlib.Core.Path.{_≡_, sym, _∙_, subst}
+use mathlib.Core.Path.{sym, _∙_}
 use lib.ListN.{length, take}
 use lib.Seq.{length-take-le}
 use Rattle.spec_tree.specs.Tokens.{trees-in}
-use Rattle.words.specs.words.Words.{Complete}
 use Rattle.words.proofs.words.Requests.{counted, uncounted}
-use Rattle.fusion.proofs.fuse.Fusing.{too-few, incomplete, numberless, long-list, large-number, copied-front, unfused, no-more, in-area, goes-back, fused-so}
+use Rattle.fusion.proofs.fuse.Fusing.{too-few, incomplete, numberless, long-list, large-number}
 use borrow.Author.Needs.{needs}
 use Rattle.fusion.proofs.fuse.fuse.Statement.{statement}
 use Rattle.fusion.proofs.fuse.fuse.Tie as tie
-use Rattle.fusion.proofs.fuse.fuse.Reads as reads
-use Rattle.fusion.proofs.fuse.fuse.Lts as lts
-use Rattle.words.proofs.copying.copy.Reads as copy-reads
-use Rattle.fusion.proofs.fuse.small.Reads as small-reads
-use Rattle.fusion.proofs.fuse.steps.Reads as steps-reads
-use Rattle.words.proofs.tokens.count_trees.Reads as count-trees-reads
 
 pub fuse-spec : {M : Type 1} → statement M
 fuse-spec =
@@ -39,18 +32,12 @@ fuse-spec =
     (λ c. search needs)
     (λ c. large-number (c .before .before .before .before .before .before .before .before .before .before .before .before .before .before .args .base .now) (c .before .before .before .before .before .before .before .before .before .before .before .before .before .before .args .places .now) (c .before .before .before .before .before .before .before .before .before .before .before .before .before .before .args .numbers .now) (c .before .before .before .before .before .before .before .before .before .before .before .before .before .before .args .tokens .now) (c .before .before .before .before .before .before .before .before .before .before .before .before .before .before .args .len) (c .before .before .before .before .before .before .before .before .before .if1 .left) (c .before .before .before .before .before .enum-told .given .0 .0, counted (c .before .before .before .before .before .enum-told .given .0 .0) (trees-in (take (c .before .before .before .before .before .before .before .before .before .before .before .before .before .before .args .len) (c .before .before .before .before .before .before .before .before .before .before .before .before .before .before .args .tokens .now))) (sym (c .before .before .before .before .before .enum-told .given .1) ∙ c .before .before .before .before .before .before .before .count-trees .ensures)) (c .before .before .before .before .if2 .left) (c .before .before .before .if3 .left) (sym (not-true (c .before .small .result) (c .if4 .taken)) ∙ c .before .small .ensures))
     (λ c. search needs)
-    (λ c. sym (length-take-le (c .before .before .before .before .before .before .before .before .before .before .before .before .before .before .before .args .len) (c .before .before .before .before .before .before .before .before .before .before .before .before .before .before .before .args .tokens .now) (c .before .before .before .before .before .before .before .before .before .before .if1 .left)))
     (λ c. search needs)
-    (λ c κs. omega (arith, length-take-le (c .before .before .before .before .before .before .before .before .before .before .before .before .before .before .before .before .args .len) (c .before .before .before .before .before .before .before .before .before .before .before .before .before .before .before .before .args .tokens .now) (c .before .before .before .before .before .before .before .before .before .before .before .if1 .left), c .before .before .before .before .before .if3 .left))
+    (λ c κs. let s = c .before .before .before .before .before .before .before .before .before .before .before .before .before .before .before .before .before .before in ((c .before .before .before .before .before .before .before .before .before .before .before .before .before .if1 .left, (c .before .before .before .before .before .before .before .before .before .enum-told .given .0 .0, counted (c .before .before .before .before .before .before .before .before .before .enum-told .given .0 .0) (trees-in (take (s .args .len) (s .args .tokens .now))) (sym (c .before .before .before .before .before .before .before .before .before .enum-told .given .1) ∙ c .before .before .before .before .before .before .before .before .before .before .before .count-trees .ensures)), c .before .before .before .before .before .before .before .before .if2 .left), ((c .before .before .before .before .before .before .before .if3 .left, sym (sym (not-false (c .before .before .before .before .before .small .result) (c .before .before .before .before .if4 .left)) ∙ c .before .before .before .before .before .small .ensures)), (omega (arith, c .before .before .before .if5 .taken), omega arith))))
     (λ c. search needs)
-    (λ c. search needs)
-    (λ c κs. ((omega (arith, c .before .before .before .copy .kept .1 .0, c .before .before .before .before .before .before .before .before .before .if3 .left), subst Complete (sym (copied-front (c .before .before .before .before .before .before .before .before .before .before .before .before .before .before .before .before .before .before .before .before .args .base .now) (c .before .before .before .before .before .before .before .before .before .before .before .before .before .before .before .before .before .before .before .before .args .places .now) (c .before .before .before .before .before .before .before .before .before .before .before .before .before .before .before .before .before .before .before .before .args .numbers .now) (c .before .before .before .before .before .before .before .before .before .before .before .before .before .before .before .before .before .before .before .before .args .tokens .now) (c .before .before .before .before .before .before .before .before .before .before .before .before .before .before .before .before .before .before .before .before .args .len) (c .before .before .before .before .before .before .before .before .before .before .before .before .before .before .before .if1 .left) (c .before .before .before .before .before .before .before .before .before .before .before .enum-told .given .0 .0, counted (c .before .before .before .before .before .before .before .before .before .before .before .enum-told .given .0 .0) (trees-in (take (c .before .before .before .before .before .before .before .before .before .before .before .before .before .before .before .before .before .before .before .before .args .len) (c .before .before .before .before .before .before .before .before .before .before .before .before .before .before .before .before .before .before .before .before .args .tokens .now))) (sym (c .before .before .before .before .before .before .before .before .before .before .before .enum-told .given .1) ∙ c .before .before .before .before .before .before .before .before .before .before .before .before .before .count-trees .ensures)) (c .before .before .before .before .before .before .before .before .before .before .if2 .left) (c .before .before .before .before .before .before .before .before .before .if3 .left) (sym (not-false (c .before .before .before .before .before .before .before .small .result) (c .before .before .before .before .before .before .if4 .left)) ∙ c .before .before .before .before .before .before .before .small .ensures) _ _ (c .before .before .before .copy .ensures))) (c .before .before .before .before .before .before .before .before .before .before .before .enum-told .given .0 .0, counted (c .before .before .before .before .before .before .before .before .before .before .before .enum-told .given .0 .0) (trees-in (take (c .before .before .before .before .before .before .before .before .before .before .before .before .before .before .before .before .before .before .before .before .args .len) (c .before .before .before .before .before .before .before .before .before .before .before .before .before .before .before .before .before .before .before .before .args .tokens .now))) (sym (c .before .before .before .before .before .before .before .before .before .before .before .enum-told .given .1) ∙ c .before .before .before .before .before .before .before .before .before .before .before .before .before .count-trees .ensures))), ((c .before .before .before .before .before .before .before .before .before .before .if2 .left, sym (sym (not-false (c .before .before .before .before .before .before .before .small .result) (c .before .before .before .before .before .before .if4 .left)) ∙ c .before .before .before .before .before .before .before .small .ensures)), omega (arith, c .before .before .before .copy .kept .1 .0))))
+    (λ c. c .before .before .before .before .fuse-in .ensures)
     (λ c. search needs)
     (λ c. search needs)
+    (λ c κs. let s = c .before .before .before .before .before .before .before .before .before .before .before .before .before .before .before .before .before .before in ((c .before .before .before .before .before .before .before .before .before .before .before .before .before .if1 .left, (c .before .before .before .before .before .before .before .before .before .enum-told .given .0 .0, counted (c .before .before .before .before .before .before .before .before .before .enum-told .given .0 .0) (trees-in (take (s .args .len) (s .args .tokens .now))) (sym (c .before .before .before .before .before .before .before .before .before .enum-told .given .1) ∙ c .before .before .before .before .before .before .before .before .before .before .before .count-trees .ensures)), c .before .before .before .before .before .before .before .before .if2 .left), ((c .before .before .before .before .before .before .before .if3 .left, sym (sym (not-false (c .before .before .before .before .before .small .result) (c .before .before .before .before .if4 .left)) ∙ c .before .before .before .before .before .small .ensures)), (omega (arith, c .before .before .before .before .before .before .before .if3 .left), omega arith))))
     (λ c. search needs)
-    (λ c. unfused (c .before .before .before .before .before .before .before .before .before .before .before .before .before .before .before .before .before .before .before .before .before .before .before .before .before .args .base .now) (c .before .before .before .before .before .before .before .before .before .before .before .before .before .before .before .before .before .before .before .before .before .before .before .before .before .args .places .now) (c .before .before .before .before .before .before .before .before .before .before .before .before .before .before .before .before .before .before .before .before .before .before .before .before .before .args .numbers .now) (c .before .before .before .before .before .before .before .before .before .before .before .before .before .before .before .before .before .before .before .before .before .before .before .before .before .args .tokens .now) (c .before .before .before .before .before .before .before .before .before .before .before .before .before .before .before .before .before .before .before .before .before .before .before .before .before .args .len) (c .before .before .before .before .before .before .before .before .before .before .before .before .before .before .before .before .before .before .before .before .if1 .left) (c .before .before .before .before .before .before .before .before .before .before .before .before .before .before .before .before .enum-told .given .0 .0, counted (c .before .before .before .before .before .before .before .before .before .before .before .before .before .before .before .before .enum-told .given .0 .0) (trees-in (take (c .before .before .before .before .before .before .before .before .before .before .before .before .before .before .before .before .before .before .before .before .before .before .before .before .before .args .len) (c .before .before .before .before .before .before .before .before .before .before .before .before .before .before .before .before .before .before .before .before .before .before .before .before .before .args .tokens .now))) (sym (c .before .before .before .before .before .before .before .before .before .before .before .before .before .before .before .before .enum-told .given .1) ∙ c .before .before .before .before .before .before .before .before .before .before .before .before .before .before .before .before .before .before .count-trees .ensures)) (c .before .before .before .before .before .before .before .before .before .before .before .before .before .before .before .if2 .left) (c .before .before .before .before .before .before .before .before .before .before .before .before .before .before .if3 .left) (sym (not-false (c .before .before .before .before .before .before .before .before .before .before .before .before .small .result) (c .before .before .before .before .before .before .before .before .before .before .before .if4 .left)) ∙ c .before .before .before .before .before .before .before .before .before .before .before .before .small .ensures) _ _ (c .before .before .before .before .before .before .before .before .copy .ensures) (sym (c .enum-told3 .given .1) ∙ c .before .before .before .before .steps .ensures .0))
-    (λ c. omega (arith, no-more (c .before .before .before .before .before .before .before .before .before .before .before .before .before .before .before .before .before .before .before .before .before .before .before .before .before .before .args .base .now) (c .before .before .before .before .before .before .before .before .before .before .before .before .before .before .before .before .before .before .before .before .before .before .before .before .before .before .args .places .now) (c .before .before .before .before .before .before .before .before .before .before .before .before .before .before .before .before .before .before .before .before .before .before .before .before .before .before .args .numbers .now) (c .before .before .before .before .before .before .before .before .before .before .before .before .before .before .before .before .before .before .before .before .before .before .before .before .before .before .args .tokens .now) (c .before .before .before .before .before .before .before .before .before .before .before .before .before .before .before .before .before .before .before .before .before .before .before .before .before .before .args .len) (c .before .before .before .before .before .before .before .before .before .before .before .before .before .before .before .before .before .before .before .before .before .if1 .left) (c .before .before .before .before .before .before .before .before .before .before .before .before .before .before .before .before .before .enum-told .given .0 .0, counted (c .before .before .before .before .before .before .before .before .before .before .before .before .before .before .before .before .before .enum-told .given .0 .0) (trees-in (take (c .before .before .before .before .before .before .before .before .before .before .before .before .before .before .before .before .before .before .before .before .before .before .before .before .before .before .args .len) (c .before .before .before .before .before .before .before .before .before .before .before .before .before .before .before .before .before .before .before .before .before .before .before .before .before .before .args .tokens .now))) (sym (c .before .before .before .before .before .before .before .before .before .before .before .before .before .before .before .before .before .enum-told .given .1) ∙ c .before .before .before .before .before .before .before .before .before .before .before .before .before .before .before .before .before .before .before .count-trees .ensures)) (c .before .before .before .before .before .before .before .before .before .before .before .before .before .before .before .before .if2 .left) (c .before .before .before .before .before .before .before .before .before .before .before .before .before .before .before .if3 .left) (sym (not-false (c .before .before .before .before .before .before .before .before .before .before .before .before .before .small .result) (c .before .before .before .before .before .before .before .before .before .before .before .before .if4 .left)) ∙ c .before .before .before .before .before .before .before .before .before .before .before .before .before .small .ensures) _ _ (c .before .before .before .before .before .before .before .before .before .copy .ensures) _ _ (sym (c .before .n .given .1) ∙ c .before .before .before .before .before .steps .ensures .0) (c .before .before .before .before .before .steps .ensures .1), c .before .before .before .before .before .before .before .before .before .before .before .before .before .before .before .if3 .left))
-    (λ c. sym (length-take-le _ _ (in-area (c .before .before .before .before .before .before .before .before .before .before .before .before .before .before .before .before .before .before .before .before .before .before .before .before .before .before .before .args .base .now) (c .before .before .before .before .before .before .before .before .before .before .before .before .before .before .before .before .before .before .before .before .before .before .before .before .before .before .before .args .places .now) (c .before .before .before .before .before .before .before .before .before .before .before .before .before .before .before .before .before .before .before .before .before .before .before .before .before .before .before .args .numbers .now) (c .before .before .before .before .before .before .before .before .before .before .before .before .before .before .before .before .before .before .before .before .before .before .before .before .before .before .before .args .tokens .now) (c .before .before .before .before .before .before .before .before .before .before .before .before .before .before .before .before .before .before .before .before .before .before .before .before .before .before .before .args .len) (c .before .before .before .before .before .before .before .before .before .before .before .before .before .before .before .before .before .before .before .before .before .before .if1 .left) (c .before .before .before .before .before .before .before .before .before .before .before .before .before .before .before .before .before .before .enum-told .given .0 .0, counted (c .before .before .before .before .before .before .before .before .before .before .before .before .before .before .before .before .before .before .enum-told .given .0 .0) (trees-in (take (c .before .before .before .before .before .before .before .before .before .before .before .before .before .before .before .before .before .before .before .before .before .before .before .before .before .before .before .args .len) (c .before .before .before .before .before .before .before .before .before .before .before .before .before .before .before .before .before .before .before .before .before .before .before .before .before .before .before .args .tokens .now))) (sym (c .before .before .before .before .before .before .before .before .before .before .before .before .before .before .before .before .before .before .enum-told .given .1) ∙ c .before .before .before .before .before .before .before .before .before .before .before .before .before .before .before .before .before .before .before .before .count-trees .ensures)) (c .before .before .before .before .before .before .before .before .before .before .before .before .before .before .before .before .before .if2 .left) (c .before .before .before .before .before .before .before .before .before .before .before .before .before .before .before .before .if3 .left) (sym (not-false (c .before .before .before .before .before .before .before .before .before .before .before .before .before .before .small .result) (c .before .before .before .before .before .before .before .before .before .before .before .before .before .if4 .left)) ∙ c .before .before .before .before .before .before .before .before .before .before .before .before .before .before .small .ensures) _ _ (c .before .before .before .before .before .before .before .before .before .before .copy .ensures) _ _ (sym (c .before .before .n .given .1) ∙ c .before .before .before .before .before .before .steps .ensures .0) (c .before .before .before .before .before .before .steps .ensures .1))))
-    (λ c κs. goes-back (c .before .before .before .before .before .before .before .before .before .before .before .before .before .before .before .before .before .before .before .before .before .before .before .before .before .before .before .before .args .base .now) (c .before .before .before .before .before .before .before .before .before .before .before .before .before .before .before .before .before .before .before .before .before .before .before .before .before .before .before .before .args .places .now) (c .before .before .before .before .before .before .before .before .before .before .before .before .before .before .before .before .before .before .before .before .before .before .before .before .before .before .before .before .args .numbers .now) (c .before .before .before .before .before .before .before .before .before .before .before .before .before .before .before .before .before .before .before .before .before .before .before .before .before .before .before .before .args .tokens .now) (c .before .before .before .before .before .before .before .before .before .before .before .before .before .before .before .before .before .before .before .before .before .before .before .before .before .before .before .before .args .len) (c .before .before .before .before .before .before .before .before .before .before .before .before .before .before .before .before .before .before .before .before .before .before .before .if1 .left) (c .before .before .before .before .before .before .before .before .before .before .before .before .before .before .before .before .before .before .before .enum-told .given .0 .0, counted (c .before .before .before .before .before .before .before .before .before .before .before .before .before .before .before .before .before .before .before .enum-told .given .0 .0) (trees-in (take (c .before .before .before .before .before .before .before .before .before .before .before .before .before .before .before .before .before .before .before .before .before .before .before .before .before .before .before .before .args .len) (c .before .before .before .before .before .before .before .before .before .before .before .before .before .before .before .before .before .before .before .before .before .before .before .before .before .before .before .before .args .tokens .now))) (sym (c .before .before .before .before .before .before .before .before .before .before .before .before .before .before .before .before .before .before .before .enum-told .given .1) ∙ c .before .before .before .before .before .before .before .before .before .before .before .before .before .before .before .before .before .before .before .before .before .count-trees .ensures)) (c .before .before .before .before .before .before .before .before .before .before .before .before .before .before .before .before .before .before .if2 .left) (c .before .before .before .before .before .before .before .before .before .before .before .before .before .before .before .before .before .if3 .left) (sym (not-false (c .before .before .before .before .before .before .before .before .before .before .before .before .before .before .before .small .result) (c .before .before .before .before .before .before .before .before .before .before .before .before .before .before .if4 .left)) ∙ c .before .before .before .before .before .before .before .before .before .before .before .before .before .before .before .small .ensures) _ _ (c .before .before .before .before .before .before .before .before .before .before .before .copy .ensures) _ _ (sym (c .before .before .before .n .given .1) ∙ c .before .before .before .before .before .before .before .steps .ensures .0) (c .before .before .before .before .before .before .before .steps .ensures .1))
-    (λ c. search needs)
-    (λ c. fused-so (c .before .before .before .before .before .before .before .before .before .before .before .before .before .before .before .before .before .before .before .before .before .before .before .before .before .before .before .before .before .before .before .args .base .now) (c .before .before .before .before .before .before .before .before .before .before .before .before .before .before .before .before .before .before .before .before .before .before .before .before .before .before .before .before .before .before .before .args .places .now) (c .before .before .before .before .before .before .before .before .before .before .before .before .before .before .before .before .before .before .before .before .before .before .before .before .before .before .before .before .before .before .before .args .numbers .now) (c .before .before .before .before .before .before .before .before .before .before .before .before .before .before .before .before .before .before .before .before .before .before .before .before .before .before .before .before .before .before .before .args .tokens .now) (c .before .before .before .before .before .before .before .before .before .before .before .before .before .before .before .before .before .before .before .before .before .before .before .before .before .before .before .before .before .before .before .args .len) (c .before .before .before .before .before .before .before .before .before .before .before .before .before .before .before .before .before .before .before .before .before .before .before .before .before .before .if1 .left) (c .before .before .before .before .before .before .before .before .before .before .before .before .before .before .before .before .before .before .before .before .before .before .enum-told .given .0 .0, counted (c .before .before .before .before .before .before .before .before .before .before .before .before .before .before .before .before .before .before .before .before .before .before .enum-told .given .0 .0) (trees-in (take (c .before .before .before .before .before .before .before .before .before .before .before .before .before .before .before .before .before .before .before .before .before .before .before .before .before .before .before .before .before .before .before .args .len) (c .before .before .before .before .before .before .before .before .before .before .before .before .before .before .before .before .before .before .before .before .before .before .before .before .before .before .before .before .before .before .before .args .tokens .now))) (sym (c .before .before .before .before .before .before .before .before .before .before .before .before .before .before .before .before .before .before .before .before .before .before .enum-told .given .1) ∙ c .before .before .before .before .before .before .before .before .before .before .before .before .before .before .before .before .before .before .before .before .before .before .before .before .count-trees .ensures)) (c .before .before .before .before .before .before .before .before .before .before .before .before .before .before .before .before .before .before .before .before .before .if2 .left) (c .before .before .before .before .before .before .before .before .before .before .before .before .before .before .before .before .before .before .before .before .if3 .left) (sym (not-false (c .before .before .before .before .before .before .before .before .before .before .before .before .before .before .before .before .before .before .small .result) (c .before .before .before .before .before .before .before .before .before .before .before .before .before .before .before .before .before .if4 .left)) ∙ c .before .before .before .before .before .before .before .before .before .before .before .before .before .before .before .before .before .before .small .ensures) _ _ (c .before .before .before .before .before .before .before .before .before .before .before .before .before .before .copy .ensures) _ _ (sym (c .before .before .before .before .before .before .n .given .1) ∙ c .before .before .before .before .before .before .before .before .before .before .steps .ensures .0) (c .before .before .before .before .before .before .before .before .before .before .steps .ensures .1) _ (c .before .before .copy2 .ensures)))
+    (λ c. c .before .before .before .before .fuse-in2 .ensures))
