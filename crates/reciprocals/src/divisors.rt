@@ -27,6 +27,9 @@ use words::tokens::same;
 // So many words at most, which the arrays hold.
 const MOST_WORDS: usize = 1927;
 
+// Few words.
+const FEW_WORDS: usize = 256;
+
 // Where the divisor of the division at p stands, or 0 where no division is: no divisor stands there.
 fn second_operand(tokens: &[u64], p: usize) -> usize
     requires { ⌜ Complete (now tokens) × (p < length (now tokens)) ⌝ }
@@ -100,14 +103,13 @@ fn list_marked(tokens: &[u64], scoped: bool, marks: &[u64], places: &mut [u64]) 
 }
 
 // Lists the divisors of the divisions outside arms and returns how many there are.
-fn list_outside(tokens: &[u64], scoped: bool, places: &mut [u64]) -> usize
+fn list_outside(tokens: &[u64], scoped: bool, marks: &mut [u64], places: &mut [u64]) -> usize
     requires { ⌜ Complete (now tokens) ⌝ }
-    requires { ⌜ (length (now tokens) ≤ 1927) × (length (now tokens) ≤ length (now places)) ⌝ }
+    requires { ⌜ (length (now tokens) ≤ length (now marks)) × (length (now tokens) ≤ length (now places)) ⌝ }
     ensures { λ r. ⌜ Listed (outside-places (now (tokens .entry)) scoped) (now (places .entry)) r (now (places .exit)) ⌝ }
 {
-    let mut marks = [0u64; MOST_WORDS];
-    mark_outside(tokens, scoped, &mut marks);
-    list_marked(tokens, scoped, &marks, places)
+    mark_outside(tokens, scoped, marks);
+    list_marked(tokens, scoped, marks, places)
 }
 
 // Whether the trees at two places are equal.
@@ -179,17 +181,58 @@ fn choose(tokens: &[u64], all: &[u64], outside: &[u64], places: &mut [u64]) -> u
     n
 }
 
-// The same from the words.
-fn gather(tokens: &[u64], scoped: bool, places: &mut [u64]) -> usize
-    requires { ⌜ Complete (now tokens) ⌝ }
-    requires { ⌜ (length (now tokens) ≤ 1927) × (length (now tokens) ≤ length (now places)) ⌝ }
+// The same from the words, by way of three tables.
+fn gather(
+    tokens: &[u64],
+    scoped: bool,
+    all: &mut [u64],
+    marks: &mut [u64],
+    outside: &mut [u64],
+    places: &mut [u64],
+) -> usize
+    requires { ⌜ Complete (now tokens) × (length (now tokens) ≤ length (now places)) ⌝ }
+    requires { ⌜ (length (now tokens) ≤ length (now all)) × (length (now tokens) ≤ length (now marks)) × (length (now tokens) ≤ length (now outside)) ⌝ }
+    ensures { λ r. ⌜ Listed (chosen-places (now (tokens .entry)) (all-places (now (tokens .entry))) (outside-places (now (tokens .entry)) scoped)) (now (places .entry)) r (now (places .exit)) ⌝ }
+{
+    let n = list(tokens, all);
+    let m = list_outside(tokens, scoped, marks, outside);
+    choose(tokens, &all[..n], &outside[..m], places)
+}
+
+// The same for few words, in small tables, so that most lists needn't clear the large ones.
+fn gather_few(tokens: &[u64], scoped: bool, places: &mut [u64]) -> usize
+    requires { ⌜ Complete (now tokens) × (length (now tokens) ≤ length (now places)) ⌝ }
+    requires { ⌜ length (now tokens) ≤ 256 ⌝ }
+    ensures { λ r. ⌜ Listed (chosen-places (now (tokens .entry)) (all-places (now (tokens .entry))) (outside-places (now (tokens .entry)) scoped)) (now (places .entry)) r (now (places .exit)) ⌝ }
+{
+    let mut all = [0u64; FEW_WORDS];
+    let mut marks = [0u64; FEW_WORDS];
+    let mut outside = [0u64; FEW_WORDS];
+    gather(tokens, scoped, &mut all, &mut marks, &mut outside, places)
+}
+
+// The same for any number of words, in large tables.
+fn gather_many(tokens: &[u64], scoped: bool, places: &mut [u64]) -> usize
+    requires { ⌜ Complete (now tokens) × (length (now tokens) ≤ length (now places)) ⌝ }
+    requires { ⌜ length (now tokens) ≤ 1927 ⌝ }
     ensures { λ r. ⌜ Listed (chosen-places (now (tokens .entry)) (all-places (now (tokens .entry))) (outside-places (now (tokens .entry)) scoped)) (now (places .entry)) r (now (places .exit)) ⌝ }
 {
     let mut all = [0u64; MOST_WORDS];
+    let mut marks = [0u64; MOST_WORDS];
     let mut outside = [0u64; MOST_WORDS];
-    let n = list(tokens, &mut all);
-    let m = list_outside(tokens, scoped, &mut outside);
-    choose(tokens, &all[..n], &outside[..m], places)
+    gather(tokens, scoped, &mut all, &mut marks, &mut outside, places)
+}
+
+// The same in tables of either length.
+fn list_chosen(tokens: &[u64], scoped: bool, places: &mut [u64]) -> usize
+    requires { ⌜ Complete (now tokens) × (length (now tokens) ≤ length (now places)) ⌝ }
+    requires { ⌜ length (now tokens) ≤ 1927 ⌝ }
+    ensures { λ r. ⌜ Listed (chosen-places (now (tokens .entry)) (all-places (now (tokens .entry))) (outside-places (now (tokens .entry)) scoped)) (now (places .entry)) r (now (places .exit)) ⌝ }
+{
+    if tokens.len() <= FEW_WORDS {
+        return gather_few(tokens, scoped, places);
+    }
+    gather_many(tokens, scoped, places)
 }
 
 // Whether the text at a place comes before that at another.
@@ -252,7 +295,7 @@ pub fn divisors_to_bind(
     if list(tokens, places) < 2 {
         return 0;
     }
-    let n = gather(tokens, scoped, places);
+    let n = list_chosen(tokens, scoped, places);
     sort(rows, tokens, text, &mut places[..n]);
     n
 }

@@ -21,6 +21,9 @@ use words::words::Rewritten;
 // The most words that can be settled.
 const AREA: usize = 9362;
 
+// Few words.
+const FEW: usize = 256;
+
 // Where the first number and the number of places are at most this, every name has a word.
 const NUMBERS: u64 = 4294967296;
 
@@ -97,8 +100,61 @@ fn steps(
     Stepped::Words(n)
 }
 
-// The same in place, by way of two areas, where there is something to replace.
-fn settle_some(
+// The same in place, by way of two areas.
+fn settle_in(
+    base: &[u64],
+    places: &[u64],
+    from: usize,
+    first: u64,
+    tokens: &mut [u64],
+    len: usize,
+    work: &mut [u64],
+    spare: &mut [u64],
+) -> Settled
+    requires { ⌜ (len ≤ length (now tokens)) × Complete (take len (now tokens)) ⌝ }
+    requires { ⌜ (len ≤ 9362) × (first ≤ 4294967296) × (length (now places) ≤ 4294967296) ⌝ }
+    requires { ⌜ (len ≤ length (now work)) × (length (now work) ≤ length (now spare)) ⌝ }
+    ensures { λ r. ⌜ (r ≡ settling (now (base .entry)) (now (places .entry)) from first (now (tokens .entry)) len .answer)
+        × (now (tokens .exit) ≡ settling (now (base .entry)) (now (places .entry)) from first (now (tokens .entry)) len .out) ⌝ }
+{
+    copy(&tokens[..len], work);
+    let Stepped::Words(n) = steps(base, places, from, first, work, len, spare) else {
+        return Settled::Broken;
+    };
+    copy(&work[..n], tokens);
+    Settled::Words(n)
+}
+
+// The same for few words, in small areas, so that most lists needn't clear the large ones.
+fn settle_few(
+    base: &[u64],
+    places: &[u64],
+    from: usize,
+    first: u64,
+    tokens: &mut [u64],
+    len: usize,
+) -> Settled
+    requires { ⌜ (len ≤ length (now tokens)) × Complete (take len (now tokens)) ⌝ }
+    requires { ⌜ (len ≤ 256) × (first ≤ 4294967296) × (length (now places) ≤ 4294967296) ⌝ }
+    ensures { λ r. ⌜ (r ≡ settling (now (base .entry)) (now (places .entry)) from first (now (tokens .entry)) len .answer)
+        × (now (tokens .exit) ≡ settling (now (base .entry)) (now (places .entry)) from first (now (tokens .entry)) len .out) ⌝ }
+{
+    let mut work = [0u64; FEW];
+    let mut spare = [0u64; FEW];
+    settle_in(
+        base,
+        places,
+        from,
+        first,
+        tokens,
+        len,
+        &mut work,
+        &mut spare,
+    )
+}
+
+// The same for any number of words, in large areas.
+fn settle_many(
     base: &[u64],
     places: &[u64],
     from: usize,
@@ -113,12 +169,16 @@ fn settle_some(
 {
     let mut work = [0u64; AREA];
     let mut spare = [0u64; AREA];
-    copy(&tokens[..len], &mut work);
-    let Stepped::Words(n) = steps(base, places, from, first, &mut work, len, &mut spare) else {
-        return Settled::Broken;
-    };
-    copy(&work[..n], tokens);
-    Settled::Words(n)
+    settle_in(
+        base,
+        places,
+        from,
+        first,
+        tokens,
+        len,
+        &mut work,
+        &mut spare,
+    )
 }
 
 // Settles the first `len` words of tokens: the divisors at the places from number `from` on are replaced in order, the divisor at place k by `__x(first + k)`.
@@ -151,5 +211,8 @@ pub fn settle(
     if from >= places.len() {
         return Settled::Words(len);
     }
-    settle_some(base, places, from, first, tokens, len)
+    if len <= FEW {
+        return settle_few(base, places, from, first, tokens, len);
+    }
+    settle_many(base, places, from, first, tokens, len)
 }

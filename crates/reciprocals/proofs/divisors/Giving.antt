@@ -26,7 +26,10 @@ listed-all ws old n out e = record { count = e .0; places = e .1 }
 pub front-is : {new old : List ℕ} {n : ℕ} {out : List ℕ} → Listed new old n out → take n out ≡ new
 front-is {new} {old} {n} {out} k = ap (take n) (k .places) ∙ take-at new (drop (length new) old) n (sym (k .count))
 
--- as many as are counted
+-- as many as are counted, and all there
+pub listed-room : {new old : List ℕ} {n : ℕ} {out : List ℕ} → Listed new old n out → n ≤ length out
+listed-room {new} {old} {n} {out} k = omega (arith, k .count, ap length (k .places), length-append new (drop (length new) old))
+
 pub front-long : {new old : List ℕ} {n : ℕ} {out : List ℕ} → Listed new old n out → n ≡ length (take n out)
 front-long {new} {old} {n} {out} k = k .count ∙ ap length (sym (front-is k))
 
@@ -72,10 +75,6 @@ module _ (ws : List ℕ) (scoped : Bool) where
       {old out : List ℕ} {n : ℕ} → Complete ws → Listed (chosen-places ws (all-places ws) (outside-places ws scoped)) old n out → Inside (length ws) (take n out)
   chosen-there {old} {out} {n} complete k =
       subst (Inside (length ws)) (sym (front-is k)) (chosen-inside ws (all-places ws) (outside-places ws scoped) (all-inside ws complete))
-
-  pub chosen-few : {old out : List ℕ} {n : ℕ} → Listed (chosen-places ws (all-places ws) (outside-places ws scoped)) old n out → n ≤ length out
-  chosen-few {old} {out} {n} k =
-      omega (arith, k .count, ap length (k .places), length-append (chosen-places ws (all-places ws) (outside-places ws scoped)) (drop (length (chosen-places ws (all-places ws) (outside-places ws scoped))) old))
 
 -- ---- fewer than two divisions
 

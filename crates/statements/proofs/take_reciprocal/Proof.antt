@@ -9,7 +9,7 @@ pub take-reciprocal-spec : {M : Type 1} → statement M
 take-reciprocal-spec =
     tie.close
     (tie.spec
-    (λ c κs. tt)
+    (λ c κs. search needs)
     (λ c. search needs)
     (λ c. search needs)
     (λ c. search needs)
