@@ -11,14 +11,15 @@ pub write-value-spec : {M : Type 1} → statement M
 write-value-spec =
     tie.close
     (tie.spec
+    (λ c κs. let start = c .before .before .before .before .before .before .before .before .before in (start .pre .0, (omega (arith, start .pre .0 .1 .enough, start .pre .1 .0 .0), start .pre .1 .0 .1)))
+    (λ c κs. tt)
+    (λ c. c .before .before .before .before .before .before .take-final .ensures .inside)
+    (λ c. sym (length-take-le _ _ (c .before .before .before .before .before .before .before .take-final .ensures .inside)))
     (λ c. search needs)
-    (λ c κs. (c .before .before .before .before .before .before .before .before .pre .0, (omega (arith, c .before .before .before .before .before .before .before .before .pre .0 .1 .enough, c .before .before .before .before .before .before .before .before .pre .1 .0), search needs)))
     (λ c κs. tt)
     (λ c. search needs)
-    (λ c. sym (length-take-le _ _ (c .before .before .before .before .before .before .take-final .ensures .inside)))
-    (λ c. search needs)
-    (λ c κs. tt)
     (λ c. search needs)
     (λ c. search needs)
     (λ c. search needs)
-    (λ c. value-written (c .before .before .before .before .before .before .before .before .before .before .before .before .before .before .before .before .before .before .before .args .at) (c .before .before .before .before .before .before .before .before .before .before .before .before .before .before .before .before .before .before .before .args .row) _ (c .before .before .before .before .before .before .before .before .before .before .before .before .before .before .before .before .before .before .before .args .table .now) _ _ _ _ (c .before .before .before .before .before .before .before .before .before .before .take-final .ensures) (c .before .before .before .before .before .before .before .put-word .ensures) (c .before .before .put .ensures)))
+    (λ c. let a = c .before .before .before .before .before .before .before .before .before .before .before .before .before .before .before .before .before .before .before .before .before .args in
+    value-written (a .at) (a .row) _ (a .table .now) _ _ _ _ (c .before .before .before .before .before .before .before .before .before .before .before .take-final .ensures) (c .before .before .before .before .before .before .before .put-word .ensures) (c .before .before .put .ensures)))
