@@ -201,14 +201,14 @@ fn mark_let(
     ends: &[u64],
     numbers: &[u64],
     p: usize,
+    tree: &mut [u64],
     bits: &mut [u64],
 )
     requires { ⌜ Prepared (now tokens) results first (now places) (now held) (now starts) (now members) (now ends) (now numbers) ⌝ }
-    requires { ⌜ p < (length (now starts) - results) + length (now places) ⌝ }
+    requires { ⌜ (p < (length (now starts) - results) + length (now places)) × (length (now tree) ≡ 1929) ⌝ }
     ensures { λ _. ⌜ now (bits .exit) ≡ with-reads first ((length (now (starts .entry)) - results) + length (now (places .entry))) (now (numbers .entry)) (now (ends .entry))
         (tree-run (now (tokens .entry)) results first (now (places .entry)) (now (numbers .entry)) (results + p)) p (now (bits .entry)) ⌝ }
 {
-    let mut tree = [0u64; TREE];
     let n = take_final(
         tokens,
         results,
@@ -219,7 +219,7 @@ fn mark_let(
         members,
         numbers,
         results + p,
-        &mut tree,
+        tree,
     );
     let lets = starts.len() - results + places.len();
     mark_reads(&tree[..n], first, lets, numbers, ends, p, bits);
@@ -235,15 +235,15 @@ fn mark_match(
     numbers: &[u64],
     g: usize,
     row: usize,
+    tree: &mut [u64],
     bits: &mut [u64],
 )
     requires { ⌜ Grouped (now held) (now members) (now ends) (now numbers) ⌝ }
-    requires { ⌜ g < length (now ends) ⌝ }
+    requires { ⌜ (g < length (now ends)) × (length (now tree) ≡ 1929) ⌝ }
     ensures { λ _. ⌜ now (bits .exit) ≡ with-reads first lets (now (numbers .entry)) (now (ends .entry))
         (match-reads (now (held .entry)) (place-groups (now (held .entry))) (now (numbers .entry)) g) row (now (bits .entry)) ⌝ }
 {
-    let mut tree = [0u64; TREE];
-    let n = take_key(held, members, ends, numbers, g, &mut tree);
+    let n = take_key(held, members, ends, numbers, g, tree);
     mark_reads(&tree[..n], first, lets, numbers, ends, row, bits);
     let begin = group_begin(ends, g);
     let end = ends[g] as usize;
@@ -271,10 +271,11 @@ fn mark_stmt(
     ends: &[u64],
     numbers: &[u64],
     p: usize,
+    tree: &mut [u64],
     bits: &mut [u64],
 )
     requires { ⌜ Prepared (now tokens) results first (now places) (now held) (now starts) (now members) (now ends) (now numbers) ⌝ }
-    requires { ⌜ p < stmts-count (now tokens) results first (now places) (now numbers) ⌝ }
+    requires { ⌜ (p < stmts-count (now tokens) results first (now places) (now numbers)) × (length (now tree) ≡ 1929) ⌝ }
     ensures { λ _. ⌜ now (bits .exit) ≡ with-reads first ((length (now (starts .entry)) - results) + length (now (places .entry))) (now (numbers .entry)) (now (ends .entry))
         (reads-run (now (tokens .entry)) results first (now (places .entry)) (now (numbers .entry)) p) p (now (bits .entry)) ⌝ }
 {
@@ -291,10 +292,22 @@ fn mark_stmt(
             ends,
             numbers,
             p,
+            tree,
             bits,
         );
     } else {
-        mark_match(first, lets, held, members, ends, numbers, p - lets, p, bits);
+        mark_match(
+            first,
+            lets,
+            held,
+            members,
+            ends,
+            numbers,
+            p - lets,
+            p,
+            tree,
+            bits,
+        );
     }
 }
 
@@ -310,10 +323,11 @@ fn mark_stmts(
     ends: &[u64],
     numbers: &[u64],
     count: usize,
+    tree: &mut [u64],
     bits: &mut [u64],
 )
     requires { ⌜ Prepared (now tokens) results first (now places) (now held) (now starts) (now members) (now ends) (now numbers) ⌝ }
-    requires { ⌜ count ≤ stmts-count (now tokens) results first (now places) (now numbers) ⌝ }
+    requires { ⌜ (count ≤ stmts-count (now tokens) results first (now places) (now numbers)) × (length (now tree) ≡ 1929) ⌝ }
     ensures { λ _. ⌜ now (bits .exit) ≡ needs-table (now (tokens .entry)) results first (now (places .entry)) (now (numbers .entry)) count (now (bits .entry)) ⌝ }
 {
     let mut p = 0;
@@ -329,6 +343,7 @@ fn mark_stmts(
             ends,
             numbers,
             p,
+            tree,
             bits,
         );
         p += 1;
@@ -357,6 +372,7 @@ fn order_with(
         × (now (taken .exit) ≡ stmts-order (now (tokens .entry)) results first (now (places .entry)) (now (numbers .entry))
         ++ drop (length (stmts-order (now (tokens .entry)) results first (now (places .entry)) (now (numbers .entry)))) (now (taken .entry))) ⌝ }
 {
+    let mut tree = [0u64; TREE];
     let mut waiting = [0u64; MOST];
     let mut stack = [0u64; MOST];
     mark_stmts(
@@ -370,6 +386,7 @@ fn order_with(
         ends,
         numbers,
         count,
+        &mut tree,
         bits,
     );
     order(bits, count, &mut waiting, &mut stack, taken)

@@ -12,13 +12,18 @@ pub mark-let-spec : {M : Type 1} → statement M
 mark-let-spec =
     tie.close
     (tie.spec
-    (λ c. let p = c .before .before .before .before .before .before .before .before .pre .0 in omega (arith, p .enough, c .before .before .before .before .before .before .before .before .pre .1, trees-few p, places-few p))
-    (λ c. search needs)
-    (λ c κs. let p = c .before .before .before .before .before .before .before .before .before .pre .0 in ((c .before .before .before .before .before .before .before .before .before .args .ends .now, p), (omega (arith, p .enough, c .before .before .before .before .before .before .before .before .before .pre .1), search needs)))
-    (λ c. c .before .before .before .before .before .before .before .before .before .before .before .pre .0 .enough)
-    (λ c. let p = c .before .before .before .before .before .before .before .before .before .before .before .pre .0 in omega (arith, trees-few p, places-few p))
-    (λ c. search needs)
-    (λ c. sym (length-take-le _ _ (c .before .before .take-final .ensures .inside)))
+    (λ c. let start = c .before .before .before .before .before .before .before .before .before in
+    let p = start .pre .0 in
+    omega (arith, p .enough, start .pre .1 .0, trees-few p, places-few p))
+    (λ c κs. let start = c .before .before .before .before .before .before .before .before .before .before in
+    let p = start .pre .0 in
+    ((start .args .ends .now, p), (omega (arith, p .enough, start .pre .1 .0), start .pre .1 .1)))
+    (λ c. c .before .before .before .before .before .before .before .before .before .before .before .before .before .pre .0 .enough)
+    (λ c. let p = c .before .before .before .before .before .before .before .before .before .before .before .before .before .pre .0 in omega (arith, trees-few p, places-few p))
+    (λ c. c .before .before .take-final .ensures .inside)
+    (λ c. sym (length-take-le _ _ (c .before .before .before .take-final .ensures .inside)))
     (λ c κs. tt)
     (λ c. search needs)
-    (λ c. c .before .before .mark-reads .ensures ∙ reads-same (c .before .before .before .before .before .before .before .before .before .before .before .before .before .before .before .before .args .first) _ (c .before .before .before .before .before .before .before .before .before .before .before .before .before .before .before .before .args .numbers .now) (c .before .before .before .before .before .before .before .before .before .before .before .before .before .before .before .before .args .ends .now) _ _ (c .before .before .before .before .before .before .before .before .before .before .before .before .before .before .before .before .args .p) (c .before .before .before .before .before .before .before .before .before .before .before .before .before .before .before .before .args .bits .now) (c .before .before .before .before .before .before .take-final .ensures .words)))
+    (λ c. search needs)
+    (λ c. let a = c .before .before .before .before .before .before .before .before .before .before .before .before .before .before .before .before .before .before .args in
+    c .before .before .mark-reads .ensures ∙ reads-same (a .first) _ (a .numbers .now) (a .ends .now) _ _ (a .p) (a .bits .now) (c .before .before .before .before .before .before .before .take-final .ensures .words)))

@@ -12,18 +12,27 @@ pub mark-match-spec : {M : Type 1} → statement M
 mark-match-spec =
     tie.close
     (tie.spec
-    (λ c. search needs)
-    (λ c κs. (c .before .before .before .before .before .before .pre .0, (c .before .before .before .before .before .before .pre .1, search needs)))
-    (λ c. search needs)
-    (λ c. sym (length-take-le _ _ (c .before .before .take-key .ensures .inside)))
+    (λ c κs. c .before .before .before .before .before .before .before .pre)
+    (λ c. c .before .before .take-key .ensures .inside)
+    (λ c. sym (length-take-le _ _ (c .before .before .before .take-key .ensures .inside)))
     (λ c κs. tt)
-    (λ c κs. c .before .before .before .before .before .before .before .before .before .before .before .before .before .pre .1)
-    (λ c. omega (arith, c .before .before .before .before .before .before .before .before .before .before .before .before .before .before .pre .1, c .before .before .before .before .before .before .before .before .before .before .before .before .before .before .good))
-    (λ c. c .before .before .before .before .before .before .before .before .before .before .before .before .before .before .before .pre .1)
-    (λ c. omega (arith, begin-inside (c .before .before .before .before .before .before .before .before .before .before .before .before .before .before .before .pre .0) (c .before .before .before .before .before .before .before .before .before .before .before .before .before .before .before .args .g) (c .before .before .before .before .before .before .before .before .before .before .before .before .before .before .before .pre .1) (c .before .group-begin .result) (c .before .group-begin .ensures), c .before .before .before .before .before .before .before .before .before .before .before .before .before .before .before .good))
-    (λ c. omega (arith, begin-before (c .before .before .before .before .before .before .before .before .before .before .before .before .before .before .before .pre .0) (c .before .before .before .before .before .before .before .before .before .before .before .before .before .before .before .args .g) (c .before .before .before .before .before .before .before .before .before .before .before .before .before .before .before .pre .1) (c .before .group-begin .result) (c .before .group-begin .ensures)))
-    (λ c. omega (arith, begin-before (c .before .before .before .before .before .before .before .before .before .before .before .before .before .before .before .pre .0) (c .before .before .before .before .before .before .before .before .before .before .before .before .before .before .before .args .g) (c .before .before .before .before .before .before .before .before .before .before .before .before .before .before .before .pre .1) (c .before .group-begin .result) (c .before .group-begin .ensures)))
-    (λ c. omega (arith, end-inside (c .before .before .before .before .before .before .before .before .before .before .before .before .before .before .before .pre .0) (c .before .before .before .before .before .before .before .before .before .before .before .before .before .before .before .args .g) (c .before .before .before .before .before .before .before .before .before .before .before .before .before .before .before .pre .1)))
+    (λ c κs. c .before .before .before .before .before .before .before .before .before .before .before .before .before .before .before .pre .1 .0)
+    (λ c. omega (arith, c .before .before .before .before .before .before .before .before .before .before .before .before .before .before .before .before .pre .1 .0, c .before .before .before .before .before .before .before .before .before .before .before .before .before .before .before .before .good))
+    (λ c. c .before .before .before .before .before .before .before .before .before .before .before .before .before .before .before .before .before .pre .1 .0)
+    (λ c. let start = c .before .before .before .before .before .before .before .before .before .before .before .before .before .before .before .before .before in
+    let b = c .before .group-begin in
+    omega (arith, begin-inside (start .pre .0) (start .args .g) (start .pre .1 .0) (b .result) (b .ensures), start .good))
+    (λ c. let start = c .before .before .before .before .before .before .before .before .before .before .before .before .before .before .before .before .before in
+    let b = c .before .group-begin in
+    omega (arith, begin-before (start .pre .0) (start .args .g) (start .pre .1 .0) (b .result) (b .ensures)))
+    (λ c. let start = c .before .before .before .before .before .before .before .before .before .before .before .before .before .before .before .before .before in
+    let b = c .before .group-begin in
+    omega (arith, begin-before (start .pre .0) (start .args .g) (start .pre .1 .0) (b .result) (b .ensures)))
+    (λ c. let start = c .before .before .before .before .before .before .before .before .before .before .before .before .before .before .before .before .before in omega (arith, end-inside (start .pre .0) (start .args .g) (start .pre .1 .0)))
     (λ c κs. tt)
     (λ c. search needs)
-    (λ c. match-marked (c .before .before .before .before .before .before .before .before .before .before .before .before .before .before .before .before .before .before .before .before .pre .0) (c .before .before .before .before .before .before .before .before .before .before .before .before .before .before .before .before .before .before .before .before .args .g) (c .before .before .before .before .before .before .before .before .before .before .before .before .before .before .before .before .before .before .before .before .pre .1) (c .before .before .before .before .before .before .group-begin .result) (c .before .before .before .before .before .before .group-begin .ensures) (c .before .before .before .before .before .before .before .before .before .before .before .before .before .before .before .before .before .before .before .before .args .first) (c .before .before .before .before .before .before .before .before .before .before .before .before .before .before .before .before .before .before .before .before .args .lets) (c .before .before .before .before .before .before .before .before .before .before .before .before .before .before .before .before .before .before .before .before .args .row) (c .before .before .before .before .before .before .before .before .before .before .before .before .before .before .before .before .before .before .before .before .args .bits .now) _ _ _ _ (c .before .before .before .before .before .before .before .before .before .before .before .before .before .take-key .ensures) (c .before .before .before .before .before .before .before .before .before .mark-reads .ensures) (c .before .before .mark-arms .ensures .1)))
+    (λ c. search needs)
+    (λ c. let start = c .before .before .before .before .before .before .before .before .before .before .before .before .before .before .before .before .before .before .before .before .before .before in
+    let a = start .args in
+    let b = c .before .before .before .before .before .before .group-begin in
+    match-marked (start .pre .0) (a .g) (start .pre .1 .0) (b .result) (b .ensures) (a .first) (a .lets) (a .row) (a .bits .now) _ _ _ _ (c .before .before .before .before .before .before .before .before .before .before .before .before .before .before .take-key .ensures) (c .before .before .before .before .before .before .before .before .before .mark-reads .ensures) (c .before .before .mark-arms .ensures .1)))

@@ -12,11 +12,19 @@ pub mark-stmt-spec : {M : Type 1} → statement M
 mark-stmt-spec =
     tie.close
     (tie.spec
-    (λ c. c .before .before .before .before .before .before .before .before .pre .0 .enough)
-    (λ c. let p = c .before .before .before .before .before .before .before .before .pre .0 in omega (arith, trees-few p, places-few p))
-    (λ c κs. (c .before .before .before .before .before .before .before .before .before .before .pre .0, c .before .if1 .taken))
-    (λ c κs. let p = c .before .before .before .before .before .before .before .before .before .before .pre .0 in (grouped p, stmt-group p (c .before .before .before .before .before .before .before .before .before .before .args .p) (c .before .if1 .left) (c .before .before .before .before .before .before .before .before .before .before .pre .1)))
+    (λ c. c .before .before .before .before .before .before .before .before .before .pre .0 .enough)
+    (λ c. let p = c .before .before .before .before .before .before .before .before .before .pre .0 in omega (arith, trees-few p, places-few p))
+    (λ c κs. let start = c .before .before .before .before .before .before .before .before .before .before .before .before in (start .pre .0, (c .before .before .if1 .taken, start .pre .1 .1)))
+    (λ c κs. let start = c .before .before .before .before .before .before .before .before .before .before .before .before in
+    let p = start .pre .0 in
+    (grouped p, (stmt-group p (start .args .p) (c .before .before .if1 .left) (start .pre .1 .0), start .pre .1 .1)))
     (λ c. search needs)
-    (λ c. c .before .before .mark-let .ensures ∙ reads-same (c .before .before .before .before .before .before .before .before .before .before .before .before .before .args .first) _ (c .before .before .before .before .before .before .before .before .before .before .before .before .before .args .numbers .now) (c .before .before .before .before .before .before .before .before .before .before .before .before .before .args .ends .now) _ _ (c .before .before .before .before .before .before .before .before .before .before .before .before .before .args .p) (c .before .before .before .before .before .before .before .before .before .before .before .before .before .args .bits .now) (let-reads (c .before .before .before .before .before .before .before .before .before .before .before .before .before .pre .0) (c .before .before .before .before .before .before .before .before .before .before .before .before .before .args .p) (c .before .before .before .before .if1 .taken)))
     (λ c. search needs)
-    (λ c. c .before .before .mark-match .ensures ∙ reads-same (c .before .before .before .before .before .before .before .before .before .before .before .before .before .args .first) _ (c .before .before .before .before .before .before .before .before .before .before .before .before .before .args .numbers .now) (c .before .before .before .before .before .before .before .before .before .before .before .before .before .args .ends .now) _ _ (c .before .before .before .before .before .before .before .before .before .before .before .before .before .args .p) (c .before .before .before .before .before .before .before .before .before .before .before .before .before .args .bits .now) (later-reads (c .before .before .before .before .before .before .before .before .before .before .before .before .before .pre .0) (c .before .before .before .before .before .before .before .before .before .before .before .before .before .args .p) (c .before .before .before .before .if1 .left))))
+    (λ c. let start = c .before .before .before .before .before .before .before .before .before .before .before .before .before .before .before .before .before in
+    let a = start .args in
+    c .before .before .before .before .mark-let .ensures ∙ reads-same (a .first) _ (a .numbers .now) (a .ends .now) _ _ (a .p) (a .bits .now) (let-reads (start .pre .0) (a .p) (c .before .before .before .before .before .before .before .if1 .taken)))
+    (λ c. search needs)
+    (λ c. search needs)
+    (λ c. let start = c .before .before .before .before .before .before .before .before .before .before .before .before .before .before .before .before .before in
+    let a = start .args in
+    c .before .before .before .before .mark-match .ensures ∙ reads-same (a .first) _ (a .numbers .now) (a .ends .now) _ _ (a .p) (a .bits .now) (later-reads (start .pre .0) (a .p) (c .before .before .before .before .before .before .before .if1 .left))))

@@ -1,24 +1,21 @@
 -- `statements::order_with` meets its contract. Assumes nothing.
+use native.Mathlib.Omega.{arith}
 use Rattle.statements.proofs.Marking.{ordered-so}
 use borrow.Author.Needs.{needs}
 use Rattle.statements.proofs.order_with.Statement.{statement}
 use Rattle.statements.proofs.order_with.Tie as tie
 
-returns : tie.Need-returns
-returns c =
-    let start = c .before .before .before .before .before .before .before .before .before .before .before .before .before .before .before .before .before .before .before .before .before .before in
-    let a = start .args in
-    ordered-so (start .pre .0) _ _ _ (a .taken .now) (a .count) (start .pre .1 .0 .0) (search needs) (search needs) (start .pre .1 .0 .1) (a .bits .now) (start .pre .1 .1)
-    (c .before .before .before .before .before .before .before .before .before .before .before .mark-stmts .ensures) _ _ _ _ (c .before .before .before .before .order .ensures)
-
 pub order-with-spec : {M : Type 1} → statement M
 order-with-spec =
     tie.close
     (tie.spec
-    (λ c κs. search needs)
+    (λ c. search needs)
+    (λ c κs. let start = c .before .before .before .before .before .before .before .before .before .before .before in (start .pre .0, (omega (arith, start .pre .1 .0 .0), search needs)))
     (λ c. search needs)
     (λ c. search needs)
     (λ c κs. search needs)
     (λ c. search needs)
     (λ c. search needs)
-    returns)
+    (λ c. let start = c .before .before .before .before .before .before .before .before .before .before .before .before .before .before .before .before .before .before .before .before .before .before .before .before in
+    let a = start .args in
+    ordered-so (start .pre .0) _ _ _ (a .taken .now) (a .count) (start .pre .1 .0 .0) (search needs) (search needs) (start .pre .1 .0 .1) (a .bits .now) (start .pre .1 .1) (c .before .before .before .before .before .before .before .before .before .before .before .before .mark-stmts .ensures) _ _ _ _ (c .before .before .before .before .order .ensures)))
