@@ -127,8 +127,8 @@ enum Found {
     TooMany,
 }
 
-// The words of one arm of each member, after what is held in the work area.
-fn copy_arm(work: &mut [u64], h: usize, group: &[u64], a: usize) -> Copied
+// The words of one arm of each member, after what is held in the work area, by the longest array.
+fn copy_large(work: &mut [u64], h: usize, group: &[u64], a: usize) -> Copied
     requires { ⌜ (h ≤ length (now work)) × Is-group (take h (now work)) (now group) × (a < arm-count (take h (now work)) (getD (now group) 0 0)) × T (some-trees (trees-in (take h (now work)))) ⌝ }
     ensures { λ r. ⌜ Copied-so (column-words (take h (now (work .entry))) (now (group .entry)) a) r (drop h (now (work .exit))) × (take h (now (work .exit)) ≡ take h (now (work .entry))) ⌝ }
 {
@@ -136,6 +136,23 @@ fn copy_arm(work: &mut [u64], h: usize, group: &[u64], a: usize) -> Copied
     let column = copy_column(&work[..h], group, a, &mut input);
     let Column::Words(n) = column else {
         return Copied::TooMany;
+    };
+    if n > work.len() - h {
+        return Copied::TooMany;
+    }
+    put(&input[..n], h, work);
+    Copied::Words(n)
+}
+
+// The words of one arm of each member, after what is held in the work area. Few are copied by a short array.
+fn copy_arm(work: &mut [u64], h: usize, group: &[u64], a: usize) -> Copied
+    requires { ⌜ (h ≤ length (now work)) × Is-group (take h (now work)) (now group) × (a < arm-count (take h (now work)) (getD (now group) 0 0)) × T (some-trees (trees-in (take h (now work)))) ⌝ }
+    ensures { λ r. ⌜ Copied-so (column-words (take h (now (work .entry))) (now (group .entry)) a) r (drop h (now (work .exit))) × (take h (now (work .exit)) ≡ take h (now (work .entry))) ⌝ }
+{
+    let mut input = [0u64; FEW];
+    let column = copy_column(&work[..h], group, a, &mut input);
+    let Column::Words(n) = column else {
+        return copy_large(work, h, group, a);
     };
     if n > work.len() - h {
         return Copied::TooMany;

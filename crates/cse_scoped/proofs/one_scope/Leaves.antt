@@ -62,7 +62,7 @@ complete-so ws t = go (trees-in ws) refl t
 
 -- ---- a column
 
-module _ (held group : List ℕ) (complete : T (some-trees (trees-in held))) (g : Is-group held group) (a : ℕ) (l : a < arm-count held (getD group 0 0)) (input : List ℕ) (lent : length input ≡ 1927) where
+module _ (held group : List ℕ) (complete : T (some-trees (trees-in held))) (g : Is-group held group) (a : ℕ) (l : a < arm-count held (getD group 0 0)) (input : List ℕ) (room : ℕ) (lent : length input ≡ room) (short : room ≤ 1927) where
   fused : Fused held group
   fused = let c = complete-so held complete in subst (Fused held) (sym (g .is)) (group-fused held (c .0) (c .1) (g .number) (g .there))
 
@@ -89,14 +89,14 @@ module _ (held group : List ℕ) (complete : T (some-trees (trees-in held))) (g 
     abbrev By : Column → Type 0
     By (column-enum.Words n) = (take n out ≡ words) × ((n ≡ length words) × ((n ≤ length out) × (n ≤ 1927)))
     By column-enum.Broken = ⊥
-    By column-enum.NoRoom = 1927 < length words
+    By column-enum.NoRoom = room < length words
 
     by-room : (b : Bool) → leb (length words) (length input) ≡ b → out ≡ copying-by true b words input .out → By (copying-by true b words input .answer)
     unfolding copying-by
     by-room true q e =
         let n = length words in
         let f = leb-true n (length input) q in
-        (ap (take n) e ∙ take-at words (drop n input) n refl, (refl, (omega (arith, ap length e, length-append words (drop n input)), omega (arith, f, lent))))
+        (ap (take n) e ∙ take-at words (drop n input) n refl, (refl, (omega (arith, ap length e, length-append words (drop n input)), omega (arith, f, lent, short))))
     by-room false q e = omega (arith, leb-false (length words) (length input) q, lent)
 
     by-answer : By r
@@ -108,15 +108,15 @@ module _ (held group : List ℕ) (complete : T (some-trees (trees-in held))) (g 
     pub column-in : (n : ℕ) → r ≡ column-enum.Words n → n ≤ length out
     column-in n e = words-so n e .1 .1 .0
 
-    not-words : (q : Column) → By q → Run.OneOf (1 ∷ 2 ∷ []) (Declared.tagOf column-type.the-type q) → 1927 < length words
+    not-words : (q : Column) → By q → Run.OneOf (1 ∷ 2 ∷ []) (Declared.tagOf column-type.the-type q) → room < length words
     not-words (column-enum.Words n) h (inl e) = absurd (omega arith)
     not-words (column-enum.Words n) h (inr e) = absurd (omega arith)
     not-words column-enum.Broken h e = absurd h
     not-words column-enum.NoRoom h e = h
 
     -- longer than can be worked on
-    pub column-too-long : (rest : List ℕ) → Run.OneOf (1 ∷ 2 ∷ []) (Declared.tagOf column-type.the-type r) → Copied-so words copied-enum.TooMany rest
-    column-too-long rest k few = absurd (let m = not-words r by-answer k in omega (arith, m, few))
+    pub column-too-long : 1927 ≤ room → (rest : List ℕ) → Run.OneOf (1 ∷ 2 ∷ []) (Declared.tagOf column-type.the-type r) → Copied-so words copied-enum.TooMany rest
+    column-too-long long rest k few = absurd (let m = not-words r by-answer k in omega (arith, m, few, long))
 
     -- longer than what is left
     pub column-over : (n h : ℕ) (work : List ℕ) → r ≡ column-enum.Words n → length work - h < n → Copied-so words copied-enum.TooMany (drop h work)
