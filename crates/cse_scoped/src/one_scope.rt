@@ -149,15 +149,15 @@ fn copy_arm(work: &mut [u64], h: usize, group: &[u64], a: usize) -> Copied
     requires { ⌜ (h ≤ length (now work)) × Is-group (take h (now work)) (now group) × (a < arm-count (take h (now work)) (getD (now group) 0 0)) × T (some-trees (trees-in (take h (now work)))) ⌝ }
     ensures { λ r. ⌜ Copied-so (column-words (take h (now (work .entry))) (now (group .entry)) a) r (drop h (now (work .exit))) × (take h (now (work .exit)) ≡ take h (now (work .entry))) ⌝ }
 {
-    let mut input = [0u64; FEW];
-    let column = copy_column(&work[..h], group, a, &mut input);
+    let mut few = [0u64; FEW];
+    let column = copy_column(&work[..h], group, a, &mut few);
     let Column::Words(n) = column else {
         return copy_large(work, h, group, a);
     };
-    if n > work.len() - h {
+    if work.len() - h < n {
         return Copied::TooMany;
     }
-    put(&input[..n], h, work);
+    put(&few[..n], h, work);
     Copied::Words(n)
 }
 

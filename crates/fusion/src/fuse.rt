@@ -160,25 +160,9 @@ pub fn fuse(base: &[u64], places: &[u64], numbers: &[u64], tokens: &mut [u64], l
     if len <= FEW {
         let mut work = [0u64; FEW];
         let mut spare = [0u64; FEW];
-        return fuse_in(
-            base,
-            places,
-            numbers,
-            tokens,
-            len,
-            &mut work,
-            &mut spare,
-        );
+        return fuse_in(base, places, numbers, tokens, len, &mut work, &mut spare);
     }
     let mut work = [0u64; AREA];
     let mut spare = [0u64; AREA];
-    fuse_in(
-        base,
-        places,
-        numbers,
-        tokens,
-        len,
-        &mut work,
-        &mut spare,
-    )
+    fuse_in(base, places, numbers, tokens, len, &mut work, &mut spare)
 }

@@ -47,8 +47,8 @@ same-length-2 c = search needs
 returns-2 : tie.Need-returns-2
 returns-2 c = let s = c .before .before .before .before .before .before .before .before .before .before in let a = s .args in (column-over (take (a .h) (a .work .now)) (a .group .now) (s .pre .3) (s .pre .1) (a .a) (s .pre .2) _ 128 (length-replicate {A = ℕ} 128 0) (omega arith) (c .before .before .before .before .before .copy-column .result) _ (c .before .before .before .before .before .copy-column .ensures) (c .before .before .column .given .0 .0) (a .h) (a .work .now) (c .before .before .column .given .1) (c .if1 .taken), refl)
 
-array-share-prefix-input : tie.Need-array-share-prefix-input
-array-share-prefix-input c = let s = c .before .before .before .before .before .before .before .before .before .before in let a = s .args in column-in (take (a .h) (a .work .now)) (a .group .now) (s .pre .3) (s .pre .1) (a .a) (s .pre .2) _ 128 (length-replicate {A = ℕ} 128 0) (omega arith) (c .before .before .before .before .before .copy-column .result) _ (c .before .before .before .before .before .copy-column .ensures) (c .before .before .column .given .0 .0) (c .before .before .column .given .1)
+array-share-prefix-few : tie.Need-array-share-prefix-few
+array-share-prefix-few c = let s = c .before .before .before .before .before .before .before .before .before .before in let a = s .args in column-in (take (a .h) (a .work .now)) (a .group .now) (s .pre .3) (s .pre .1) (a .a) (s .pre .2) _ 128 (length-replicate {A = ℕ} 128 0) (omega arith) (c .before .before .before .before .before .copy-column .result) _ (c .before .before .before .before .before .copy-column .ensures) (c .before .before .column .given .0 .0) (c .before .before .column .given .1)
 
 slice-aggregate-put : tie.Need-slice-aggregate-put
 slice-aggregate-put c = let s = c .before .before .before .before .before .before .before .before .before .before .before in let a = s .args in sym (length-take-le _ _ (column-in (take (a .h) (a .work .now)) (a .group .now) (s .pre .3) (s .pre .1) (a .a) (s .pre .2) _ 128 (length-replicate {A = ℕ} 128 0) (omega arith) (c .before .before .before .before .before .before .copy-column .result) _ (c .before .before .before .before .before .before .copy-column .ensures) (c .before .before .before .column .given .0 .0) (c .before .before .before .column .given .1)))
@@ -77,7 +77,7 @@ copy-arm-spec =
     sub-if1
     same-length-2
     returns-2
-    array-share-prefix-input
+    array-share-prefix-few
     slice-aggregate-put
     put-requires
     same-length-3
