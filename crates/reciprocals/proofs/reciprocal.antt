@@ -4,4 +4,3 @@ pub mod Binding
 pub mod Reading
 pub mod Made
 pub mod Whole
-pub mod Plain

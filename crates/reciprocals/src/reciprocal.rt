@@ -2,14 +2,13 @@
 // bound after it. The divisors stand in the words from before the first was bound.
 ghost use mathlib.Core.Path.{_≡_};
 ghost use mathlib.Core.List.{_++_};
-ghost use Prim.Native.Nat.{_+_, _-_, _≤_, _<_};
+ghost use Prim.Native.Nat.{_+_, _-_, _≤_};
 ghost use lib.ListN.{length, drop};
-ghost use lib.Dec.{T, leb};
-ghost use Rattle.reciprocals.specs.reciprocal.Bindings.{all-there, one-over, written-by, reciprocal-answer, differs, is-plain};
+ghost use lib.Dec.{T};
+ghost use Rattle.reciprocals.specs.reciprocal.Bindings.{all-there, one-over, reciprocal-answer};
 use crate::settle::Settled;
 use crate::settle::settle;
 use words::copying::copy;
-use words::layout::KINDS;
 use words::layout::QUOTIENT;
 use words::tokens::Run;
 use words::tokens::end_of;
@@ -22,15 +21,6 @@ const BESIDES: usize = 2;
 
 // The word of the constant 1.
 const ONE: u64 = 129;
-
-// The kinds below this are those of leaves.
-const LEAVES: u64 = 2;
-
-// How many words `1 / d` is for a leaf d.
-const PLAIN: usize = 3;
-
-// Where the first number and the number of places are at most this, every name has a word.
-const NUMBERS: u64 = 4294967296;
 
 pub enum Bound {
     // How many words the reciprocal is.
@@ -104,65 +94,11 @@ fn settle_quotient(base: &[u64], places: &[u64], first: u64, j: usize, out: &mut
     }
 }
 
-// Whether the first word at each of some places is another than w.
-fn differ(base: &[u64], places: &[u64], w: u64) -> bool
-    requires { ⌜ T (all-there (now base) (now places)) ⌝ }
-    ensures { λ r. ⌜ r ≡ differs (now (base .entry)) w (now (places .entry)) ⌝ }
-{
-    let mut k = 0;
-    while k < places.len() {
-        let place = places[k] as usize;
-        if base[place] == w {
-            return false;
-        }
-        k += 1;
-    }
-    true
-}
-
-// Whether the divisor of number j is one word, which no later one is: then nothing in `1 / d` is to be replaced.
-fn is_plain(base: &[u64], places: &[u64], first: u64, j: usize) -> bool
-    requires { ⌜ T (all-there (now base) (now places)) × (j < length (now places)) ⌝ }
-    ensures { λ r. ⌜ r ≡ is-plain (now (base .entry)) (now (places .entry)) first j ⌝ }
-{
-    if first > NUMBERS {
-        return false;
-    }
-    if places.len() as u64 > NUMBERS {
-        return false;
-    }
-    let place = places[j] as usize;
-    if base[place] % KINDS >= LEAVES {
-        return false;
-    }
-    differ(base, &places[j + 1..], base[place])
-}
-
-// Writes `1 / d` for a divisor that is one word.
-fn write_plain(base: &[u64], place: usize, out: &mut [u64]) -> Bound
-    requires { ⌜ place < length (now base) ⌝ }
-    ensures { λ r. ⌜ (r ≡ written-by (leb 3 (length (now (out .entry)))) (one-over (now (base .entry)) place 1) (now (out .entry)) .answer)
-        × (now (out .exit) ≡ written-by (leb 3 (length (now (out .entry)))) (one-over (now (base .entry)) place 1) (now (out .entry)) .out) ⌝ }
-{
-    if out.len() < PLAIN {
-        return Bound::NoRoom;
-    }
-    write_quotient(base, place, place + 1, out);
-    Bound::Words(PLAIN)
-}
-
-// Writes the reciprocal of the divisor number j, which is bound under `__x(first + j)`, to the front of out. Nearly every divisor is one word, and its reciprocal
-// is written as it is.
+// Writes the reciprocal of the divisor number j, which is bound under `__x(first + j)`, to the front of out.
 pub fn reciprocal(base: &[u64], places: &[u64], first: u64, j: usize, out: &mut [u64]) -> Bound
     requires { ⌜ T (all-there (now base) (now places)) ⌝ }
     ensures { λ r. ⌜ (r ≡ reciprocal-answer (now (base .entry)) (now (places .entry)) first j (now (out .entry)) .answer)
         × (now (out .exit) ≡ reciprocal-answer (now (base .entry)) (now (places .entry)) first j (now (out .entry)) .out) ⌝ }
 {
-    if j >= places.len() {
-        return Bound::Broken;
-    }
-    if is_plain(base, places, first, j) {
-        return write_plain(base, places[j] as usize, out);
-    }
     settle_quotient(base, places, first, j, out)
 }

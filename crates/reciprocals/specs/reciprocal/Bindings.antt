@@ -1,12 +1,12 @@
 -- The binding of one divisor's reciprocal as words (01, "Reciprocals"): the words of `1 / d` settled by the divisors after it, and what binding answers and
 -- leaves, by cases. Assumes nothing.
 use Prim.Native.Nat.{ℕ, _+_}
-use mathlib.Core.Bool.{Bool, true, false, not, _&&_}
+use mathlib.Core.Bool.{Bool, true, false, _&&_}
 use mathlib.Core.Option.{Option, none, some}
 use mathlib.Core.List.{List, [], _∷_, _++_}
 use lib.ListN.{length, getD, take, drop}
-use lib.Dec.{eqb, leb, ltb}
-use Rattle.spec_tree.specs.Tokens.{kind-of, run-at}
+use lib.Dec.{leb, ltb}
+use Rattle.spec_tree.specs.Tokens.{run-at}
 use Rattle.words.specs.words.Words.{some-trees}
 use Rattle.reciprocals.specs.settle.Steps.{settled-words}
 use Rattle.reciprocals.specs.settle.Answers.{room-for}
@@ -56,17 +56,3 @@ module _ (base places : List ℕ) (first j : ℕ) where
   unfoldable pub reciprocal-answer : List ℕ → Binding
   unfolding binding-by run-at
   reciprocal-answer old = binding-by (ltb j (length places)) (run-at base (getD places j 0)) old
-
--- ---- divisors that are one word
-
--- the first word at each place is another than w
-unfoldable pub differs : List ℕ → ℕ → List ℕ → Bool
-differs base w [] = true
-differs base w (place ∷ l) = not (eqb (getD base place 0) w) && differs base w l
-
--- the divisor of number j is a leaf, no later one is, and every name has a word
-unfoldable pub is-plain : List ℕ → List ℕ → ℕ → ℕ → Bool
-unfolding differs
-is-plain base places first j =
-    let w = getD base (getD places j 0) 0 in
-    (leb first 4294967296 && leb (length places) 4294967296) && (ltb (kind-of w) 2 && differs base w (drop (j + 1) places))
