@@ -17,6 +17,7 @@ use reciprocals::reciprocal::all_there;
 use reciprocals::reciprocal::reciprocal;
 use reciprocals::settle::Settled;
 use reciprocals::settle::settle;
+use rounds::value_numbers::reset;
 use topo_sort::Ordered;
 use topo_sort::links::link_stmt;
 use topo_sort::links::order_linked;
@@ -41,13 +42,16 @@ const FEW: usize = 64;
 
 const FEW_LINKS: usize = 1024;
 
-// The words of a row of a table of bits, and of a table with a row for each of the most bindings.
+// The words of a row of a table of bits.
 const ROW: usize = 32;
-
-const BITS: usize = 32768;
 
 // The most words of a tree: a reciprocal has two besides its divisor's.
 const TREE: usize = 1026;
+
+// Few words, or so many bindings, and the most words of a tree among them.
+const FEW_WORDS: usize = 256;
+
+const FEW_TREE: usize = 258;
 
 // Bindings that need each other, and an answer of more rows than lent.
 const RING: u64 = 11;
@@ -95,7 +99,7 @@ fn take_settled(
     tree: &mut [u64],
 ) -> usize
     requires { ⌜ Ready (now tokens) (now settled) (now starts) (now places) results ⌝ }
-    requires { ⌜ (i < length (now starts)) × (1026 ≤ length (now tree)) ⌝ }
+    requires { ⌜ (i < length (now starts)) × (length (now tokens) + 2 ≤ length (now tree)) ⌝ }
     ensures { λ r. ⌜ Stands (final-run results (now (places .entry)) (now (tokens .entry)) i) (now (tree .exit)) r ⌝ }
 {
     let at = starts[i] as usize;
@@ -115,7 +119,7 @@ fn take_reciprocal(
     tree: &mut [u64],
 ) -> usize
     requires { ⌜ Ready (now tokens) (now settled) (now starts) (now places) results ⌝ }
-    requires { ⌜ (j < length (now places)) × (1026 ≤ length (now tree)) ⌝ }
+    requires { ⌜ (j < length (now places)) × (length (now tokens) + 2 ≤ length (now tree)) ⌝ }
     ensures { λ r. ⌜ Stands (final-run results (now (places .entry)) (now (tokens .entry)) (length (now (starts .entry)) + j)) (now (tree .exit)) r ⌝ }
 {
     let first = (starts.len() - results) as u64;
@@ -138,7 +142,7 @@ fn take_tree(
     tree: &mut [u64],
 ) -> usize
     requires { ⌜ Ready (now tokens) (now settled) (now starts) (now places) results ⌝ }
-    requires { ⌜ (i < length (now starts) + length (now places)) × (1026 ≤ length (now tree)) ⌝ }
+    requires { ⌜ (i < length (now starts) + length (now places)) × (length (now tokens) + 2 ≤ length (now tree)) ⌝ }
     ensures { λ r. ⌜ Stands (final-run results (now (places .entry)) (now (tokens .entry)) i) (now (tree .exit)) r ⌝ }
 {
     if i < starts.len() {
@@ -167,7 +171,7 @@ fn mark_one(
     bits: &mut [u64],
 )
     requires { ⌜ Ready (now tokens) (now settled) (now starts) (now places) results ⌝ }
-    requires { ⌜ (j < (length (now starts) - results) + length (now places)) × (1026 ≤ length (now tree)) ⌝ }
+    requires { ⌜ (j < (length (now starts) - results) + length (now places)) × (length (now tokens) + 2 ≤ length (now tree)) ⌝ }
     ensures { λ _. ⌜ now (bits .exit) ≡ with-needs (binding-run results (now (places .entry)) (now (tokens .entry)) j) j (now (bits .entry)) ⌝ }
 {
     let n = take_tree(tokens, settled, starts, places, results, results + j, tree);
@@ -186,7 +190,7 @@ fn mark_all(
     bits: &mut [u64],
 )
     requires { ⌜ Ready (now tokens) (now settled) (now starts) (now places) results ⌝ }
-    requires { ⌜ (count ≤ (length (now starts) - results) + length (now places)) × (1026 ≤ length (now tree)) ⌝ }
+    requires { ⌜ (count ≤ (length (now starts) - results) + length (now places)) × (length (now tokens) + 2 ≤ length (now tree)) ⌝ }
     ensures { λ _. ⌜ now (bits .exit) ≡ marks (binding-run results (now (places .entry)) (now (tokens .entry))) count (now (bits .entry)) ⌝ }
 {
     let mut j = 0;
@@ -211,7 +215,7 @@ fn link_one(
     n: usize,
 ) -> usize
     requires { ⌜ Ready (now tokens) (now settled) (now starts) (now places) results ⌝ }
-    requires { ⌜ (j < (length (now starts) - results) + length (now places)) × (1026 ≤ length (now tree)) ⌝ }
+    requires { ⌜ (j < (length (now starts) - results) + length (now places)) × (length (now tokens) + 2 ≤ length (now tree)) ⌝ }
     requires { ⌜ Lent (length (now heads)) n (now heads) (now links) (now waiting) × (j < length (now heads)) ⌝ }
     ensures { λ r. ⌜ (r ≤ length (now (links .entry)) → Stmt-linked (binding-run results (now (places .entry)) (now (tokens .entry)) j) (length (now (heads .entry))) j
         (now (heads .entry)) (now (links .entry)) (now (waiting .entry)) r (now (heads .exit)) (now (links .exit)) (now (waiting .exit))) ⌝ }
@@ -240,7 +244,7 @@ fn link_all(
     waiting: &mut [u64],
 ) -> bool
     requires { ⌜ Ready (now tokens) (now settled) (now starts) (now places) results ⌝ }
-    requires { ⌜ (length (now heads) ≡ (length (now starts) - results) + length (now places)) × (1026 ≤ length (now tree)) ⌝ }
+    requires { ⌜ (length (now heads) ≡ (length (now starts) - results) + length (now places)) × (length (now tokens) + 2 ≤ length (now tree)) ⌝ }
     requires { ⌜ (length (now links) ≤ 65536) × (length (now heads) ≤ length (now waiting)) ⌝ }
     requires { ⌜ now heads ≡ replicate (length (now heads)) 0 ⌝ }
     ensures { λ r. ⌜ (r ≡ true → Linked (needs-of results (now (places .entry)) (now (tokens .entry)) (length (now (heads .entry)))) (length (now (heads .entry)))
@@ -284,7 +288,7 @@ fn order_in(
 ) -> Ordered
     requires { ⌜ Ready (now tokens) (now settled) (now starts) (now places) results ⌝ }
     requires { ⌜ (count ≡ (length (now starts) - results) + length (now places)) × (count ≤ length (now taken)) ⌝ }
-    requires { ⌜ (now bits ≡ replicate (32 * count) 0) × (1026 ≤ length (now tree)) ⌝ }
+    requires { ⌜ (now bits ≡ replicate (32 * count) 0) × (length (now tokens) + 2 ≤ length (now tree)) ⌝ }
     ensures { λ r. ⌜ In-order (final-order results (now (places .entry)) (now (tokens .entry)) count) count (now (taken .entry)) (now (taken .exit)) r ⌝ }
 {
     let mut waiting = [0u64; MOST];
@@ -293,7 +297,7 @@ fn order_in(
     order(bits, count, &mut waiting, &mut stack, taken)
 }
 
-// The same with a table of its own.
+// The same with a table in the work area, which has room for the most bindings.
 fn order_by_bits(
     tokens: &[u64],
     settled: &[u64],
@@ -302,15 +306,16 @@ fn order_by_bits(
     results: usize,
     count: usize,
     tree: &mut [u64],
+    work: &mut [u64],
     taken: &mut [u64],
 ) -> Ordered
     requires { ⌜ Ready (now tokens) (now settled) (now starts) (now places) results ⌝ }
     requires { ⌜ (count ≡ (length (now starts) - results) + length (now places)) × (count ≤ length (now taken)) ⌝ }
-    requires { ⌜ 1026 ≤ length (now tree) ⌝ }
+    requires { ⌜ (length (now tokens) + 2 ≤ length (now tree)) × (32768 ≤ length (now work)) ⌝ }
     ensures { λ r. ⌜ In-order (final-order results (now (places .entry)) (now (tokens .entry)) count) count (now (taken .entry)) (now (taken .exit)) r ⌝ }
 {
-    let mut bits = [0u64; BITS];
     let end = ROW * count;
+    reset(work, end, 0);
     order_in(
         tokens,
         settled,
@@ -319,7 +324,7 @@ fn order_by_bits(
         results,
         count,
         tree,
-        &mut bits[..end],
+        &mut work[..end],
         taken,
     )
 }
@@ -336,13 +341,14 @@ fn order_with(
     links: &mut [u64],
     waiting: &mut [u64],
     stack: &mut [u64],
+    work: &mut [u64],
     taken: &mut [u64],
 ) -> Ordered
     requires { ⌜ Ready (now tokens) (now settled) (now starts) (now places) results ⌝ }
-    requires { ⌜ (length (now heads) ≡ (length (now starts) - results) + length (now places)) × (1026 ≤ length (now tree)) ⌝ }
+    requires { ⌜ (length (now heads) ≡ (length (now starts) - results) + length (now places)) × (length (now tokens) + 2 ≤ length (now tree)) ⌝ }
     requires { ⌜ (length (now links) ≤ 65536) × (length (now heads) ≤ length (now waiting)) ⌝ }
     requires { ⌜ (length (now heads) ≤ length (now stack)) × (length (now heads) ≤ length (now taken)) ⌝ }
-    requires { ⌜ now heads ≡ replicate (length (now heads)) 0 ⌝ }
+    requires { ⌜ (now heads ≡ replicate (length (now heads)) 0) × (32768 ≤ length (now work)) ⌝ }
     ensures { λ r. ⌜ In-order (final-order results (now (places .entry)) (now (tokens .entry)) (length (now (heads .entry)))) (length (now (heads .entry))) (now (taken .entry)) (now (taken .exit)) r ⌝ }
 {
     let count = heads.len();
@@ -360,7 +366,17 @@ fn order_with(
     if room {
         return order_linked(heads, links, count, waiting, stack, taken);
     }
-    order_by_bits(tokens, settled, starts, places, results, count, tree, taken)
+    order_by_bits(
+        tokens,
+        settled,
+        starts,
+        places,
+        results,
+        count,
+        tree,
+        work,
+        taken,
+    )
 }
 
 // The same in arrays for any number of bindings.
@@ -372,11 +388,12 @@ fn order_many(
     results: usize,
     count: usize,
     tree: &mut [u64],
+    work: &mut [u64],
     taken: &mut [u64],
 ) -> Ordered
     requires { ⌜ Ready (now tokens) (now settled) (now starts) (now places) results ⌝ }
     requires { ⌜ (count ≡ (length (now starts) - results) + length (now places)) × (count ≤ length (now taken)) ⌝ }
-    requires { ⌜ 1026 ≤ length (now tree) ⌝ }
+    requires { ⌜ (length (now tokens) + 2 ≤ length (now tree)) × (32768 ≤ length (now work)) ⌝ }
     ensures { λ r. ⌜ In-order (final-order results (now (places .entry)) (now (tokens .entry)) count) count (now (taken .entry)) (now (taken .exit)) r ⌝ }
 {
     let mut heads = [0u64; MOST];
@@ -394,6 +411,7 @@ fn order_many(
         &mut links,
         &mut waiting,
         &mut stack,
+        work,
         taken,
     )
 }
@@ -407,11 +425,12 @@ fn order_few(
     results: usize,
     count: usize,
     tree: &mut [u64],
+    work: &mut [u64],
     taken: &mut [u64],
 ) -> Ordered
     requires { ⌜ Ready (now tokens) (now settled) (now starts) (now places) results ⌝ }
     requires { ⌜ (count ≡ (length (now starts) - results) + length (now places)) × (count ≤ length (now taken)) ⌝ }
-    requires { ⌜ (1026 ≤ length (now tree)) × (count ≤ 64) ⌝ }
+    requires { ⌜ (length (now tokens) + 2 ≤ length (now tree)) × (count ≤ 64) × (32768 ≤ length (now work)) ⌝ }
     ensures { λ r. ⌜ In-order (final-order results (now (places .entry)) (now (tokens .entry)) count) count (now (taken .entry)) (now (taken .exit)) r ⌝ }
 {
     let mut heads = [0u64; FEW];
@@ -429,6 +448,7 @@ fn order_few(
         &mut links,
         &mut waiting,
         &mut stack,
+        work,
         taken,
     )
 }
@@ -442,17 +462,38 @@ fn take_in_order(
     results: usize,
     count: usize,
     tree: &mut [u64],
+    work: &mut [u64],
     taken: &mut [u64],
 ) -> Ordered
     requires { ⌜ Ready (now tokens) (now settled) (now starts) (now places) results ⌝ }
     requires { ⌜ (count ≡ (length (now starts) - results) + length (now places)) × (count ≤ length (now taken)) ⌝ }
-    requires { ⌜ 1026 ≤ length (now tree) ⌝ }
+    requires { ⌜ (length (now tokens) + 2 ≤ length (now tree)) × (32768 ≤ length (now work)) ⌝ }
     ensures { λ r. ⌜ In-order (final-order results (now (places .entry)) (now (tokens .entry)) count) count (now (taken .entry)) (now (taken .exit)) r ⌝ }
 {
     if count <= FEW {
-        return order_few(tokens, settled, starts, places, results, count, tree, taken);
+        return order_few(
+            tokens,
+            settled,
+            starts,
+            places,
+            results,
+            count,
+            tree,
+            work,
+            taken,
+        );
     }
-    order_many(tokens, settled, starts, places, results, count, tree, taken)
+    order_many(
+        tokens,
+        settled,
+        starts,
+        places,
+        results,
+        count,
+        tree,
+        work,
+        taken,
+    )
 }
 
 // The row that entry q of the answer begins with: the bindings in order, and then the results.
@@ -490,7 +531,7 @@ fn count_words(
     tree: &mut [u64],
 ) -> usize
     requires { ⌜ Ready (now tokens) (now settled) (now starts) (now places) results ⌝ }
-    requires { ⌜ (i < length (now starts) + length (now places)) × (1026 ≤ length (now tree)) ⌝ }
+    requires { ⌜ (i < length (now starts) + length (now places)) × (length (now tokens) + 2 ≤ length (now tree)) ⌝ }
     ensures { λ r. ⌜ r ≡ length (final-run results (now (places .entry)) (now (tokens .entry)) i) ⌝ }
 {
     if i < starts.len() {
@@ -521,7 +562,7 @@ fn entry_rows(
 ) -> usize
     requires { ⌜ Ready (now tokens) (now settled) (now starts) (now places) results ⌝ }
     requires { ⌜ Positions (now taken) ((length (now starts) - results) + length (now places)) ⌝ }
-    requires { ⌜ (q < length (now taken) + results) × (1026 ≤ length (now tree)) ⌝ }
+    requires { ⌜ (q < length (now taken) + results) × (length (now tokens) + 2 ≤ length (now tree)) ⌝ }
     ensures { λ r. ⌜ (r ≡ length (entry results (now (places .entry)) (now (tokens .entry)) (now (taken .entry)) q)) × (r ≤ 1027) ⌝ }
 {
     let count = starts.len() - results + places.len();
@@ -541,7 +582,7 @@ fn count_rows(
 ) -> usize
     requires { ⌜ Ready (now tokens) (now settled) (now starts) (now places) results ⌝ }
     requires { ⌜ Positions (now taken) ((length (now starts) - results) + length (now places)) ⌝ }
-    requires { ⌜ 1026 ≤ length (now tree) ⌝ }
+    requires { ⌜ length (now tokens) + 2 ≤ length (now tree) ⌝ }
     ensures { λ r. ⌜ r ≡ length (entries results (now (places .entry)) (now (tokens .entry)) (now (taken .entry)) (length (now (taken .entry)) + results)) ⌝ }
 {
     let mut rows = 0;
@@ -566,7 +607,7 @@ fn put_tree(
     table: &mut [u64],
 ) -> usize
     requires { ⌜ Ready (now tokens) (now settled) (now starts) (now places) results ⌝ }
-    requires { ⌜ (i < length (now starts) + length (now places)) × (1026 ≤ length (now tree)) ⌝ }
+    requires { ⌜ (i < length (now starts) + length (now places)) × (length (now tokens) + 2 ≤ length (now tree)) ⌝ }
     requires { ⌜ at + length (final-run results (now places) (now tokens) i) ≤ length (now table) ⌝ }
     ensures { λ r. ⌜ (r ≡ at + length (final-run results (now (places .entry)) (now (tokens .entry)) i))
         × (now (table .exit) ≡ take at (now (table .entry)) ++ (final-run results (now (places .entry)) (now (tokens .entry)) i
@@ -599,7 +640,7 @@ fn write_entry(
 ) -> usize
     requires { ⌜ Ready (now tokens) (now settled) (now starts) (now places) results ⌝ }
     requires { ⌜ Positions (now taken) ((length (now starts) - results) + length (now places)) ⌝ }
-    requires { ⌜ 1026 ≤ length (now tree) ⌝ }
+    requires { ⌜ length (now tokens) + 2 ≤ length (now tree) ⌝ }
     requires { ⌜ (q < length (now taken) + results) × (at + length (entry results (now places) (now tokens) (now taken) q) ≤ length (now table)) ⌝ }
     ensures { λ r. ⌜ (r ≡ at + length (entry results (now (places .entry)) (now (tokens .entry)) (now (taken .entry)) q))
         × (now (table .exit) ≡ take at (now (table .entry)) ++ (entry results (now (places .entry)) (now (tokens .entry)) (now (taken .entry)) q
@@ -634,7 +675,7 @@ fn write_rows(
 )
     requires { ⌜ Ready (now tokens) (now settled) (now starts) (now places) results ⌝ }
     requires { ⌜ Positions (now taken) ((length (now starts) - results) + length (now places)) ⌝ }
-    requires { ⌜ 1026 ≤ length (now tree) ⌝ }
+    requires { ⌜ length (now tokens) + 2 ≤ length (now tree) ⌝ }
     requires { ⌜ length (entries results (now places) (now tokens) (now taken) (length (now taken) + results)) ≤ length (now table) ⌝ }
     ensures { λ _. ⌜ now (table .exit) ≡ entries results (now (places .entry)) (now (tokens .entry)) (now (taken .entry)) (length (now (taken .entry)) + results)
         ++ drop (length (entries results (now (places .entry)) (now (tokens .entry)) (now (taken .entry)) (length (now (taken .entry)) + results))) (now (table .entry)) ⌝ }
@@ -671,7 +712,7 @@ fn write_answer(
 ) -> Finished
     requires { ⌜ Ready (now tokens) (now settled) (now starts) (now places) results ⌝ }
     requires { ⌜ Positions (now taken) ((length (now starts) - results) + length (now places)) ⌝ }
-    requires { ⌜ 1026 ≤ length (now tree) ⌝ }
+    requires { ⌜ length (now tokens) + 2 ≤ length (now tree) ⌝ }
     ensures { λ r. ⌜ (r ≡ finish-outcome (lent-rows (length (now (table .entry))) (entries results (now (places .entry)) (now (tokens .entry)) (now (taken .entry)) (length (now (taken .entry)) + results)) (length (now (starts .entry)) - results)) (now (table .entry)) .answer)
         × (now (table .exit) ≡ finish-outcome (lent-rows (length (now (table .entry))) (entries results (now (places .entry)) (now (tokens .entry)) (now (taken .entry)) (length (now (taken .entry)) + results)) (length (now (starts .entry)) - results)) (now (table .entry)) .table) ⌝ }
 {
@@ -690,14 +731,16 @@ fn finish_settled(
     starts: &[u64],
     places: &[u64],
     results: usize,
+    tree: &mut [u64],
+    taken: &mut [u64],
+    work: &mut [u64],
     table: &mut [u64],
 ) -> Finished
-    requires { ⌜ Ready (now tokens) (now settled) (now starts) (now places) results ⌝ }
+    requires { ⌜ Ready (now tokens) (now settled) (now starts) (now places) results × (length (now tokens) + 2 ≤ length (now tree)) ⌝ }
+    requires { ⌜ ((length (now starts) - results) + length (now places) ≤ length (now taken)) × (32768 ≤ length (now work)) ⌝ }
     ensures { λ r. ⌜ (r ≡ finish-outcome (final-rows (length (now (table .entry))) results (now (places .entry)) (now (tokens .entry))) (now (table .entry)) .answer)
         × (now (table .exit) ≡ finish-outcome (final-rows (length (now (table .entry))) results (now (places .entry)) (now (tokens .entry))) (now (table .entry)) .table) ⌝ }
 {
-    let mut tree = [0u64; TREE];
-    let mut taken = [0u64; MOST];
     let count = starts.len() - results + places.len();
     let ordered = take_in_order(
         tokens,
@@ -706,8 +749,9 @@ fn finish_settled(
         places,
         results,
         count,
-        &mut tree,
-        &mut taken,
+        tree,
+        work,
+        taken,
     );
     match ordered {
         Ordered::All => {
@@ -718,7 +762,7 @@ fn finish_settled(
                 places,
                 results,
                 &taken[..count],
-                &mut tree,
+                tree,
                 table,
             )
         }
@@ -736,7 +780,7 @@ fn settle_all(
     settled: &mut [u64],
 ) -> usize
     requires { ⌜ There (now tokens) results trees (now places) ⌝ }
-    requires { ⌜ length (now settled) ≡ 1024 ⌝ }
+    requires { ⌜ length (now tokens) ≤ length (now settled) ⌝ }
     ensures { λ r. ⌜ Settled-front (now (tokens .entry)) results trees (now (places .entry)) (now (settled .exit)) r ⌝ }
 {
     put(tokens, 0, settled);
@@ -750,34 +794,135 @@ fn settle_all(
 }
 
 // Settles the trees from before, and lists where each begins.
-fn finish_there(
+fn finish_with(
     tokens: &[u64],
     results: usize,
     trees: usize,
     places: &[u64],
+    settled: &mut [u64],
+    starts: &mut [u64],
+    tree: &mut [u64],
+    taken: &mut [u64],
+    work: &mut [u64],
     table: &mut [u64],
 ) -> Finished
-    requires { ⌜ There (now tokens) results trees (now places) ⌝ }
+    requires { ⌜ There (now tokens) results trees (now places) × (length (now tokens) ≤ length (now settled)) ⌝ }
+    requires { ⌜ (length (now tokens) ≤ length (now starts)) × (length (now tokens) + 2 ≤ length (now tree)) ⌝ }
+    requires { ⌜ ((trees - results) + length (now places) ≤ length (now taken)) × (32768 ≤ length (now work)) ⌝ }
     ensures { λ r. ⌜ (r ≡ finish-outcome (final-rows (length (now (table .entry))) results (now (places .entry)) (now (tokens .entry))) (now (table .entry)) .answer)
         × (now (table .exit) ≡ finish-outcome (final-rows (length (now (table .entry))) results (now (places .entry)) (now (tokens .entry))) (now (table .entry)) .table) ⌝ }
 {
-    let mut settled = [0u64; MOST];
-    let mut starts = [0u64; MOST];
-    let n = settle_all(tokens, results, trees, places, &mut settled);
-    list_trees(&settled[..n], &mut starts);
+    let n = settle_all(tokens, results, trees, places, settled);
+    list_trees(&settled[..n], starts);
     finish_settled(
         tokens,
         &settled[..n],
         &starts[..trees],
         places,
         results,
+        tree,
+        taken,
+        work,
         table,
     )
 }
 
+// The same for few words and few bindings, so that most lists needn't clear the large arrays.
+fn finish_few(
+    tokens: &[u64],
+    results: usize,
+    trees: usize,
+    places: &[u64],
+    work: &mut [u64],
+    table: &mut [u64],
+) -> Finished
+    requires { ⌜ There (now tokens) results trees (now places) × (length (now tokens) ≤ 256) ⌝ }
+    requires { ⌜ ((trees - results) + length (now places) ≤ 256) × (32768 ≤ length (now work)) ⌝ }
+    ensures { λ r. ⌜ (r ≡ finish-outcome (final-rows (length (now (table .entry))) results (now (places .entry)) (now (tokens .entry))) (now (table .entry)) .answer)
+        × (now (table .exit) ≡ finish-outcome (final-rows (length (now (table .entry))) results (now (places .entry)) (now (tokens .entry))) (now (table .entry)) .table) ⌝ }
+{
+    let mut settled = [0u64; FEW_WORDS];
+    let mut starts = [0u64; FEW_WORDS];
+    let mut tree = [0u64; FEW_TREE];
+    let mut taken = [0u64; FEW_WORDS];
+    finish_with(
+        tokens,
+        results,
+        trees,
+        places,
+        &mut settled,
+        &mut starts,
+        &mut tree,
+        &mut taken,
+        work,
+        table,
+    )
+}
+
+// The same for the most words and bindings.
+fn finish_many(
+    tokens: &[u64],
+    results: usize,
+    trees: usize,
+    places: &[u64],
+    work: &mut [u64],
+    table: &mut [u64],
+) -> Finished
+    requires { ⌜ There (now tokens) results trees (now places) × (32768 ≤ length (now work)) ⌝ }
+    ensures { λ r. ⌜ (r ≡ finish-outcome (final-rows (length (now (table .entry))) results (now (places .entry)) (now (tokens .entry))) (now (table .entry)) .answer)
+        × (now (table .exit) ≡ finish-outcome (final-rows (length (now (table .entry))) results (now (places .entry)) (now (tokens .entry))) (now (table .entry)) .table) ⌝ }
+{
+    let mut settled = [0u64; MOST];
+    let mut starts = [0u64; MOST];
+    let mut tree = [0u64; TREE];
+    let mut taken = [0u64; MOST];
+    finish_with(
+        tokens,
+        results,
+        trees,
+        places,
+        &mut settled,
+        &mut starts,
+        &mut tree,
+        &mut taken,
+        work,
+        table,
+    )
+}
+
+// The end where the trees and the divisors are there.
+fn finish_there(
+    tokens: &[u64],
+    results: usize,
+    trees: usize,
+    places: &[u64],
+    work: &mut [u64],
+    table: &mut [u64],
+) -> Finished
+    requires { ⌜ There (now tokens) results trees (now places) × (32768 ≤ length (now work)) ⌝ }
+    ensures { λ r. ⌜ (r ≡ finish-outcome (final-rows (length (now (table .entry))) results (now (places .entry)) (now (tokens .entry))) (now (table .entry)) .answer)
+        × (now (table .exit) ≡ finish-outcome (final-rows (length (now (table .entry))) results (now (places .entry)) (now (tokens .entry))) (now (table .entry)) .table) ⌝ }
+{
+    let count = trees - results + places.len();
+    if tokens.len() > FEW_WORDS {
+        return finish_many(tokens, results, trees, places, work, table);
+    }
+    if count > FEW_WORDS {
+        return finish_many(tokens, results, trees, places, work, table);
+    }
+    finish_few(tokens, results, trees, places, work, table)
+}
+
 // The words of all trees are `results` results, then the bindings by number from 0 on; the divisors to bind stand at the places, in order. The answer's rows stand
 // in front of what was in the table; unless the answer is Rows, nothing is written.
-pub fn finish(tokens: &[u64], results: usize, places: &[u64], table: &mut [u64]) -> Finished
+pub fn finish(
+    tokens: &[u64],
+    results: usize,
+    places: &[u64],
+    work: &mut [u64],
+    table: &mut [u64],
+) -> Finished
+    requires { ⌜ 32768 ≤ length (now work) ⌝ }
     ensures { λ r. ⌜ (r ≡ finishing (now (tokens .entry)) results (now (places .entry)) (now (table .entry)) .answer)
         × (now (table .exit) ≡ finishing (now (tokens .entry)) results (now (places .entry)) (now (table .entry)) .table) ⌝ }
 {
@@ -796,5 +941,5 @@ pub fn finish(tokens: &[u64], results: usize, places: &[u64], table: &mut [u64])
     if places.len() > MOST - (trees - results) {
         return Finished::NoRoom;
     }
-    finish_there(tokens, results, trees, places, table)
+    finish_there(tokens, results, trees, places, work, table)
 }

@@ -81,14 +81,15 @@ fn finish_flat(
     results: usize,
     places: &[u64],
     made: usize,
+    work: &mut [u64],
     table: &mut [u64],
 ) -> Extraction
     requires { ⌜ T (trees-there (now tokens) results (now places)) × T (room-for (now tokens) results (now places)) ⌝ }
-    requires { ⌜ made ≡ length (drop results (read numbered (now tokens))) ⌝ }
+    requires { ⌜ (made ≡ length (drop results (read numbered (now tokens)))) × (32768 ≤ length (now work)) ⌝ }
     ensures { λ r. ⌜ (r ≡ extraction-answer (final-rows (length (now (table .entry))) results (now (places .entry)) (now (tokens .entry))))
         × (now (table .exit) ≡ table-after (final-rows (length (now (table .entry))) results (now (places .entry)) (now (tokens .entry))) (now (table .entry))) ⌝ }
 {
-    let finished = finish(tokens, results, places, table);
+    let finished = finish(tokens, results, places, work, table);
     match finished {
         Finished::Rows(n) => Extraction::Rows(n, made),
         Finished::Refused(number) => Extraction::Refused(number),
@@ -97,24 +98,25 @@ fn finish_flat(
     }
 }
 
-// The flat form after 8, with the part of the work area that holds the words of the trees.
+// The flat form after 8. The work area is free for the end, since the words of the trees stand apart.
 fn extract_flat(
     rows: &[u64],
     roots: &[u64],
-    tokens: &mut [u64],
+    work: &mut [u64],
     text: &mut [u8],
     table: &mut [u64],
 ) -> Extraction
-    requires { ⌜ (1024 ≤ length (now tokens)) × (131072 ≤ length (now text)) ⌝ }
+    requires { ⌜ (32768 ≤ length (now work)) × (131072 ≤ length (now text)) ⌝ }
     ensures { λ r. ⌜ (r ≡ extraction-answer (extract-from false (now (rows .entry)) (now (roots .entry)) (length (now (table .entry)))))
         × (now (table .exit) ≡ table-after (extract-from false (now (rows .entry)) (now (roots .entry)) (length (now (table .entry)))) (now (table .entry))) ⌝ }
 {
+    let mut tokens = [0u64; MOST];
     let mut places = [0u64; MOST];
-    let unfolded = unfold(rows, roots, tokens);
+    let unfolded = unfold(rows, roots, &mut tokens);
     let Unfolded::Tokens(len) = unfolded else {
         return Extraction::Refused(BAD_ROWS);
     };
-    let listed = extract_and_list(rows, tokens, len, false, 0, text, &mut places);
+    let listed = extract_and_list(rows, &mut tokens, len, false, 0, text, &mut places);
     let Listed::Words(words, made, divisors) = listed else {
         return Extraction::Refused(BAD_COEFFICIENT);
     };
@@ -123,6 +125,7 @@ fn extract_flat(
         roots.len(),
         &places[..divisors],
         made,
+        work,
         table,
     )
 }
@@ -142,5 +145,5 @@ pub fn cse(
     if is_short(work.len(), text.len()) {
         return Extraction::Refused(SHORT_WORK);
     }
-    extract_flat(rows, roots, &mut work[..MOST], text, table)
+    extract_flat(rows, roots, work, text, table)
 }

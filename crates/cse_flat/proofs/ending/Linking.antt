@@ -1,14 +1,15 @@
 -- The bindings linked from the last to the first, and the order that the links give. Assumes nothing.
-use Prim.Native.Nat.{ℕ, _+_, _-_, _*_, _≤_, _<_}
+use Prim.Native.Nat.{ℕ, zero, suc, _+_, _-_, _*_, _≤_, _<_}
 use native.Mathlib.Omega.{arith}
 use mathlib.Core.Path.{_≡_, refl, sym, _∙_, ap, subst}
 use mathlib.Core.Bool.{true, false}
-use mathlib.Core.List.{List}
-use lib.ListN.{length, getD, replicate, getD-replicate}
+use mathlib.Core.List.{List, [], _∷_}
+use lib.ListN.{length, getD, take, replicate, getD-replicate}
 use Rattle.topo_sort.specs.Needs.{order-answer, order-written}
 use Rattle.topo_sort.specs.declared.Ordered.{Ordered}
 use Rattle.topo_sort.specs.links.Links.{Chain, needing, Linking, Says, Lent, Stmt-linked, Linked, Orders-linked}
 use Rattle.topo_sort.proofs.links.Making.{linking-begins}
+use Rattle.rounds.specs.value_numbers.Tables.{Reset}
 use Rattle.reciprocals.specs.final.Entries.{final-run}
 use Rattle.reciprocals.specs.final.Ready.{binding-run, final-order, In-order}
 use Rattle.reciprocals.proofs.final.Marking.{marked-yes}
@@ -84,3 +85,15 @@ module _ (k : ℕ) (places ws : List ℕ) (count : ℕ) where
 pub same-order :
     (k : ℕ) (places ws : List ℕ) (a b : ℕ) (taken new : List ℕ) (r : Ordered) → a ≡ b → In-order (final-order k places ws a) a taken new r → In-order (final-order k places ws b) b taken new r
 same-order k places ws a b taken new r = subst (λ (n : ℕ). In-order (final-order k places ws n) n taken new r)
+
+-- a table of which the first n words were cleared begins with as many zeros
+pub cleared-front : (old : List ℕ) (n : ℕ) (new : List ℕ) → Reset old n 0 new → n ≤ length new → take n new ≡ replicate n 0
+cleared-front old n new r h = zeros-front-of n new h (r .each)
+  where
+    zeros-front-of : (m : ℕ) (l : List ℕ) → m ≤ length l → ((q : ℕ) → q < m → getD l q 0 ≡ 0) → take m l ≡ replicate m 0
+    zeros-front-of zero l g e = refl
+    zeros-front-of (suc m) [] g e = absurd (omega (arith, g))
+    zeros-front-of (suc m) (x ∷ l) g e =
+        let rest : take m l ≡ replicate m 0 = zeros-front-of m l (omega (arith, g)) (λ q f. e (suc q) (omega (arith, f))) in
+        let here : x ≡ 0 = e 0 (omega arith) in
+        cc

@@ -36,16 +36,16 @@ module _ {ws : List ℕ} {k m : ℕ} {places : List ℕ} (t : There ws k m place
 
   -- ---- settled
 
-  module _ (old mid : List ℕ) (long : length old ≡ 1024) (copy : Put old 0 ws mid) where
+  module _ (old mid : List ℕ) (long : length ws ≤ length old) (copy : Put old 0 ws mid) where
     copied : take (length ws) mid ≡ ws
     copied = ap (take (length ws)) copy ∙ take-at ws (drop (0 + length ws) old) (length ws) refl
 
-    mid-long : length mid ≡ 1024
-    mid-long = put-long old 0 ws mid (omega (arith, t .few)) copy ∙ long
+    mid-long : length ws ≤ length mid
+    mid-long = omega (arith, put-long old 0 ws mid (omega (arith, long)) copy, long)
 
     settling-so : settling ws places 0 (m - k) mid (length ws) ≡ record { answer = settled.Words (length S); out = S ++ drop (length S) mid }
     settling-so =
-        first-settled ws places places-there (m - k) m (t .complete) mid copied (omega (arith, mid-long, t .few)) (omega (arith, t .few)) (omega (arith, t .numbers)) (omega (arith, t .numbers))
+        first-settled ws places places-there (m - k) m (t .complete) mid copied (omega (arith, mid-long)) (omega (arith, t .few)) (omega (arith, t .numbers)) (omega (arith, t .numbers))
 
     pub settled-front :
         (n : ℕ) (out : List ℕ) → settled.Words n ≡ settling ws places 0 (m - k) mid (length ws) .answer → out ≡ settling ws places 0 (m - k) mid (length ws) .out
@@ -58,7 +58,7 @@ module _ {ws : List ℕ} {k m : ℕ} {places : List ℕ} (t : There ws k m place
         record {
           settled-is = S-is ∙ ap some (sym (ap (take n) o ∙ take-at S (drop (length S) mid) n (sym p)));
           inside = omega (arith, p, ap length o, length-append S (drop (length S) mid));
-          short = omega (arith, p, l, t .few);
+          short = omega (arith, p, l);
         }
 
     pub settled-always : (b : Settled) → b ≡ settling ws places 0 (m - k) mid (length ws) .answer → (b ≡ settled.Broken → ⊥) × (b ≡ settled.NoRoom → ⊥)
@@ -77,7 +77,7 @@ module _ {ws : List ℕ} {k m : ℕ} {places : List ℕ} (t : There ws k m place
   starts-long : length (starts-of S) ≡ m
   starts-long = starts-count S m (first-complete ws places places-there (m - k) m (t .complete))
 
-  ready-so : length S ≤ 1024 → Ready ws S (starts-of S) places k
+  ready-so : length S ≤ length ws → Ready ws S (starts-of S) places k
   ready-so h =
       let l = starts-long in
       record {
@@ -91,19 +91,19 @@ module _ {ws : List ℕ} {k m : ℕ} {places : List ℕ} (t : There ws k m place
         starts-are = refl;
       }
 
-  pub trees-few : m ≤ 1024
-  trees-few = omega (arith, complete-within ws m (t .complete), t .few)
+  pub trees-many : m ≤ length ws
+  trees-many = complete-within ws m (t .complete)
 
   pub ready-is :
-      (out : List ℕ) (n : ℕ) → Settled-front ws k m places out n → (old starts : List ℕ) → length old ≡ 1024 → starts ≡ tree-listing (take n out) old .out
+      (out : List ℕ) (n : ℕ) → Settled-front ws k m places out n → (old starts : List ℕ) → m ≤ length old → starts ≡ tree-listing (take n out) old .out
       → Ready ws (take n out) (take m starts) places k
   ready-is out n f old starts h e =
       let same : take n out ≡ S = some-same (take n out) S (sym (f .settled-is) ∙ S-is) in
       let listed : take m starts ≡ starts-of S =
-      ap (take m) (e ∙ (ap (λ (l : List ℕ). tree-listing l old .out) same ∙ listing-so old (omega (arith, trees-few)))) ∙ take-at (starts-of S) (drop m old) m starts-long in
+      ap (take m) (e ∙ (ap (λ (l : List ℕ). tree-listing l old .out) same ∙ listing-so old h)) ∙ take-at (starts-of S) (drop m old) m starts-long in
       let l = first-no-more ws places places-there (m - k) m (t .complete) in
       subst (λ (x : List ℕ). Ready ws x (take m starts) places k) (sym same)
-      (subst (λ (x : List ℕ). Ready ws S x places k) (sym listed) (ready-so (omega (arith, l, t .few))))
+      (subst (λ (x : List ℕ). Ready ws S x places k) (sym listed) (ready-so l))
 
   pub ready-long : {settled starts : List ℕ} → Ready ws settled starts places k → m ≡ length starts
   ready-long {settled} {starts} r = let e : some m ≡ some (length starts) = sym (t .complete) ∙ r .complete in cc

@@ -139,10 +139,10 @@ module _ {ws settled starts places : List ℕ} {k : ℕ} (ready : Ready ws settl
       ∙ ap (tokens unnumbered) (sym (final-after k m places ws (ready .complete) there-is j ∙ made-is ws places (m - k) j h (Op 0 nil)))
 
   -- no tree has more words
-  pub run-short : (i : ℕ) → i < length starts + length places → length (final-run k places ws i) ≤ 1026
+  pub run-short : (i : ℕ) → i < length starts + length places → length (final-run k places ws i) ≤ length ws + 2
   run-short i h = go (ltb i (length starts)) refl
     where
-      go : (b : Bool) → ltb i (length starts) ≡ b → length (final-run k places ws i) ≤ 1026
+      go : (b : Bool) → ltb i (length starts) ≡ b → length (final-run k places ws i) ≤ length ws + 2
       go true e = omega (arith, run-within i (ltb-true i (length starts) e), ready .short)
       go false e =
           let past = ltb-false i (length starts) e in
@@ -151,7 +151,7 @@ module _ {ws settled starts places : List ℕ} {k : ℕ} (ready : Ready ws settl
           let below : j < length places = omega arith in
           omega (arith, made-within ws places (m - k) j below there-is, ap length (made-run j below), ap (λ (x : ℕ). length (final-run k places ws x)) z, ready .few)
 
-  module _ (j : ℕ) (h : j < length places) (old : List ℕ) (lent : 1026 ≤ length old) where
+  module _ (j : ℕ) (h : j < length places) (old : List ℕ) (lent : length ws + 2 ≤ length old) where
     abbrev answer : Binding
     answer = reciprocal-answer ws places (m - k) j old
 

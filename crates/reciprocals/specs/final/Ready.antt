@@ -26,7 +26,7 @@ pub record Ready (ws settled starts places : List ℕ) (k : ℕ) : Type 0 where
   pub there : T (all-there ws places)
   pub few : length ws ≤ 1024
   pub numbers : (length starts - k) + length places ≤ 1024
-  pub short : length settled ≤ 1024
+  pub short : length settled ≤ length ws
   pub settled-is : settled-words ws places (length starts - k) ws ≡ some settled
   pub starts-are : starts ≡ starts-of settled
 
@@ -42,7 +42,7 @@ pub record There (ws : List ℕ) (k m : ℕ) (places : List ℕ) : Type 0 where
 pub record Settled-front (ws : List ℕ) (k m : ℕ) (places out : List ℕ) (n : ℕ) : Type 0 where
   pub settled-is : settled-words ws places (m - k) ws ≡ some (take n out)
   pub inside : n ≤ length out
-  pub short : n ≤ 1024
+  pub short : n ≤ length ws
 
 -- a run of words stands in front
 pub record Stands (run out : List ℕ) (n : ℕ) : Type 0 where

@@ -1,4 +1,3 @@
--- `cse_flat::ending::finish` meets its contract. Assumes nothing.
 use native.Mathlib.Omega.{arith}
 use mathlib.Core.Path.{sym, _∙_, subst}
 use borrow.Author.Tests.{not-true, not-false}
@@ -10,21 +9,33 @@ use Rattle.cse_flat.proofs.ending.Ends.{no-trees, too-few, not-there, t
 use borrow.Author.Needs.{needs}
 use Rattle.cse_flat.proofs.ending.finish.Statement.{statement}
 use Rattle.cse_flat.proofs.ending.finish.Tie as tie
+use Rattle.cse_flat.proofs.ending.finish.Reads as reads
+use Rattle.cse_flat.proofs.ending.finish.Lts as lts
+use Rattle.cse_flat.proofs.ending.finish_there.Reads as finish-there-reads
+use Rattle.reciprocals.proofs.reciprocal.all_there.Reads as all-there-reads
+use Rattle.words.proofs.tokens.count_trees.Reads as count-trees-reads
 
 pub finish-spec : {M : Type 1} → statement M
 finish-spec =
     tie.close
     (tie.spec
-    (λ c κs. tt)
+    (λ c κs. search needs)
     (λ c. search needs)
     (λ c. search needs)
-    (λ c. let a = c .before .before .before .before .before .before .args in no-trees (a .tokens .now) (a .results) (a .places .now) (a .table .now) (uncounted (trees-in (a .tokens .now)) (sym (c .enum-told .given .1) ∙ c .before .before .count-trees .ensures)))
-    (λ c. let trees-here = c .before .before .trees in let a = c .before .before .before .before .before .before .before .before .args in too-few (a .tokens .now) (a .results) (a .places .now) (a .table .now) (trees-here .given .0 .0) (counted (trees-here .given .0 .0) (trees-in (a .tokens .now)) (sym (trees-here .given .1) ∙ c .before .before .before .before .count-trees .ensures)) (c .if1 .taken))
-    (λ c κs. tt)
-    (λ c. let trees-here = c .before .before .before .before .trees in let a = c .before .before .before .before .before .before .before .before .before .before .args in not-there (a .tokens .now) (a .results) (a .places .now) (a .table .now) (trees-here .given .0 .0) (counted (trees-here .given .0 .0) (trees-in (a .tokens .now)) (sym (trees-here .given .1) ∙ c .before .before .before .before .before .before .count-trees .ensures)) (c .before .before .if1 .left) (sym (c .before .all-there .ensures) ∙ not-true _ (c .if2 .taken)))
-    (λ c. let trees-here = c .before .before .before .before .before .trees in let a = c .before .before .before .before .before .before .before .before .before .before .before .args in too-long (a .tokens .now) (a .results) (a .places .now) (a .table .now) (trees-here .given .0 .0) (counted (trees-here .given .0 .0) (trees-in (a .tokens .now)) (sym (trees-here .given .1) ∙ c .before .before .before .before .before .before .before .count-trees .ensures)) (c .before .before .before .if1 .left) (sym (c .before .before .all-there .ensures) ∙ not-false _ (c .before .if2 .left)) (c .if3 .taken))
-    (λ c. let trees-here = c .before .before .before .before .before .trees in let a = c .before .before .before .before .before .before .before .before .before .before .before .args in omega (arith, complete-within (a .tokens .now) (trees-here .given .0 .0) (counted (trees-here .given .0 .0) (trees-in (a .tokens .now)) (sym (trees-here .given .1) ∙ c .before .before .before .before .before .before .before .count-trees .ensures)), c .before .before .before .if1 .left, c .if3 .left))
-    (λ c. let trees-here = c .before .before .before .before .before .before .trees in let count-trees-here = c .before .before .before .before .before .before .before .before .count-trees in let if1-here = c .before .before .before .before .if1 in let if3-here = c .before .if3 in let a = c .before .before .before .before .before .before .before .before .before .before .before .before .args in let w = complete-within (a .tokens .now) (trees-here .given .0 .0) (counted (trees-here .given .0 .0) (trees-in (a .tokens .now)) (sym (trees-here .given .1) ∙ count-trees-here .ensures)) in too-many-names (a .tokens .now) (a .results) (a .places .now) (a .table .now) (trees-here .given .0 .0) (counted (trees-here .given .0 .0) (trees-in (a .tokens .now)) (sym (trees-here .given .1) ∙ count-trees-here .ensures)) (if1-here .left) (sym (c .before .before .before .all-there .ensures) ∙ not-false _ (c .before .before .if2 .left)) (if3-here .left) (omega (arith, w, if1-here .left, if3-here .left, c .if4 .taken)))
-    (λ c κs. let trees-here = c .before .before .before .before .before .before .before .trees in let if1-here = c .before .before .before .before .before .if1 in let if3-here = c .before .before .if3 in let a = c .before .before .before .before .before .before .before .before .before .before .before .before .before .args in let e = counted (trees-here .given .0 .0) (trees-in (a .tokens .now)) (sym (trees-here .given .1) ∙ c .before .before .before .before .before .before .before .before .before .count-trees .ensures) in let w = complete-within (a .tokens .now) (trees-here .given .0 .0) e in record { complete = e; enough = if1-here .left; there = subst T (sym (sym (c .before .before .before .before .all-there .ensures) ∙ not-false _ (c .before .before .before .if2 .left))) tt; few = if3-here .left; numbers = omega (arith, w, if1-here .left, if3-here .left, c .before .if4 .left) })
+    (λ c. let a = c .before .before .before .before .before .before .before .args in no-trees (a .tokens .now) (a .results) (a .places .now) (a .table .now) (uncounted (trees-in (a .tokens .now)) (sym (c .enum-told .given .1) ∙ c .before .before .count-trees .ensures)))
+    (λ c. let a = c .before .before .before .before .before .before .before .before .before .args in let t = c .before .before .trees in too-few (a .tokens .now) (a .results) (a .places .now) (a .table .now) (t .given .0 .0) (counted (t .given .0 .0) (trees-in (a .tokens .now)) (sym (t .given .1) ∙ c .before .before .before .before .count-trees .ensures)) (c .if1 .taken))
+    (λ c κs. search needs)
+    (λ c. let a = c .before .before .before .before .before .before .before .before .before .before .before .args in let t = c .before .before .before .before .trees in not-there (a .tokens .now) (a .results) (a .places .now) (a .table .now) (t .given .0 .0) (counted (t .given .0 .0) (trees-in (a .tokens .now)) (sym (t .given .1) ∙ c .before .before .before .before .before .before .count-trees .ensures)) (c .before .before .if1 .left) (sym (c .before .all-there .ensures) ∙ not-true _ (c .if2 .taken)))
+    (λ c. let a = c .before .before .before .before .before .before .before .before .before .before .before .before .args in let t = c .before .before .before .before .before .trees in too-long (a .tokens .now) (a .results) (a .places .now) (a .table .now) (t .given .0 .0) (counted (t .given .0 .0) (trees-in (a .tokens .now)) (sym (t .given .1) ∙ c .before .before .before .before .before .before .before .count-trees .ensures)) (c .before .before .before .if1 .left) (sym (c .before .before .all-there .ensures) ∙ not-false _ (c .before .if2 .left)) (c .if3 .taken))
+    (λ c. let a = c .before .before .before .before .before .before .before .before .before .before .before .before .args in let t = c .before .before .before .before .before .trees in omega (arith, complete-within (a .tokens .now) (t .given .0 .0) (counted (t .given .0 .0) (trees-in (a .tokens .now)) (sym (t .given .1) ∙ c .before .before .before .before .before .before .before .count-trees .ensures)), c .before .before .before .if1 .left, c .if3 .left))
+    (λ c. let a = c .before .before .before .before .before .before .before .before .before .before .before .before .before .args in let t = c .before .before .before .before .before .before .trees in
+    let e = counted (t .given .0 .0) (trees-in (a .tokens .now)) (sym (t .given .1) ∙ c .before .before .before .before .before .before .before .before .count-trees .ensures) in
+    too-many-names (a .tokens .now) (a .results) (a .places .now) (a .table .now) (t .given .0 .0) e (c .before .before .before .before .if1 .left) (sym (c .before .before .before .all-there .ensures) ∙ not-false _ (c .before .before .if2 .left)) (c .before .if3 .left) (omega (arith, complete-within (a .tokens .now) (t .given .0 .0) e, c .before .before .before .before .if1 .left, c .before .if3 .left, c .if4 .taken)))
+    (λ c κs. let a = c .before .before .before .before .before .before .before .before .before .before .before .before .before .before .before .args in let t = c .before .before .before .before .before .before .before .before .trees in
+    let e = counted (t .given .0 .0) (trees-in (a .tokens .now)) (sym (t .given .1) ∙ c .before .before .before .before .before .before .before .before .before .before .count-trees .ensures) in
+    (record { complete = e; enough = c .before .before .before .before .before .before .if1 .left; there = subst T (sym (sym (c .before .before .before .before .before .all-there .ensures) ∙ not-false _ (c .before .before .before .before .if2 .left))) tt; few = c .before .before .before .if3 .left; numbers = omega (arith, complete-within (a .tokens .now) (t .given .0 .0) e, c .before .before .before .before .before .before .if1 .left, c .before .before .before .if3 .left, c .before .before .if4 .left) }, c .before .before .before .before .before .before .before .before .before .before .before .before .before .before .before .pre))
     (λ c. search needs)
-    (λ c. let trees-here = c .before .before .before .before .before .before .before .before .before .before .trees in let if1-here = c .before .before .before .before .before .before .before .before .if1 in let if3-here = c .before .before .before .before .before .if3 in let a = c .before .before .before .before .before .before .before .before .before .before .before .before .before .before .before .before .args in let e = counted (trees-here .given .0 .0) (trees-in (a .tokens .now)) (sym (trees-here .given .1) ∙ c .before .before .before .before .before .before .before .before .before .before .before .before .count-trees .ensures) in let w = complete-within (a .tokens .now) (trees-here .given .0 .0) e in goes-on (a .tokens .now) (a .results) (a .places .now) (a .table .now) (trees-here .given .0 .0) e (if1-here .left) (sym (c .before .before .before .before .before .before .before .all-there .ensures) ∙ not-false _ (c .before .before .before .before .before .before .if2 .left)) (if3-here .left) (omega (arith, w, if1-here .left, if3-here .left, c .before .before .before .before .if4 .left)) _ _ (c .before .before .finish-there .ensures)))
+    (λ c. search needs)
+    (λ c. let a = c .before .before .before .before .before .before .before .before .before .before .before .before .before .before .before .before .before .before .before .before .args in let t = c .before .before .before .before .before .before .before .before .before .before .before .before .before .trees in
+    let e = counted (t .given .0 .0) (trees-in (a .tokens .now)) (sym (t .given .1) ∙ c .before .before .before .before .before .before .before .before .before .before .before .before .before .before .before .count-trees .ensures) in
+    goes-on (a .tokens .now) (a .results) (a .places .now) (a .table .now) (t .given .0 .0) e (c .before .before .before .before .before .before .before .before .before .before .before .if1 .left) (sym (c .before .before .before .before .before .before .before .before .before .before .all-there .ensures) ∙ not-false _ (c .before .before .before .before .before .before .before .before .before .if2 .left)) (c .before .before .before .before .before .before .before .before .if3 .left) (omega (arith, complete-within (a .tokens .now) (t .given .0 .0) e, c .before .before .before .before .before .before .before .before .before .before .before .if1 .left, c .before .before .before .before .before .before .before .before .if3 .left, c .before .before .before .before .before .before .before .if4 .left)) _ _ (c .before .before .before .before .finish-there .ensures)))

@@ -1,4 +1,3 @@
--- `cse_flat::ending::order_few` meets its contract. Assumes nothing.
 use Prim.Native.Nat.{ℕ}
 use native.Mathlib.Omega.{arith}
 use mathlib.Core.Path.{sym, _∙_, ap}
@@ -8,25 +7,25 @@ use Rattle.cse_flat.proofs.ending.Linking.{same-order}
 use borrow.Author.Needs.{needs}
 use Rattle.cse_flat.proofs.ending.order_few.Statement.{statement}
 use Rattle.cse_flat.proofs.ending.order_few.Tie as tie
+use Rattle.cse_flat.proofs.ending.order_few.Reads as reads
+use Rattle.cse_flat.proofs.ending.order_few.Lts as lts
+use Rattle.cse_flat.proofs.ending.order_with.Reads as order-with-reads
 
 pub order-few-spec : {M : Type 1} → statement M
 order-few-spec =
     tie.close
     (tie.spec
-    (λ c. let p = c .before .before .before .before .before .before .before .pre in p .1 .1 .1)
-    (λ c. let start = c .before .before .before .before .before .before .before .before in
-    let p = start .pre in
-    zeros-many (start .args .count) 64 (p .1 .1 .1))
+    (λ c. let p = c .before .before .before .before .before .before .before .before .pre in omega (arith, p .1 .1 .1))
+    (λ c. let p = c .before .before .before .before .before .before .before .before .before .pre in zeros-many (c .before .before .before .before .before .before .before .before .before .args .count) 64 (p .1 .1 .1))
     (λ c. search needs)
     (λ c. search needs)
     (λ c. search needs)
-    (λ c κs. let start = c .before .before .before .before .before .before .before .before .before .before .before .before in
-    let p = start .pre in
-    let len = zeros-many (start .args .count) 64 (p .1 .1 .1) in
-    (p .0, ((omega (arith, len, p .1 .0 .0), p .1 .1 .0), ((search needs, omega (arith, len, p .1 .1 .1)), ((omega (arith, len, p .1 .1 .1), omega (arith, len, p .1 .0 .1)), zeros-front (start .args .count) 64 (p .1 .1 .1) ∙ ap (λ (n : ℕ). replicate {A = ℕ} n 0) len)))))
+    (λ c κs. let p = c .before .before .before .before .before .before .before .before .before .before .before .before .before .before .pre in
+    let len = zeros-many (c .before .before .before .before .before .before .before .before .before .before .before .before .before .before .args .count) 64 (p .1 .1 .1) in
+    (p .0, ((omega (arith, len, p .1 .0 .0), p .1 .1 .0), ((search needs, omega (arith, len, p .1 .1 .1)), ((omega (arith, len, p .1 .1 .1), omega (arith, len, p .1 .0 .1)), (zeros-front (c .before .before .before .before .before .before .before .before .before .before .before .before .before .before .args .count) 64 (p .1 .1 .1) ∙ ap (λ (n : ℕ). replicate {A = ℕ} n 0) len, p .1 .1 .2))))))
     (λ c. search needs)
     (λ c. search needs)
-    (λ c. let start = c .before .before .before .before .before .before .before .before .before .before .before .before .before .before .before .before .before .before .before .before .before in
-    let a = start .args in
-    let p = start .pre in
-    same-order (a .results) (a .places .now) (a .tokens .now) _ _ (a .taken .now) _ _ (sym (zeros-many (a .count) 64 (p .1 .1 .1))) (c .before .before .before .before .before .before .before .before .order-with .ensures)))
+    (λ c. search needs)
+    (λ c. let a = c .before .before .before .before .before .before .before .before .before .before .before .before .before .before .before .before .before .before .before .before .before .before .before .before .before .args in
+    let p = c .before .before .before .before .before .before .before .before .before .before .before .before .before .before .before .before .before .before .before .before .before .before .before .before .before .pre in
+    same-order (a .results) (a .places .now) (a .tokens .now) _ _ (a .taken .now) _ _ (sym (zeros-many (a .count) 64 (p .1 .1 .1))) (c .before .before .before .before .before .before .before .before .before .before .order-with .ensures)))
