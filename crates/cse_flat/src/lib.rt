@@ -8,7 +8,9 @@ ghost use mathlib.Core.Bool.{false};
 ghost use Prim.Native.Nat.{_≤_};
 ghost use lib.ListN.{length, take, drop};
 ghost use lib.Dec.{T};
+ghost use Rattle.spec_tree.specs.Outcome.{ok};
 ghost use Rattle.spec_tree.specs.Tokens.{read, numbered};
+ghost use Rattle.node_rows.specs.unfolded.Unfold.{unfolded};
 ghost use Rattle.fmt.specs.checked.Check.{rows-in};
 ghost use Rattle.laws.specs.positions.Names.{is-number, symbols-pass};
 ghost use Rattle.rounds.specs.kept.Sound.{extractable};
@@ -25,9 +27,12 @@ use node_rows::unfolded::unfold;
 use reciprocals::divisors::divisors_to_bind;
 use rounds::Rounds;
 use rounds::extract_all;
+use words::copying::put;
 
 // The most words of a list's trees, and so the most places.
 const MOST: usize = 1024;
+
+const FEW: usize = 256;
 
 const SHORT_WORK: u64 = 8;
 
@@ -98,25 +103,23 @@ fn finish_flat(
     }
 }
 
-// The flat form after 8. The work area is free for the end, since the words of the trees stand apart.
-fn extract_flat(
+// The flat form on the words of the list's trees, with room for the places of divisors. The work area is free.
+fn extract_words(
     rows: &[u64],
     roots: &[u64],
+    len: usize,
+    tokens: &mut [u64],
+    places: &mut [u64],
     work: &mut [u64],
     text: &mut [u8],
     table: &mut [u64],
 ) -> Extraction
+    requires { ⌜ (unfolded (now rows) (now roots) ≡ ok (take len (now tokens))) × (len ≤ length (now tokens)) × (len ≤ length (now places)) ⌝ }
     requires { ⌜ (32768 ≤ length (now work)) × (131072 ≤ length (now text)) ⌝ }
     ensures { λ r. ⌜ (r ≡ extraction-answer (extract-from false (now (rows .entry)) (now (roots .entry)) (length (now (table .entry)))))
         × (now (table .exit) ≡ table-after (extract-from false (now (rows .entry)) (now (roots .entry)) (length (now (table .entry)))) (now (table .entry))) ⌝ }
 {
-    let mut tokens = [0u64; MOST];
-    let mut places = [0u64; MOST];
-    let unfolded = unfold(rows, roots, &mut tokens);
-    let Unfolded::Tokens(len) = unfolded else {
-        return Extraction::Refused(BAD_ROWS);
-    };
-    let listed = extract_and_list(rows, &mut tokens, len, false, 0, text, &mut places);
+    let listed = extract_and_list(rows, tokens, len, false, 0, text, places);
     let Listed::Words(words, made, divisors) = listed else {
         return Extraction::Refused(BAD_COEFFICIENT);
     };
@@ -128,6 +131,86 @@ fn extract_flat(
         work,
         table,
     )
+}
+
+// The same for few words, which stand in front of the work area, so that most lists needn't clear the large arrays.
+fn extract_few(
+    rows: &[u64],
+    roots: &[u64],
+    len: usize,
+    work: &mut [u64],
+    text: &mut [u8],
+    table: &mut [u64],
+) -> Extraction
+    requires { ⌜ (unfolded (now rows) (now roots) ≡ ok (take len (now work))) × (len ≤ 256) ⌝ }
+    requires { ⌜ (32768 ≤ length (now work)) × (131072 ≤ length (now text)) ⌝ }
+    ensures { λ r. ⌜ (r ≡ extraction-answer (extract-from false (now (rows .entry)) (now (roots .entry)) (length (now (table .entry)))))
+        × (now (table .exit) ≡ table-after (extract-from false (now (rows .entry)) (now (roots .entry)) (length (now (table .entry)))) (now (table .entry))) ⌝ }
+{
+    let mut tokens = [0u64; FEW];
+    let mut places = [0u64; FEW];
+    put(&work[..len], 0, &mut tokens);
+    extract_words(
+        rows,
+        roots,
+        len,
+        &mut tokens,
+        &mut places,
+        work,
+        text,
+        table,
+    )
+}
+
+// The same for the most words.
+fn extract_many(
+    rows: &[u64],
+    roots: &[u64],
+    len: usize,
+    work: &mut [u64],
+    text: &mut [u8],
+    table: &mut [u64],
+) -> Extraction
+    requires { ⌜ (unfolded (now rows) (now roots) ≡ ok (take len (now work))) × (len ≤ 1024) ⌝ }
+    requires { ⌜ (32768 ≤ length (now work)) × (131072 ≤ length (now text)) ⌝ }
+    ensures { λ r. ⌜ (r ≡ extraction-answer (extract-from false (now (rows .entry)) (now (roots .entry)) (length (now (table .entry)))))
+        × (now (table .exit) ≡ table-after (extract-from false (now (rows .entry)) (now (roots .entry)) (length (now (table .entry)))) (now (table .entry))) ⌝ }
+{
+    let mut tokens = [0u64; MOST];
+    let mut places = [0u64; MOST];
+    put(&work[..len], 0, &mut tokens);
+    extract_words(
+        rows,
+        roots,
+        len,
+        &mut tokens,
+        &mut places,
+        work,
+        text,
+        table,
+    )
+}
+
+// The flat form after 8.
+fn extract_flat(
+    rows: &[u64],
+    roots: &[u64],
+    work: &mut [u64],
+    text: &mut [u8],
+    table: &mut [u64],
+) -> Extraction
+    requires { ⌜ (32768 ≤ length (now work)) × (131072 ≤ length (now text)) ⌝ }
+    ensures { λ r. ⌜ (r ≡ extraction-answer (extract-from false (now (rows .entry)) (now (roots .entry)) (length (now (table .entry)))))
+        × (now (table .exit) ≡ table-after (extract-from false (now (rows .entry)) (now (roots .entry)) (length (now (table .entry)))) (now (table .entry))) ⌝ }
+{
+    let unfolded = unfold(rows, roots, work);
+    let Unfolded::Tokens(len) = unfolded else {
+        return Extraction::Refused(BAD_ROWS);
+    };
+    if len <= FEW {
+        return extract_few(rows, roots, len, work, text, table);
+    }
+    extract_many(rows, roots, len, work, text, table)
 }
 
 // The flat answer's rows in front of what stands in the table, and the extraction count; or 8, 9, 10 or 12, with nothing written to the table. What is left in
