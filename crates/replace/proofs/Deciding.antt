@@ -33,12 +33,13 @@ use Rattle.replace.proofs.factors.Products.{Product-of, product-of, nev
 use Rattle.replace.specs.closed.Closed.{by-factors, lone}
 use Rattle.replace.specs.matching.Matching.{names-after}
 use Rattle.replace.proofs.matching.Removing.{after-most}
-use Rattle.replace.specs.matching.Answers.{Takes}
+use Rattle.replace.specs.matching.Answers.{Seeks, Takes}
 use Rattle.replace.specs.declared.matching.Taken.{Taken}
 use Rattle.replace.specs.declared.matching.Taken.the-variants as taken
-use Rattle.replace.specs.replacing.Deciding.{Trees, Target, StaysAt, RefusedAt, Match, ProductFirst}
+use Rattle.replace.specs.replacing.Deciding.{Trees, Target, StaysAt, PassedAt, RefusedAt, Match, ProductFirst}
 use Rattle.replace.proofs.replacing.Runs.{name-alone, name-tree}
-use Rattle.replace.proofs.replacing.Deciding.{Product-at, product-at, none-taken, refused-there, match-there}
+use Rattle.replace.proofs.replacing.Deciding.{Product-at, product-at, none-taken, none-there, refused-there, match-there}
+use Rattle.replace.proofs.replacing.Passing.{passed-at}
 use Rattle.replace.specs.Answers.{FlatFirst}
 
 -- ---- the target
@@ -186,6 +187,11 @@ module _
 
       pub taken-none : times ≡ 0 → StaysAt part name ws
       taken-none z = none-taken part name (F .target) ws (F .trees) pa by (G .old) places new p pr all times (ta .1) z
+
+      pub taken-passed : times ≡ 0 → (count ≡ 0 → ⊥) → (n : ℕ) → Seeks ws 0 n → PassedAt part name ws n
+      taken-passed z c n s =
+          let k = none-there part name (F .target) ws (F .trees) pa by (G .old) places new p pr all times (ta .1) z c in
+          passed-at part name (F .target) by ws (F .trees) (F .some-word) (F .kind) (k .1) (k .0) n s
 
       one-more : (times ≡ 0 → ⊥) → times ≡ suc (times - 1)
       one-more z = go times z

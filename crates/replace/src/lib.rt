@@ -29,6 +29,7 @@ use crate::factors::Flattened;
 use crate::factors::flatten_mul_factors;
 use crate::matching::Taken;
 use crate::matching::names_at_end;
+use crate::matching::next_factor;
 use crate::matching::take_out;
 use crate::replaceable::are_formed;
 use words::copying::copy;
@@ -56,6 +57,8 @@ enum Decision {
     Equal,
     // Its word stays.
     Stays,
+    // It is a product without a match, and so are those before its first factor: so many words stay.
+    Passed(usize),
     // It is a product with matches: how many factors there are then before the names at the end, how many these are, the coefficient's code, and how many words it is.
     Matched(usize, usize, u64, usize),
     // It is a product with matches whose coefficient is no constant.
@@ -153,7 +156,10 @@ fn decide_factors(
         return Decision::Refused;
     };
     if times == 0 {
-        return Decision::Stays;
+        if count == 0 {
+            return Decision::Stays;
+        }
+        return Decision::Passed(next_factor(tokens, 0));
     }
     let Constant::Is(code) = constant_of(coefficient) else {
         return Decision::Refused;
@@ -301,6 +307,11 @@ fn rewrite(
                 out[o] = tokens[i];
                 i += 1;
                 o += 1;
+            }
+            Decision::Passed(n) => {
+                copy(&tokens[i..i + n], &mut out[o..]);
+                i += n;
+                o += n;
             }
             Decision::Matched(left, copies, code, long) => {
                 let Step::Wrote(n) = rewrite_product(

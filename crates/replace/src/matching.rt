@@ -46,7 +46,7 @@ fn is_passed(w: u64) -> bool
 }
 
 // The place of the first factor from `from` on, or the end.
-fn next_factor(part: &[u64], from: usize) -> usize
+pub fn next_factor(part: &[u64], from: usize) -> usize
     requires { ⌜ from ≤ length (now part) ⌝ }
     ensures { λ r. ⌜ Seeks (now (part .entry)) from r ⌝ }
 {

@@ -46,6 +46,12 @@ module _ (part : List ℕ) (name : ℕ) where
   abbrev pub StaysAt : List ℕ → Type 0
   StaysAt ws = rewritten-words ws ≡ (rewritten-words (drop 1 ws) >>= λ b. ok (getD ws 0 0 ∷ b))
 
+  -- so many words stay
+  pub record PassedAt (ws : List ℕ) (n : ℕ) : Type 0 where
+    pub some-word : 1 ≤ n
+    pub within : n ≤ length ws
+    pub stay : rewritten-words ws ≡ (rewritten-words (drop n ws) >>= λ b. ok (take n ws ++ b))
+
   -- the first tree is refused
   abbrev pub RefusedAt : List ℕ → Type 0
   RefusedAt ws = (i : Refusal) × (rewritten (tree-of ws) ≡ refused i)
