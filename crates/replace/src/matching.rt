@@ -32,7 +32,7 @@ pub enum Taken {
 }
 
 // Whether a word of a product is passed through: a Mul, a Neg or a constant. Any other starts a factor.
-fn is_passed(w: u64) -> bool
+pub fn is_passed(w: u64) -> bool
     ensures { λ r. ⌜ r ≡ is-passed w ⌝ }
 {
     let kind = w % KINDS;
@@ -46,7 +46,7 @@ fn is_passed(w: u64) -> bool
 }
 
 // The place of the first factor from `from` on, or the end.
-pub fn next_factor(part: &[u64], from: usize) -> usize
+fn next_factor(part: &[u64], from: usize) -> usize
     requires { ⌜ from ≤ length (now part) ⌝ }
     ensures { λ r. ⌜ Seeks (now (part .entry)) from r ⌝ }
 {

@@ -66,15 +66,20 @@ count-of-rest x ts l r e =
     (let a = puts-sum (λ y. one-of y x) (puts-from ts l r e) in let b = count-sum x l in let c = count-sum x ts in let d = count-sum x r in omega arith)
 
 -- what was never taken out isn't there
-pub never-there : (n : Name) (ts l : List Tree) → 1 ≤ length l → taken n ts l .times ≡ 0 → remove-each ts l ≡ none
+pub never-there : (n : Name) (ts l : List Tree) → 1 ≤ length ts → taken n ts l .times ≡ 0 → remove-each ts l ≡ none
 unfolding taken
-never-there n ts l h e = once (2 * length l) (omega arith) e
+never-there n ts l some-factor e = by l (2 * length l) (λ h. omega arith) e
   where
-    once : (most : ℕ) → 1 ≤ most → take-out most n ts l .times ≡ 0 → remove-each ts l ≡ none
-    once zero h e = absurd (omega arith)
-    once (suc most) h e = (unfold take-out once-more in go (remove-each ts l) (λ r. take-out most n ts r) e)
+    none-left : (ts : List Tree) → 1 ≤ length ts → remove-each ts [] ≡ none
+    none-left [] h = absurd (omega arith)
+    none-left (t ∷ ts) h = (unfold remove-each remove-first in refl)
+
+    by : (l : List Tree) (most : ℕ) → (1 ≤ length l → 1 ≤ most) → take-out most n ts l .times ≡ 0 → remove-each ts l ≡ none
+    by [] most h e = none-left ts some-factor
+    by (t ∷ l) zero h e = (let x = h (omega arith) in absurd (omega arith))
+    by (t ∷ l) (suc most) h e = (unfold take-out in go (remove-each ts (t ∷ l)) (λ r. take-out most n ts r) e)
       where
         go : (o : Option (List Tree)) (again : List Tree → Taken)
-            → (elim o as (λ _. Taken) [ none ↦ record { factors = l; times = 0 } | some r ↦ once-more (again (r ++ (Sym n ∷ []))) ]) .times ≡ 0 → o ≡ none
+            → (elim o as (λ _. Taken) [ none ↦ record { factors = t ∷ l; times = 0 } | some r ↦ once-more (again (r ++ (Sym n ∷ []))) ]) .times ≡ 0 → o ≡ none
         go none again e = refl
         go (some r) again e = (unfold once-more in absurd (omega arith))

@@ -2,7 +2,7 @@
 use native.Mathlib.Omega.{arith}
 use lib.Seq.{length-take-le}
 use mathlib.Core.Path.{sym, _∙_}
-use Rattle.replace.proofs.Deciding.{taken-full, taken-none, taken-passed, taken-refused, never-ends, taken-matched, all-there, fewer-names}
+use Rattle.replace.proofs.Deciding.{taken-full, some-long, taken-passed, taken-refused, taken-matched, all-there, fewer-names}
 use borrow.Author.Needs.{needs}
 use Rattle.replace.proofs.decide_factors.Statement.{statement}
 use Rattle.replace.proofs.decide_factors.Tie as tie
@@ -10,9 +10,8 @@ use Rattle.replace.proofs.decide_factors.Reads as reads
 use Rattle.replace.proofs.decide_factors.Lts as lts
 use Rattle.replace.proofs.coefficient.constant_of.Reads as constant-of-reads
 use Rattle.replace.proofs.matching.names_at_end.Reads as names-at-end-reads
-use Rattle.replace.proofs.matching.next_factor.Reads as next-factor-reads
 use Rattle.replace.proofs.matching.take_out.Reads as take-out-reads
-use Rattle.words.proofs.tokens.end_of.Reads as end-of-reads
+use Rattle.replace.proofs.plain_words.Reads as plain-words-reads
 
 take-out-requires : tie.Need-take-out-requires
 take-out-requires c κs = search needs
@@ -27,22 +26,16 @@ same-length : tie.Need-same-length
 same-length c = search needs
 
 returns : tie.Need-returns
-returns c = let a = c .before .before .before .before .before .before .before .before .before .args in let q = c .before .before .before .before .before .before .before .before .before .pre in absurd (taken-full (a .tokens .now) (a .target .now) (a .name) (a .coefficient) (a .count) (a .places .now) (q .0) (q .1 .0) (q .1 .1) (c .before .before .before .before .take-out .last .1 .1 .1 .0) (c .before .before .before .before .take-out .result) (c .before .before .before .before .take-out .ensures) (c .enum-told .given .1))
+returns c = let a = c .before .before .before .before .before .before .before .before .before .args in let q = c .before .before .before .before .before .before .before .before .before .pre in absurd (taken-full (a .tokens .now) (a .target .now) (a .name) (a .coefficient) (a .count) (a .places .now) (q .0) (q .1 .0 .0) (q .1 .1) (c .before .before .before .before .take-out .last .1 .1 .1 .0) (c .before .before .before .before .take-out .result) (c .before .before .before .before .take-out .ensures) (c .enum-told .given .1))
+
+plain-words-requires : tie.Need-plain-words-requires
+plain-words-requires c κs = let a = c .before .before .before .before .before .before .before .before .before .before .before .args in let q = c .before .before .before .before .before .before .before .before .before .before .before .pre in let l = some-long (q .0) (a .long) (q .1 .0 .1) in (l .0, l .1, q .0 .kind)
 
 same-length-2 : tie.Need-same-length-2
 same-length-2 c = search needs
 
 returns-2 : tie.Need-returns-2
-returns-2 c = let a = c .before .before .before .before .before .before .before .before .before .before .before .before .args in let q = c .before .before .before .before .before .before .before .before .before .before .before .before .pre in taken-none (a .tokens .now) (a .target .now) (a .name) (a .coefficient) (a .count) (a .places .now) (q .0) (q .1 .0) (q .1 .1) (c .before .before .before .before .before .before .before .take-out .last .1 .1 .1 .0) (c .before .before .before .before .before .before .before .take-out .result) (c .before .before .before .before .before .before .before .take-out .ensures) _ _ (c .before .before .before .all .given .1) (c .before .if1 .taken)
-
-next-factor-requires : tie.Need-next-factor-requires
-next-factor-requires c κs = omega arith
-
-same-length-3 : tie.Need-same-length-3
-same-length-3 c = search needs
-
-returns-3 : tie.Need-returns-3
-returns-3 c = let a = c .before .before .before .before .before .before .before .before .before .before .before .before .before .args in let q = c .before .before .before .before .before .before .before .before .before .before .before .before .before .pre in taken-passed (a .tokens .now) (a .target .now) (a .name) (a .coefficient) (a .count) (a .places .now) (q .0) (q .1 .0) (q .1 .1) (c .before .before .before .before .before .before .before .before .take-out .last .1 .1 .1 .0) (c .before .before .before .before .before .before .before .before .take-out .result) (c .before .before .before .before .before .before .before .before .take-out .ensures) _ _ (c .before .before .before .before .all .given .1) (c .before .before .if1 .taken) (c .before .if2 .left) (c .next-factor .result) (c .next-factor .ensures)
+returns-2 c = let a = c .before .before .before .before .before .before .before .before .before .before .before .before .args in let q = c .before .before .before .before .before .before .before .before .before .before .before .before .pre in taken-passed (a .tokens .now) (a .target .now) (a .name) (a .coefficient) (a .count) (a .places .now) (q .0) (q .1 .0 .0) (q .1 .1) (c .before .before .before .before .before .before .before .take-out .last .1 .1 .1 .0) (c .before .before .before .before .before .before .before .take-out .result) (c .before .before .before .before .before .before .before .take-out .ensures) _ _ (c .before .before .before .all .given .1) (c .before .if1 .taken) (a .long) (q .1 .0 .1) (c .plain-words .result) (c .plain-words .ensures)
 
 constant-of-requires : tie.Need-constant-of-requires
 constant-of-requires c κs = search needs
@@ -53,44 +46,29 @@ enum-known-code c = search needs
 enum-told-2 : tie.Need-enum-told-2
 enum-told-2 c = search needs
 
-same-length-4 : tie.Need-same-length-4
-same-length-4 c = search needs
+same-length-3 : tie.Need-same-length-3
+same-length-3 c = search needs
 
-returns-4 : tie.Need-returns-4
-returns-4 c = let a = c .before .before .before .before .before .before .before .before .before .before .before .before .before .before .args in let q = c .before .before .before .before .before .before .before .before .before .before .before .before .before .before .pre in taken-refused (a .tokens .now) (a .target .now) (a .name) (a .coefficient) (a .count) (a .places .now) (q .0) (q .1 .0) (q .1 .1) (c .before .before .before .before .before .before .before .before .before .take-out .last .1 .1 .1 .0) (c .before .before .before .before .before .before .before .before .before .take-out .result) (c .before .before .before .before .before .before .before .before .before .take-out .ensures) _ _ (c .before .before .before .before .before .all .given .1) (c .before .before .before .if1 .left) (sym (c .enum-told2 .given .1) ∙ c .before .before .constant-of .ensures)
-
-end-of-requires : tie.Need-end-of-requires
-end-of-requires c κs = search needs
-
-enum-known-end : tie.Need-enum-known-end
-enum-known-end c = search needs
-
-enum-told-3 : tie.Need-enum-told-3
-enum-told-3 c = search needs
-
-same-length-5 : tie.Need-same-length-5
-same-length-5 c = search needs
-
-returns-5 : tie.Need-returns-5
-returns-5 c = let a = c .before .before .before .before .before .before .before .before .before .before .before .before .before .before .before .before .before .before .args in let q = c .before .before .before .before .before .before .before .before .before .before .before .before .before .before .before .before .before .before .pre in absurd (never-ends (a .tokens .now) (a .target .now) (a .name) (a .coefficient) (a .count) (a .places .now) (q .0) (q .1 .0) (q .1 .1) (c .before .before .before .before .before .before .before .before .before .before .before .before .before .take-out .last .1 .1 .1 .0) (c .before .before .before .before .before .before .before .before .before .before .before .before .before .take-out .result) (c .before .before .before .before .before .before .before .before .before .before .before .before .before .take-out .ensures) _ _ (c .before .before .before .before .before .before .before .before .before .all .given .1) (sym (c .enum-told3 .given .1) ∙ c .before .before .end-of .ensures))
+returns-3 : tie.Need-returns-3
+returns-3 c = let a = c .before .before .before .before .before .before .before .before .before .before .before .before .before .before .args in let q = c .before .before .before .before .before .before .before .before .before .before .before .before .before .before .pre in taken-refused (a .tokens .now) (a .target .now) (a .name) (a .coefficient) (a .count) (a .places .now) (q .0) (q .1 .0 .0) (q .1 .1) (c .before .before .before .before .before .before .before .before .before .take-out .last .1 .1 .1 .0) (c .before .before .before .before .before .before .before .before .before .take-out .result) (c .before .before .before .before .before .before .before .before .before .take-out .ensures) _ _ (c .before .before .before .before .before .all .given .1) (c .before .before .before .if1 .left) (sym (c .enum-told2 .given .1) ∙ c .before .before .constant-of .ensures)
 
 slice-reshare-prefix-names-at-end : tie.Need-slice-reshare-prefix-names-at-end
-slice-reshare-prefix-names-at-end c = let a = c .before .before .before .before .before .before .before .before .before .before .before .before .before .before .before .before .before .before .before .args in let q = c .before .before .before .before .before .before .before .before .before .before .before .before .before .before .before .before .before .before .before .pre in all-there (a .tokens .now) (a .target .now) (a .name) (a .coefficient) (a .count) (a .places .now) (q .0) (q .1 .0) (q .1 .1) (c .before .before .before .before .before .before .before .before .before .before .before .before .before .before .take-out .last .1 .1 .1 .0) (c .before .before .before .before .before .before .before .before .before .before .before .before .before .before .take-out .result) (c .before .before .before .before .before .before .before .before .before .before .before .before .before .before .take-out .ensures) _ _ (c .before .before .before .before .before .before .before .before .before .before .all .given .1)
+slice-reshare-prefix-names-at-end c = let a = c .before .before .before .before .before .before .before .before .before .before .before .before .before .before .before .args in let q = c .before .before .before .before .before .before .before .before .before .before .before .before .before .before .before .pre in all-there (a .tokens .now) (a .target .now) (a .name) (a .coefficient) (a .count) (a .places .now) (q .0) (q .1 .0 .0) (q .1 .1) (c .before .before .before .before .before .before .before .before .before .before .take-out .last .1 .1 .1 .0) (c .before .before .before .before .before .before .before .before .before .before .take-out .result) (c .before .before .before .before .before .before .before .before .before .before .take-out .ensures) _ _ (c .before .before .before .before .before .before .all .given .1)
 
 slice-aggregate-names-at-end : tie.Need-slice-aggregate-names-at-end
-slice-aggregate-names-at-end c = let a = c .before .before .before .before .before .before .before .before .before .before .before .before .before .before .before .before .before .before .before .before .args in let q = c .before .before .before .before .before .before .before .before .before .before .before .before .before .before .before .before .before .before .before .before .pre in sym (length-take-le _ _ (all-there (a .tokens .now) (a .target .now) (a .name) (a .coefficient) (a .count) (a .places .now) (q .0) (q .1 .0) (q .1 .1) (c .before .before .before .before .before .before .before .before .before .before .before .before .before .before .before .take-out .last .1 .1 .1 .0) (c .before .before .before .before .before .before .before .before .before .before .before .before .before .before .before .take-out .result) (c .before .before .before .before .before .before .before .before .before .before .before .before .before .before .before .take-out .ensures) _ _ (c .before .before .before .before .before .before .before .before .before .before .before .all .given .1)))
+slice-aggregate-names-at-end c = let a = c .before .before .before .before .before .before .before .before .before .before .before .before .before .before .before .before .args in let q = c .before .before .before .before .before .before .before .before .before .before .before .before .before .before .before .before .pre in sym (length-take-le _ _ (all-there (a .tokens .now) (a .target .now) (a .name) (a .coefficient) (a .count) (a .places .now) (q .0) (q .1 .0 .0) (q .1 .1) (c .before .before .before .before .before .before .before .before .before .before .before .take-out .last .1 .1 .1 .0) (c .before .before .before .before .before .before .before .before .before .before .before .take-out .result) (c .before .before .before .before .before .before .before .before .before .before .before .take-out .ensures) _ _ (c .before .before .before .before .before .before .before .all .given .1)))
 
 names-at-end-requires : tie.Need-names-at-end-requires
 names-at-end-requires c κs = search needs
 
-sub-t20 : tie.Need-sub-t20
-sub-t20 c = let a = c .before .before .before .before .before .before .before .before .before .before .before .before .before .before .before .before .before .before .before .before .before .args in let q = c .before .before .before .before .before .before .before .before .before .before .before .before .before .before .before .before .before .before .before .before .before .pre in fewer-names (a .tokens .now) (a .target .now) (a .name) (a .coefficient) (a .count) (a .places .now) (q .0) (q .1 .0) (q .1 .1) (c .before .before .before .before .before .before .before .before .before .before .before .before .before .before .before .before .take-out .last .1 .1 .1 .0) (c .before .before .before .before .before .before .before .before .before .before .before .before .before .before .before .before .take-out .result) (c .before .before .before .before .before .before .before .before .before .before .before .before .before .before .before .before .take-out .ensures) _ _ (c .before .before .before .before .before .before .before .before .before .before .before .before .all .given .1) (c .names-at-end .result) (c .names-at-end .ensures)
+sub-t18 : tie.Need-sub-t18
+sub-t18 c = let a = c .before .before .before .before .before .before .before .before .before .before .before .before .before .before .before .before .before .args in let q = c .before .before .before .before .before .before .before .before .before .before .before .before .before .before .before .before .before .pre in fewer-names (a .tokens .now) (a .target .now) (a .name) (a .coefficient) (a .count) (a .places .now) (q .0) (q .1 .0 .0) (q .1 .1) (c .before .before .before .before .before .before .before .before .before .before .before .before .take-out .last .1 .1 .1 .0) (c .before .before .before .before .before .before .before .before .before .before .before .before .take-out .result) (c .before .before .before .before .before .before .before .before .before .before .before .before .take-out .ensures) _ _ (c .before .before .before .before .before .before .before .before .all .given .1) (c .names-at-end .result) (c .names-at-end .ensures)
 
-same-length-6 : tie.Need-same-length-6
-same-length-6 c = search needs
+same-length-4 : tie.Need-same-length-4
+same-length-4 c = search needs
 
-returns-6 : tie.Need-returns-6
-returns-6 c = let a = c .before .before .before .before .before .before .before .before .before .before .before .before .before .before .before .before .before .before .before .before .before .args in let q = c .before .before .before .before .before .before .before .before .before .before .before .before .before .before .before .before .before .before .before .before .before .pre in taken-matched (a .tokens .now) (a .target .now) (a .name) (a .coefficient) (a .count) (a .places .now) (q .0) (q .1 .0) (q .1 .1) (c .before .before .before .before .before .before .before .before .before .before .before .before .before .before .before .before .take-out .last .1 .1 .1 .0) (c .before .before .before .before .before .before .before .before .before .before .before .before .before .before .before .before .take-out .result) (c .before .before .before .before .before .before .before .before .before .before .before .before .before .before .before .before .take-out .ensures) _ _ (c .before .before .before .before .before .before .before .before .before .before .before .before .all .given .1) (c .before .before .before .before .before .before .before .before .before .before .if1 .left) _ (sym (c .before .before .before .before .before .before .before .code .given .1) ∙ c .before .before .before .before .before .before .before .before .before .constant-of .ensures) _ (sym (c .before .before .before .end .given .1) ∙ c .before .before .before .before .before .end-of .ensures) (c .names-at-end .result) (c .names-at-end .ensures)
+returns-4 : tie.Need-returns-4
+returns-4 c = let a = c .before .before .before .before .before .before .before .before .before .before .before .before .before .before .before .before .before .args in let q = c .before .before .before .before .before .before .before .before .before .before .before .before .before .before .before .before .before .pre in taken-matched (a .tokens .now) (a .target .now) (a .name) (a .coefficient) (a .count) (a .places .now) (q .0) (q .1 .0 .0) (q .1 .1) (c .before .before .before .before .before .before .before .before .before .before .before .before .take-out .last .1 .1 .1 .0) (c .before .before .before .before .before .before .before .before .before .before .before .before .take-out .result) (c .before .before .before .before .before .before .before .before .before .before .before .before .take-out .ensures) _ _ (c .before .before .before .before .before .before .before .before .all .given .1) (c .before .before .before .before .before .before .if1 .left) _ (sym (c .before .before .before .code .given .1) ∙ c .before .before .before .before .before .constant-of .ensures) (a .long) (q .1 .0 .1) (c .names-at-end .result) (c .names-at-end .ensures)
 
 pub decide-factors-spec : {M : Type 1} → statement M
 decide-factors-spec =
@@ -101,24 +79,17 @@ decide-factors-spec =
     enum-told
     same-length
     returns
+    plain-words-requires
     same-length-2
     returns-2
-    next-factor-requires
-    same-length-3
-    returns-3
     constant-of-requires
     enum-known-code
     enum-told-2
-    same-length-4
-    returns-4
-    end-of-requires
-    enum-known-end
-    enum-told-3
-    same-length-5
-    returns-5
+    same-length-3
+    returns-3
     slice-reshare-prefix-names-at-end
     slice-aggregate-names-at-end
     names-at-end-requires
-    sub-t20
-    same-length-6
-    returns-6)
+    sub-t18
+    same-length-4
+    returns-4)

@@ -26,7 +26,7 @@ use Rattle.replace.proofs.factors.Flattening.{Taken}
 
 -- ---- the end of a tree
 
-ends-there : {ws : List ℕ} {at : ℕ} → Stands ws at 1 → end-answer at (run-at ws at) ≡ run.Ends (at + size (tree ws at))
+pub ends-there : {ws : List ℕ} {at : ℕ} → Stands ws at 1 → end-answer at (run-at ws at) ≡ run.Ends (at + size (tree ws at))
 unfolding end-answer
 ends-there {ws} {at} s = ap (end-answer at) (stands-run s)
 

@@ -2,13 +2,13 @@
 use Prim.Native.Nat.{ℕ, zero, suc, _+_, _-_, _≤_, _<_}
 use native.Mathlib.Omega.{arith}
 use mathlib.Core.Path.{_≡_, refl, sym, _∙_, ap, ap₂}
-use mathlib.Core.Bool.{Bool, true, false, not}
+use mathlib.Core.Bool.{Bool, true, false}
 use mathlib.Core.Option.{Option, none, some}
 use mathlib.Core.List.{List, [], _∷_}
 use borrow.Author.Tests.{eq-eqb, ne-eqb, lt-ltb, le-ltb}
 use lib.ListN.{length, getD, take, drop, length-drop, drop-of-length-le}
 use lib.Seq.{drop-cons, drop-drop}
-use lib.Dec.{T, eqb, ltb, ltb→lt, nltb→le}
+use lib.Dec.{eqb}
 use Rattle.spec_tree.specs.Bytes.{eq-bytes}
 use Rattle.spec_tree.specs.Tokens.{kind-of, words-of, run-at}
 use Rattle.spec_tree.proofs.TokenLaws.{words-tail, words-complete}
@@ -45,22 +45,6 @@ unfolding factor-runs
 passed-on part q h e =
     let z : suc q ≡ q + 1 = omega arith in
     head-runs part q h ∙ ap (tried (getD part q 0) (drop (suc q) part)) e ∙ ap (λ (k : ℕ). runs-after 0 (drop k part)) z
-
--- the words before it
-pub none-yet : (part : List ℕ) (q : ℕ) → (j : ℕ) → q ≤ j → j < q → is-passed (getD part j 0) ≡ true
-none-yet part q j h k = absurd (omega arith)
-
-pub one-more :
-    (part : List ℕ) (from q : ℕ) → ((j : ℕ) → from ≤ j → j < q → is-passed (getD part j 0) ≡ true) → is-passed (getD part q 0) ≡ true
-    → (j : ℕ) → from ≤ j → j < q + 1 → is-passed (getD part j 0) ≡ true
-one-more part from q f e j h k = go (ltb j q) (ltb→lt j q) (nltb→le j q)
-  where
-    last : (j : ℕ) → j < q + 1 → q ≤ j → j ≡ q
-    last j k l = omega arith
-
-    go : (b : Bool) → (T b → j < q) → (T (not b) → q ≤ j) → is-passed (getD part j 0) ≡ true
-    go true l g = f j h (l tt)
-    go false l g = ap (λ (i : ℕ). is-passed (getD part i 0)) (last j k (g tt)) ∙ e
 
 pub skipped : (skip : ℕ) (ws : List ℕ) → runs-after skip ws ≡ runs-after 0 (drop skip ws)
 unfolding runs-after

@@ -319,27 +319,11 @@ module _
     coefficient-is : p .coefficient ≡ flatten-mul-factors e .coefficient
     coefficient-is = pr .coefficient-is ∙ ap (λ (x : Tree). flatten-mul-factors x .coefficient) tree-first
 
-    -- nothing was taken out
-    pub none-taken : times ≡ 0 → StaysAt part name ws
-    unfolding rebuilt
-    none-taken z =
-        is-product .stays
-        (rebuilt-is
-        ∙ ap (λ (k : ℕ). rebuilt rp (flatten-mul-factors e .coefficient) (q .factors) k (each-operand rp f >>= λ g. ok (Op Mul g))) (sym times-is ∙ z))
-
-    -- so not all of the target's factors are there
-    pub none-there :
-        times ≡ 0 → (p .count ≡ 0 → ⊥) → (1 ≤ length (factors-of (tree-of ws))) × (remove-each (factors-of (tree-of part)) (factors-of (tree-of ws)) ≡ none)
-    none-there z some-factor =
-        let l : 1 ≤ length (factors-of e) = not-zero (length (factors-of e)) (λ x. some-factor (pr .count-is ∙ ap (λ (y : Tree). length (factors-of y)) tree-first ∙ x)) in (
-          subst (λ (y : Tree). 1 ≤ length (factors-of y)) (sym (is-product .is)) l,
-          ap (λ (y : Tree). remove-each (factors-of (tree-of part)) (factors-of y)) (is-product .is)
-              ∙ never-there n (factors-of (tree-of part)) (factors-of e) l (sym times-is ∙ z),
-        )
-      where
-        not-zero : (k : ℕ) → (k ≡ 0 → ⊥) → 1 ≤ k
-        not-zero zero h = absurd (h refl)
-        not-zero (suc k) h = omega arith
+    -- nothing was taken out, so not all of the target's factors are there
+    pub none-there : times ≡ 0 → remove-each (factors-of (tree-of part)) (factors-of (tree-of ws)) ≡ none
+    none-there z =
+        ap (λ (y : Tree). remove-each (factors-of (tree-of part)) (factors-of y)) (is-product .is)
+        ∙ never-there n (factors-of (tree-of part)) (factors-of e) one-factor (sym times-is ∙ z)
 
     module _ (k : ℕ) (some-time : times ≡ suc k) where
       opened : rp e ≡ (constant-of (p .coefficient) >>= λ c. each rp (q .factors) >>= λ l. ok (built c l))

@@ -1,7 +1,7 @@
 -- What the functions of matching answer and leave. Assumes nothing.
 use Prim.Native.Nat.{ℕ, _*_, _≤_, _<_}
 use mathlib.Core.Path.{_≡_}
-use mathlib.Core.Bool.{true, false}
+use mathlib.Core.Bool.{false}
 use mathlib.Core.Option.{Option, none, some}
 use mathlib.Core.List.{List}
 use lib.ListN.{length, getD, take, drop}
@@ -17,7 +17,6 @@ pub record Seeks (part : List ℕ) (from q : ℕ) : Type 0 where
   pub within : q ≤ length part
   pub runs : factor-runs (drop from part) ≡ factor-runs (drop q part)
   pub starts : q < length part → is-passed (getD part q 0) ≡ false
-  pub passed : (j : ℕ) → from ≤ j → j < q → is-passed (getD part j 0) ≡ true
 
 -- what is left stands in front
 abbrev pub Removes : Option (List ℕ) → List ℕ → Removed → Type 0
