@@ -35,7 +35,7 @@ pub struct Passed {
     pub next: usize,
 }
 
-// The place after the tree at `at`. A tree is there, so that `end_of` finds its end; a symbol is one word.
+// The place after the tree at `at`, which is there; a symbol is one word.
 fn past(tokens: &[u64], at: usize) -> usize
     requires { ⌜ Stands (now tokens) at 1 ⌝ }
     ensures { λ r. ⌜ r ≡ at + size (tree (now (tokens .entry)) at) ⌝ }
@@ -43,10 +43,7 @@ fn past(tokens: &[u64], at: usize) -> usize
     if tokens[at] % KINDS == SYM {
         return at + 1;
     }
-    let Run::Ends(end) = words::tokens::end_of(tokens, at) else {
-        return at;
-    };
-    end
+    words::tokens::tree_end(tokens, at)
 }
 
 // A tree that is neither a Mul nor a Neg: a constant is a coefficient with no factor, and any other is a factor itself, whose place is written at `used`.
