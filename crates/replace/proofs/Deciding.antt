@@ -14,9 +14,7 @@ use lib.Ieee.{Float}
 use Rattle.spec_tree.specs.Tree.{Tree, eq-tree}
 use Rattle.spec_tree.specs.Facts.{size}
 use Rattle.spec_tree.specs.Tokens.{kind-of, takes, numbered, read, trees-in, run-at, tree-of-word}
-use Rattle.spec_tree.proofs.TokenLaws.{Word, a-symbol, a-constant, an-operation, word-is, symbol-tree, constant-tree, operation-tree, tree-at, complete-tail, complete-end, words-complete}
-use Rattle.words.specs.tokens.Answers.{end-answer}
-use Rattle.words.specs.declared.tokens.Run.the-variants as run
+use Rattle.spec_tree.proofs.TokenLaws.{Word, a-symbol, a-constant, an-operation, word-is, symbol-tree, constant-tree, operation-tree, tree-at, complete-tail, complete-end, words-complete, run-size, some-is}
 use Rattle.spec_rewrite.specs.Rewrite.{one, flatten-mul-factors, is-mul, constant-of}
 use Rattle.spec_rewrite.proofs.Factors.{factors-of}
 use Rattle.spec_rewrite.proofs.Measure.{size-up}
@@ -24,7 +22,10 @@ use Rattle.words.specs.words.Words.{tree-of, name-of, begins-with}
 use Rattle.words.proofs.words.Rewriting.{first-tree, one-long, begins-tree, one-long as some-words}
 use Rattle.replace.specs.coefficient.Answers.{constant-answer}
 use Rattle.replace.specs.declared.coefficient.Constant.the-variants as constant
-use Rattle.replace.specs.factors.Places.{tree, at-places}
+use Rattle.replace.specs.factors.Places.{tree, at-places, Stands}
+use Rattle.replace.proofs.factors.WordRuns.{run-stands, stands-run}
+use Rattle.replace.proofs.factors.Flattening.{Taken as Flat-from}
+use Rattle.replace.proofs.factors.Answering.{ends-there, answers-product}
 use Rattle.replace.proofs.factors.PlaceLaws.{Each, Inside}
 use Rattle.replace.specs.factors.Answers.{Flattening, flattened-by, flatten-answer}
 use Rattle.replace.specs.declared.factors.Flattened.the-variants as flattened
@@ -36,9 +37,10 @@ use Rattle.replace.proofs.matching.Removing.{after-most}
 use Rattle.replace.specs.matching.Answers.{Takes}
 use Rattle.replace.specs.declared.matching.Taken.{Taken}
 use Rattle.replace.specs.declared.matching.Taken.the-variants as taken
-use Rattle.replace.specs.replacing.Deciding.{Trees, Target, StaysAt, RefusedAt, Match, ProductFirst}
+use Rattle.replace.specs.replacing.Deciding.{Trees, Target, Plain, PassedAt, RefusedAt, Match, ProductFirst}
 use Rattle.replace.proofs.replacing.Runs.{name-alone, name-tree}
-use Rattle.replace.proofs.replacing.Deciding.{Product-at, product-at, none-taken, refused-there, match-there}
+use Rattle.replace.proofs.replacing.Deciding.{Product-at, product-at, none-there, refused-there, match-there}
+use Rattle.replace.proofs.replacing.Passing.{passed-at}
 use Rattle.replace.specs.Answers.{FlatFirst}
 
 -- ---- the target
@@ -184,8 +186,9 @@ module _
       pub all-there : all ≤ length new
       all-there = ta .1 .1
 
-      pub taken-none : times ≡ 0 → StaysAt part name ws
-      taken-none z = none-taken part name (F .target) ws (F .trees) pa by (G .old) places new p pr all times (ta .1) z
+      pub taken-passed : times ≡ 0 → (long : ℕ) → run-at ws 0 ≡ some long → (n : ℕ) → Plain ws long n → PassedAt part name ws n
+      taken-passed z long x n s =
+          passed-at part name (F .target) by ws (F .trees) long x (none-there part name (F .target) ws (F .trees) pa by (G .old) places new p pr all times (ta .1) z) n s
 
       one-more : (times ≡ 0 → ⊥) → times ≡ suc (times - 1)
       one-more z = go times z
@@ -197,25 +200,39 @@ module _
       pub taken-refused : (times ≡ 0 → ⊥) → constant.Not ≡ constant-answer (constant-of coefficient) → RefusedAt part name ws
       taken-refused z k = refused-there part name (F .target) ws (F .trees) pa by (G .old) places new p pr all times (ta .1) (times - 1) (one-more z) k
 
-      pub never-ends : run.Broken ≡ end-answer 0 (run-at ws 0) → ⊥
-      unfolding end-answer
-      never-ends k = (let x = k ∙ ap (end-answer 0) (pr .there) in let z : _≡_ {A = ℕ} 0 1 = cc in omega arith)
-
       pub taken-matched :
-          (times ≡ 0 → ⊥) → (code : ℕ) → constant.Is code ≡ constant-answer (constant-of coefficient) → (end : ℕ) → run.Ends end ≡ end-answer 0 (run-at ws 0)
-          → (copies : ℕ) → copies ≡ names-after (length ws) (take all new) → Match part name ws new (all - copies) copies code end
-      unfolding end-answer
-      taken-matched z code k end x copies c =
+          (times ≡ 0 → ⊥) → (code : ℕ) → constant.Is code ≡ constant-answer (constant-of coefficient) → (long : ℕ) → run-at ws 0 ≡ some long
+          → (copies : ℕ) → copies ≡ names-after (length ws) (take all new) → Match part name ws new (all - copies) copies code long
+      taken-matched z code k long x copies c =
           let m = match-there part name (F .target) ws (F .trees) pa by (G .old) places new p pr all times (ta .1) (times - 1) (one-more z) code k (all - copies) copies c refl in
-          let y : run.Ends end ≡ run.Ends (0 + size (tree ws 0)) = x ∙ ap (end-answer 0) (pr .there) in
-          let w : end ≡ 0 + size (tree ws 0) = cc in
-          let v : end ≡ size (tree ws 0) = omega arith in
-          subst (Match part name ws new (all - copies) copies code) (sym v) m
+          subst (Match part name ws new (all - copies) copies code) (some-is (sym (pr .there) ∙ x)) m
 
       pub fewer-names : (copies : ℕ) → copies ≡ names-after (length ws) (take all new) → copies ≤ all
       fewer-names copies c = (let a = after-most (length ws) (take all new) in let b = length-take-le all new all-there in omega arith)
 
 -- ---- what the callees are asked
+
+pub first-stands : {ws part : List ℕ} {name : ℕ} → ProductFirst ws part name → Stands ws 0 1
+first-stands {ws} F = run-stands ws 0 (size (tree ws 0)) (run-size numbered ws (F .trees .count) 0 (F .trees .complete) (F .some-word))
+
+pub first-fits : {ws part : List ℕ} {name : ℕ} → ProductFirst ws part name → size (tree ws 0) ≤ length ws
+unfolding run-at
+first-fits {ws} F = words-complete ws 1 (size (tree ws 0)) (stands-run (first-stands F)) .0
+
+-- its end, and that it has a word
+pub first-run : {ws part : List ℕ} {name : ℕ} → ProductFirst ws part name → (long : ℕ) → long ≡ 0 + size (tree ws 0) → run-at ws 0 ≡ some long
+first-run {ws} F long e = (let z : size (tree ws 0) ≡ long = omega arith in stands-run (first-stands F) ∙ ap some z)
+
+pub some-long : {ws part : List ℕ} {name : ℕ} → ProductFirst ws part name → (long : ℕ) → run-at ws 0 ≡ some long → (0 < long) × (long ≤ length ws)
+some-long {ws} F long e =
+    (let z : size (tree ws 0) ≡ long = some-is (sym (stands-run (first-stands F)) ∙ e) in let a = first-fits F in let b = size-up (tree ws 0) in (omega arith, omega arith))
+
+pub flat-known :
+    {ws part : List ℕ} {name : ℕ} → ProductFirst ws part name → (old new : List ℕ) (c : Float) (n : ℕ) → length ws ≤ length old → Flat-from (tree ws 0) 0 old 0 c n new → FlatFirst ws c n new
+flat-known {ws} F old new c n room f =
+    let s = first-stands F in
+    let x = answers-product ws 0 old (0 + size (tree ws 0)) (sym (ends-there s)) c n new (let a = first-fits F in omega arith) f in
+    record { old = old; answer = x .0; written = x .1 }
 
 pub flat-first :
     (ws old new : List ℕ) (p : Product) → flattened.Of p ≡ flatten-answer ws 0 old .answer → new ≡ flatten-answer ws 0 old .places → FlatFirst ws (p .coefficient) (p .count) new

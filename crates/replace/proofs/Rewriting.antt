@@ -6,7 +6,7 @@ use mathlib.Core.Option.{some}
 use mathlib.Core.List.{List, [], _∷_, _++_}
 use borrow.Rule.Slice.PartMut.{putMid}
 use lib.ListN.{length, getD, take, drop, set, length-drop, length-append}
-use lib.Seq.{drop-at, drop-drop}
+use lib.Seq.{length-take-le, drop-at, drop-drop}
 use Rattle.spec_tree.specs.Outcome.{Outcome}
 use Rattle.spec_tree.specs.Facts.{size}
 use Rattle.spec_tree.specs.Tokens.{words-of, run-at}
@@ -14,8 +14,8 @@ use Rattle.words.specs.tokens.Answers.{end-answer}
 use Rattle.words.specs.declared.tokens.Run.the-variants as run
 use Rattle.words.proofs.words.Rewriting.{whole-there, one-long}
 use Rattle.replace.specs.factors.Places.{tree}
-use Rattle.replace.specs.replacing.Deciding.{Trees, Target, Within, rewritten-words, Match, product-out, Wrote, Left}
-use Rattle.replace.proofs.replacing.Scanning.{Scanned, trees-after, target-within, turn-equal, turn-stays, long-within, turn-matched, matched-few, turn-refused, here-refused}
+use Rattle.replace.specs.replacing.Deciding.{Trees, Target, PassedAt, Within, rewritten-words, Match, product-out, Wrote, Left}
+use Rattle.replace.proofs.replacing.Scanning.{Scanned, trees-after, target-within, turn-equal, turn-stays, turn-passed, long-within, turn-matched, matched-few, turn-refused, here-refused}
 use Rattle.replace.proofs.replacing.Factoring.{Factored, here-within, here-smaller, here-scratch, here-room, here-inside, run-trees, run-long, factor-turns, factor-refused}
 use Rattle.replace.specs.Answers.{Decides, Writes}
 use Rattle.replace.specs.declared.Decision.{Decision}
@@ -84,6 +84,29 @@ module _
 
     pub by-stays : r ≡ decision.Stays → Scanned part name ws old (set out o (getD ws i 0)) (i + 1) (o + 1)
     by-stays q = turn-stays part name ws old t h room s more (getD ws i 0) refl (subst (Decides part name (drop i ws) new) q there)
+
+    module _ (n : ℕ) (q : r ≡ decision.Passed n) where
+      passed-there : PassedAt part name (drop i ws) n
+      passed-there = subst (Decides part name (drop i ws) new) q there
+
+      pub some-passed : 1 ≤ n
+      some-passed = passed-there .some-word
+
+      pub passed-fits : i + n ≤ length ws
+      passed-fits = (let a = passed-there .within in let b = length-drop i ws in omega arith)
+
+      copied : take (i + n - i) (drop i ws) ≡ take n (drop i ws)
+      copied = (let z : i + n - i ≡ n = omega arith in ap (λ (k : ℕ). take k (drop i ws)) z)
+
+      pub copied-fits : length (take (i + n - i) (drop i ws)) ≤ length (from out o)
+      copied-fits =
+          (let a = ap length copied ∙ length-take-le n (drop i ws) (passed-there .within) in let b = passed-fits in let c = from-long out o in omega (arith, s .fewer, s .long))
+
+      pub by-passed :
+          (x : List ℕ) → x ≡ take (i + n - i) (drop i ws) ++ drop (length (take (i + n - i) (drop i ws))) (from out o)
+          → Scanned part name ws old (putMid o (length out - o) out x) (i + n) (o + n)
+      by-passed x e =
+          turn-passed part name ws old t h room s more n passed-there x (e ∙ ap (λ (l : List ℕ). l ++ drop (length l) (from out o)) copied)
 
     pub by-refused : r ≡ decision.Refused → Left (rewritten-words part name ws) (length ws) old out
     by-refused q =

@@ -4,5 +4,6 @@ pub mod Products
 pub mod Deciding
 pub mod Targets
 pub mod Scanning
+pub mod Passing
 pub mod Factoring
 pub mod Examples

@@ -10,7 +10,7 @@ use lib.Ieee.{Float}
 use Rattle.words.specs.words.Words.{begins-with}
 use Rattle.replace.specs.factors.Answers.{flatten-answer}
 use Rattle.replace.specs.declared.factors.Flattened.the-variants as flattened
-use Rattle.replace.specs.replacing.Deciding.{StaysAt, RefusedAt, Match, Wrote, Left}
+use Rattle.replace.specs.replacing.Deciding.{StaysAt, PassedAt, RefusedAt, Match, Wrote, Left}
 use Rattle.replace.specs.declared.Decision.{Decision}
 use Rattle.replace.specs.declared.Decision.the-variants as decision
 use Rattle.replace.specs.declared.Replaced.{Replaced}
@@ -30,6 +30,7 @@ pub record FlatFirst (ws : List ℕ) (coefficient : Float) (count : ℕ) (places
 abbrev pub Decides : List ℕ → ℕ → List ℕ → List ℕ → Decision → Type 0
 Decides part name ws places decision.Equal = true ≡ begins-with ws part
 Decides part name ws places decision.Stays = StaysAt part name ws
+Decides part name ws places (decision.Passed n) = PassedAt part name ws n
 Decides part name ws places (decision.Matched left copies code long) = Match part name ws places left copies code long
 Decides part name ws places decision.Refused = RefusedAt part name ws
 

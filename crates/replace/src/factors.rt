@@ -12,6 +12,7 @@ use words::layout::CONST;
 use words::layout::KINDS;
 use words::layout::MUL;
 use words::layout::NEG;
+use words::layout::SYM;
 use words::tokens::Run;
 
 // A product's coefficient and how many factors it has.
@@ -29,20 +30,20 @@ pub enum Flattened {
 }
 
 // A product, and the place after its words.
-struct Passed {
-    product: Product,
-    next: usize,
+pub struct Passed {
+    pub product: Product,
+    pub next: usize,
 }
 
-// The place after the tree at `at`. A tree is there, so that `end_of` finds its end.
+// The place after the tree at `at`, which is there; a symbol is one word.
 fn past(tokens: &[u64], at: usize) -> usize
     requires { ⌜ Stands (now tokens) at 1 ⌝ }
     ensures { λ r. ⌜ r ≡ at + size (tree (now (tokens .entry)) at) ⌝ }
 {
-    let Run::Ends(end) = words::tokens::end_of(tokens, at) else {
-        return at;
-    };
-    end
+    if tokens[at] % KINDS == SYM {
+        return at + 1;
+    }
+    words::tokens::tree_end(tokens, at)
 }
 
 // A tree that is neither a Mul nor a Neg: a constant is a coefficient with no factor, and any other is a factor itself, whose place is written at `used`.
@@ -73,7 +74,7 @@ fn flatten_other(tokens: &[u64], at: usize, places: &mut [u64], used: usize) -> 
 }
 
 // Takes the tree at `at` apart. The places of its factors are written from `used` on.
-fn flatten_tree(tokens: &[u64], at: usize, places: &mut [u64], used: usize) -> Passed
+pub fn flatten_tree(tokens: &[u64], at: usize, places: &mut [u64], used: usize) -> Passed
     requires { ⌜ Stands (now tokens) at 1 ⌝ }
     requires { ⌜ used + size (tree (now tokens) at) ≤ length (now places) ⌝ }
     ensures { λ r. ⌜ Tree-flat (now (tokens .entry)) at (now (places .entry)) used (r .product .coefficient) (r .product .count) (r .next) (now (places .exit)) ⌝ }

@@ -14,20 +14,22 @@ ghost use mathlib.Core.List.{_++_};
 ghost use Prim.Native.Nat.{_+_, _-_, _*_, _^_, _≤_, _<_};
 ghost use mathlib.Core.Bool.{true};
 ghost use mathlib.Core.Option.{some};
-ghost use lib.ListN.{length, take, drop};
-ghost use Rattle.spec_tree.specs.Tokens.{kind-of, trees-in};
+ghost use lib.ListN.{length, getD, take, drop};
+ghost use Rattle.spec_tree.specs.Tokens.{kind-of, trees-in, run-at};
 ghost use Rattle.spec_rewrite.specs.Rewrite.{flatten-mul-factors};
 ghost use Rattle.words.specs.words.Words.{tree-of, name-of};
 ghost use Rattle.replace.specs.closed.Closed.{by-factors, lone, endless};
 ghost use Rattle.replace.specs.replacing.Replacing.{replaceable, repeated, head-words};
-ghost use Rattle.replace.specs.replacing.Deciding.{Trees, Target, Match, ProductFirst, rewritten-words, product-out};
+ghost use Rattle.replace.specs.replacing.Deciding.{Trees, Target, is-plain, Plain, Match, ProductFirst, rewritten-words, product-out};
 ghost use Rattle.replace.specs.Answers.{FlatFirst, Decides, Writes, sought-as, replaced-by, replacement, Leaves, scratch-short, short-of-room};
 use crate::coefficient::Constant;
 use crate::coefficient::constant_of;
 use crate::coefficient::is_one;
 use crate::factors::Flattened;
 use crate::factors::flatten_mul_factors;
+use crate::factors::flatten_tree;
 use crate::matching::Taken;
+use crate::matching::is_passed;
 use crate::matching::names_at_end;
 use crate::matching::take_out;
 use crate::replaceable::are_formed;
@@ -36,6 +38,7 @@ use words::layout::CONST;
 use words::layout::KINDS;
 use words::layout::MUL;
 use words::layout::PRODUCT;
+use words::layout::SYM;
 use words::tokens::Run;
 use words::tokens::end_of;
 use words::words::Request;
@@ -56,6 +59,8 @@ enum Decision {
     Equal,
     // Its word stays.
     Stays,
+    // It is a product without a match, and so is each of its words up to a factor that is no symbol: so many words stay.
+    Passed(usize),
     // It is a product with matches: how many factors there are then before the names at the end, how many these are, the coefficient's code, and how many words it is.
     Matched(usize, usize, u64, usize),
     // It is a product with matches whose coefficient is no constant.
@@ -135,6 +140,33 @@ fn seek(target: &[u64], name: u64, places: &mut [u64]) -> Sought
     }
 }
 
+// Whether a word of a product without a match stays, wherever in the product it stands: a symbol, a constant, a Neg or a Mul. Any other has operands to be rewritten
+// before what follows them is known to be of the product.
+fn is_plain(w: u64) -> bool
+    ensures { λ r. ⌜ r ≡ is-plain w ⌝ }
+{
+    if w % KINDS == SYM {
+        return true;
+    }
+    is_passed(w)
+}
+
+// How many words of a product stay, where it has no match.
+fn plain_words(tokens: &[u64], long: usize) -> usize
+    requires { ⌜ (0 < long) × (long ≤ length (now tokens)) × (kind-of (getD (now tokens) 0 0) ≡ 5) ⌝ }
+    ensures { λ r. ⌜ Plain (now (tokens .entry)) long r ⌝ }
+{
+    let mut q = 1;
+    while q < long {
+        if is_plain(tokens[q]) {
+            q += 1;
+        } else {
+            return q;
+        }
+    }
+    q
+}
+
 // Decides on a product whose factors' places are known.
 fn decide_factors(
     tokens: &[u64],
@@ -142,10 +174,11 @@ fn decide_factors(
     name: u64,
     coefficient: f64,
     count: usize,
+    long: usize,
     places: &mut [u64],
 ) -> Decision
     requires { ⌜ ProductFirst (now tokens) (now target) name ⌝ }
-    requires { ⌜ FlatFirst (now tokens) coefficient count (now places) ⌝ }
+    requires { ⌜ FlatFirst (now tokens) coefficient count (now places) × (run-at (now tokens) 0 ≡ some long) ⌝ }
     requires { ⌜ 2 * length (now tokens) ≤ length (now places) ⌝ }
     ensures { λ r. ⌜ Decides (now (target .entry)) name (now (tokens .entry)) (now (places .exit)) r ⌝ }
 {
@@ -153,16 +186,13 @@ fn decide_factors(
         return Decision::Refused;
     };
     if times == 0 {
-        return Decision::Stays;
+        return Decision::Passed(plain_words(tokens, long));
     }
     let Constant::Is(code) = constant_of(coefficient) else {
         return Decision::Refused;
     };
-    let Run::Ends(end) = end_of(tokens, 0) else {
-        return Decision::Refused;
-    };
     let copies = names_at_end(tokens.len() as u64, &places[..all]);
-    Decision::Matched(all - copies, copies, code, end)
+    Decision::Matched(all - copies, copies, code, long)
 }
 
 // Decides on a product that isn't the target.
@@ -171,16 +201,10 @@ fn decide_product(tokens: &[u64], target: &[u64], name: u64, places: &mut [u64])
     requires { ⌜ 2 * length (now tokens) ≤ length (now places) ⌝ }
     ensures { λ r. ⌜ Decides (now (target .entry)) name (now (tokens .entry)) (now (places .exit)) r ⌝ }
 {
-    let flat = flatten_mul_factors(tokens, 0, places);
-    match flat {
-        Flattened::Of(p) => {
-            let coefficient = p.coefficient;
-            let count = p.count;
-            decide_factors(tokens, target, name, coefficient, count, places)
-        }
-        Flattened::Broken => Decision::Refused,
-        Flattened::NoRoom => Decision::Refused,
-    }
+    let flat = flatten_tree(tokens, 0, places, 0);
+    let coefficient = flat.product.coefficient;
+    let count = flat.product.count;
+    decide_factors(tokens, target, name, coefficient, count, flat.next, places)
 }
 
 // Decides on the first tree.
@@ -301,6 +325,11 @@ fn rewrite(
                 out[o] = tokens[i];
                 i += 1;
                 o += 1;
+            }
+            Decision::Passed(n) => {
+                copy(&tokens[i..i + n], &mut out[o..]);
+                i += n;
+                o += n;
             }
             Decision::Matched(left, copies, code, long) => {
                 let Step::Wrote(n) = rewrite_product(

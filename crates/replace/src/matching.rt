@@ -7,7 +7,7 @@ ghost use mathlib.Core.Logic.{_⊎_};
 ghost use lib.ListN.{length, take, drop};
 ghost use Rattle.words.specs.words.Words.{begins-with};
 ghost use Rattle.replace.specs.matching.Matching.{is-passed, factor-runs, run-end, words-at, remove-runs, names-after};
-ghost use Rattle.replace.specs.matching.Answers.{Seeks, Removes, Takes};
+ghost use Rattle.replace.specs.matching.Answers.{Seeks, Removes, Lacks, Takes};
 use words::layout::CONST;
 use words::layout::KINDS;
 use words::layout::MUL;
@@ -32,7 +32,7 @@ pub enum Taken {
 }
 
 // Whether a word of a product is passed through: a Mul, a Neg or a constant. Any other starts a factor.
-fn is_passed(w: u64) -> bool
+pub fn is_passed(w: u64) -> bool
     ensures { λ r. ⌜ r ≡ is-passed w ⌝ }
 {
     let kind = w % KINDS;
@@ -125,6 +125,32 @@ fn remove_each(tokens: &[u64], part: &[u64], name: u64, places: &mut [u64], coun
     Removed::Missing
 }
 
+// Whether a factor of `part` stands at none of the `count` places: then they aren't all there, and nothing need be removed to see it.
+fn lacks_factor(tokens: &[u64], part: &[u64], name: u64, places: &[u64], count: usize) -> bool
+    requires { ⌜ count ≤ length (now places) ⌝ }
+    ensures { λ r. ⌜ Lacks (remove-runs (words-at (now (tokens .entry)) name) (factor-runs (now (part .entry))) (take count (now (places .entry)))) r ⌝ }
+{
+    let mut q = next_factor(part, 0);
+    'outer: loop {
+        if part.len() <= q {
+            return false;
+        }
+        let end = end_from(part, q);
+        let mut k = 0;
+        'inner: loop {
+            if count <= k {
+                break 'outer;
+            }
+            if stands_at(tokens, name, places[k], &part[q..end]) {
+                break 'inner;
+            }
+            k += 1;
+        }
+        q = next_factor(part, end);
+    }
+    true
+}
+
 // Copies n places from one place to another.
 fn copy_places(places: &mut [u64], from: usize, to: usize, n: usize)
     requires { ⌜ (from + n ≤ length (now places)) × (to + n ≤ length (now places)) ⌝ }
@@ -152,6 +178,9 @@ pub fn take_out(tokens: &[u64], part: &[u64], name: u64, places: &mut [u64], cou
     let mut left = count;
     let mut times: usize = 0;
     while times < 2 * count {
+        if lacks_factor(tokens, part, name, places, left) {
+            return Taken::Out(left, times);
+        }
         copy_places(places, 0, left, left);
         let Removed::Left(n) = remove_each(tokens, part, name, places, left) else {
             copy_places(places, left, 0, left);

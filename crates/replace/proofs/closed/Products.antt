@@ -138,10 +138,10 @@ module _ (target : Tree) (n : Name) (several : Product target → 2 + count (Sym
     unfolding by-factors
     unit-target = exactly .unit target (and-right (is-mul target) _ product)
 
-    abbrev matched-by : Tree → Option (List Tree) → Option Factors
+    abbrev pub matched-by : Tree → Option (List Tree) → Option Factors
     matched-by e o = elim o [ none ↦ none | some r ↦ some (record { coefficient = flatten-mul-factors e .coefficient; factors = r ++ (Sym n ∷ []) }) ]
 
-    match-is : (e : Tree) → match-factors target n e ≡ matched-by e (remove-each ts (factors-of e))
+    pub match-is : (e : Tree) → match-factors target n e ≡ matched-by e (remove-each ts (factors-of e))
     unfolding match-factors by-factors
     match-is e = ap (λ (b : Bool). elim b as (λ _. Option Factors) [ true ↦ matched-by e (remove-each ts (factors-of e)) | false ↦ none ]) (is-true (is-mul target && Ieee.eq (flatten-mul-factors target .coefficient) one) product)
 

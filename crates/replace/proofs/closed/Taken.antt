@@ -1,15 +1,16 @@
 -- Factors taken out of a list that goes on, and what is left of one. Assumes nothing.
-use Prim.Native.Nat.{ℕ, _+_}
+use Prim.Native.Nat.{ℕ, zero, suc, _+_, _*_, _≤_}
 use mathlib.Core.Path.{_≡_, refl, ap, _∙_}
 use mathlib.Core.Bool.{Bool, true, false}
 use mathlib.Core.Option.{Option, none, some}
 use mathlib.Core.List.{List, [], _∷_, _++_}
 use native.Mathlib.Omega.{arith}
 use lib.ListN.{length}
-use Rattle.spec_tree.specs.Tree.{Tree, eq-tree}
+use Rattle.spec_tree.specs.Tree.{Name, Tree, Sym, eq-tree}
 use Rattle.spec_tree.specs.Facts.{count}
 use Rattle.spec_rewrite.specs.Rewrite.{remove-first, remove-each}
 use Rattle.spec_rewrite.proofs.Measure.{length-sum, count-sum, one-of}
+use Rattle.replace.specs.closed.Closed.{Taken, once-more, take-out, taken}
 use Rattle.spec_rewrite.proofs.Factors.{All, puts-all, puts-sum, puts-from}
 
 -- ---- a list that goes on
@@ -63,3 +64,22 @@ rest-of P ts l r e =
 pub count-of-rest : (x : Tree) (ts l r : List Tree) → remove-each ts l ≡ some r → count x l ≡ count x ts + count x r
 count-of-rest x ts l r e =
     (let a = puts-sum (λ y. one-of y x) (puts-from ts l r e) in let b = count-sum x l in let c = count-sum x ts in let d = count-sum x r in omega arith)
+
+-- what was never taken out isn't there
+pub never-there : (n : Name) (ts l : List Tree) → 1 ≤ length ts → taken n ts l .times ≡ 0 → remove-each ts l ≡ none
+unfolding taken
+never-there n ts l some-factor e = by l (2 * length l) (λ h. omega arith) e
+  where
+    none-left : (ts : List Tree) → 1 ≤ length ts → remove-each ts [] ≡ none
+    none-left [] h = absurd (omega arith)
+    none-left (t ∷ ts) h = (unfold remove-each remove-first in refl)
+
+    by : (l : List Tree) (most : ℕ) → (1 ≤ length l → 1 ≤ most) → take-out most n ts l .times ≡ 0 → remove-each ts l ≡ none
+    by [] most h e = none-left ts some-factor
+    by (t ∷ l) zero h e = (let x = h (omega arith) in absurd (omega arith))
+    by (t ∷ l) (suc most) h e = (unfold take-out in go (remove-each ts (t ∷ l)) (λ r. take-out most n ts r) e)
+      where
+        go : (o : Option (List Tree)) (again : List Tree → Taken)
+            → (elim o as (λ _. Taken) [ none ↦ record { factors = t ∷ l; times = 0 } | some r ↦ once-more (again (r ++ (Sym n ∷ []))) ]) .times ≡ 0 → o ≡ none
+        go none again e = refl
+        go (some r) again e = (unfold once-more in absurd (omega arith))

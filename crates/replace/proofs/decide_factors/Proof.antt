@@ -1,10 +1,17 @@
 -- `replace::decide_factors` meets its contract. Assumes nothing.
+use native.Mathlib.Omega.{arith}
 use lib.Seq.{length-take-le}
 use mathlib.Core.Path.{sym, _∙_}
-use Rattle.replace.proofs.Deciding.{taken-full, taken-none, taken-refused, never-ends, taken-matched, all-there, fewer-names}
+use Rattle.replace.proofs.Deciding.{taken-full, some-long, taken-passed, taken-refused, taken-matched, all-there, fewer-names}
 use borrow.Author.Needs.{needs}
 use Rattle.replace.proofs.decide_factors.Statement.{statement}
 use Rattle.replace.proofs.decide_factors.Tie as tie
+use Rattle.replace.proofs.decide_factors.Reads as reads
+use Rattle.replace.proofs.decide_factors.Lts as lts
+use Rattle.replace.proofs.coefficient.constant_of.Reads as constant-of-reads
+use Rattle.replace.proofs.matching.names_at_end.Reads as names-at-end-reads
+use Rattle.replace.proofs.matching.take_out.Reads as take-out-reads
+use Rattle.replace.proofs.plain_words.Reads as plain-words-reads
 
 take-out-requires : tie.Need-take-out-requires
 take-out-requires c κs = search needs
@@ -19,13 +26,16 @@ same-length : tie.Need-same-length
 same-length c = search needs
 
 returns : tie.Need-returns
-returns c = let a = c .before .before .before .before .before .before .before .before .before .args in let q = c .before .before .before .before .before .before .before .before .before .pre in absurd (taken-full (a .tokens .now) (a .target .now) (a .name) (a .coefficient) (a .count) (a .places .now) (q .0) (q .1 .0) (q .1 .1) (c .before .before .before .before .take-out .last .1 .1 .1 .0) (c .before .before .before .before .take-out .result) (c .before .before .before .before .take-out .ensures) (c .enum-told .given .1))
+returns c = let a = c .before .before .before .before .before .before .before .before .before .args in let q = c .before .before .before .before .before .before .before .before .before .pre in absurd (taken-full (a .tokens .now) (a .target .now) (a .name) (a .coefficient) (a .count) (a .places .now) (q .0) (q .1 .0 .0) (q .1 .1) (c .before .before .before .before .take-out .last .1 .1 .1 .0) (c .before .before .before .before .take-out .result) (c .before .before .before .before .take-out .ensures) (c .enum-told .given .1))
+
+plain-words-requires : tie.Need-plain-words-requires
+plain-words-requires c κs = let a = c .before .before .before .before .before .before .before .before .before .before .before .args in let q = c .before .before .before .before .before .before .before .before .before .before .before .pre in let l = some-long (q .0) (a .long) (q .1 .0 .1) in (l .0, l .1, q .0 .kind)
 
 same-length-2 : tie.Need-same-length-2
 same-length-2 c = search needs
 
 returns-2 : tie.Need-returns-2
-returns-2 c = let a = c .before .before .before .before .before .before .before .before .before .before .before .args in let q = c .before .before .before .before .before .before .before .before .before .before .before .pre in taken-none (a .tokens .now) (a .target .now) (a .name) (a .coefficient) (a .count) (a .places .now) (q .0) (q .1 .0) (q .1 .1) (c .before .before .before .before .before .before .take-out .last .1 .1 .1 .0) (c .before .before .before .before .before .before .take-out .result) (c .before .before .before .before .before .before .take-out .ensures) _ _ (c .before .before .all .given .1) (c .if1 .taken)
+returns-2 c = let a = c .before .before .before .before .before .before .before .before .before .before .before .before .args in let q = c .before .before .before .before .before .before .before .before .before .before .before .before .pre in taken-passed (a .tokens .now) (a .target .now) (a .name) (a .coefficient) (a .count) (a .places .now) (q .0) (q .1 .0 .0) (q .1 .1) (c .before .before .before .before .before .before .before .take-out .last .1 .1 .1 .0) (c .before .before .before .before .before .before .before .take-out .result) (c .before .before .before .before .before .before .before .take-out .ensures) _ _ (c .before .before .before .all .given .1) (c .before .if1 .taken) (a .long) (q .1 .0 .1) (c .plain-words .result) (c .plain-words .ensures)
 
 constant-of-requires : tie.Need-constant-of-requires
 constant-of-requires c κs = search needs
@@ -40,40 +50,25 @@ same-length-3 : tie.Need-same-length-3
 same-length-3 c = search needs
 
 returns-3 : tie.Need-returns-3
-returns-3 c = let a = c .before .before .before .before .before .before .before .before .before .before .before .before .before .before .args in let q = c .before .before .before .before .before .before .before .before .before .before .before .before .before .before .pre in taken-refused (a .tokens .now) (a .target .now) (a .name) (a .coefficient) (a .count) (a .places .now) (q .0) (q .1 .0) (q .1 .1) (c .before .before .before .before .before .before .before .before .before .take-out .last .1 .1 .1 .0) (c .before .before .before .before .before .before .before .before .before .take-out .result) (c .before .before .before .before .before .before .before .before .before .take-out .ensures) _ _ (c .before .before .before .before .before .all .given .1) (c .before .before .before .if1 .left) (sym (c .enum-told2 .given .1) ∙ c .before .before .constant-of .ensures)
-
-end-of-requires : tie.Need-end-of-requires
-end-of-requires c κs = search needs
-
-enum-known-end : tie.Need-enum-known-end
-enum-known-end c = search needs
-
-enum-told-3 : tie.Need-enum-told-3
-enum-told-3 c = search needs
-
-same-length-4 : tie.Need-same-length-4
-same-length-4 c = search needs
-
-returns-4 : tie.Need-returns-4
-returns-4 c = let a = c .before .before .before .before .before .before .before .before .before .before .before .before .before .before .before .before .before .before .args in let q = c .before .before .before .before .before .before .before .before .before .before .before .before .before .before .before .before .before .before .pre in absurd (never-ends (a .tokens .now) (a .target .now) (a .name) (a .coefficient) (a .count) (a .places .now) (q .0) (q .1 .0) (q .1 .1) (c .before .before .before .before .before .before .before .before .before .before .before .before .before .take-out .last .1 .1 .1 .0) (c .before .before .before .before .before .before .before .before .before .before .before .before .before .take-out .result) (c .before .before .before .before .before .before .before .before .before .before .before .before .before .take-out .ensures) _ _ (c .before .before .before .before .before .before .before .before .before .all .given .1) (sym (c .enum-told3 .given .1) ∙ c .before .before .end-of .ensures))
+returns-3 c = let a = c .before .before .before .before .before .before .before .before .before .before .before .before .before .before .args in let q = c .before .before .before .before .before .before .before .before .before .before .before .before .before .before .pre in taken-refused (a .tokens .now) (a .target .now) (a .name) (a .coefficient) (a .count) (a .places .now) (q .0) (q .1 .0 .0) (q .1 .1) (c .before .before .before .before .before .before .before .before .before .take-out .last .1 .1 .1 .0) (c .before .before .before .before .before .before .before .before .before .take-out .result) (c .before .before .before .before .before .before .before .before .before .take-out .ensures) _ _ (c .before .before .before .before .before .all .given .1) (c .before .before .before .if1 .left) (sym (c .enum-told2 .given .1) ∙ c .before .before .constant-of .ensures)
 
 slice-reshare-prefix-names-at-end : tie.Need-slice-reshare-prefix-names-at-end
-slice-reshare-prefix-names-at-end c = let a = c .before .before .before .before .before .before .before .before .before .before .before .before .before .before .before .before .before .before .before .args in let q = c .before .before .before .before .before .before .before .before .before .before .before .before .before .before .before .before .before .before .before .pre in all-there (a .tokens .now) (a .target .now) (a .name) (a .coefficient) (a .count) (a .places .now) (q .0) (q .1 .0) (q .1 .1) (c .before .before .before .before .before .before .before .before .before .before .before .before .before .before .take-out .last .1 .1 .1 .0) (c .before .before .before .before .before .before .before .before .before .before .before .before .before .before .take-out .result) (c .before .before .before .before .before .before .before .before .before .before .before .before .before .before .take-out .ensures) _ _ (c .before .before .before .before .before .before .before .before .before .before .all .given .1)
+slice-reshare-prefix-names-at-end c = let a = c .before .before .before .before .before .before .before .before .before .before .before .before .before .before .before .args in let q = c .before .before .before .before .before .before .before .before .before .before .before .before .before .before .before .pre in all-there (a .tokens .now) (a .target .now) (a .name) (a .coefficient) (a .count) (a .places .now) (q .0) (q .1 .0 .0) (q .1 .1) (c .before .before .before .before .before .before .before .before .before .before .take-out .last .1 .1 .1 .0) (c .before .before .before .before .before .before .before .before .before .before .take-out .result) (c .before .before .before .before .before .before .before .before .before .before .take-out .ensures) _ _ (c .before .before .before .before .before .before .all .given .1)
 
 slice-aggregate-names-at-end : tie.Need-slice-aggregate-names-at-end
-slice-aggregate-names-at-end c = let a = c .before .before .before .before .before .before .before .before .before .before .before .before .before .before .before .before .before .before .before .before .args in let q = c .before .before .before .before .before .before .before .before .before .before .before .before .before .before .before .before .before .before .before .before .pre in sym (length-take-le _ _ (all-there (a .tokens .now) (a .target .now) (a .name) (a .coefficient) (a .count) (a .places .now) (q .0) (q .1 .0) (q .1 .1) (c .before .before .before .before .before .before .before .before .before .before .before .before .before .before .before .take-out .last .1 .1 .1 .0) (c .before .before .before .before .before .before .before .before .before .before .before .before .before .before .before .take-out .result) (c .before .before .before .before .before .before .before .before .before .before .before .before .before .before .before .take-out .ensures) _ _ (c .before .before .before .before .before .before .before .before .before .before .before .all .given .1)))
+slice-aggregate-names-at-end c = let a = c .before .before .before .before .before .before .before .before .before .before .before .before .before .before .before .before .args in let q = c .before .before .before .before .before .before .before .before .before .before .before .before .before .before .before .before .pre in sym (length-take-le _ _ (all-there (a .tokens .now) (a .target .now) (a .name) (a .coefficient) (a .count) (a .places .now) (q .0) (q .1 .0 .0) (q .1 .1) (c .before .before .before .before .before .before .before .before .before .before .before .take-out .last .1 .1 .1 .0) (c .before .before .before .before .before .before .before .before .before .before .before .take-out .result) (c .before .before .before .before .before .before .before .before .before .before .before .take-out .ensures) _ _ (c .before .before .before .before .before .before .before .all .given .1)))
 
 names-at-end-requires : tie.Need-names-at-end-requires
 names-at-end-requires c κs = search needs
 
 sub-t18 : tie.Need-sub-t18
-sub-t18 c = let a = c .before .before .before .before .before .before .before .before .before .before .before .before .before .before .before .before .before .before .before .before .before .args in let q = c .before .before .before .before .before .before .before .before .before .before .before .before .before .before .before .before .before .before .before .before .before .pre in fewer-names (a .tokens .now) (a .target .now) (a .name) (a .coefficient) (a .count) (a .places .now) (q .0) (q .1 .0) (q .1 .1) (c .before .before .before .before .before .before .before .before .before .before .before .before .before .before .before .before .take-out .last .1 .1 .1 .0) (c .before .before .before .before .before .before .before .before .before .before .before .before .before .before .before .before .take-out .result) (c .before .before .before .before .before .before .before .before .before .before .before .before .before .before .before .before .take-out .ensures) _ _ (c .before .before .before .before .before .before .before .before .before .before .before .before .all .given .1) (c .names-at-end .result) (c .names-at-end .ensures)
+sub-t18 c = let a = c .before .before .before .before .before .before .before .before .before .before .before .before .before .before .before .before .before .args in let q = c .before .before .before .before .before .before .before .before .before .before .before .before .before .before .before .before .before .pre in fewer-names (a .tokens .now) (a .target .now) (a .name) (a .coefficient) (a .count) (a .places .now) (q .0) (q .1 .0 .0) (q .1 .1) (c .before .before .before .before .before .before .before .before .before .before .before .before .take-out .last .1 .1 .1 .0) (c .before .before .before .before .before .before .before .before .before .before .before .before .take-out .result) (c .before .before .before .before .before .before .before .before .before .before .before .before .take-out .ensures) _ _ (c .before .before .before .before .before .before .before .before .all .given .1) (c .names-at-end .result) (c .names-at-end .ensures)
 
-same-length-5 : tie.Need-same-length-5
-same-length-5 c = search needs
+same-length-4 : tie.Need-same-length-4
+same-length-4 c = search needs
 
-returns-5 : tie.Need-returns-5
-returns-5 c = let a = c .before .before .before .before .before .before .before .before .before .before .before .before .before .before .before .before .before .before .before .before .before .args in let q = c .before .before .before .before .before .before .before .before .before .before .before .before .before .before .before .before .before .before .before .before .before .pre in taken-matched (a .tokens .now) (a .target .now) (a .name) (a .coefficient) (a .count) (a .places .now) (q .0) (q .1 .0) (q .1 .1) (c .before .before .before .before .before .before .before .before .before .before .before .before .before .before .before .before .take-out .last .1 .1 .1 .0) (c .before .before .before .before .before .before .before .before .before .before .before .before .before .before .before .before .take-out .result) (c .before .before .before .before .before .before .before .before .before .before .before .before .before .before .before .before .take-out .ensures) _ _ (c .before .before .before .before .before .before .before .before .before .before .before .before .all .given .1) (c .before .before .before .before .before .before .before .before .before .before .if1 .left) _ (sym (c .before .before .before .before .before .before .before .code .given .1) ∙ c .before .before .before .before .before .before .before .before .before .constant-of .ensures) _ (sym (c .before .before .before .end .given .1) ∙ c .before .before .before .before .before .end-of .ensures) (c .names-at-end .result) (c .names-at-end .ensures)
+returns-4 : tie.Need-returns-4
+returns-4 c = let a = c .before .before .before .before .before .before .before .before .before .before .before .before .before .before .before .before .before .args in let q = c .before .before .before .before .before .before .before .before .before .before .before .before .before .before .before .before .before .pre in taken-matched (a .tokens .now) (a .target .now) (a .name) (a .coefficient) (a .count) (a .places .now) (q .0) (q .1 .0 .0) (q .1 .1) (c .before .before .before .before .before .before .before .before .before .before .before .before .take-out .last .1 .1 .1 .0) (c .before .before .before .before .before .before .before .before .before .before .before .before .take-out .result) (c .before .before .before .before .before .before .before .before .before .before .before .before .take-out .ensures) _ _ (c .before .before .before .before .before .before .before .before .all .given .1) (c .before .before .before .before .before .before .if1 .left) _ (sym (c .before .before .before .code .given .1) ∙ c .before .before .before .before .before .constant-of .ensures) (a .long) (q .1 .0 .1) (c .names-at-end .result) (c .names-at-end .ensures)
 
 pub decide-factors-spec : {M : Type 1} → statement M
 decide-factors-spec =
@@ -84,6 +79,7 @@ decide-factors-spec =
     enum-told
     same-length
     returns
+    plain-words-requires
     same-length-2
     returns-2
     constant-of-requires
@@ -91,14 +87,9 @@ decide-factors-spec =
     enum-told-2
     same-length-3
     returns-3
-    end-of-requires
-    enum-known-end
-    enum-told-3
-    same-length-4
-    returns-4
     slice-reshare-prefix-names-at-end
     slice-aggregate-names-at-end
     names-at-end-requires
     sub-t18
-    same-length-5
-    returns-5)
+    same-length-4
+    returns-4)

@@ -1,25 +1,21 @@
 -- `replace::decide_product` meets its contract. Assumes nothing.
 use native.Mathlib.Omega.{arith}
 use mathlib.Core.Path.{sym, _∙_}
-use Rattle.replace.proofs.Deciding.{never-broken, never-full, flat-first}
+use Rattle.replace.proofs.Deciding.{first-stands, first-fits, first-run, flat-known}
+use Rattle.replace.proofs.factors.Flattening.{flat-long}
 use borrow.Author.Needs.{needs}
 use Rattle.replace.proofs.decide_product.Statement.{statement}
 use Rattle.replace.proofs.decide_product.Tie as tie
+use Rattle.replace.proofs.decide_product.Reads as reads
+use Rattle.replace.proofs.decide_product.Lts as lts
+use Rattle.replace.proofs.decide_factors.Reads as decide-factors-reads
+use Rattle.replace.proofs.factors.flatten_tree.Reads as flatten-tree-reads
 
-flatten-mul-factors-requires : tie.Need-flatten-mul-factors-requires
-flatten-mul-factors-requires c κs = search needs
-
-enum-known-flat : tie.Need-enum-known-flat
-enum-known-flat c = search needs
+flatten-tree-requires : tie.Need-flatten-tree-requires
+flatten-tree-requires c κs = let q = c .before .before .before .before .pre in (first-stands (q .0), omega (arith, first-fits (q .0), q .1))
 
 decide-factors-requires : tie.Need-decide-factors-requires
-decide-factors-requires c κs = let q = c .before .before .before .before .before .before .before .before .before .before .before .pre in let a = c .before .before .before .before .before .before .before .before .before .before .before .args in (q .0, (flat-first (a .tokens .now) (a .places .now) (c .before .before .before .before .before .before .flatten-mul-factors .last .1 .1 .0) (c .before .before .flat .given .0 .0) (sym (c .before .before .flat .given .1) ∙ c .before .before .before .before .before .before .flatten-mul-factors .ensures .0) (c .before .before .before .before .before .before .flatten-mul-factors .ensures .1), omega (arith, q .1, c .before .before .before .before .before .before .flatten-mul-factors .kept .1 .1 .0)))
-
-enum-told : tie.Need-enum-told
-enum-told c = search needs
-
-enum-told-2 : tie.Need-enum-told-2
-enum-told-2 c = search needs
+decide-factors-requires c κs = let q = c .before .before .before .before .before .before .before .before .pre in let a = c .before .before .before .before .before .before .before .before .args in let f = c .before .before .before .flatten-tree .ensures in (q .0, ((flat-known (q .0) (a .places .now) _ _ _ (omega (arith, q .1)) (f .0), first-run (q .0) _ (f .1)), omega (arith, q .1, flat-long (f .0))))
 
 same-length : tie.Need-same-length
 same-length c = search needs
@@ -27,30 +23,6 @@ same-length c = search needs
 returns : tie.Need-returns
 returns c = search needs
 
-same-length-2 : tie.Need-same-length-2
-same-length-2 c = search needs
-
-returns-2 : tie.Need-returns-2
-returns-2 c = let a = c .before .before .before .before .before .before .before .before .before .args in let q = c .before .before .before .before .before .before .before .before .before .pre .0 in absurd (never-broken (a .tokens .now) (a .places .now) (q .trees .count) (q .trees .complete) (q .some-word) (omega (arith, c .before .before .before .before .before .before .before .before .before .pre .1)) (sym (c .enum-told .given .1) ∙ c .before .before .before .before .flatten-mul-factors .ensures .0))
-
-same-length-3 : tie.Need-same-length-3
-same-length-3 c = search needs
-
-returns-3 : tie.Need-returns-3
-returns-3 c = let a = c .before .before .before .before .before .before .before .before .before .args in let q = c .before .before .before .before .before .before .before .before .before .pre .0 in absurd (never-full (a .tokens .now) (a .places .now) (q .trees .count) (q .trees .complete) (q .some-word) (omega (arith, c .before .before .before .before .before .before .before .before .before .pre .1)) (sym (c .enum-told2 .given .1) ∙ c .before .before .before .before .flatten-mul-factors .ensures .0))
-
 pub decide-product-spec : {M : Type 1} → statement M
 decide-product-spec =
-    tie.close
-    (tie.spec
-    flatten-mul-factors-requires
-    enum-known-flat
-    decide-factors-requires
-    enum-told
-    enum-told-2
-    same-length
-    returns
-    same-length-2
-    returns-2
-    same-length-3
-    returns-3)
+    tie.close (tie.spec flatten-tree-requires decide-factors-requires same-length returns)

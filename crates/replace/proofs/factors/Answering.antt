@@ -26,12 +26,9 @@ use Rattle.replace.proofs.factors.Flattening.{Taken}
 
 -- ---- the end of a tree
 
-ends-there : {ws : List ℕ} {at : ℕ} → Stands ws at 1 → end-answer at (run-at ws at) ≡ run.Ends (at + size (tree ws at))
+pub ends-there : {ws : List ℕ} {at : ℕ} → Stands ws at 1 → end-answer at (run-at ws at) ≡ run.Ends (at + size (tree ws at))
 unfolding end-answer
 ends-there {ws} {at} s = ap (end-answer at) (stands-run s)
-
-pub never-broken : {ws : List ℕ} {at : ℕ} → Stands ws at 1 → run.Broken ≡ end-answer at (run-at ws at) → ⊥
-never-broken s e = let z : _≡_ {A = ℕ} 0 1 = cc (e, ends-there s) in omega arith
 
 pub past-is : {ws : List ℕ} {at end : ℕ} → Stands ws at 1 → run.Ends end ≡ end-answer at (run-at ws at) → end ≡ at + size (tree ws at)
 past-is s e = cc (e, ends-there s)

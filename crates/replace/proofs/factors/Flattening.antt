@@ -82,11 +82,11 @@ module _ {ws : List ℕ} {at : ℕ} (s : Stands ws at 1) where
       let l = trees-from ws (at + 1) (takes w) in
       m .is ∙ (operation-tree numbered w l (omega arith) ∙ ap (λ (j : ℕ). Op j (forest l)) e)
 
-  leaf-long : kind-of w ≡ 1 → size (tree ws at) ≡ 1
+  pub leaf-long : kind-of w ≤ 1 → size (tree ws at) ≡ 1
   unfolding total
   leaf-long e =
       let m = node-of s in
-      let z = leaf-takes w (omega arith) in
+      let z = leaf-takes w e in
       m .long ∙ ap suc (ap (λ (n : ℕ). total (map size (trees-from ws (at + 1) n))) z ∙ ap (λ (l : List Tree). total (map size l)) (none-from ws (at + 1)))
 
   pub constant-done :
@@ -94,7 +94,7 @@ module _ {ws : List ℕ} {at : ℕ} (s : Stands ws at 1) where
       → Taken (tree ws at) at old used c 0 old × (at + 1 ≡ at + size (tree ws at))
   constant-done old used c e h =
       let m = node-of s in
-      let z = leaf-long e in
+      let z = leaf-long (omega arith) in
       let is : tree ws at ≡ Const (constant-at (below-of w)) = m .is ∙ constant-tree numbered w (trees-from ws (at + 1) (takes w)) e in
       (constant-taken (tree ws at) (constant-at (below-of w)) at old used c is h, omega arith)
 

@@ -20,7 +20,7 @@ pub record Split (us : List ℕ) (a b m : ℕ) : Type 0 where
   pub within : first ≤ m
   pub rest-are : words-of (drop first us) b ≡ some (m - first)
 
-no-words : (n m : ℕ) → words-of [] (suc n) ≡ some m → _≡_ {A = ℕ} 0 1
+pub no-words : (n m : ℕ) → words-of [] (suc n) ≡ some m → _≡_ {A = ℕ} 0 1
 unfolding words-of
 no-words n m e = cc
 

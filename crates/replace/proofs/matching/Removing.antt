@@ -12,7 +12,7 @@ use lib.Seq.{getD-take, length-take-le, take-take, take-at, drop-drop, drop-cons
 use Rattle.spec_tree.proofs.Tests.{is-true}
 use Rattle.words.specs.words.Words.{begins-with}
 use Rattle.replace.specs.matching.Matching.{is-passed, run-end, factor-runs, words-at, remove-run, remove-runs, PlacesTaken, once-more, take-out-places, names-after}
-use Rattle.replace.specs.matching.Answers.{Seeks, Removes, Takes}
+use Rattle.replace.specs.matching.Answers.{Seeks, Removes, Lacks, Takes}
 use Rattle.replace.specs.declared.matching.Removed.{Removed}
 use Rattle.replace.specs.declared.matching.Removed.the-variants as removed
 use Rattle.replace.specs.declared.matching.Taken.the-variants as taken
@@ -102,6 +102,71 @@ module _ (at : ℕ → List ℕ) (part l : List ℕ) (q m : ℕ) where
 
         short : (a : ℕ) → a < m → a ≤ m
         short a c = omega arith
+
+-- ---- a run that stands at no place
+
+module _ (at : ℕ → List ℕ) (run : List ℕ) where
+  -- it stands at none of what is left either
+  none-left : (other l r : List ℕ) → remove-run at other l ≡ some r → ((i : ℕ) → i < length l → hit at run l i ≡ false) → (i : ℕ) → i < length r → hit at run r i ≡ false
+  unfolding remove-run
+  none-left other [] r e h = (let z : _≡_ {A = ℕ} 0 1 = cc in absurd (omega arith))
+  none-left other (p ∷ l) r e h = go (begins-with (at p) other) (remove-run at other l) (λ s q. none-left other l s q (λ i g. h (suc i) (omega arith))) e
+    where
+      go : (b : Bool) (o : Option (List ℕ)) → ((s : List ℕ) → o ≡ some s → (i : ℕ) → i < length s → hit at run s i ≡ false) → picked b l p o ≡ some r
+          → (i : ℕ) → i < length r → hit at run r i ≡ false
+      go true o k e = (let q : l ≡ r = cc in subst (λ (s : List ℕ). (i : ℕ) → i < length s → hit at run s i ≡ false) q (λ i g. h (suc i) (omega arith)))
+      go false none k e = (let z : _≡_ {A = ℕ} 0 1 = cc in absurd (omega arith))
+      go false (some s) k e = (let q : p ∷ s ≡ r = cc in subst (λ (s : List ℕ). (i : ℕ) → i < length s → hit at run s i ≡ false) q (cons s (k s refl)))
+        where
+          cons : (s : List ℕ) → ((i : ℕ) → i < length s → hit at run s i ≡ false) → (i : ℕ) → i < length (p ∷ s) → hit at run (p ∷ s) i ≡ false
+          cons s k zero g = h 0 (omega arith)
+          cons s k (suc i) g = k i (omega arith)
+
+  none-anywhere :
+      (before rest : List (List ℕ)) (l : List ℕ) → ((i : ℕ) → i < length l → hit at run l i ≡ false) → remove-runs at (before ++ (run ∷ rest)) l ≡ none
+  unfolding remove-runs
+  none-anywhere [] rest l h = ap (then-runs at rest) (remove-none at run l h)
+  none-anywhere (other ∷ before) rest l h = go (λ r. none-anywhere before rest r) (remove-run at other l) refl
+    where
+      go : ((r : List ℕ) → ((i : ℕ) → i < length r → hit at run r i ≡ false) → remove-runs at (before ++ (run ∷ rest)) r ≡ none)
+          → (o : Option (List ℕ)) → remove-run at other l ≡ o → then-runs at (before ++ (run ∷ rest)) o ≡ none
+      go k none e = refl
+      go k (some r) e = k r (none-left other l r e h)
+
+-- the runs before a place
+pub record Before (part : List ℕ) (q : ℕ) : Type 0 where
+  pub runs : List (List ℕ)
+  pub are : factor-runs part ≡ runs ++ factor-runs (drop q part)
+  pub starts : q < length part → is-passed (getD part q 0) ≡ false
+
+pub before-first : (part : List ℕ) (q : ℕ) → Seeks part 0 q → Before part q
+before-first part q s = record { runs = []; are = s .runs; starts = s .starts }
+
+pub before-more : (part : List ℕ) (q end next : ℕ) → Before part q → q < length part → end ≡ run-end part q → Seeks part end next → Before part next
+before-more part q end next b h e s =
+    let run = take (run-end part q - q) (drop q part) in
+    record {
+      runs = b .runs ++ (run ∷ []);
+      are =
+          b .are ∙ ap (λ (r : List (List ℕ)). b .runs ++ r) (factor-here part q h (b .starts h) ∙ ap (λ (k : ℕ). run ∷ factor-runs (drop k part)) (sym e) ∙ ap (λ (r : List (List ℕ)). run ∷ r) (s .runs))
+          ∙ sym (append-assoc (b .runs) (run ∷ []) (factor-runs (drop next part)));
+      starts = s .starts;
+    }
+
+pub lacks-here :
+    (at : ℕ → List ℕ) (part l : List ℕ) (m q end : ℕ) → Before part q → q < length part → end ≡ run-end part q → m ≤ length l → (i : ℕ) → m ≤ i → Missed at (take (end - q) (drop q part)) l i
+    → remove-runs at (factor-runs part) (take m l) ≡ none
+lacks-here at part l m q end b h e fits i g miss =
+    let run = take (run-end part q - q) (drop q part) in
+    let same : take (end - q) (drop q part) ≡ run = ap (λ (k : ℕ). take (k - q) (drop q part)) e in
+    ap (λ (r : List (List ℕ)). remove-runs at r (take m l)) (b .are ∙ ap (λ (r : List (List ℕ)). b .runs ++ r) (factor-here part q h (b .starts h)))
+    ∙ none-anywhere at run (b .runs) (factor-runs (drop (run-end part q) part)) (take m l)
+    (λ j k.
+    let x : j < m = subst (λ (z : ℕ). j < z) (length-take-le m l fits) k in
+    ap (λ (p : ℕ). begins-with (at p) run) (getD-take m l j 0 x) ∙ ap (λ (r : List ℕ). hit at r l j) (sym same) ∙ miss .none j (below j x))
+  where
+    below : (j : ℕ) → j < m → j < i
+    below j x = omega arith
 
 -- ---- what stands after all places stays
 
@@ -303,6 +368,14 @@ module _ (ws part : List ℕ) (name : ℕ) (old : List ℕ) (count : ℕ) where
           omega (arith, t .room),
           (b ∙ ap (take left) rest ∙ k .behind ∙ s .0, omega (arith, t .same, t .fewer, t .room, k .same), s .1),
         )
+
+  -- one is missing, and nothing was touched
+  pub lacks :
+      {l : List ℕ} {left times : ℕ} → Turning l left times → times < 2 * count → (b : Bool) → b ≡ true → Lacks (remove-runs at runs (take left l)) b
+      → Takes ws part name old count l (taken.Out left times)
+  lacks {l} {left} t h b q e =
+      let s = taking-stops at (length ws) runs old count t h (subst (Lacks (remove-runs at runs (take left l))) q e) in
+      (omega (arith, t .room), (s .0, omega (arith, t .same, t .fewer, t .room), s .1))
 
   pub ends : {l : List ℕ} {left times : ℕ} → Turning l left times → 2 * count ≤ times → Takes ws part name old count l (taken.Out left times)
   ends t h =

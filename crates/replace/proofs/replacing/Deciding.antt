@@ -3,7 +3,7 @@ use Prim.Native.Nat.{ℕ, zero, suc, _+_, _-_, _*_, _/_, _%_, _^_, _≤_, _<_}
 use native.Mathlib.Omega.{arith}
 use mathlib.Core.Path.{_≡_, refl, sym, _∙_, ap, ap₂, subst}
 use mathlib.Core.Bool.{Bool, true, false}
-use mathlib.Core.Option.{some}
+use mathlib.Core.Option.{none, some}
 use mathlib.Core.List.{List, [], _∷_, _++_, append-nil}
 use borrow.Author.Tests.{eqb-true}
 use lib.ListN.{length, getD, take, drop, length-append}
@@ -21,7 +21,7 @@ use Rattle.spec_tree.proofs.Formed.{well-formed}
 use Rattle.spec_tree.proofs.Logic.{and-left}
 use Rattle.spec_tree.proofs.TokenLaws.{Word, a-symbol, a-constant, an-operation, word-is, leaf-takes, symbol-tree, constant-tree, operation-tree, made, read-cons, complete-tail, tree-at, words-complete}
 use Rattle.spec_tree.proofs.TokenCode.{tokens-length, all-tokens-length}
-use Rattle.spec_rewrite.specs.Rewrite.{flatten-mul-factors, constant-of, built, each-operand, replace, match-factors}
+use Rattle.spec_rewrite.specs.Rewrite.{flatten-mul-factors, constant-of, built, remove-each, each-operand, replace, match-factors}
 use Rattle.spec_rewrite.proofs.Counts.{well-formed-all}
 use Rattle.spec_rewrite.proofs.Measure.{sum-of, sum-append, size-up}
 use Rattle.spec_rewrite.proofs.Factors.{factors-of}
@@ -36,6 +36,7 @@ use Rattle.replace.proofs.factors.Products.{Product-of}
 use Rattle.replace.specs.closed.Closed.{Taken, taken, take-out, by-factors, rebuilt}
 use Rattle.replace.proofs.closed.Chain.{each-both, each-long}
 use Rattle.replace.proofs.closed.Unit.{Small, magnitude, accepted-small}
+use Rattle.replace.proofs.closed.Taken.{never-there}
 use Rattle.replace.proofs.closed.Steps.{at-operation, at-op}
 use Rattle.replace.proofs.closed.Products.{at-symbol, at-constant, at-other, at-unmatched, no-match, name-stays, at-product}
 use Rattle.replace.specs.matching.Matching.{factor-runs, words-at, PlacesTaken, take-out-places, names-after}
@@ -70,7 +71,7 @@ module _ (part : List ℕ) (name : ℕ) (t : Target part name) where
   trees-there : (w : ℕ) (ws : List ℕ) (n : ℕ) → trees-in (w ∷ ws) ≡ some n → 1 ≤ n
   trees-there w ws n e = omega (arith, complete-tail w ws n e .left)
 
-  first-equal : (ws : List ℕ) → Trees ws → 0 < length ws → (b : Bool) → b ≡ begins-with ws part → eq-tree (tree-of ws) (tree-of part) ≡ b
+  pub first-equal : (ws : List ℕ) → Trees ws → 0 < length ws → (b : Bool) → b ≡ begins-with ws part → eq-tree (tree-of ws) (tree-of part) ≡ b
   first-equal [] h p b e = absurd (omega arith)
   first-equal (w ∷ ws) h p b e = begins-tree (w ∷ ws) (h .count) (h .complete) (trees-there w ws (h .count) (h .complete)) part (t .one) b e
 
@@ -318,13 +319,11 @@ module _
     coefficient-is : p .coefficient ≡ flatten-mul-factors e .coefficient
     coefficient-is = pr .coefficient-is ∙ ap (λ (x : Tree). flatten-mul-factors x .coefficient) tree-first
 
-    -- nothing was taken out
-    pub none-taken : times ≡ 0 → StaysAt part name ws
-    unfolding rebuilt
-    none-taken z =
-        is-product .stays
-        (rebuilt-is
-        ∙ ap (λ (k : ℕ). rebuilt rp (flatten-mul-factors e .coefficient) (q .factors) k (each-operand rp f >>= λ g. ok (Op Mul g))) (sym times-is ∙ z))
+    -- nothing was taken out, so not all of the target's factors are there
+    pub none-there : times ≡ 0 → remove-each (factors-of (tree-of part)) (factors-of (tree-of ws)) ≡ none
+    none-there z =
+        ap (λ (y : Tree). remove-each (factors-of (tree-of part)) (factors-of y)) (is-product .is)
+        ∙ never-there n (factors-of (tree-of part)) (factors-of e) one-factor (sym times-is ∙ z)
 
     module _ (k : ℕ) (some-time : times ≡ suc k) where
       opened : rp e ≡ (constant-of (p .coefficient) >>= λ c. each rp (q .factors) >>= λ l. ok (built c l))

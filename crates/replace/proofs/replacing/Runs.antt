@@ -35,7 +35,7 @@ unfolding flatten-mul-factors
 factors-all [] = []
 factors-all (t ∷ l) = factors-of t ++ factors-all l
 
-all-append : (a b : List Tree) → factors-all (a ++ b) ≡ factors-all a ++ factors-all b
+pub all-append : (a b : List Tree) → factors-all (a ++ b) ≡ factors-all a ++ factors-all b
 unfolding factors-all
 all-append [] b = refl
 all-append (t ∷ a) b = ap (λ (l : List Tree). factors-of t ++ l) (all-append a b) ∙ sym (append-assoc (factors-of t) (factors-all a) (factors-all b))
@@ -69,7 +69,7 @@ constant-none : (c : ℤ) → factors-of (Const c) ≡ []
 unfolding flatten-mul-factors
 constant-none c = refl
 
-word-passed : (w : ℕ) (l : List Tree) → (takes w ≡ 0 → l ≡ []) → is-passed w ≡ true → factors-of (tree-of-word numbered w l) ≡ factors-all l
+pub word-passed : (w : ℕ) (l : List Tree) → (takes w ≡ 0 → l ≡ []) → is-passed w ≡ true → factors-of (tree-of-word numbered w l) ≡ factors-all l
 unfolding factors-all is-passed
 word-passed w l z p = go (word-is w)
   where

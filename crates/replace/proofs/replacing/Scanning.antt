@@ -24,7 +24,7 @@ use Rattle.words.proofs.words.Rewriting.{segment}
 use Rattle.words.proofs.words.Scanning.{Put, put-one, put-long, put-lent}
 use Rattle.replace.proofs.closed.Chain.{chain-end}
 use Rattle.replace.specs.replacing.Replacing.{formed-word}
-use Rattle.replace.specs.replacing.Deciding.{Trees, Target, rewritten, rewritten-words, StaysAt, RefusedAt, Match, product-out, Wrote, Left}
+use Rattle.replace.specs.replacing.Deciding.{Trees, Target, rewritten, rewritten-words, StaysAt, PassedAt, RefusedAt, Match, product-out, Wrote, Left}
 use Rattle.replace.proofs.replacing.Turns.{first-out, replaced-none}
 use Rattle.replace.proofs.replacing.Targets.{some-factor}
 use Rattle.replace.proofs.replacing.Deciding.{equal-turn, head-formed}
@@ -182,6 +182,15 @@ module _ (part : List ℕ) (name : ℕ) where
           let v : getD (drop i ws) 0 0 ≡ w = getD-drop i ws 0 0 ∙ ap (λ (k : ℕ). getD ws k 0) z ∙ sym q in
           scan-turn s (w ∷ []) 1 (set out o w) (i + 1) (o + 1) refl refl (omega arith) (omega arith) room
           (e ∙ ap (λ (x : ℕ). rw-out (drop 1 (drop i ws)) >>= λ b. ok (x ∷ b)) v) (put-one out o w (omega (arith, s .fewer, s .long)))
+
+      -- several words copied
+      pub turn-passed :
+          (n : ℕ) → PassedAt part name (drop i ws) n → (x : List ℕ) → x ≡ take n (drop i ws) ++ drop (length (take n (drop i ws))) (take (length out - o) (drop o out))
+          → Scanned (putMid o (length out - o) out x) (i + n) (o + n)
+      turn-passed n p x e =
+          let l = length-take-le n (drop i ws) (p .within) in
+          scan-turn s (take n (drop i ws)) n (putMid o (length out - o) out x) (i + n) (o + n) refl (ap (λ (k : ℕ). o + k) (sym l)) (omega (arith, p .within, length-drop i ws)) (omega arith) room
+          (p .stay) (put-lent out x (take n (drop i ws)) o e)
 
       module _ (places : List ℕ) (left copies code long : ℕ) (m : Match part name (drop i ws) places left copies code long) where
         pub long-within : i + long ≤ length ws

@@ -1,7 +1,7 @@
 -- What the functions of matching answer and leave. Assumes nothing.
 use Prim.Native.Nat.{ℕ, _*_, _≤_, _<_}
 use mathlib.Core.Path.{_≡_}
-use mathlib.Core.Bool.{false}
+use mathlib.Core.Bool.{Bool, true, false}
 use mathlib.Core.Option.{Option, none, some}
 use mathlib.Core.List.{List}
 use lib.ListN.{length, getD, take, drop}
@@ -22,6 +22,11 @@ pub record Seeks (part : List ℕ) (from q : ℕ) : Type 0 where
 abbrev pub Removes : Option (List ℕ) → List ℕ → Removed → Type 0
 Removes o new (removed.Left n) = (o ≡ some (take n new)) × (n ≤ length new)
 Removes o new removed.Missing = o ≡ none
+
+-- where this is answered, one is missing
+abbrev pub Lacks : Option (List ℕ) → Bool → Type 0
+Lacks o true = o ≡ none
+Lacks o false = Unit {0}
 
 -- the places then stand in front
 abbrev pub TakenAs : PlacesTaken → List ℕ → ℕ → ℕ → Type 0

@@ -1,11 +1,11 @@
 -- What is decided at the first of some trees, and what a product with matches is rewritten from. Assumes nothing.
 use Prim.Native.Nat.{ℕ, _+_, _-_, _^_, _≤_, _<_}
 use mathlib.Core.Path.{_≡_}
-use mathlib.Core.Bool.{true, false}
+use mathlib.Core.Bool.{Bool, true, false, _||_}
 use mathlib.Core.Option.{some}
 use mathlib.Core.List.{List, _∷_, _++_}
 use lib.ListN.{length, getD, take, drop}
-use lib.Dec.{T}
+use lib.Dec.{T, eqb}
 use Rattle.spec_tree.specs.Bytes.{every}
 use Rattle.spec_tree.specs.Outcome.{Refusal, Outcome, ok, refused, _>>=_, each}
 use Rattle.spec_tree.specs.Tree.{Tree}
@@ -16,6 +16,7 @@ use Rattle.spec_rewrite.specs.Rewrite.{replace}
 use Rattle.words.specs.words.Words.{number, tree-of, name-of, begins-with}
 use Rattle.replace.specs.closed.Closed.{by-factors, endless}
 use Rattle.replace.specs.factors.Places.{tree, at-places}
+use Rattle.replace.specs.matching.Matching.{is-passed}
 use Rattle.replace.specs.replacing.Replacing.{replaced-words, formed-word, repeated, head-words}
 
 -- the words of the trees to be rewritten: complete and formed
@@ -35,6 +36,17 @@ pub record Within (ws : List ℕ) (to p : ℕ) : Type 0 where
   pub before : p + size (tree ws p) ≤ to
   pub run : run-at ws p ≡ some (size (tree ws p))
 
+-- a word that stays in a product without a match, wherever it stands there: a symbol, or one that is passed through
+unfoldable pub is-plain : ℕ → Bool
+unfolding is-passed
+is-plain w = eqb (kind-of w) 0 || is-passed w
+
+-- so many words of so long a product are such
+pub record Plain (ws : List ℕ) (long n : ℕ) : Type 0 where
+  pub some-word : 1 ≤ n
+  pub within : n ≤ long
+  pub plain : (j : ℕ) → j < n → is-plain (getD ws j 0) ≡ true
+
 module _ (part : List ℕ) (name : ℕ) where
   abbrev pub rewritten : Tree → Outcome Tree
   rewritten = replace (tree-of part) (name-of name)
@@ -45,6 +57,12 @@ module _ (part : List ℕ) (name : ℕ) where
   -- the first word stays
   abbrev pub StaysAt : List ℕ → Type 0
   StaysAt ws = rewritten-words ws ≡ (rewritten-words (drop 1 ws) >>= λ b. ok (getD ws 0 0 ∷ b))
+
+  -- so many words stay
+  pub record PassedAt (ws : List ℕ) (n : ℕ) : Type 0 where
+    pub some-word : 1 ≤ n
+    pub within : n ≤ length ws
+    pub stay : rewritten-words ws ≡ (rewritten-words (drop n ws) >>= λ b. ok (take n ws ++ b))
 
   -- the first tree is refused
   abbrev pub RefusedAt : List ℕ → Type 0
