@@ -58,6 +58,17 @@ few-lent n h =
       for-uses = omega arith;
     }
 
+pub some-lent : (n : ℕ) → n ≤ 1024 → Lent n 5120 1024 1024 2048 1024
+some-lent n h =
+    record {
+      for-facts = omega arith;
+      for-classes = omega arith;
+      for-next = omega arith;
+      for-chains = by-size n (λ a. omega (arith, few-chains n a)) (λ a. omega (arith, many-chains n a));
+      for-marks = omega arith;
+      for-uses = omega arith;
+    }
+
 pub many-lent : (n : ℕ) → n ≤ 1927 → Lent n 9635 1927 1927 2048 1927
 many-lent n h =
     record {

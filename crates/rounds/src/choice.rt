@@ -7,10 +7,11 @@ ghost use lib.ListN.{length, getD};
 ghost use Rattle.fmt.specs.checked.Check.{rows-in};
 ghost use Rattle.laws.specs.positions.Places.{savings-at, candidate-at};
 ghost use Rattle.rounds.specs.uses.Marks.{Complete};
-ghost use Rattle.rounds.specs.choice.Leading.{HasFacts, HasUses, HasOutside, Writable, Lead, leader-of, later-at, best-step, Leads};
+ghost use Rattle.rounds.specs.choice.Leading.{HasFacts, HasUses, HasOutside, Writable, Alike, Lead, leader-of, later-at, best-step, Leads};
 ghost use Rattle.rounds.specs.value_numbers.Tables.{Known};
 ghost use Rattle.rounds.specs.Answers.{Finds, Lent};
 use crate::outside::count_outside;
+use crate::uses::has_switch;
 use crate::value_numbers::class_tables;
 use fmt::order::before_at;
 
@@ -184,6 +185,16 @@ fn search(
     leader
 }
 
+// Whether the scoped form may differ from the flat one: some word is a switch.
+fn with_arms(tokens: &[u64], scoped: bool) -> bool
+    ensures { λ r. ⌜ Alike (now (tokens .entry)) r scoped ⌝ }
+{
+    if scoped {
+        return has_switch(tokens);
+    }
+    false
+}
+
 // The place of the best candidate among the trees that the words are. What else is lent is worked in, and what is left there is free: the places outside arms are marked
 // in `heads`, and counted in `next`, when these have served.
 pub fn best_place(
@@ -202,8 +213,9 @@ pub fn best_place(
     ensures { λ r. ⌜ Finds (rows-in (now (rows .entry))) (now (tokens .entry)) scoped r ⌝ }
 {
     class_tables(tokens, facts, classes, next, heads, uses);
-    count_outside(tokens, scoped, classes, heads, next);
-    let leader = search(rows, tokens, scoped, facts, classes, uses, next, text);
+    let arms = with_arms(tokens, scoped);
+    count_outside(tokens, arms, classes, heads, next);
+    let leader = search(rows, tokens, arms, facts, classes, uses, next, text);
     let place = leader.place;
     if leader.savings == 0 {
         Best::Nothing

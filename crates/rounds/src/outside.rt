@@ -6,7 +6,7 @@ ghost use Rattle.spec_tree.specs.Tokens.{flag};
 ghost use Rattle.rounds.specs.uses.Marks.{Complete, is-marked};
 ghost use Rattle.rounds.specs.value_numbers.Tables.{Known, Counted, Uses};
 ghost use Rattle.rounds.specs.choice.Leading.{HasOutside};
-use crate::uses::mark_outside;
+use crate::uses::mark_outside_arms;
 use crate::value_numbers::reset;
 
 // 1 for a place that is marked.
@@ -44,7 +44,7 @@ pub fn count_outside(
     ensures { λ _. ⌜ HasOutside (now (tokens .entry)) scoped (now (classes .entry)) (now (outside .exit)) ⌝ }
 {
     if scoped {
-        mark_outside(tokens, true, marks);
+        mark_outside_arms(tokens, marks);
         reset(outside, tokens.len(), 0);
         tally(tokens, marks, classes, outside);
     }

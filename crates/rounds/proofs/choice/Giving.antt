@@ -21,18 +21,23 @@ use Rattle.laws.specs.positions.Places.{numbered-at, outside-at, best-place}
 use Rattle.laws.proofs.positions.UsesAt.{uses-counted}
 use Rattle.rounds.specs.value_numbers.Answers.{Tables}
 use Rattle.rounds.proofs.value_numbers.Laws.{class-high}
-use Rattle.rounds.specs.choice.Leading.{HasFacts, HasMarks, HasUses, leader-of, Leads}
+use Rattle.rounds.specs.choice.Leading.{HasFacts, HasMarks, HasUses, Alike, leader-of, Leads}
+use Rattle.rounds.proofs.choice.Forms.{best-same}
 
 -- ---- what was found
 
-module _ (rows ws : List ℕ) (scoped : Bool) (p s : ℕ) (k : Leads rows ws scoped p s) where
+-- by a search in a form with the same candidates
+module _ (rows ws : List ℕ) (form scoped : Bool) (p s : ℕ) (k : Leads rows ws form p s) (same : Alike ws form scoped) where
+  led : best-place ws (name-in (rows-in rows)) scoped ≡ leader-of p s
+  led = sym (k .best ∙ best-same ws (name-in (rows-in rows)) form scoped same)
+
   pub finds-nothing : s ≡ 0 → best-place ws (name-in (rows-in rows)) scoped ≡ none
   unfolding leader-of
-  finds-nothing z = sym (k .best) ∙ ap (λ (b : Bool). cond b none (some p)) (eq-eqb s 0 z)
+  finds-nothing z = led ∙ ap (λ (b : Bool). cond b none (some p)) (eq-eqb s 0 z)
 
   pub finds-at : (s ≡ 0 → ⊥) → best-place ws (name-in (rows-in rows)) scoped ≡ some p
   unfolding leader-of
-  finds-at z = sym (k .best) ∙ ap (λ (b : Bool). cond b none (some p)) (ne-eqb s 0 z)
+  finds-at z = led ∙ ap (λ (b : Bool). cond b none (some p)) (ne-eqb s 0 z)
 
 -- ---- what `class_tables` and `mark_outside` leave
 

@@ -5,17 +5,17 @@ use mathlib.Core.Path.{_≡_, sym, _∙_, ap, subst}
 use mathlib.Core.Bool.{Bool, true, false}
 use mathlib.Core.List.{List}
 use lib.ListN.{length, getD, set}
+use lib.Dec.{leb}
 use Rattle.spec_tree.specs.Tokens.{flag}
 use Rattle.laws.specs.positions.Places.{outside-at}
-use Rattle.rounds.specs.uses.Marks.{Complete, is-marked}
-use Rattle.rounds.specs.uses.Answers.{mark-answer}
+use Rattle.rounds.specs.uses.Marks.{is-marked, Marking}
 use Rattle.rounds.specs.value_numbers.Classes.{class-at}
 use Rattle.rounds.specs.value_numbers.Tables.{Known, Counted, Uses}
 use Rattle.rounds.specs.choice.Leading.{HasOutside}
 use Rattle.rounds.proofs.value_numbers.Laws.{class-high}
 use Rattle.rounds.proofs.value_numbers.Counts.{counted-turns, counted-fits, counted-ends}
 use Rattle.rounds.proofs.value_numbers.Passes.{counts-next}
-use Rattle.rounds.proofs.choice.Giving.{marks-left}
+use Rattle.rounds.proofs.choice.Giving.{flag-back}
 use Rattle.rounds.proofs.choice.Leaders.{same-places}
 
 pub record Tally (ws marks : List ℕ) (i : ℕ) (ou : List ℕ) : Type 0 where
@@ -45,12 +45,14 @@ tally-ends {ws} {marks} {cl} {ou} {i} known k h =
 
 -- by the marks of the places outside arms
 pub counted-outside :
-    (ws cl old marks ou : List ℕ) → length ws ≤ length old → Complete ws → marks ≡ mark-answer ws true old .marks → Uses ws (is-marked marks) cl ou
-    → HasOutside ws true cl ou
-counted-outside ws cl old marks ou h c e u =
+    (ws cl old marks ou : List ℕ) → Marking ws (outside-at ws true) old marks → Uses ws (is-marked marks) cl ou → HasOutside ws true cl ou
+unfolding is-marked
+counted-outside ws cl old marks ou m u =
     record {
       long = u .long;
-      outside-are = λ t i l. u .each i l ∙ same-places ws (is-marked marks) (outside-at ws true) i (length ws) (marks-left ws true old marks h c e .marked);
+      outside-are = λ t i l.
+          u .each i l
+          ∙ same-places ws (is-marked marks) (outside-at ws true) i (length ws) (λ j h. ap (leb 1) (m .here j h) ∙ flag-back (outside-at ws true j));
     }
 
 -- in the flat form nothing is counted

@@ -44,6 +44,10 @@ pub record Writable (rows ws : List ℕ) (room : ℕ) : Type 0 where
   pub pass : T (every (word-ok (rows-in rows)) ws)
   pub fits : 68 * length ws ≤ room
 
+-- two forms have the same candidates
+abbrev pub Alike : List ℕ → Bool → Bool → Type 0
+Alike ws one other = (i : ℕ) → candidate-at ws one i ≡ candidate-at ws other i
+
 -- ---- the place that leads, with what it saves: none where that is 0
 
 unfoldable pub leader-of : ℕ → ℕ → Option ℕ
