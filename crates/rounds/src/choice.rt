@@ -15,14 +15,14 @@ use crate::uses::has_switch;
 use crate::value_numbers::class_tables;
 use fmt::order::before_at;
 
-// Each place has PER_PLACE words of facts: size, cost, depth, operations, and whether it has a symbol.
-const PER_PLACE: usize = 5;
+// Each place has PER_PLACE words of facts: size, cost, depth, and whether it has a symbol.
+const PER_PLACE: usize = 4;
 
 const COST: usize = 1;
 
 const DEPTH: usize = 2;
 
-const SYMBOL: usize = 4;
+const SYMBOL: usize = 3;
 
 pub enum Best {
     At(usize),

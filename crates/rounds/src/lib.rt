@@ -24,21 +24,21 @@ use words::layout::KINDS;
 use words::layout::LET_CLASS;
 use words::tokens::tree_end;
 
-// The most words, five words of facts for each, and chains for them.
+// The most words, four words of facts for each, and chains for them.
 const MOST_WORDS: usize = 1927;
 
-const FACTS: usize = 9635;
+const FACTS: usize = 7708;
 
 const CHAINS: usize = 2048;
 
 // Few words and their facts, and some more, so that most lists needn't clear the large arrays.
 const FEW_WORDS: usize = 256;
 
-const FEW_FACTS: usize = 1280;
+const FEW_FACTS: usize = 1024;
 
 const SOME_WORDS: usize = 1024;
 
-const SOME_FACTS: usize = 5120;
+const SOME_FACTS: usize = 4096;
 
 enum Round {
     // How many words there are now.

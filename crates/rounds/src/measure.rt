@@ -1,4 +1,4 @@
-// The facts of a tree among words, from those of its operands: size, cost, depth, operations, and whether it has a symbol; and the key of the chain in which equal trees
+// The facts of a tree among words, from those of its operands: size, cost, depth, and whether it has a symbol; and the key of the chain in which equal trees
 // are looked for, from its word and the classes of its operands. One walk over the operands finds all of it.
 ghost use mathlib.Core.Path.{_≡_};
 ghost use Prim.Native.Nat.{_+_, _*_, _^_, _<_, max};
@@ -16,15 +16,13 @@ use words::layout::SYM;
 use words::tokens::operand_count;
 
 // Each place has PER_PLACE words of facts, in this order; the size is the first.
-const PER_PLACE: usize = 5;
+const PER_PLACE: usize = 4;
 
 const COST: usize = 1;
 
 const DEPTH: usize = 2;
 
-const OPERATIONS: usize = 3;
-
-const SYMBOL: usize = 4;
+const SYMBOL: usize = 3;
 
 // Numbers in a key are taken below 2^20, so that no product is too large.
 const PART: u64 = 1048576;
@@ -36,7 +34,6 @@ pub struct Facts {
     pub size: u64,
     pub cost: u64,
     pub depth: u64,
-    pub operations: u64,
     pub symbol: u64,
     pub key: u64,
 }
@@ -55,17 +52,16 @@ fn larger(a: u64, b: u64) -> u64
     if a < b { b } else { a }
 }
 
-// What the `count` trees from `place` on have together: the sums of their sizes, costs and operations, the greatest depth, and whether one has a symbol; and the key of the
+// What the `count` trees from `place` on have together: the sums of their sizes and costs, the greatest depth, and whether one has a symbol; and the key of the
 // word w with their classes. The size of each says where the next one starts.
 fn walk(facts: &[u64], classes: &[u64], w: u64, place: usize, count: usize) -> Facts
     requires { ⌜ Inside (now facts) place count × Walk (now facts) (now classes) place count ⌝ }
-    requires { ⌜ (total (column (now facts) 0 place count) < 2 ^ 64) × (total (column (now facts) 1 place count) < 2 ^ 64) × (total (column (now facts) 3 place count) < 2 ^ 64) ⌝ }
-    ensures { λ r. ⌜ Together (now (facts .entry)) (now (classes .entry)) w place count (r .size) (r .cost) (r .depth) (r .operations) (r .symbol) (r .key) ⌝ }
+    requires { ⌜ (total (column (now facts) 0 place count) < 2 ^ 64) × (total (column (now facts) 1 place count) < 2 ^ 64) ⌝ }
+    ensures { λ r. ⌜ Together (now (facts .entry)) (now (classes .entry)) w place count (r .size) (r .cost) (r .depth) (r .symbol) (r .key) ⌝ }
 {
     let mut size: u64 = 0;
     let mut cost: u64 = 0;
     let mut depth: u64 = 0;
-    let mut operations: u64 = 0;
     let mut symbol: u64 = 0;
     let mut key = w;
     let mut p = place;
@@ -77,7 +73,6 @@ fn walk(facts: &[u64], classes: &[u64], w: u64, place: usize, count: usize) -> F
         size += own;
         cost += facts[row + COST];
         depth = larger(depth, facts[row + DEPTH]);
-        operations += facts[row + OPERATIONS];
         symbol = larger(symbol, facts[row + SYMBOL]);
         p += own as usize;
         left -= 1;
@@ -86,7 +81,6 @@ fn walk(facts: &[u64], classes: &[u64], w: u64, place: usize, count: usize) -> F
         size,
         cost,
         depth,
-        operations,
         symbol,
         key,
     }
@@ -125,7 +119,7 @@ fn operands_cost(facts: &[u64], kind: u64, place: usize, count: usize, sum: u64)
     facts[row + COST] + greatest_cost(facts, arms, count - 1)
 }
 
-// 1 for an operation, 0 for a leaf: what an operation adds to the cost, the depth and the operations below it.
+// 1 for an operation, 0 for a leaf: what an operation adds to the cost and the depth below it.
 fn operation_of(w: u64) -> u64
     ensures { λ r. ⌜ r ≡ own-operation w ⌝ }
 {
@@ -144,7 +138,7 @@ pub fn facts_at(tokens: &[u64], facts: &[u64], classes: &[u64], at: usize) -> Fa
     requires { ⌜ at < length (now tokens) ⌝ }
     requires { ⌜ Ready (length (now tokens)) (now facts) (at + 1) (takes (getD (now tokens) at 0)) ⌝ }
     requires { ⌜ Walk (now facts) (now classes) (at + 1) (takes (getD (now tokens) at 0)) ⌝ }
-    ensures { λ r. ⌜ WordFacts (getD (now (tokens .entry)) at 0) (now (facts .entry)) (at + 1) (r .size) (r .cost) (r .depth) (r .operations) (r .symbol)
+    ensures { λ r. ⌜ WordFacts (getD (now (tokens .entry)) at 0) (now (facts .entry)) (at + 1) (r .size) (r .cost) (r .depth) (r .symbol)
         × (r .key ≡ mixed-all (getD (now (tokens .entry)) at 0) (below (now (facts .entry)) (now (classes .entry)) (at + 1) (takes (getD (now (tokens .entry)) at 0)))) ⌝ }
 {
     let w = tokens[at];
@@ -156,7 +150,6 @@ pub fn facts_at(tokens: &[u64], facts: &[u64], classes: &[u64], at: usize) -> Fa
         size: 1 + all.size,
         cost: own + costs,
         depth: own + all.depth,
-        operations: own + all.operations,
         symbol: symbol_of(w) + all.symbol,
         key: all.key,
     }

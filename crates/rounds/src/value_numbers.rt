@@ -18,15 +18,13 @@ use crate::measure::facts_at;
 use words::tokens::operand_count;
 
 // Each place has PER_PLACE words of facts, of which the first is the size.
-const PER_PLACE: usize = 5;
+const PER_PLACE: usize = 4;
 
 const COST: usize = 1;
 
 const DEPTH: usize = 2;
 
-const OPERATIONS: usize = 3;
-
-const SYMBOL: usize = 4;
+const SYMBOL: usize = 3;
 
 // So many places have the few chains, so that most rounds needn't reset many.
 const FEW_WORDS: usize = 256;
@@ -136,7 +134,7 @@ fn chosen(class: usize, i: usize, head: u64) -> u64
 
 // Writes the facts of a place, from those of its operands, and answers the chain that it is in.
 fn put_facts(tokens: &[u64], facts: &mut [u64], classes: &[u64], i: usize) -> usize
-    requires { ⌜ Complete (now tokens) × (i < length (now tokens)) × (5 * length (now tokens) ≤ length (now facts)) ⌝ }
+    requires { ⌜ Complete (now tokens) × (i < length (now tokens)) × (4 * length (now tokens) ≤ length (now facts)) ⌝ }
     requires { ⌜ Sized (now tokens) (i + 1) (now facts) × Known (now tokens) (i + 1) (now classes) ⌝ }
     requires { ⌜ Ready (length (now tokens)) (now facts) (i + 1) (takes (getD (now tokens) i 0)) ⌝ }
     ensures { λ r. ⌜ Put (now (tokens .entry)) i (now (facts .entry)) (now (facts .exit)) × (r ≡ bucket-at (now (tokens .entry)) i) × (r < chains (length (now (tokens .entry)))) ⌝ }
@@ -146,7 +144,6 @@ fn put_facts(tokens: &[u64], facts: &mut [u64], classes: &[u64], i: usize) -> us
     facts[row] = f.size;
     facts[row + COST] = f.cost;
     facts[row + DEPTH] = f.depth;
-    facts[row + OPERATIONS] = f.operations;
     facts[row + SYMBOL] = f.symbol;
     chain_of(tokens.len(), f.key)
 }
@@ -184,7 +181,7 @@ fn pass(
     heads: &mut [u64],
     uses: &mut [u64],
 ) -> usize
-    requires { ⌜ Complete (now tokens) × (5 * length (now tokens) ≤ length (now facts)) ⌝ }
+    requires { ⌜ Complete (now tokens) × (4 * length (now tokens) ≤ length (now facts)) ⌝ }
     requires { ⌜ Passing (now tokens) (length (now tokens)) (now classes) (now next) (now heads) ⌝ }
     requires { ⌜ Counted (now tokens) (λ j. true) (length (now tokens)) (now uses) ⌝ }
     ensures { λ r. ⌜ Passed (now (tokens .entry)) (now (facts .entry)) r (now (facts .exit)) (now (classes .exit)) (now (uses .exit)) ⌝ }
@@ -222,7 +219,7 @@ pub fn class_tables(
     heads: &mut [u64],
     uses: &mut [u64],
 ) -> usize
-    requires { ⌜ Complete (now tokens) × (5 * length (now tokens) ≤ length (now facts)) × (chains (length (now tokens)) ≤ length (now heads)) ⌝ }
+    requires { ⌜ Complete (now tokens) × (4 * length (now tokens) ≤ length (now facts)) × (chains (length (now tokens)) ≤ length (now heads)) ⌝ }
     requires { ⌜ (length (now tokens) ≤ length (now classes)) × (length (now tokens) ≤ length (now next)) × (length (now tokens) ≤ length (now uses)) ⌝ }
     ensures { λ r. ⌜ Tables (now (tokens .entry)) (now (facts .entry)) r (now (facts .exit)) (now (classes .exit)) (now (uses .exit)) ⌝ }
 {

@@ -8,11 +8,12 @@ use mathlib.Core.List.{List, _++_}
 use borrow.Author.Tests.{le-ltb, eq-eqb, ne-eqb}
 use lib.ListN.{length, getD, drop, length-append, length-drop, List·getD-append}
 use lib.Dec.{leb}
-use Rattle.spec_tree.specs.Tokens.{trees-in, trees-at, numbered, facts, all-facts, flag, name-in}
+use Rattle.spec_tree.specs.Tokens.{trees-in, trees-at, numbered, flag, name-in}
+use Rattle.rounds.specs.measure.Columns.{place-facts, all-place-facts}
 use Rattle.spec_tree.proofs.TokenLaws.{trees-length}
 use Rattle.fmt.specs.checked.Check.{rows-in}
 use Rattle.rounds.proofs.measure.Places.{fact-is}
-use Rattle.rounds.proofs.measure.Filling.{all-facts-length}
+use Rattle.rounds.proofs.measure.Filling.{all-place-facts-length}
 use Rattle.rounds.specs.uses.Marks.{Complete, is-marked, marks-of}
 use Rattle.rounds.specs.uses.Answers.{mark-answer}
 use Rattle.rounds.proofs.uses.Runs.{how-many}
@@ -41,19 +42,19 @@ module _ (rows ws : List ℕ) (form scoped : Bool) (p s : ℕ) (k : Leads rows w
 
 -- ---- what `class_tables` and `mark_outside` leave
 
-module _ (ws old new : List ℕ) (h : 5 * length ws ≤ length old) (facts-are : new ≡ all-facts (trees-at numbered ws) ++ drop (5 * length ws) old) where
-  fact-at : (i k : ℕ) → i < length ws → k < 5 → getD new (5 * i + k) 0 ≡ getD (facts (numbered-at ws i)) k 0
+module _ (ws old new : List ℕ) (h : 4 * length ws ≤ length old) (facts-are : new ≡ all-place-facts (trees-at numbered ws) ++ drop (4 * length ws) old) where
+  fact-at : (i k : ℕ) → i < length ws → k < 4 → getD new (4 * i + k) 0 ≡ getD (place-facts (numbered-at ws i)) k 0
   unfolding numbered-at
-  fact-at i k g l = ap (λ (x : List ℕ). getD x (5 * i + k) 0) facts-are ∙ fact-is ws (drop (5 * length ws) old) i k g l
+  fact-at i k g l = ap (λ (x : List ℕ). getD x (4 * i + k) 0) facts-are ∙ fact-is ws (drop (4 * length ws) old) i k g l
 
   pub facts-left : HasFacts ws new
-  unfolding facts
+  unfolding place-facts
   facts-left =
       record {
-        long = omega (arith, ap length facts-are, length-append (all-facts (trees-at numbered ws)) (drop (5 * length ws) old), length-drop (5 * length ws) old, all-facts-length (trees-at numbered ws), trees-length numbered ws);
+        long = omega (arith, ap length facts-are, length-append (all-place-facts (trees-at numbered ws)) (drop (4 * length ws) old), length-drop (4 * length ws) old, all-place-facts-length (trees-at numbered ws), trees-length numbered ws);
         cost-at = λ i g. fact-at i 1 g (omega arith);
         depth-at = λ i g. fact-at i 2 g (omega arith);
-        symbol-at = λ i g. fact-at i 4 g (omega arith);
+        symbol-at = λ i g. fact-at i 3 g (omega arith);
       }
 
 pub flag-back : (b : Bool) → leb 1 (flag b) ≡ b

@@ -64,7 +64,7 @@ module _ (ws fs cl : List ℕ) (i : ℕ) (sized : Sized ws i fs) (known : Known 
           let w = ends ws p t ts e in
           let inw : p < length ws = omega (arith, w, size-one t) in
           let is = here-tree ws p t ts e in
-          let sz : getD fs (5 * p) 0 ≡ size t = sized .sizes p h inw ∙ ap size is in
+          let sz : getD fs (4 * p) 0 ≡ size t = sized .sizes p h inw ∙ ap size is in
           let cp : getD cl p 0 ≡ class-at ws p = known .each p h inw in
           let ct : class-at ws p ≡ class-of ws t = ap (class-of ws) is in
           let tr : numbered-at ws (class-at ws p) ≡ t = class-tree ws p inw ∙ is in

@@ -6,7 +6,8 @@ use mathlib.Core.Bool.{true}
 use mathlib.Core.List.{List}
 use lib.ListN.{length, getD, set}
 use Rattle.spec_tree.specs.Facts.{size}
-use Rattle.spec_tree.specs.Tokens.{numbered, facts}
+use Rattle.spec_tree.specs.Tokens.{numbered}
+use Rattle.rounds.specs.measure.Columns.{place-facts}
 use Rattle.spec_tree.proofs.TokenLaws.{tree-at}
 use Rattle.rounds.proofs.measure.Filling.{Filling, filling-known, filling-turns, filling-ends}
 use Rattle.rounds.specs.uses.Marks.{Complete}
@@ -20,15 +21,15 @@ use Rattle.rounds.specs.value_numbers.Classes.{class-at}
 
 pub put-turns : {ws old fs new : List ℕ} {i : ℕ} → Filling ws old fs i → 0 < i → Complete ws → Put ws (i - 1) fs new → Filling ws old new (i - 1)
 put-turns {ws} {old} {fs} {new} {i} f pos c p =
-    subst (λ (l : List ℕ). Filling ws old l (i - 1)) (sym (p .is)) (filling-turns f pos c (p .s) (p .c) (p .d) (p .o) (p .h) (p .facts))
+    subst (λ (l : List ℕ). Filling ws old l (i - 1)) (sym (p .is)) (filling-turns f pos c (p .s) (p .c) (p .d) (p .h) (p .facts))
 
 pub filling-sized : {ws old fs : List ℕ} {j : ℕ} → Filling ws old fs j → (i : ℕ) → j ≤ i → Sized ws i fs
-unfolding numbered-at facts
+unfolding numbered-at place-facts
 filling-sized {ws} {old} {fs} {j} f i low =
     record {
       long = omega (arith, f);
       sizes = λ q h l.
-          let z : 5 * q ≡ 5 * q + 0 = omega arith in
+          let z : 4 * q ≡ 4 * q + 0 = omega arith in
           ap (λ (n : ℕ). getD fs n 0) z ∙ (filling-known f q 0 (omega arith) l (omega arith) ∙ sym (ap size (tree-at numbered ws q)));
     }
 

@@ -15,12 +15,12 @@ use Rattle.fmt.specs.checked.Check.{rows-in, word-ok}
 use Rattle.rounds.specs.uses.Marks.{is-marked}
 use Rattle.laws.specs.positions.Places.{numbered-at, uses-at, savings-at, candidate-at, equal-places, outside-at, text-at, beats-at, best-place}
 
--- five words of facts a place, of which these are looked up
+-- four words of facts a place, of which these are looked up
 pub record HasFacts (ws fs : List ℕ) : Type 0 where
-  pub long : 5 * length ws ≤ length fs
-  pub cost-at : (i : ℕ) → i < length ws → getD fs (5 * i + 1) 0 ≡ cost (numbered-at ws i)
-  pub depth-at : (i : ℕ) → i < length ws → getD fs (5 * i + 2) 0 ≡ depth (numbered-at ws i)
-  pub symbol-at : (i : ℕ) → i < length ws → getD fs (5 * i + 4) 0 ≡ flag (has-symbol (numbered-at ws i))
+  pub long : 4 * length ws ≤ length fs
+  pub cost-at : (i : ℕ) → i < length ws → getD fs (4 * i + 1) 0 ≡ cost (numbered-at ws i)
+  pub depth-at : (i : ℕ) → i < length ws → getD fs (4 * i + 2) 0 ≡ depth (numbered-at ws i)
+  pub symbol-at : (i : ℕ) → i < length ws → getD fs (4 * i + 3) 0 ≡ flag (has-symbol (numbered-at ws i))
 
 -- the places outside arms are marked
 pub record HasMarks (ws : List ℕ) (scoped : Bool) (marks : List ℕ) : Type 0 where

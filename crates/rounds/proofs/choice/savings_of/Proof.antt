@@ -29,5 +29,5 @@ savings-of-spec =
     (λ c κs. (let s = c .before .before .before .before .before .before .before .before .before .before .before .before in omega (arith, s .pre .1 .1 .1 .0 .within (s .args .i) (s .pre .1 .0 .0), s .pre .1 .1 .1 .1 .long)))
     (λ c. (let s = c .before .before .before .before .before .before .before .before .before .before .before .before .before .before in let a = s .args in no-outside (a .tokens .now) (a .scoped) (a .i) (few-outside (a .tokens .now) (a .scoped) (a .i) _ (c .before .outside-uses .ensures ∙ outside-count (a .scoped) (s .pre .1 .1 .1 .0) (s .pre .1 .1 .1 .1) (a .i) (s .pre .1 .0 .0)) (c .if4 .taken))))
     (λ c. search needs)
-    (λ c. (let s = c .before .before .before .before .before .before .before .before .before .before .before .before .before .before in let w = s .args .tokens .now in let i = s .args .i in let h = s .pre .1 .0 .0 in omega (arith, small-product (getD (s .args .uses .now) (getD (s .args .classes .now) i 0) 0 - 1) (getD (s .args .facts .now) (5 * i + 1) 0) (omega (arith, s .pre .1 .1 .1 .0 .uses-are i h, uses-few w (s .pre .0) i h, s .pre .1 .0 .1)) (omega (arith, s .pre .1 .1 .0 .cost-at i h, cost-few w (s .pre .0) i h, s .pre .1 .0 .1)))))
+    (λ c. (let s = c .before .before .before .before .before .before .before .before .before .before .before .before .before .before in let w = s .args .tokens .now in let i = s .args .i in let h = s .pre .1 .0 .0 in omega (arith, small-product (getD (s .args .uses .now) (getD (s .args .classes .now) i 0) 0 - 1) (getD (s .args .facts .now) (4 * i + 1) 0) (omega (arith, s .pre .1 .1 .1 .0 .uses-are i h, uses-few w (s .pre .0) i h, s .pre .1 .0 .1)) (omega (arith, s .pre .1 .1 .0 .cost-at i h, cost-few w (s .pre .0) i h, s .pre .1 .0 .1)))))
     (λ c. (let s = c .before .before .before .before .before .before .before .before .before .before .before .before .before .before in let a = s .args in let w = a .tokens .now in let i = a .i in let h = s .pre .1 .0 .0 in saved w (a .scoped) i _ _ (getD (a .uses .now) (getD (a .classes .now) i 0) 0) (s .pre .1 .1 .0 .cost-at i h) (omega (arith, c .before .before .before .before .if2 .left)) (s .pre .1 .1 .0 .symbol-at i h) (omega (arith, c .before .before .if3 .left)) (s .pre .1 .1 .1 .0 .uses-are i h) (omega (arith, c .before .before .before .before .before .before .if1 .left)) (some-outside w (a .scoped) i _ (c .before .outside-uses .ensures ∙ outside-count (a .scoped) (s .pre .1 .1 .1 .0) (s .pre .1 .1 .1 .1) i h) (omega (arith, c .if4 .left))))))
