@@ -12,6 +12,7 @@ ghost use Rattle.rounds.specs.value_numbers.Tables.{Known};
 ghost use Rattle.rounds.specs.Answers.{Finds, Lent};
 use crate::outside::count_outside;
 use crate::uses::has_switch;
+use crate::value_numbers::SIDES;
 use crate::value_numbers::class_tables;
 use fmt::order::before_at;
 
@@ -35,12 +36,12 @@ struct Leader {
     savings: u64,
 }
 
-// How often the tree of a class is used outside arms. In the flat form every place is outside.
-fn outside_uses(scoped: bool, outside: &[u64], class: usize, count: u64) -> u64
-    requires { ⌜ class < length (now outside) ⌝ }
-    ensures { λ r. ⌜ r ≡ cond scoped (getD (now (outside .entry)) class 0) count ⌝ }
+// How often the tree of an operation's place is used outside arms. In the flat form every place is outside.
+fn outside_uses(scoped: bool, outside: &[u64], place: usize, count: u64) -> u64
+    requires { ⌜ place < length (now outside) ⌝ }
+    ensures { λ r. ⌜ r ≡ cond scoped (getD (now (outside .entry)) place 0) count ⌝ }
 {
-    if scoped { outside[class] } else { count }
+    if scoped { outside[place] } else { count }
 }
 
 // What binding the tree at i saves where it is a candidate, and else 0.
@@ -59,20 +60,20 @@ fn savings_of(
     requires { ⌜ HasUses (now tokens) (now classes) (now uses) × HasOutside (now tokens) scoped (now classes) (now outside) ⌝ }
     ensures { λ r. ⌜ r ≡ cond (candidate-at (now (tokens .entry)) scoped i) (savings-at (now (tokens .entry)) i) 0 ⌝ }
 {
-    let class = classes[i] as usize;
-    let count = uses[class];
-    if count < 2 {
-        return 0;
-    }
     let row = PER_PLACE * i;
     let cost = facts[row + COST];
     if cost < 1 {
         return 0;
     }
+    let place = (classes[i] / SIDES) as usize;
+    let count = uses[place];
+    if count < 2 {
+        return 0;
+    }
     if facts[row + SYMBOL] < 1 {
         return 0;
     }
-    if outside_uses(scoped, outside, class, count) < 1 {
+    if outside_uses(scoped, outside, place, count) < 1 {
         return 0;
     }
     (count - 1) * cost

@@ -4,16 +4,14 @@ ghost use mathlib.Core.Path.{_≡_};
 ghost use Prim.Native.Nat.{_+_, _*_, _^_, _<_, max};
 ghost use lib.ListN.{length, getD};
 ghost use Rattle.spec_tree.specs.Facts.{total, greatest};
-ghost use Rattle.spec_tree.specs.Tokens.{takes};
-ghost use Rattle.rounds.specs.measure.Columns.{column, Inside, Ready, own-operation, own-symbol, operand-costs, WordFacts};
+ghost use Rattle.spec_tree.specs.Tokens.{kind-of, takes};
+ghost use Rattle.rounds.specs.measure.Columns.{column, Inside, Ready, own-symbol, operand-costs, WordFacts};
 ghost use Rattle.rounds.specs.measure.Operands.{Together};
 ghost use Rattle.rounds.specs.value_numbers.Classes.{mixed, mixed-all};
 ghost use Rattle.rounds.specs.value_numbers.Walks.{below, Walk};
-use words::layout::CONST;
 use words::layout::KINDS;
 use words::layout::SELECT;
 use words::layout::SYM;
-use words::tokens::operand_count;
 
 // Each place has PER_PLACE words of facts, in this order; the size is the first.
 const PER_PLACE: usize = 4;
@@ -119,38 +117,30 @@ fn operands_cost(facts: &[u64], kind: u64, place: usize, count: usize, sum: u64)
     facts[row + COST] + greatest_cost(facts, arms, count - 1)
 }
 
-// 1 for an operation, 0 for a leaf: what an operation adds to the cost and the depth below it.
-fn operation_of(w: u64) -> u64
-    ensures { λ r. ⌜ r ≡ own-operation w ⌝ }
-{
-    if w % KINDS <= CONST { 0 } else { 1 }
-}
-
 // 1 for a symbol.
-fn symbol_of(w: u64) -> u64
+pub fn symbol_of(w: u64) -> u64
     ensures { λ r. ⌜ r ≡ own-symbol w ⌝ }
 {
     if w % KINDS == SYM { 1 } else { 0 }
 }
 
-// The facts of the tree at a place, from those of its operands, which come after it.
+// The facts of the operation at a place, from those of its operands, which come after it.
 pub fn facts_at(tokens: &[u64], facts: &[u64], classes: &[u64], at: usize) -> Facts
-    requires { ⌜ at < length (now tokens) ⌝ }
+    requires { ⌜ (at < length (now tokens)) × (1 < kind-of (getD (now tokens) at 0)) ⌝ }
     requires { ⌜ Ready (length (now tokens)) (now facts) (at + 1) (takes (getD (now tokens) at 0)) ⌝ }
     requires { ⌜ Walk (now facts) (now classes) (at + 1) (takes (getD (now tokens) at 0)) ⌝ }
     ensures { λ r. ⌜ WordFacts (getD (now (tokens .entry)) at 0) (now (facts .entry)) (at + 1) (r .size) (r .cost) (r .depth) (r .symbol)
         × (r .key ≡ mixed-all (getD (now (tokens .entry)) at 0) (below (now (facts .entry)) (now (classes .entry)) (at + 1) (takes (getD (now (tokens .entry)) at 0)))) ⌝ }
 {
     let w = tokens[at];
-    let count = operand_count(w) as usize;
+    let count = (w / KINDS) as usize;
     let all = walk(facts, classes, w, at + 1, count);
-    let own = operation_of(w);
     let costs = operands_cost(facts, w % KINDS, at + 1, count, all.cost);
     Facts {
         size: 1 + all.size,
-        cost: own + costs,
-        depth: own + all.depth,
-        symbol: symbol_of(w) + all.symbol,
+        cost: 1 + costs,
+        depth: 1 + all.depth,
+        symbol: all.symbol,
         key: all.key,
     }
 }

@@ -21,7 +21,8 @@ use Rattle.rounds.proofs.uses.Marking.{marks-length, mark-at}
 use Rattle.laws.specs.positions.Places.{numbered-at, outside-at, best-place}
 use Rattle.laws.proofs.positions.UsesAt.{uses-counted}
 use Rattle.rounds.specs.value_numbers.Answers.{Tables}
-use Rattle.rounds.proofs.value_numbers.Laws.{class-high}
+use Rattle.rounds.proofs.value_numbers.Laws.{last-high}
+use Rattle.rounds.proofs.value_numbers.Sides.{operation-class}
 use Rattle.rounds.specs.choice.Leading.{HasFacts, HasMarks, HasUses, Alike, leader-of, Leads}
 use Rattle.rounds.proofs.choice.Forms.{best-same}
 
@@ -82,11 +83,11 @@ module _ (ws : List ℕ) (scoped : Bool) (old new : List ℕ) (h : length ws ≤
       }
 
 -- by the classes of the places
-pub uses-left : {ws old : List ℕ} {n : ℕ} {new cl us : List ℕ} → Tables ws old n new cl us → HasUses ws cl us
-uses-left {ws} {old} {n} {new} {cl} {us} a =
+pub uses-left : {ws old : List ℕ} {n : ℕ} {new cl us : List ℕ} → Complete ws → Tables ws old n new cl us → HasUses ws cl us
+uses-left {ws} {old} {n} {new} {cl} {us} complete a =
     record {
       long-classes = a .classes-are .long;
-      within = λ i h. omega (arith, a .classes-are .each i (omega arith) h, class-high ws i h);
+      within = λ i h op. omega (arith, a .classes-are .each i (omega arith) h, operation-class ws complete i h op, last-high ws i h);
       long = a .uses-are .long;
-      uses-are = λ i h. a .uses-are .each i h ∙ sym (uses-counted ws i);
+      uses-are = λ i h op. a .uses-are .each i h op ∙ sym (uses-counted ws i);
     }

@@ -2,16 +2,16 @@
 use Prim.Native.Nat.{ℕ, zero, suc, _+_, _-_, _*_, _≤_, _<_, max}
 use native.Mathlib.Omega.{arith}
 use mathlib.Core.Path.{_≡_, refl, subst, sym}
-use mathlib.Core.Bool.{Bool, true, false, cond}
 use mathlib.Core.List.{List, [], _∷_}
 use borrow.Author.Tests.{le-leb, lt-leb}
 use lib.ListN.{length, getD}
-use lib.Dec.{eqb, leb, lit<}
+use lib.Dec.{lit<}
 use Rattle.spec_tree.specs.Kinds.{is-select}
 use Rattle.spec_tree.specs.Facts.{total, greatest, first-and-greatest}
 use Rattle.spec_tree.specs.Tokens.{kind-of, takes}
 use Rattle.spec_tree.proofs.FactLaws.{greatest-total, costs-total}
-use Rattle.rounds.specs.measure.Columns.{column, Inside, Ready, WordFacts, own-operation, own-symbol, operand-costs}
+use Rattle.rounds.specs.measure.Columns.{column, Inside, Ready, WordFacts, operand-costs}
+use Rattle.rounds.proofs.measure.WordFacts.{operation-own, other-own}
 
 -- the first of some operands, and those after it
 pub record Next (fs : List ℕ) (c p left : ℕ) : Type 0 where
@@ -142,30 +142,14 @@ pub operands-small : (k : ℕ) (l : List ℕ) → operand-costs k l ≤ total l
 unfolding operand-costs
 operands-small k l = costs-total (is-select k) l
 
-pub own-one : (w : ℕ) → own-operation w ≤ 1
-unfolding own-operation
-own-one w = go (leb (kind-of w) 1)
-  where
-    go : (b : Bool) → cond b 0 1 ≤ 1
-    go true = omega arith
-    go false = omega arith
-
-pub own-symbol-one : (w : ℕ) → own-symbol w ≤ 1
-unfolding own-symbol
-own-symbol-one w = go (eqb (kind-of w) 0)
-  where
-    go : (b : Bool) → cond b 1 0 ≤ 1
-    go true = omega arith
-    go false = omega arith
-
+-- of an operation
 pub word-facts :
-    (w : ℕ) (fs : List ℕ) (p : ℕ) {n own symbol s c d h : ℕ} → n ≡ takes w → own ≡ own-operation w → symbol ≡ own-symbol w
-    → s ≡ total (column fs 0 p n) → c ≡ operand-costs (kind-of w) (column fs 1 p n) → d ≡ greatest (column fs 2 p n)
-    → h ≡ greatest (column fs 3 p n) → WordFacts w fs p (1 + s) (own + c) (own + d) (symbol + h)
-word-facts w fs p en eown esymbol es ec ed eh =
+    (w : ℕ) (fs : List ℕ) (p : ℕ) {n s c d h : ℕ} → 1 < kind-of w → n ≡ takes w → s ≡ total (column fs 0 p n) → c ≡ operand-costs (kind-of w) (column fs 1 p n)
+    → d ≡ greatest (column fs 2 p n) → h ≡ greatest (column fs 3 p n) → WordFacts w fs p (1 + s) (1 + c) (1 + d) h
+word-facts w fs p op en es ec ed eh =
     record {
       size-is = rw (es, en);
-      cost-is = rw (ec, eown, en);
-      depth-is = rw (ed, eown, en);
-      symbol-is = rw (eh, esymbol, en);
+      cost-is = rw (ec, operation-own w op, en);
+      depth-is = rw (ed, operation-own w op, en);
+      symbol-is = rw (eh, other-own w (omega arith), en) (omega arith);
     }

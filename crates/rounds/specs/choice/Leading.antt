@@ -1,6 +1,6 @@
 -- The best place so far, place by place (01, "Extraction"), and what its search is lent: the facts and the marks of places, and bytes for two texts.
 -- Assumes nothing.
-use Prim.Native.Nat.{ℕ, _+_, _*_, _≤_, _<_}
+use Prim.Native.Nat.{ℕ, _+_, _*_, _/_, _≤_, _<_}
 use mathlib.Core.Path.{_≡_}
 use mathlib.Core.Bool.{Bool, true, _&&_, _||_, cond}
 use mathlib.Core.Option.{Option, none, some}
@@ -9,7 +9,7 @@ use lib.ListN.{length, getD}
 use lib.Dec.{T, eqb, ltb}
 use Rattle.spec_tree.specs.Facts.{cost, depth, has-symbol}
 use Rattle.spec_tree.specs.Bytes.{every}
-use Rattle.spec_tree.specs.Tokens.{flag, name-in}
+use Rattle.spec_tree.specs.Tokens.{flag, kind-of, name-in}
 use Rattle.spec_tree.specs.text.Text.{before}
 use Rattle.fmt.specs.checked.Check.{rows-in, word-ok}
 use Rattle.rounds.specs.uses.Marks.{is-marked}
@@ -27,17 +27,17 @@ pub record HasMarks (ws : List ℕ) (scoped : Bool) (marks : List ℕ) : Type 0 
   pub long : length ws ≤ length marks
   pub marked : (j : ℕ) → j < length ws → is-marked marks j ≡ outside-at ws scoped j
 
--- by its class, how many places have the tree at each
+-- by its class, how many places have the operation at each
 pub record HasUses (ws cl us : List ℕ) : Type 0 where
   pub long-classes : length ws ≤ length cl
-  pub within : (i : ℕ) → i < length ws → getD cl i 0 < length ws
+  pub within : (i : ℕ) → i < length ws → 1 < kind-of (getD ws i 0) → getD cl i 0 / 4 < length ws
   pub long : length ws ≤ length us
-  pub uses-are : (i : ℕ) → i < length ws → getD us (getD cl i 0) 0 ≡ uses-at ws i
+  pub uses-are : (i : ℕ) → i < length ws → 1 < kind-of (getD ws i 0) → getD us (getD cl i 0 / 4) 0 ≡ uses-at ws i
 
 -- and, in the scoped form, how many of them are outside arms
 pub record HasOutside (ws : List ℕ) (scoped : Bool) (cl ou : List ℕ) : Type 0 where
   pub long : length ws ≤ length ou
-  pub outside-are : scoped ≡ true → (i : ℕ) → i < length ws → getD ou (getD cl i 0) 0 ≡ equal-places ws (outside-at ws scoped) i (length ws)
+  pub outside-are : scoped ≡ true → (i : ℕ) → i < length ws → 1 < kind-of (getD ws i 0) → getD ou (getD cl i 0 / 4) 0 ≡ equal-places ws (outside-at ws scoped) i (length ws)
 
 -- every tree can be written, and two texts fit
 pub record Writable (rows ws : List ℕ) (room : ℕ) : Type 0 where

@@ -4,7 +4,7 @@ use mathlib.Core.Path.{_≡_}
 use mathlib.Core.List.{List, [], _∷_}
 use lib.ListN.{length, getD, set}
 use Rattle.spec_tree.specs.Facts.{size}
-use Rattle.rounds.specs.measure.Columns.{WordFacts}
+use Rattle.rounds.specs.measure.Columns.{own-symbol, WordFacts}
 use Rattle.laws.specs.positions.Places.{numbered-at}
 
 -- the classes of the n trees from a place on
@@ -30,3 +30,8 @@ pub record Put (ws : List ℕ) (at : ℕ) (fs new : List ℕ) : Type 0 where
   pub h : ℕ
   pub facts : WordFacts (getD ws at 0) fs (at + 1) s c d h
   pub is : new ≡ set (set (set (set fs (4 * at) s) (4 * at + 1) c) (4 * at + 2) d) (4 * at + 3) h
+
+-- the facts of a leaf, whose word is w, and its class
+pub record Leaf-put (w at : ℕ) (fs new cl cl' : List ℕ) : Type 0 where
+  pub facts-are : new ≡ set (set (set (set fs (4 * at) 1) (4 * at + 1) 0) (4 * at + 2) 0) (4 * at + 3) (own-symbol w)
+  pub class-is : cl' ≡ set cl at w

@@ -15,7 +15,7 @@ count-outside-spec =
     (λ c κs. search needs)
     (λ c κs. search needs)
     (λ c κs. (let s = c .before .before .before .before .before .before .before .before .before .before .before .before .before .before .before in
-    ((s .pre .0 .1, omega (arith, s .pre .1 .0, c .before .before .before .before .before .before .before .before .mark-outside-arms .ensures .long)), counted-starts _ _ (s .pre .1 .1) (c .before .before .before .before .reset .ensures))))
+    ((s .pre .0 .0, s .pre .0 .1, omega (arith, s .pre .1 .0, c .before .before .before .before .before .before .before .before .mark-outside-arms .ensures .long)), counted-starts _ _ (s .pre .1 .1) (c .before .before .before .before .reset .ensures))))
     (λ c. search needs)
     (λ c. search needs)
     (λ c. rw (c .before .before .before .before .before .before .before .before .before .before .before .before .before .if1 .taken) (counted-outside _ _ _ _ _ (c .before .before .before .before .before .before .before .before .before .before .before .mark-outside-arms .ensures) (c .before .before .tally .ensures)))
