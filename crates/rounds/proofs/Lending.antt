@@ -47,7 +47,7 @@ lent-fewer {n} {m} {f} {c} {x} {h} {u} {f'} {c'} {x'} {h'} {u'} l k ef ec ex eh 
       for-uses = omega (arith, l .for-uses);
     }
 
-pub few-lent : (n : ℕ) → n ≤ 256 → Lent n 1280 256 256 256 256
+pub few-lent : (n : ℕ) → n ≤ 256 → Lent n 1024 256 256 256 256
 few-lent n h =
     record {
       for-facts = omega arith;
@@ -58,7 +58,18 @@ few-lent n h =
       for-uses = omega arith;
     }
 
-pub many-lent : (n : ℕ) → n ≤ 1927 → Lent n 9635 1927 1927 2048 1927
+pub some-lent : (n : ℕ) → n ≤ 1024 → Lent n 4096 1024 1024 2048 1024
+some-lent n h =
+    record {
+      for-facts = omega arith;
+      for-classes = omega arith;
+      for-next = omega arith;
+      for-chains = by-size n (λ a. omega (arith, few-chains n a)) (λ a. omega (arith, many-chains n a));
+      for-marks = omega arith;
+      for-uses = omega arith;
+    }
+
+pub many-lent : (n : ℕ) → n ≤ 1927 → Lent n 7708 1927 1927 2048 1927
 many-lent n h =
     record {
       for-facts = omega arith;

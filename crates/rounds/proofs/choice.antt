@@ -1,4 +1,5 @@
 pub mod Passing
 pub mod Leaders
 pub mod Giving
+pub mod Forms
 pub mod Definition

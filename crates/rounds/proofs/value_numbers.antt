@@ -1,6 +1,7 @@
 pub mod Laws
 pub mod Keys
 pub mod Nodes
+pub mod Sides
 pub mod Belows
 pub mod Chains
 pub mod Counts

@@ -23,7 +23,7 @@ use Rattle.rounds.specs.declared.Round.the-variants as round
 
 -- enough is lent for n words: of facts, classes, links, chains and counts
 pub record Lent (n facts classes next heads uses : ℕ) : Type 0 where
-  pub for-facts : 5 * n ≤ facts
+  pub for-facts : 4 * n ≤ facts
   pub for-classes : n ≤ classes
   pub for-next : n ≤ next
   pub for-chains : chains n ≤ heads

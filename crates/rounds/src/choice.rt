@@ -7,21 +7,23 @@ ghost use lib.ListN.{length, getD};
 ghost use Rattle.fmt.specs.checked.Check.{rows-in};
 ghost use Rattle.laws.specs.positions.Places.{savings-at, candidate-at};
 ghost use Rattle.rounds.specs.uses.Marks.{Complete};
-ghost use Rattle.rounds.specs.choice.Leading.{HasFacts, HasUses, HasOutside, Writable, Lead, leader-of, later-at, best-step, Leads};
+ghost use Rattle.rounds.specs.choice.Leading.{HasFacts, HasUses, HasOutside, Writable, Alike, Lead, leader-of, later-at, best-step, Leads};
 ghost use Rattle.rounds.specs.value_numbers.Tables.{Known};
 ghost use Rattle.rounds.specs.Answers.{Finds, Lent};
 use crate::outside::count_outside;
+use crate::uses::has_switch;
+use crate::value_numbers::SIDES;
 use crate::value_numbers::class_tables;
 use fmt::order::before_at;
 
-// Each place has PER_PLACE words of facts: size, cost, depth, operations, and whether it has a symbol.
-const PER_PLACE: usize = 5;
+// Each place has PER_PLACE words of facts: size, cost, depth, and whether it has a symbol.
+const PER_PLACE: usize = 4;
 
 const COST: usize = 1;
 
 const DEPTH: usize = 2;
 
-const SYMBOL: usize = 4;
+const SYMBOL: usize = 3;
 
 pub enum Best {
     At(usize),
@@ -34,12 +36,12 @@ struct Leader {
     savings: u64,
 }
 
-// How often the tree of a class is used outside arms. In the flat form every place is outside.
-fn outside_uses(scoped: bool, outside: &[u64], class: usize, count: u64) -> u64
-    requires { ⌜ class < length (now outside) ⌝ }
-    ensures { λ r. ⌜ r ≡ cond scoped (getD (now (outside .entry)) class 0) count ⌝ }
+// How often the tree of an operation's place is used outside arms. In the flat form every place is outside.
+fn outside_uses(scoped: bool, outside: &[u64], place: usize, count: u64) -> u64
+    requires { ⌜ place < length (now outside) ⌝ }
+    ensures { λ r. ⌜ r ≡ cond scoped (getD (now (outside .entry)) place 0) count ⌝ }
 {
-    if scoped { outside[class] } else { count }
+    if scoped { outside[place] } else { count }
 }
 
 // What binding the tree at i saves where it is a candidate, and else 0.
@@ -58,20 +60,20 @@ fn savings_of(
     requires { ⌜ HasUses (now tokens) (now classes) (now uses) × HasOutside (now tokens) scoped (now classes) (now outside) ⌝ }
     ensures { λ r. ⌜ r ≡ cond (candidate-at (now (tokens .entry)) scoped i) (savings-at (now (tokens .entry)) i) 0 ⌝ }
 {
-    let class = classes[i] as usize;
-    let count = uses[class];
-    if count < 2 {
-        return 0;
-    }
     let row = PER_PLACE * i;
     let cost = facts[row + COST];
     if cost < 1 {
         return 0;
     }
+    let place = (classes[i] / SIDES) as usize;
+    let count = uses[place];
+    if count < 2 {
+        return 0;
+    }
     if facts[row + SYMBOL] < 1 {
         return 0;
     }
-    if outside_uses(scoped, outside, class, count) < 1 {
+    if outside_uses(scoped, outside, place, count) < 1 {
         return 0;
     }
     (count - 1) * cost
@@ -184,6 +186,16 @@ fn search(
     leader
 }
 
+// Whether the scoped form may differ from the flat one: some word is a switch.
+fn with_arms(tokens: &[u64], scoped: bool) -> bool
+    ensures { λ r. ⌜ Alike (now (tokens .entry)) r scoped ⌝ }
+{
+    if scoped {
+        return has_switch(tokens);
+    }
+    false
+}
+
 // The place of the best candidate among the trees that the words are. What else is lent is worked in, and what is left there is free: the places outside arms are marked
 // in `heads`, and counted in `next`, when these have served.
 pub fn best_place(
@@ -202,8 +214,9 @@ pub fn best_place(
     ensures { λ r. ⌜ Finds (rows-in (now (rows .entry))) (now (tokens .entry)) scoped r ⌝ }
 {
     class_tables(tokens, facts, classes, next, heads, uses);
-    count_outside(tokens, scoped, classes, heads, next);
-    let leader = search(rows, tokens, scoped, facts, classes, uses, next, text);
+    let arms = with_arms(tokens, scoped);
+    count_outside(tokens, arms, classes, heads, next);
+    let leader = search(rows, tokens, arms, facts, classes, uses, next, text);
     let place = leader.place;
     if leader.savings == 0 {
         Best::Nothing

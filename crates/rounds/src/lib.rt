@@ -24,17 +24,21 @@ use words::layout::KINDS;
 use words::layout::LET_CLASS;
 use words::tokens::tree_end;
 
-// The most words, five words of facts for each, and chains for them.
+// The most words, four words of facts for each, and chains for them.
 const MOST_WORDS: usize = 1927;
 
-const FACTS: usize = 9635;
+const FACTS: usize = 7708;
 
 const CHAINS: usize = 2048;
 
-// Few words and their facts, so that most lists needn't clear the large arrays.
+// Few words and their facts, and some more, so that most lists needn't clear the large arrays.
 const FEW_WORDS: usize = 256;
 
-const FEW_FACTS: usize = 1280;
+const FEW_FACTS: usize = 1024;
+
+const SOME_WORDS: usize = 1024;
+
+const SOME_FACTS: usize = 4096;
 
 enum Round {
     // How many words there are now.
@@ -141,8 +145,9 @@ fn one_round(
     }
 }
 
-// Rounds until no candidate is left.
-fn rounds_in(
+// Rounds on the first `len` words, all of whose trees are results, until no candidate is left; `first` is the first number. What stands past them never changes. The
+// tables are lent; what is left in them is free.
+pub fn extract_in(
     rows: &[u64],
     tokens: &mut [u64],
     len: usize,
@@ -212,7 +217,41 @@ fn rounds_in_few(
     let mut next = [0u64; FEW_WORDS];
     let mut heads = [0u64; FEW_WORDS];
     let mut uses = [0u64; FEW_WORDS];
-    rounds_in(
+    extract_in(
+        rows,
+        tokens,
+        len,
+        scoped,
+        first,
+        &mut facts,
+        &mut classes,
+        &mut next,
+        &mut heads,
+        &mut uses,
+        text,
+    )
+}
+
+// The same for some more, which are all words of the flat form.
+fn rounds_in_some(
+    rows: &[u64],
+    tokens: &mut [u64],
+    len: usize,
+    scoped: bool,
+    first: u64,
+    text: &mut [u8],
+) -> Rounds
+    requires { ⌜ T (extractable (rows-in (now rows)) first (take len (now tokens))) × (len ≤ length (now tokens)) × (len ≤ 1024) ⌝ }
+    requires { ⌜ (first ≤ 549755813888) × (131072 ≤ length (now text)) ⌝ }
+    ensures { λ r. ⌜ (r ≡ rounds-answer (rows-in (now (rows .entry))) (now (tokens .entry)) len scoped first)
+        × Leaves-words (rows-in (now (rows .entry))) (now (tokens .entry)) len scoped first (now (tokens .exit)) ⌝ }
+{
+    let mut facts = [0u64; SOME_FACTS];
+    let mut classes = [0u64; SOME_WORDS];
+    let mut next = [0u64; SOME_WORDS];
+    let mut heads = [0u64; CHAINS];
+    let mut uses = [0u64; SOME_WORDS];
+    extract_in(
         rows,
         tokens,
         len,
@@ -246,7 +285,7 @@ fn rounds_in_many(
     let mut next = [0u64; MOST_WORDS];
     let mut heads = [0u64; CHAINS];
     let mut uses = [0u64; MOST_WORDS];
-    rounds_in(
+    extract_in(
         rows,
         tokens,
         len,
@@ -261,7 +300,7 @@ fn rounds_in_many(
     )
 }
 
-// Rounds on the first `len` words, all of whose trees are results, until no candidate is left; `first` is the first number. What stands past them never changes.
+// The same with arrays of its own.
 pub fn extract_all(
     rows: &[u64],
     tokens: &mut [u64],
@@ -277,6 +316,9 @@ pub fn extract_all(
 {
     if len <= FEW_WORDS {
         return rounds_in_few(rows, tokens, len, scoped, first, text);
+    }
+    if len <= SOME_WORDS {
+        return rounds_in_some(rows, tokens, len, scoped, first, text);
     }
     rounds_in_many(rows, tokens, len, scoped, first, text)
 }

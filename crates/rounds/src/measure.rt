@@ -1,30 +1,26 @@
-// The facts of a tree among words, from those of its operands: size, cost, depth, operations, and whether it has a symbol; and the key of the chain in which equal trees
+// The facts of a tree among words, from those of its operands: size, cost, depth, and whether it has a symbol; and the key of the chain in which equal trees
 // are looked for, from its word and the classes of its operands. One walk over the operands finds all of it.
 ghost use mathlib.Core.Path.{_≡_};
 ghost use Prim.Native.Nat.{_+_, _*_, _^_, _<_, max};
 ghost use lib.ListN.{length, getD};
 ghost use Rattle.spec_tree.specs.Facts.{total, greatest};
-ghost use Rattle.spec_tree.specs.Tokens.{takes};
-ghost use Rattle.rounds.specs.measure.Columns.{column, Inside, Ready, own-operation, own-symbol, operand-costs, WordFacts};
+ghost use Rattle.spec_tree.specs.Tokens.{kind-of, takes};
+ghost use Rattle.rounds.specs.measure.Columns.{column, Inside, Ready, own-symbol, operand-costs, WordFacts};
 ghost use Rattle.rounds.specs.measure.Operands.{Together};
 ghost use Rattle.rounds.specs.value_numbers.Classes.{mixed, mixed-all};
 ghost use Rattle.rounds.specs.value_numbers.Walks.{below, Walk};
-use words::layout::CONST;
 use words::layout::KINDS;
 use words::layout::SELECT;
 use words::layout::SYM;
-use words::tokens::operand_count;
 
 // Each place has PER_PLACE words of facts, in this order; the size is the first.
-const PER_PLACE: usize = 5;
+const PER_PLACE: usize = 4;
 
 const COST: usize = 1;
 
 const DEPTH: usize = 2;
 
-const OPERATIONS: usize = 3;
-
-const SYMBOL: usize = 4;
+const SYMBOL: usize = 3;
 
 // Numbers in a key are taken below 2^20, so that no product is too large.
 const PART: u64 = 1048576;
@@ -36,7 +32,6 @@ pub struct Facts {
     pub size: u64,
     pub cost: u64,
     pub depth: u64,
-    pub operations: u64,
     pub symbol: u64,
     pub key: u64,
 }
@@ -55,17 +50,16 @@ fn larger(a: u64, b: u64) -> u64
     if a < b { b } else { a }
 }
 
-// What the `count` trees from `place` on have together: the sums of their sizes, costs and operations, the greatest depth, and whether one has a symbol; and the key of the
+// What the `count` trees from `place` on have together: the sums of their sizes and costs, the greatest depth, and whether one has a symbol; and the key of the
 // word w with their classes. The size of each says where the next one starts.
 fn walk(facts: &[u64], classes: &[u64], w: u64, place: usize, count: usize) -> Facts
     requires { ⌜ Inside (now facts) place count × Walk (now facts) (now classes) place count ⌝ }
-    requires { ⌜ (total (column (now facts) 0 place count) < 2 ^ 64) × (total (column (now facts) 1 place count) < 2 ^ 64) × (total (column (now facts) 3 place count) < 2 ^ 64) ⌝ }
-    ensures { λ r. ⌜ Together (now (facts .entry)) (now (classes .entry)) w place count (r .size) (r .cost) (r .depth) (r .operations) (r .symbol) (r .key) ⌝ }
+    requires { ⌜ (total (column (now facts) 0 place count) < 2 ^ 64) × (total (column (now facts) 1 place count) < 2 ^ 64) ⌝ }
+    ensures { λ r. ⌜ Together (now (facts .entry)) (now (classes .entry)) w place count (r .size) (r .cost) (r .depth) (r .symbol) (r .key) ⌝ }
 {
     let mut size: u64 = 0;
     let mut cost: u64 = 0;
     let mut depth: u64 = 0;
-    let mut operations: u64 = 0;
     let mut symbol: u64 = 0;
     let mut key = w;
     let mut p = place;
@@ -77,7 +71,6 @@ fn walk(facts: &[u64], classes: &[u64], w: u64, place: usize, count: usize) -> F
         size += own;
         cost += facts[row + COST];
         depth = larger(depth, facts[row + DEPTH]);
-        operations += facts[row + OPERATIONS];
         symbol = larger(symbol, facts[row + SYMBOL]);
         p += own as usize;
         left -= 1;
@@ -86,7 +79,6 @@ fn walk(facts: &[u64], classes: &[u64], w: u64, place: usize, count: usize) -> F
         size,
         cost,
         depth,
-        operations,
         symbol,
         key,
     }
@@ -125,39 +117,30 @@ fn operands_cost(facts: &[u64], kind: u64, place: usize, count: usize, sum: u64)
     facts[row + COST] + greatest_cost(facts, arms, count - 1)
 }
 
-// 1 for an operation, 0 for a leaf: what an operation adds to the cost, the depth and the operations below it.
-fn operation_of(w: u64) -> u64
-    ensures { λ r. ⌜ r ≡ own-operation w ⌝ }
-{
-    if w % KINDS <= CONST { 0 } else { 1 }
-}
-
 // 1 for a symbol.
-fn symbol_of(w: u64) -> u64
+pub fn symbol_of(w: u64) -> u64
     ensures { λ r. ⌜ r ≡ own-symbol w ⌝ }
 {
     if w % KINDS == SYM { 1 } else { 0 }
 }
 
-// The facts of the tree at a place, from those of its operands, which come after it.
+// The facts of the operation at a place, from those of its operands, which come after it.
 pub fn facts_at(tokens: &[u64], facts: &[u64], classes: &[u64], at: usize) -> Facts
-    requires { ⌜ at < length (now tokens) ⌝ }
+    requires { ⌜ (at < length (now tokens)) × (1 < kind-of (getD (now tokens) at 0)) ⌝ }
     requires { ⌜ Ready (length (now tokens)) (now facts) (at + 1) (takes (getD (now tokens) at 0)) ⌝ }
     requires { ⌜ Walk (now facts) (now classes) (at + 1) (takes (getD (now tokens) at 0)) ⌝ }
-    ensures { λ r. ⌜ WordFacts (getD (now (tokens .entry)) at 0) (now (facts .entry)) (at + 1) (r .size) (r .cost) (r .depth) (r .operations) (r .symbol)
+    ensures { λ r. ⌜ WordFacts (getD (now (tokens .entry)) at 0) (now (facts .entry)) (at + 1) (r .size) (r .cost) (r .depth) (r .symbol)
         × (r .key ≡ mixed-all (getD (now (tokens .entry)) at 0) (below (now (facts .entry)) (now (classes .entry)) (at + 1) (takes (getD (now (tokens .entry)) at 0)))) ⌝ }
 {
     let w = tokens[at];
-    let count = operand_count(w) as usize;
+    let count = (w / KINDS) as usize;
     let all = walk(facts, classes, w, at + 1, count);
-    let own = operation_of(w);
     let costs = operands_cost(facts, w % KINDS, at + 1, count, all.cost);
     Facts {
         size: 1 + all.size,
-        cost: own + costs,
-        depth: own + all.depth,
-        operations: own + all.operations,
-        symbol: symbol_of(w) + all.symbol,
+        cost: 1 + costs,
+        depth: 1 + all.depth,
+        symbol: all.symbol,
         key: all.key,
     }
 }

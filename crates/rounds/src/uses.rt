@@ -1,8 +1,10 @@
 // Which places of words of trees are outside arms (01, "Uses").
 ghost use mathlib.Core.Path.{_≡_};
 ghost use Prim.Native.Nat.{_≤_, _<_};
+ghost use mathlib.Core.Bool.{true};
 ghost use lib.ListN.{length};
-ghost use Rattle.rounds.specs.uses.Marks.{Complete, Cleared, Ones, Arms, Marking, not-in-arms};
+ghost use Rattle.laws.specs.positions.Places.{outside-at};
+ghost use Rattle.rounds.specs.uses.Marks.{Complete, Cleared, Ones, Arms, Marking, not-in-arms, switch-among};
 ghost use Rattle.rounds.specs.uses.Answers.{mark-answer};
 use words::layout::BRANCH;
 use words::layout::KINDS;
@@ -16,6 +18,20 @@ pub enum Marked {
     Broken,
     // Fewer marks than words.
     NoRoom,
+}
+
+// Whether a word is a switch, which may have arms: where none is, every place is outside.
+pub fn has_switch(tokens: &[u64]) -> bool
+    ensures { λ r. ⌜ r ≡ switch-among (now (tokens .entry)) (length (now (tokens .entry))) ⌝ }
+{
+    let mut i = tokens.len();
+    while i > 0 {
+        i -= 1;
+        if tokens[i] % KINDS >= BRANCH {
+            return true;
+        }
+    }
+    false
 }
 
 // Marks the first n places.
@@ -74,7 +90,16 @@ fn clear_arms(tokens: &[u64], marks: &mut [u64])
     }
 }
 
-// Marks the places outside arms with 1 and the others with 0. In the flat form all are outside.
+// Marks the places outside arms with 1 and the others with 0, where a caller knows that no word lacks an operand.
+pub fn mark_outside_arms(tokens: &[u64], marks: &mut [u64])
+    requires { ⌜ Complete (now tokens) × (length (now tokens) ≤ length (now marks)) ⌝ }
+    ensures { λ _. ⌜ Marking (now (tokens .entry)) (outside-at (now (tokens .entry)) true) (now (marks .entry)) (now (marks .exit)) ⌝ }
+{
+    mark_all(marks, tokens.len());
+    clear_arms(tokens, marks);
+}
+
+// The same for any words at all. In the flat form all places are outside.
 pub fn mark_outside(tokens: &[u64], scoped: bool, marks: &mut [u64]) -> Marked
     ensures { λ r. ⌜ (r ≡ mark-answer (now (tokens .entry)) scoped (now (marks .entry)) .answer)
         × (now (marks .exit) ≡ mark-answer (now (tokens .entry)) scoped (now (marks .entry)) .marks) ⌝ }
@@ -85,10 +110,10 @@ pub fn mark_outside(tokens: &[u64], scoped: bool, marks: &mut [u64]) -> Marked
     let Trees::Count(_) = count_trees(tokens) else {
         return Marked::Broken;
     };
-    mark_all(marks, tokens.len());
     if scoped {
-        clear_arms(tokens, marks);
+        mark_outside_arms(tokens, marks);
         return Marked::Done;
     }
+    mark_all(marks, tokens.len());
     Marked::Done
 }

@@ -1,32 +1,34 @@
 // `path_counts` and `count_subexprs` of the source (01, "Uses"): the facts of every place, the classes of equal trees among words of trees, and how often each tree is
-// there, in one pass and in time near the number of words. From the right, a place looks for its tree among those that stand for their class, in a chain found by its word and the classes of its operands.
+// there, in one pass and in time near the number of words. From the right, an operation looks for its tree among those that stand for their class, in a chain found by its word and the classes of its
+// operands. A leaf's class is its word, so it needs no search, and nobody asks how often it is there.
 ghost use mathlib.Core.Path.{_≡_};
 ghost use mathlib.Core.Bool.{true, cond};
 ghost use Prim.Native.Nat.{_+_, _*_, _≤_, _<_};
 ghost use lib.ListN.{length, getD};
 ghost use lib.Dec.{eqb};
 ghost use Rattle.spec_tree.specs.Bytes.{eq-bytes};
-ghost use Rattle.spec_tree.specs.Tokens.{takes};
+ghost use Rattle.spec_tree.specs.Tokens.{kind-of, takes};
 ghost use Rattle.rounds.specs.measure.Columns.{Ready};
 ghost use Rattle.rounds.specs.uses.Marks.{Complete};
-ghost use Rattle.rounds.specs.value_numbers.Classes.{chains, chain-of, class-at, bucket-at};
-ghost use Rattle.rounds.specs.value_numbers.Walks.{below, Walk, Sized, Put};
+ghost use Rattle.rounds.specs.value_numbers.Classes.{chains, chain-of, last-at, class-at, bucket-at};
+ghost use Rattle.rounds.specs.value_numbers.Walks.{below, Walk, Sized, Put, Leaf-put};
 ghost use Rattle.rounds.specs.value_numbers.Tables.{Known, Links, Passing, Chase, Reset, Counted};
 ghost use Rattle.rounds.specs.value_numbers.Answers.{Passed, Tables};
 use crate::measure::Facts;
 use crate::measure::facts_at;
+use crate::measure::symbol_of;
+use words::layout::CONST;
+use words::layout::KINDS;
 use words::tokens::operand_count;
 
 // Each place has PER_PLACE words of facts, of which the first is the size.
-const PER_PLACE: usize = 5;
+const PER_PLACE: usize = 4;
 
 const COST: usize = 1;
 
 const DEPTH: usize = 2;
 
-const OPERATIONS: usize = 3;
-
-const SYMBOL: usize = 4;
+const SYMBOL: usize = 3;
 
 // So many places have the few chains, so that most rounds needn't reset many.
 const FEW_WORDS: usize = 256;
@@ -39,6 +41,11 @@ const MANY_CHAINS: u64 = 2048;
 const KEYS: u64 = 1073741824;
 
 const SHIFT: u64 = 64;
+
+// A leaf's word is 0 or 1 by SIDES, since its kind is; the class of an operation is SIDES times the place that stands for it, and OPERATION.
+pub const SIDES: u64 = 4;
+
+pub const OPERATION: u64 = 2;
 
 // Whether the `count` trees from a on have the classes of those from b on.
 fn same_below(facts: &[u64], classes: &[u64], a: usize, b: usize, count: usize) -> bool
@@ -100,7 +107,7 @@ fn same_node(tokens: &[u64], facts: &[u64], classes: &[u64], i: usize, p: usize)
     same_below(facts, classes, i + 1, p + 1, count)
 }
 
-// The class of a place: one past it in its chain, or itself.
+// The place that stands for an operation: one past it in its chain, or itself.
 fn find(
     tokens: &[u64],
     facts: &[u64],
@@ -115,7 +122,7 @@ fn find(
     requires { ⌜ Known (now tokens) (i + 1) (now classes) ⌝ }
     requires { ⌜ Links (now tokens) (i + 1) (now next) ⌝ }
     requires { ⌜ Chase (now tokens) i start ⌝ }
-    ensures { λ r. ⌜ r ≡ class-at (now (tokens .entry)) i ⌝ }
+    ensures { λ r. ⌜ r ≡ last-at (now (tokens .entry)) i ⌝ }
 {
     let mut p = start;
     while p < tokens.len() {
@@ -128,15 +135,29 @@ fn find(
 }
 
 // The first place of a chain after the place i was met.
-fn chosen(class: usize, i: usize, head: u64) -> u64
-    ensures { λ r. ⌜ r ≡ cond (eqb class i) i head ⌝ }
+fn chosen(place: usize, i: usize, head: u64) -> u64
+    ensures { λ r. ⌜ r ≡ cond (eqb place i) i head ⌝ }
 {
-    if class == i { i as u64 } else { head }
+    if place == i { i as u64 } else { head }
 }
 
-// Writes the facts of a place, from those of its operands, and answers the chain that it is in.
+// Writes the facts and the class of a leaf.
+fn put_leaf(w: u64, facts: &mut [u64], classes: &mut [u64], i: usize)
+    requires { ⌜ (4 * i + 3 < length (now facts)) × (i < length (now classes)) ⌝ }
+    ensures { λ _. ⌜ Leaf-put w i (now (facts .entry)) (now (facts .exit)) (now (classes .entry)) (now (classes .exit)) ⌝ }
+{
+    let row = PER_PLACE * i;
+    facts[row] = 1;
+    facts[row + COST] = 0;
+    facts[row + DEPTH] = 0;
+    facts[row + SYMBOL] = symbol_of(w);
+    classes[i] = w;
+}
+
+// Writes the facts of an operation, from those of its operands, and answers the chain that it is in.
 fn put_facts(tokens: &[u64], facts: &mut [u64], classes: &[u64], i: usize) -> usize
-    requires { ⌜ Complete (now tokens) × (i < length (now tokens)) × (5 * length (now tokens) ≤ length (now facts)) ⌝ }
+    requires { ⌜ Complete (now tokens) × (i < length (now tokens)) × (4 * length (now tokens) ≤ length (now facts)) ⌝ }
+    requires { ⌜ 1 < kind-of (getD (now tokens) i 0) ⌝ }
     requires { ⌜ Sized (now tokens) (i + 1) (now facts) × Known (now tokens) (i + 1) (now classes) ⌝ }
     requires { ⌜ Ready (length (now tokens)) (now facts) (i + 1) (takes (getD (now tokens) i 0)) ⌝ }
     ensures { λ r. ⌜ Put (now (tokens .entry)) i (now (facts .entry)) (now (facts .exit)) × (r ≡ bucket-at (now (tokens .entry)) i) × (r < chains (length (now (tokens .entry)))) ⌝ }
@@ -146,12 +167,11 @@ fn put_facts(tokens: &[u64], facts: &mut [u64], classes: &[u64], i: usize) -> us
     facts[row] = f.size;
     facts[row + COST] = f.cost;
     facts[row + DEPTH] = f.depth;
-    facts[row + OPERATIONS] = f.operations;
     facts[row + SYMBOL] = f.symbol;
     chain_of(tokens.len(), f.key)
 }
 
-// Finds the class of a place, and puts the place into its chain where it stands for its class.
+// Finds the place that stands for an operation, writes its class, and puts it into its chain where it stands for itself.
 fn link(
     tokens: &[u64],
     facts: &[u64],
@@ -161,21 +181,47 @@ fn link(
     b: usize,
     i: usize,
 ) -> usize
-    requires { ⌜ Complete (now tokens) × (i < length (now tokens)) ⌝ }
+    requires { ⌜ Complete (now tokens) × (i < length (now tokens)) × (1 < kind-of (getD (now tokens) i 0)) ⌝ }
     requires { ⌜ (b ≡ bucket-at (now tokens) i) × (b < chains (length (now tokens))) ⌝ }
     requires { ⌜ Sized (now tokens) (i + 1) (now facts) ⌝ }
     requires { ⌜ Passing (now tokens) (i + 1) (now classes) (now next) (now heads) ⌝ }
-    ensures { λ r. ⌜ (r ≡ class-at (now (tokens .entry)) i) × Passing (now (tokens .entry)) i (now (classes .exit)) (now (next .exit)) (now (heads .exit)) ⌝ }
+    ensures { λ r. ⌜ (r ≡ last-at (now (tokens .entry)) i) × Passing (now (tokens .entry)) i (now (classes .exit)) (now (next .exit)) (now (heads .exit)) ⌝ }
 {
     let head = heads[b];
-    let class = find(tokens, facts, classes, next, head as usize, i);
-    classes[i] = class as u64;
+    let place = find(tokens, facts, classes, next, head as usize, i);
+    classes[i] = SIDES * place as u64 + OPERATION;
     next[i] = head;
-    heads[b] = chosen(class, i, head);
-    class
+    heads[b] = chosen(place, i, head);
+    place
 }
 
-// The pass from the right: the facts of every place, its class, and the places of each class counted. Each node is entered once; how often is told.
+// Enters the node at i: its facts, its class, and its use where it is an operation.
+fn enter(
+    tokens: &[u64],
+    facts: &mut [u64],
+    classes: &mut [u64],
+    next: &mut [u64],
+    heads: &mut [u64],
+    uses: &mut [u64],
+    i: usize,
+)
+    requires { ⌜ Complete (now tokens) × (i < length (now tokens)) × (4 * length (now tokens) ≤ length (now facts)) ⌝ }
+    requires { ⌜ Sized (now tokens) (i + 1) (now facts) × Ready (length (now tokens)) (now facts) (i + 1) (takes (getD (now tokens) i 0)) ⌝ }
+    requires { ⌜ Passing (now tokens) (i + 1) (now classes) (now next) (now heads) × Counted (now tokens) (λ j. true) (i + 1) (now uses) ⌝ }
+    ensures { λ _. ⌜ Put (now (tokens .entry)) i (now (facts .entry)) (now (facts .exit)) × Passing (now (tokens .entry)) i (now (classes .exit)) (now (next .exit)) (now (heads .exit))
+        × Counted (now (tokens .entry)) (λ j. true) i (now (uses .exit)) ⌝ }
+{
+    let w = tokens[i];
+    if w % KINDS <= CONST {
+        put_leaf(w, facts, classes, i);
+        return;
+    }
+    let b = put_facts(tokens, facts, classes, i);
+    let place = link(tokens, facts, classes, next, heads, b, i);
+    uses[place] += 1;
+}
+
+// The pass from the right: the facts of every place, its class, and the operations of each class counted. Each node is entered once; how often is told.
 fn pass(
     tokens: &[u64],
     facts: &mut [u64],
@@ -184,7 +230,7 @@ fn pass(
     heads: &mut [u64],
     uses: &mut [u64],
 ) -> usize
-    requires { ⌜ Complete (now tokens) × (5 * length (now tokens) ≤ length (now facts)) ⌝ }
+    requires { ⌜ Complete (now tokens) × (4 * length (now tokens) ≤ length (now facts)) ⌝ }
     requires { ⌜ Passing (now tokens) (length (now tokens)) (now classes) (now next) (now heads) ⌝ }
     requires { ⌜ Counted (now tokens) (λ j. true) (length (now tokens)) (now uses) ⌝ }
     ensures { λ r. ⌜ Passed (now (tokens .entry)) (now (facts .entry)) r (now (facts .exit)) (now (classes .exit)) (now (uses .exit)) ⌝ }
@@ -194,9 +240,7 @@ fn pass(
     while i > 0 {
         i -= 1;
         entered += 1;
-        let b = put_facts(tokens, facts, classes, i);
-        let class = link(tokens, facts, classes, next, heads, b, i);
-        uses[class] += 1;
+        enter(tokens, facts, classes, next, heads, uses, i);
     }
     entered
 }
@@ -213,7 +257,8 @@ pub fn reset(table: &mut [u64], n: usize, value: u64)
     }
 }
 
-// In one pass, the facts of every place, its class, and how many places have its tree: the counts stand at its class. How many nodes were entered is told.
+// In one pass, the facts of every place, its class, and how many places have the tree of each operation: the counts stand at the place of its class. How many nodes
+// were entered is told.
 pub fn class_tables(
     tokens: &[u64],
     facts: &mut [u64],
@@ -222,7 +267,7 @@ pub fn class_tables(
     heads: &mut [u64],
     uses: &mut [u64],
 ) -> usize
-    requires { ⌜ Complete (now tokens) × (5 * length (now tokens) ≤ length (now facts)) × (chains (length (now tokens)) ≤ length (now heads)) ⌝ }
+    requires { ⌜ Complete (now tokens) × (4 * length (now tokens) ≤ length (now facts)) × (chains (length (now tokens)) ≤ length (now heads)) ⌝ }
     requires { ⌜ (length (now tokens) ≤ length (now classes)) × (length (now tokens) ≤ length (now next)) × (length (now tokens) ≤ length (now uses)) ⌝ }
     ensures { λ r. ⌜ Tables (now (tokens .entry)) (now (facts .entry)) r (now (facts .exit)) (now (classes .exit)) (now (uses .exit)) ⌝ }
 {

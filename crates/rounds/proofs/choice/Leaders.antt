@@ -1,5 +1,5 @@
 -- Candidates by counts of places, and the leader after one more place. Assumes nothing.
-use Prim.Native.Nat.{ℕ, zero, suc, _+_, _-_, _*_, _≤_, _<_}
+use Prim.Native.Nat.{ℕ, zero, suc, _+_, _-_, _*_, _/_, _≤_, _<_}
 use native.Mathlib.Nat.{mul-pos, mul-le-mul}
 use native.Mathlib.Omega.{arith}
 use mathlib.Core.Path.{_≡_, refl, sym, _∙_, ap, ap₂, subst}
@@ -11,7 +11,7 @@ use lib.ListN.{length, getD}
 use lib.Dec.{T, eqb, leb, ltb, leb→le}
 use Rattle.spec_tree.specs.Tree.{eq-tree}
 use Rattle.spec_tree.specs.Facts.{cost, depth, has-symbol}
-use Rattle.spec_tree.specs.Tokens.{flag, name-in}
+use Rattle.spec_tree.specs.Tokens.{flag, kind-of, name-in}
 use Rattle.spec_tree.proofs.Logic.{and-left, and-right}
 use Rattle.spec_tree.proofs.FactLaws.{cost-size}
 use Rattle.spec_tree.specs.text.Text.{before}
@@ -120,11 +120,11 @@ module _ (ws : List ℕ) (scoped : Bool) (i : ℕ) where
 
 -- how often the tree at a place is used outside arms, from what was counted
 pub outside-count :
-    {ws cl us ou : List ℕ} (scoped : Bool) → HasUses ws cl us → HasOutside ws scoped cl ou → (i : ℕ) → i < length ws
-    → cond scoped (getD ou (getD cl i 0) 0) (getD us (getD cl i 0) 0) ≡ equal-places ws (outside-at ws scoped) i (length ws)
+    {ws cl us ou : List ℕ} (scoped : Bool) → HasUses ws cl us → HasOutside ws scoped cl ou → (i : ℕ) → i < length ws → 1 < kind-of (getD ws i 0)
+    → cond scoped (getD ou (getD cl i 0 / 4) 0) (getD us (getD cl i 0 / 4) 0) ≡ equal-places ws (outside-at ws scoped) i (length ws)
 unfolding outside-at
-outside-count {ws} {cl} {us} {ou} true u o i h = o .outside-are refl i h
-outside-count {ws} {cl} {us} {ou} false u o i h = u .uses-are i h ∙ (uses-counted ws i ∙ same-places ws (λ j. true) (outside-at ws false) i (length ws) (λ j g. refl))
+outside-count {ws} {cl} {us} {ou} true u o i h op = o .outside-are refl i h op
+outside-count {ws} {cl} {us} {ou} false u o i h op = u .uses-are i h op ∙ (uses-counted ws i ∙ same-places ws (λ j. true) (outside-at ws false) i (length ws) (λ j g. refl))
 
 -- ---- of two that save as much
 

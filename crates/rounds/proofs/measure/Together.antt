@@ -13,36 +13,33 @@ use Rattle.rounds.proofs.measure.Walking.{Next, Summing, summing, sum-t
 use Rattle.rounds.proofs.value_numbers.Loops.{First, Keying, walk-first, key-starts, key-turns, key-ends}
 
 module _ (fs cl : List ℕ) (w place count : ℕ) where
-  pub record Gathering (size cost depth operations symbol key p left : ℕ) : Type 0 where
+  pub record Gathering (size cost depth symbol key p left : ℕ) : Type 0 where
     pub sizes : Summing fs 0 place count size p left
     pub costs : Summing fs 1 place count cost p left
     pub depths : Seeking fs 2 place count depth p left
-    pub counts : Summing fs 3 place count operations p left
-    pub symbols : Seeking fs 4 place count symbol p left
+    pub symbols : Seeking fs 3 place count symbol p left
     pub keys : Keying fs cl w place count key p left
 
-  pub gathering : Inside fs place count → Walk fs cl place count → Gathering 0 0 0 0 0 w place count
+  pub gathering : Inside fs place count → Walk fs cl place count → Gathering 0 0 0 0 w place count
   gathering i k =
       record {
         sizes = summing fs 0 place count i;
         costs = summing fs 1 place count i;
         depths = seeking fs 2 place count i;
-        counts = summing fs 3 place count i;
-        symbols = seeking fs 4 place count i;
+        symbols = seeking fs 3 place count i;
         keys = key-starts fs cl w place count k;
       }
 
   -- what a turn reads and adds
-  pub record Fits (size cost operations p left : ℕ) : Type 0 where
-    pub room : 5 * p + 4 < length fs
-    pub within : p + getD fs (5 * p) 0 ≤ length fs
+  pub record Fits (size cost p left : ℕ) : Type 0 where
+    pub room : 4 * p + 3 < length fs
+    pub within : p + getD fs (4 * p) 0 ≤ length fs
     pub place-there : p < length cl
-    pub small-size : size + getD fs (5 * p) 0 ≤ total (column fs 0 place count)
-    pub small-cost : cost + getD fs (5 * p + 1) 0 ≤ total (column fs 1 place count)
-    pub small-count : operations + getD fs (5 * p + 3) 0 ≤ total (column fs 3 place count)
+    pub small-size : size + getD fs (4 * p) 0 ≤ total (column fs 0 place count)
+    pub small-cost : cost + getD fs (4 * p + 1) 0 ≤ total (column fs 1 place count)
 
-  module _ {size cost depth operations symbol key p left : ℕ} (g : Gathering size cost depth operations symbol key p left) where
-    pub fits : 0 < left → Fits size cost operations p left
+  module _ {size cost depth symbol key p left : ℕ} (g : Gathering size cost depth symbol key p left) where
+    pub fits : 0 < left → Fits size cost p left
     fits h =
         let s = sum-turn fs 0 place count (g .sizes) h in
         let k = walk-first fs cl p left (g .keys .walk) h in
@@ -50,32 +47,29 @@ module _ (fs cl : List ℕ) (w place count : ℕ) where
           room = s .here .room;
           within = s .here .within;
           place-there = k .place;
-          small-size = (let z : 5 * p + 0 ≡ 5 * p = omega arith in rw z at (s .small));
+          small-size = (let z : 4 * p + 0 ≡ 4 * p = omega arith in rw z at (s .small));
           small-cost = sum-turn fs 1 place count (g .costs) h .small;
-          small-count = sum-turn fs 3 place count (g .counts) h .small;
         }
 
     pub gathering-turns :
-        0 < left → (new d h : ℕ) → new ≡ mixed key (getD cl p 0) → d ≡ max depth (getD fs (5 * p + 2) 0) → h ≡ max symbol (getD fs (5 * p + 4) 0)
-        → Gathering (size + getD fs (5 * p) 0) (cost + getD fs (5 * p + 1) 0) d (operations + getD fs (5 * p + 3) 0) h new (p + getD fs (5 * p) 0) (left - 1)
+        0 < left → (new d h : ℕ) → new ≡ mixed key (getD cl p 0) → d ≡ max depth (getD fs (4 * p + 2) 0) → h ≡ max symbol (getD fs (4 * p + 3) 0)
+        → Gathering (size + getD fs (4 * p) 0) (cost + getD fs (4 * p + 1) 0) d h new (p + getD fs (4 * p) 0) (left - 1)
     gathering-turns l new d h e ed eh =
-        let z : 5 * p + 0 ≡ 5 * p = omega arith in
+        let z : 4 * p + 0 ≡ 4 * p = omega arith in
         record {
           sizes = rw z at (sum-turn fs 0 place count (g .sizes) l .after);
           costs = sum-turn fs 1 place count (g .costs) l .after;
           depths = rw ed (seek-turn fs 2 place count (g .depths) l .after);
-          counts = sum-turn fs 3 place count (g .counts) l .after;
-          symbols = rw eh (seek-turn fs 4 place count (g .symbols) l .after);
+          symbols = rw eh (seek-turn fs 3 place count (g .symbols) l .after);
           keys = key-turns fs cl (g .keys) l new e;
         }
 
-    pub gathering-ends : left ≤ 0 → Together fs cl w place count size cost depth operations symbol key
+    pub gathering-ends : left ≤ 0 → Together fs cl w place count size cost depth symbol key
     gathering-ends h =
         record {
           sizes = sum-end fs 0 place count (g .sizes) h;
           costs = sum-end fs 1 place count (g .costs) h;
           depths = seek-end fs 2 place count (g .depths) h;
-          operations = sum-end fs 3 place count (g .counts) h;
-          symbols = seek-end fs 4 place count (g .symbols) h;
+          symbols = seek-end fs 3 place count (g .symbols) h;
           key = key-ends fs cl (g .keys) h;
         }

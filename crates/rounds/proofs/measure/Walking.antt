@@ -2,23 +2,23 @@
 use Prim.Native.Nat.{ℕ, zero, suc, _+_, _-_, _*_, _≤_, _<_, max}
 use native.Mathlib.Omega.{arith}
 use mathlib.Core.Path.{_≡_, refl, subst, sym}
-use mathlib.Core.Bool.{Bool, true, false, cond}
 use mathlib.Core.List.{List, [], _∷_}
 use borrow.Author.Tests.{le-leb, lt-leb}
 use lib.ListN.{length, getD}
-use lib.Dec.{eqb, leb, lit<}
+use lib.Dec.{lit<}
 use Rattle.spec_tree.specs.Kinds.{is-select}
 use Rattle.spec_tree.specs.Facts.{total, greatest, first-and-greatest}
 use Rattle.spec_tree.specs.Tokens.{kind-of, takes}
 use Rattle.spec_tree.proofs.FactLaws.{greatest-total, costs-total}
-use Rattle.rounds.specs.measure.Columns.{column, Inside, Ready, WordFacts, own-operation, own-symbol, operand-costs}
+use Rattle.rounds.specs.measure.Columns.{column, Inside, Ready, WordFacts, operand-costs}
+use Rattle.rounds.proofs.measure.WordFacts.{operation-own, other-own}
 
 -- the first of some operands, and those after it
 pub record Next (fs : List ℕ) (c p left : ℕ) : Type 0 where
-  pub room : 5 * p + 4 < length fs
-  pub within : p + getD fs (5 * p) 0 ≤ length fs
-  pub rest : Inside fs (p + getD fs (5 * p) 0) (left - 1)
-  pub are : column fs c p left ≡ getD fs (5 * p + c) 0 ∷ column fs c (p + getD fs (5 * p) 0) (left - 1)
+  pub room : 4 * p + 3 < length fs
+  pub within : p + getD fs (4 * p) 0 ≤ length fs
+  pub rest : Inside fs (p + getD fs (4 * p) 0) (left - 1)
+  pub are : column fs c p left ≡ getD fs (4 * p + c) 0 ∷ column fs c (p + getD fs (4 * p) 0) (left - 1)
 
 pub next : (fs : List ℕ) (c p left : ℕ) → Inside fs p left → 0 < left → Next fs c p left
 unfolding Inside column
@@ -47,8 +47,8 @@ module _ (fs : List ℕ) (fact place count : ℕ) where
 
   pub record SumTurn (sum p left : ℕ) : Type 0 where
     pub here : Next fs fact p left
-    pub small : sum + getD fs (5 * p + fact) 0 ≤ total (column fs fact place count)
-    pub after : Summing (sum + getD fs (5 * p + fact) 0) (p + getD fs (5 * p) 0) (left - 1)
+    pub small : sum + getD fs (4 * p + fact) 0 ≤ total (column fs fact place count)
+    pub after : Summing (sum + getD fs (4 * p + fact) 0) (p + getD fs (4 * p) 0) (left - 1)
 
   pub summing : Inside fs place count → Summing 0 place count
   summing i = record { inside = i; so-far = omega arith }
@@ -56,8 +56,8 @@ module _ (fs : List ℕ) (fact place count : ℕ) where
   pub sum-turn : {sum p left : ℕ} → Summing sum p left → 0 < left → SumTurn sum p left
   sum-turn {sum} {p} {left} s h =
       let k = next fs fact p left (s .inside) h in
-      let v = getD fs (5 * p + fact) 0 in
-      let l = column fs fact (p + getD fs (5 * p) 0) (left - 1) in
+      let v = getD fs (4 * p + fact) 0 in
+      let l = column fs fact (p + getD fs (4 * p) 0) (left - 1) in
       let e : total (column fs fact p left) ≡ v + total l = rw (k .are) (total-cons v l) in
       record { here = k; small = omega (arith, s .so-far, e); after = record { inside = k .rest; so-far = omega (arith, s .so-far, e) } }
 
@@ -73,7 +73,7 @@ module _ (fs : List ℕ) (fact place count : ℕ) where
 
   pub record SeekTurn (most p left : ℕ) : Type 0 where
     pub here : Next fs fact p left
-    pub after : Seeking (max most (getD fs (5 * p + fact) 0)) (p + getD fs (5 * p) 0) (left - 1)
+    pub after : Seeking (max most (getD fs (4 * p + fact) 0)) (p + getD fs (4 * p) 0) (left - 1)
 
   pub seeking : Inside fs place count → Seeking 0 place count
   seeking i = record { inside = i; so-far = omega arith }
@@ -81,8 +81,8 @@ module _ (fs : List ℕ) (fact place count : ℕ) where
   pub seek-turn : {most p left : ℕ} → Seeking most p left → 0 < left → SeekTurn most p left
   seek-turn {most} {p} {left} s h =
       let k = next fs fact p left (s .inside) h in
-      let v = getD fs (5 * p + fact) 0 in
-      let l = column fs fact (p + getD fs (5 * p) 0) (left - 1) in
+      let v = getD fs (4 * p + fact) 0 in
+      let l = column fs fact (p + getD fs (4 * p) 0) (left - 1) in
       let e : greatest (column fs fact p left) ≡ max v (greatest l) = rw (k .are) (greatest-cons v l) in
       record { here = k; after = record { inside = k .rest; so-far = omega (arith, s .so-far, e) } }
 
@@ -104,8 +104,8 @@ costs-none k fs p n h e = rw (le-leb 27 k h, none-left fs 1 p n (omega arith))
 
 pub record Arms (k : ℕ) (fs : List ℕ) (p n : ℕ) : Type 0 where
   pub here : Next fs 1 p n
-  pub are : getD fs (5 * p + 1) 0 + greatest (column fs 1 (p + getD fs (5 * p) 0) (n - 1)) ≡ operand-costs k (column fs 1 p n)
-  pub small : getD fs (5 * p + 1) 0 + greatest (column fs 1 (p + getD fs (5 * p) 0) (n - 1)) ≤ total (column fs 1 p n)
+  pub are : getD fs (4 * p + 1) 0 + greatest (column fs 1 (p + getD fs (4 * p) 0) (n - 1)) ≡ operand-costs k (column fs 1 p n)
+  pub small : getD fs (4 * p + 1) 0 + greatest (column fs 1 (p + getD fs (4 * p) 0) (n - 1)) ≤ total (column fs 1 p n)
 
 pub arms : (k : ℕ) (fs : List ℕ) (p n : ℕ) → 27 ≤ k → (n ≡ 0 → ⊥) → Inside fs p n → Arms k fs p n
 unfolding operand-costs first-and-greatest total
@@ -114,7 +114,7 @@ arms k fs p n h z i =
     record {
       here = m;
       are = rw (le-leb 27 k h, m .are);
-      small = rw (m .are) (omega (arith, greatest-total (column fs 1 (p + getD fs (5 * p) 0) (n - 1))));
+      small = rw (m .are) (omega (arith, greatest-total (column fs 1 (p + getD fs (4 * p) 0) (n - 1))));
     }
 
 -- ---- the facts of a word
@@ -125,8 +125,7 @@ pub record Small (len : ℕ) (fs : List ℕ) (p n : ℕ) : Type 0 where
   pub sizes : total (column fs 0 p n) < len
   pub costs : total (column fs 1 p n) < len
   pub depths : greatest (column fs 2 p n) < len
-  pub operations : total (column fs 3 p n) < len
-  pub symbols : greatest (column fs 4 p n) < len
+  pub symbols : greatest (column fs 3 p n) < len
 
 pub small : {len : ℕ} {fs : List ℕ} {p n m : ℕ} → n ≡ m → Ready len fs p m → Small len fs p n
 small {len} {fs} {p} {n} {m} e r =
@@ -136,39 +135,21 @@ small {len} {fs} {p} {n} {m} e r =
       sizes = r .sums 0 (lit< tt);
       costs = r .sums 1 (lit< tt);
       depths = omega (arith, r .sums 2 (lit< tt), greatest-total (column fs 2 p m));
-      operations = r .sums 3 (lit< tt);
-      symbols = omega (arith, r .sums 4 (lit< tt), greatest-total (column fs 4 p m));
+      symbols = omega (arith, r .sums 3 (lit< tt), greatest-total (column fs 3 p m));
     })
 
 pub operands-small : (k : ℕ) (l : List ℕ) → operand-costs k l ≤ total l
 unfolding operand-costs
 operands-small k l = costs-total (is-select k) l
 
-pub own-one : (w : ℕ) → own-operation w ≤ 1
-unfolding own-operation
-own-one w = go (leb (kind-of w) 1)
-  where
-    go : (b : Bool) → cond b 0 1 ≤ 1
-    go true = omega arith
-    go false = omega arith
-
-pub own-symbol-one : (w : ℕ) → own-symbol w ≤ 1
-unfolding own-symbol
-own-symbol-one w = go (eqb (kind-of w) 0)
-  where
-    go : (b : Bool) → cond b 1 0 ≤ 1
-    go true = omega arith
-    go false = omega arith
-
+-- of an operation
 pub word-facts :
-    (w : ℕ) (fs : List ℕ) (p : ℕ) {n own symbol s c d o h : ℕ} → n ≡ takes w → own ≡ own-operation w → symbol ≡ own-symbol w
-    → s ≡ total (column fs 0 p n) → c ≡ operand-costs (kind-of w) (column fs 1 p n) → d ≡ greatest (column fs 2 p n) → o ≡ total (column fs 3 p n)
-    → h ≡ greatest (column fs 4 p n) → WordFacts w fs p (1 + s) (own + c) (own + d) (own + o) (symbol + h)
-word-facts w fs p en eown esymbol es ec ed eo eh =
+    (w : ℕ) (fs : List ℕ) (p : ℕ) {n s c d h : ℕ} → 1 < kind-of w → n ≡ takes w → s ≡ total (column fs 0 p n) → c ≡ operand-costs (kind-of w) (column fs 1 p n)
+    → d ≡ greatest (column fs 2 p n) → h ≡ greatest (column fs 3 p n) → WordFacts w fs p (1 + s) (1 + c) (1 + d) h
+word-facts w fs p op en es ec ed eh =
     record {
       size-is = rw (es, en);
-      cost-is = rw (ec, eown, en);
-      depth-is = rw (ed, eown, en);
-      operations-is = rw (eo, eown, en);
-      symbol-is = rw (eh, esymbol, en);
+      cost-is = rw (ec, operation-own w op, en);
+      depth-is = rw (ed, operation-own w op, en);
+      symbol-is = rw (eh, other-own w (omega arith), en) (omega arith);
     }

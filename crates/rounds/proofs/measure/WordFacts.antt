@@ -8,7 +8,7 @@ use borrow.Author.Tests.{eq-eqb, ne-eqb, le-leb, lt-leb}
 use lib.ListN.{take}
 use Rattle.spec_tree.specs.Kinds.{is-select}
 use Rattle.spec_tree.specs.Tree.{Tree}
-use Rattle.spec_tree.specs.Facts.{total, greatest, some-of, first-and-greatest, cost, depth, has-symbol, operations}
+use Rattle.spec_tree.specs.Facts.{total, greatest, some-of, first-and-greatest, cost, depth, has-symbol}
 use Rattle.spec_tree.specs.Tokens.{kind-of, takes, flag}
 use Rattle.spec_tree.proofs.TokenLaws.{Word, a-symbol, a-constant, an-operation, word-is, leaf-takes, symbol-tree, constant-tree, operation-tree, fold-operation, made}
 use Rattle.spec_tree.proofs.FactLaws.{flag-one}
@@ -70,17 +70,6 @@ module _ (name-at : ℕ → List ℕ) (w : ℕ) (l : List Tree) where
       go (a-constant h) = rw (constant-tree name-at w below h, leaf-own w (omega arith), leaf-takes w (omega arith))
       go (an-operation h) =
           let e = fold-operation (λ n. 0) (λ c. 0) (λ k depths. suc (greatest depths)) (kind-of w) below in
-          rw (operation-tree name-at w below h, operation-own w h) (omega (arith, e))
-
-  pub operations-made : operations (made name-at w l) ≡ own-operation w + total (map operations (take (takes w) l))
-  unfolding operations total
-  operations-made = go (word-is w)
-    where
-      go : Word w → operations (made name-at w l) ≡ own-operation w + total (map operations below)
-      go (a-symbol h) = rw (symbol-tree name-at w below h, leaf-own w (omega arith), leaf-takes w (omega arith))
-      go (a-constant h) = rw (constant-tree name-at w below h, leaf-own w (omega arith), leaf-takes w (omega arith))
-      go (an-operation h) =
-          let e = fold-operation (λ n. 0) (λ c. 0) (λ k counts. suc (total counts)) (kind-of w) below in
           rw (operation-tree name-at w below h, operation-own w h) (omega (arith, e))
 
   pub symbol-made : flag (has-symbol (made name-at w l)) ≡ own-symbol w + greatest (map (λ t. flag (has-symbol t)) (take (takes w) l))

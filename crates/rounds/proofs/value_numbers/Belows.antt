@@ -18,11 +18,11 @@ use Rattle.spec_tree.proofs.TreeLaws.{eq-bytes-sound, eq-bytes-refl}
 use Rattle.spec_tree.proofs.TokenLaws.{sizes, read-past, read-size, tree-at}
 use Rattle.laws.specs.positions.Places.{numbered-at}
 use Rattle.rounds.specs.uses.Marks.{Complete}
-use Rattle.rounds.specs.value_numbers.Classes.{chain-of, mixed-all, class-of, class-at, bucket-at, operands-at}
+use Rattle.rounds.specs.value_numbers.Classes.{chain-of, mixed-all, class-by, class-of, class-at, bucket-at, operands-at}
 use Rattle.rounds.specs.value_numbers.Walks.{below, Walk, Sized}
 use Rattle.rounds.specs.value_numbers.Tables.{Known}
-use Rattle.rounds.proofs.value_numbers.Laws.{class-tree, class-same, tree-same}
 use Rattle.rounds.proofs.value_numbers.Nodes.{node-word, node-operands, enough, same-node-tree}
+use Rattle.rounds.proofs.value_numbers.Sides.{tree-by, class-tree, class-same, tree-same}
 
 module _ (ws : List ℕ) where
   abbrev here : ℕ → List Tree
@@ -51,7 +51,7 @@ module _ (ws fs cl : List ℕ) (i : ℕ) (sized : Sized ws i fs) (known : Known 
   record Below (n p : ℕ) : Type 0 where
     walk : Walk fs cl p n
     classes : below fs cl p n ≡ map (class-of ws) (take n (here ws p))
-    trees : map (numbered-at ws) (below fs cl p n) ≡ take n (here ws p)
+    trees : map (tree-by ws) (below fs cl p n) ≡ take n (here ws p)
 
   belows : (n p : ℕ) → i ≤ p → n ≤ length (here ws p) → Below n p
   unfolding below Walk class-at
@@ -64,10 +64,10 @@ module _ (ws fs cl : List ℕ) (i : ℕ) (sized : Sized ws i fs) (known : Known 
           let w = ends ws p t ts e in
           let inw : p < length ws = omega (arith, w, size-one t) in
           let is = here-tree ws p t ts e in
-          let sz : getD fs (5 * p) 0 ≡ size t = sized .sizes p h inw ∙ ap size is in
+          let sz : getD fs (4 * p) 0 ≡ size t = sized .sizes p h inw ∙ ap size is in
           let cp : getD cl p 0 ≡ class-at ws p = known .each p h inw in
           let ct : class-at ws p ≡ class-of ws t = ap (class-of ws) is in
-          let tr : numbered-at ws (class-at ws p) ≡ t = class-tree ws p inw ∙ is in
+          let tr : tree-by ws (class-at ws p) ≡ t = class-tree ws p inw ∙ is in
           let q = past ws p t ts e in
           let more = fewer (p + size t) (omega arith) (rw q (omega arith)) in
           record {
@@ -114,7 +114,7 @@ module _ (ws fs cl : List ℕ) (i : ℕ) (sized : Sized ws i fs) (known : Known 
               let b = below fs cl (p + 1) (takes (getD ws j 0)) in
               let same : a ≡ b = eq-bytes-sound a b (subst T (sym q) tt) in
               let os : operands-at ws j ≡ take (takes (getD ws j 0)) (here ws (p + 1)) =
-              sym (below-j .trees) ∙ (ap (map (numbered-at ws)) same ∙ below-p .trees) in
+              sym (below-j .trees) ∙ (ap (map (tree-by ws)) same ∙ below-p .trees) in
               let all : operands-at ws j ≡ operands-at ws p = os ∙ ap (λ (x : ℕ). take (takes x) (here ws (p + 1))) (sym word) in
               sym (eq-eqb (class-at ws j) (class-at ws p) (class-same ws j p (same-node-tree ws j p inside other (sym word) all)))
           go false q =

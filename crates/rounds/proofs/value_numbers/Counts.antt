@@ -1,5 +1,5 @@
 -- Setting, counting by class, and giving every place what its class has. Assumes nothing.
-use Prim.Native.Nat.{ℕ, zero, suc, _+_, _≤_, _<_}
+use Prim.Native.Nat.{ℕ, zero, suc, _+_, _*_, _/_, _≤_, _<_}
 use native.Mathlib.Omega.{arith}
 use mathlib.Core.Path.{_≡_, refl, sym, _∙_, ap}
 use mathlib.Core.Bool.{Bool, true, false, _&&_}
@@ -8,10 +8,11 @@ use borrow.Author.Tests.{eq-eqb, ne-eqb, le-leb, lt-leb}
 use lib.ListN.{length, getD, set, length-set}
 use lib.Dec.{eqb}
 use Rattle.spec_tree.specs.Tokens.{flag}
-use Rattle.rounds.specs.uses.Marks.{is-marked}
-use Rattle.rounds.specs.value_numbers.Classes.{class-at, class-places}
+use Rattle.rounds.specs.uses.Marks.{Complete, is-marked}
+use Rattle.rounds.specs.value_numbers.Classes.{last-at, class-at, class-places}
 use Rattle.rounds.specs.value_numbers.Tables.{Known, Reset, Counted, Uses}
-use Rattle.rounds.proofs.value_numbers.Laws.{class-high, places-same}
+use Rattle.rounds.proofs.value_numbers.Laws.{last-high}
+use Rattle.rounds.proofs.value_numbers.Sides.{places-same, operation-class}
 use Rattle.rounds.proofs.value_numbers.Chains.{at-set}
 
 -- ---- setting the first entries
@@ -39,15 +40,15 @@ module _ (ws : List ℕ) (test : ℕ → Bool) where
   pub places-few : (c n : ℕ) → class-places ws test c n ≤ n
   unfolding class-places
   places-few c zero = omega arith
-  places-few c (suc n) = go (places-few c n) (test n && eqb (class-at ws n) c)
+  places-few c (suc n) = go (places-few c n) (test n && eqb (class-at ws n) (4 * c + 2))
     where
       go : class-places ws test c n ≤ n → (b : Bool) → elim b as (λ _. ℕ) [ true ↦ suc (class-places ws test c n) | false ↦ class-places ws test c n ] ≤ suc n
       go h true = omega arith
       go h false = omega arith
 
-  one-more : (c i : ℕ) → class-at ws i ≡ c → class-places ws test c (suc i) ≡ class-places ws test c i + flag (test i)
+  one-more : (c i : ℕ) → class-at ws i ≡ 4 * c + 2 → class-places ws test c (suc i) ≡ class-places ws test c i + flag (test i)
   unfolding class-places flag
-  one-more c i e = ap (λ (b : Bool). elim (test i && b) as (λ _. ℕ) [ true ↦ suc n | false ↦ n ]) (eq-eqb (class-at ws i) c e) ∙ go (test i)
+  one-more c i e = ap (λ (b : Bool). elim (test i && b) as (λ _. ℕ) [ true ↦ suc n | false ↦ n ]) (eq-eqb (class-at ws i) (4 * c + 2) e) ∙ go (test i)
     where
       n : ℕ
       n = class-places ws test c i
@@ -56,9 +57,9 @@ module _ (ws : List ℕ) (test : ℕ → Bool) where
       go true = omega arith
       go false = omega arith
 
-  no-more : (c i : ℕ) → (class-at ws i ≡ c → ⊥) → class-places ws test c (suc i) ≡ class-places ws test c i
+  no-more : (c i : ℕ) → (class-at ws i ≡ 4 * c + 2 → ⊥) → class-places ws test c (suc i) ≡ class-places ws test c i
   unfolding class-places
-  no-more c i ne = ap (λ (b : Bool). elim (test i && b) as (λ _. ℕ) [ true ↦ suc n | false ↦ n ]) (ne-eqb (class-at ws i) c ne) ∙ go (test i)
+  no-more c i ne = ap (λ (b : Bool). elim (test i && b) as (λ _. ℕ) [ true ↦ suc n | false ↦ n ]) (ne-eqb (class-at ws i) (4 * c + 2) ne) ∙ go (test i)
     where
       n : ℕ
       n = class-places ws test c i
@@ -67,40 +68,44 @@ module _ (ws : List ℕ) (test : ℕ → Bool) where
       go true = refl
       go false = refl
 
-  pub counted-turns :
-      {table : List ℕ} {j : ℕ} → Counted ws test (j + 1) table → j < length ws → (c r : ℕ) → c ≡ class-at ws j → r ≡ flag (test j)
-      → Counted ws test j (set table c (getD table c 0 + r))
-  counted-turns {table} {j} t h c r is e =
-      let s : j + 1 ≡ suc j = omega arith in
-      let l : c < length ws = omega (arith, class-high ws j h) in
-      record {
-        long = simp length-set (t .long);
-        each = λ q g.
-            at-set (λ q x. q < length ws → x + class-places ws test q j ≡ class-places ws test q (length ws)) table c (getD table c 0 + r) q (omega (arith, t .long))
-            (λ z. omega (arith, t .each c z, one-more c j (sym is), ap (class-places ws test c) s))
-            (λ ne z. omega (arith, t .each q z, no-more q j (λ d. ne (sym d ∙ sym is)), ap (class-places ws test q) s)) g;
-      }
+  -- an operation, whose place is c
+  module _ {table : List ℕ} {j : ℕ} (t : Counted ws test (j + 1) table) (h : j < length ws) (c r : ℕ) (l : c < length ws) (is : class-at ws j ≡ 4 * c + 2) (e : r ≡ flag (test j)) where
+    pub counted-turns : Counted ws test j (set table c (getD table c 0 + r))
+    counted-turns =
+        let s : j + 1 ≡ suc j = omega arith in
+        record {
+          long = simp length-set (t .long);
+          each = λ q g.
+              at-set (λ q x. q < length ws → x + class-places ws test q j ≡ class-places ws test q (length ws)) table c (getD table c 0 + r) q (omega (arith, t .long))
+              (λ z. omega (arith, t .each c z, one-more c j is, ap (class-places ws test c) s))
+              (λ ne z. omega (arith, t .each q z, no-more q j (λ d. ne (omega (arith, d, is))), ap (class-places ws test q) s)) g;
+        }
 
-  pub counted-fits :
-      {table : List ℕ} {j : ℕ} → Counted ws test (j + 1) table → j < length ws → (c r : ℕ) → c ≡ class-at ws j → r ≡ flag (test j)
-      → (c < length ws) × (getD table c 0 + r ≤ length ws)
-  counted-fits {table} {j} t h c r is e =
+    pub counted-fits : getD table c 0 + r ≤ length ws
+    counted-fits =
+        let s : j + 1 ≡ suc j = omega arith in
+        omega (arith, t .each c l, one-more c j is, ap (class-places ws test c) s, places-few c (length ws))
+
+  -- a leaf
+  pub counted-leaf : {table : List ℕ} {j : ℕ} → Counted ws test (j + 1) table → ((c : ℕ) → class-at ws j ≡ 4 * c + 2 → ⊥) → Counted ws test j table
+  counted-leaf {table} {j} t apart =
       let s : j + 1 ≡ suc j = omega arith in
-      let l : c < length ws = omega (arith, class-high ws j h) in
-      (l, omega (arith, t .each c l, one-more c j (sym is), ap (class-places ws test c) s, places-few c (length ws)))
+      record { long = t .long; each = λ q g. omega (arith, t .each q g, no-more q j (apart q), ap (class-places ws test q) s) }
 
   none-before : (c : ℕ) → class-places ws test c 0 ≡ 0
   unfolding class-places
   none-before c = refl
 
-  pub counted-ends : {cl table : List ℕ} → Known ws 0 cl → Counted ws test 0 table → Uses ws test cl table
-  counted-ends {cl} {table} k t =
+  pub counted-ends : {cl table : List ℕ} → Complete ws → Known ws 0 cl → Counted ws test 0 table → Uses ws test cl table
+  counted-ends {cl} {table} complete k t =
       record {
         long = t .long;
-        each = λ i h.
+        each = λ i h op.
             let is = k .each i (omega arith) h in
-            ap (λ (c : ℕ). getD table c 0) is
-            ∙ (omega (arith, t .each (class-at ws i) (class-high ws i h), none-before (class-at ws i)) ∙ sym (places-same ws test i (length ws) h (omega arith)));
+            let c = operation-class ws complete i h op in
+            let z : getD cl i 0 / 4 ≡ last-at ws i = omega (arith, is, c) in
+            ap (λ (p : ℕ). getD table p 0) z
+            ∙ (omega (arith, t .each (last-at ws i) (last-high ws i h), none-before (last-at ws i)) ∙ sym (places-same ws test i (length ws) (last-at ws i) h (omega arith) c));
       }
 
 pub one-passes : 1 ≡ flag true

@@ -12,10 +12,10 @@ use Rattle.rounds.specs.value_numbers.Walks.{below, Walk}
 
 -- the first of some operands, and those after it
 pub record First (fs cl : List ℕ) (p n : ℕ) : Type 0 where
-  pub row : 5 * p < length fs
+  pub row : 4 * p < length fs
   pub place : p < length cl
-  pub after : p + getD fs (5 * p) 0 ≤ length cl
-  pub rest : Walk fs cl (p + getD fs (5 * p) 0) n
+  pub after : p + getD fs (4 * p) 0 ≤ length cl
+  pub rest : Walk fs cl (p + getD fs (4 * p) 0) n
 
 module _ (fs cl : List ℕ) where
   pub walk-first : (p left : ℕ) → Walk fs cl p left → 0 < left → First fs cl p (left - 1)
@@ -25,7 +25,7 @@ module _ (fs cl : List ℕ) where
       let z : suc n - 1 ≡ n = omega arith in
       record { row = w .0; place = w .1; after = w .2; rest = rw z (w .3) }
 
-  below-first : (p left : ℕ) → 0 < left → below fs cl p left ≡ getD cl p 0 ∷ below fs cl (p + getD fs (5 * p) 0) (left - 1)
+  below-first : (p left : ℕ) → 0 < left → below fs cl p left ≡ getD cl p 0 ∷ below fs cl (p + getD fs (4 * p) 0) (left - 1)
   unfolding below
   below-first p zero h = absurd (omega arith)
   below-first p (suc n) h = let z : suc n - 1 ≡ n = omega arith in rw z
@@ -46,7 +46,7 @@ module _ (fs cl : List ℕ) where
 
   pub key-turns :
       {w place count key p left : ℕ} → Keying w place count key p left → 0 < left → (new : ℕ) → new ≡ mixed key (getD cl p 0)
-      → Keying w place count new (p + getD fs (5 * p) 0) (left - 1)
+      → Keying w place count new (p + getD fs (4 * p) 0) (left - 1)
   unfolding mixed-all
   key-turns {w} {place} {count} {key} {p} {left} k h new e =
       record { walk = walk-first p left (k .walk) h .rest; is = rw e (sym (ap (mixed-all key) (below-first p left h)) ∙ k .is) }
@@ -76,17 +76,17 @@ module _ (fs cl : List ℕ) where
   both-first :
       (p q left : ℕ) → 0 < left
       → eq-bytes (below fs cl p left) (below fs cl q left)
-      ≡ eq-bytes (getD cl p 0 ∷ below fs cl (p + getD fs (5 * p) 0) (left - 1)) (getD cl q 0 ∷ below fs cl (q + getD fs (5 * q) 0) (left - 1))
+      ≡ eq-bytes (getD cl p 0 ∷ below fs cl (p + getD fs (4 * p) 0) (left - 1)) (getD cl q 0 ∷ below fs cl (q + getD fs (4 * q) 0) (left - 1))
   both-first p q left h =
       ap (λ (l : List ℕ). eq-bytes l (below fs cl q left)) (below-first p left h)
-      ∙ ap (eq-bytes (getD cl p 0 ∷ below fs cl (p + getD fs (5 * p) 0) (left - 1))) (below-first q left h)
+      ∙ ap (eq-bytes (getD cl p 0 ∷ below fs cl (p + getD fs (4 * p) 0) (left - 1))) (below-first q left h)
 
   module _ {a b count p q left : ℕ} (k : Comparing a b count p q left) where
     pub comparing-turns :
-        0 < left → getD cl p 0 ≡ getD cl q 0 → Comparing a b count (p + getD fs (5 * p) 0) (q + getD fs (5 * q) 0) (left - 1)
+        0 < left → getD cl p 0 ≡ getD cl q 0 → Comparing a b count (p + getD fs (4 * p) 0) (q + getD fs (4 * q) 0) (left - 1)
     comparing-turns h e =
-        let l = below fs cl (p + getD fs (5 * p) 0) (left - 1) in
-        let m = below fs cl (q + getD fs (5 * q) 0) (left - 1) in
+        let l = below fs cl (p + getD fs (4 * p) 0) (left - 1) in
+        let m = below fs cl (q + getD fs (4 * q) 0) (left - 1) in
         record {
           one = walk-first p left (k .one) h .rest;
           two = walk-first q left (k .two) h .rest;
@@ -95,8 +95,8 @@ module _ (fs cl : List ℕ) where
 
     pub comparing-stops : 0 < left → (getD cl p 0 ≡ getD cl q 0 → ⊥) → false ≡ eq-bytes (below fs cl a count) (below fs cl b count)
     comparing-stops h e =
-        let l = below fs cl (p + getD fs (5 * p) 0) (left - 1) in
-        let m = below fs cl (q + getD fs (5 * q) 0) (left - 1) in
+        let l = below fs cl (p + getD fs (4 * p) 0) (left - 1) in
+        let m = below fs cl (q + getD fs (4 * q) 0) (left - 1) in
         sym (both-first p q left h ∙ step-differs (getD cl p 0) (getD cl q 0) l m e) ∙ k .is
 
     pub comparing-ends : left ≤ 0 → true ≡ eq-bytes (below fs cl a count) (below fs cl b count)

@@ -1,17 +1,23 @@
 -- Marks of places (01, "Uses"): 1 for a place that passes and 0 for one that doesn't, and what each step of marking leaves. Assumes nothing.
 use Prim.Native.Nat.{ℕ, zero, suc, _≤_, _<_}
 use mathlib.Core.Path.{_≡_}
-use mathlib.Core.Bool.{Bool, not, _&&_, cond}
+use mathlib.Core.Bool.{Bool, false, not, _&&_, _||_, cond}
 use mathlib.Core.Option.{none}
 use mathlib.Core.List.{List, [], _∷_}
 use lib.ListN.{length, getD}
 use lib.Dec.{leb, ltb}
-use Rattle.spec_tree.specs.Tokens.{trees-in, flag}
+use Rattle.spec_tree.specs.Kinds.{is-switch}
+use Rattle.spec_tree.specs.Tokens.{trees-in, flag, kind-of}
 use Rattle.laws.specs.positions.Places.{in-arm-of, in-arm}
 
 -- no word lacks an operand
 abbrev pub Complete : List ℕ → Type 0
 Complete ws = trees-in ws ≡ none → ⊥
+
+-- one of the first n words is a switch
+unfoldable pub switch-among : List ℕ → ℕ → Bool
+switch-among ws zero = false
+switch-among ws (suc n) = is-switch (kind-of (getD ws n 0)) || switch-among ws n
 
 unfoldable pub is-marked : List ℕ → ℕ → Bool
 is-marked marks j = leb 1 (getD marks j 0)

@@ -3,7 +3,7 @@ use native.Mathlib.Omega.{arith}
 use mathlib.Core.Path.{sym, _∙_}
 use Rattle.rounds.proofs.choice.Passing.{place-stands, texts-fit}
 use Rattle.rounds.proofs.choice.Leaders.{depth-decides, by-text, itself-not}
-use Rattle.rounds.proofs.value_numbers.Laws.{tree-same}
+use Rattle.rounds.proofs.value_numbers.Sides.{tree-same}
 use borrow.Author.Needs.{needs}
 use Rattle.rounds.proofs.choice.later.Statement.{statement}
 use Rattle.rounds.proofs.choice.later.Tie as tie

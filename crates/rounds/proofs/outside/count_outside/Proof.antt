@@ -13,9 +13,10 @@ count-outside-spec =
     tie.close
     (tie.spec
     (λ c κs. search needs)
-    (λ c κs. c .before .before .before .before .before .before .before .before .before .before .pre .1 .1)
-    (λ c κs. (let s = c .before .before .before .before .before .before .before .before .before .before .before .before .before .before .before in ((s .pre .0 .1, omega (arith, s .pre .1 .0, c .before .before .before .before .before .before .before .before .mark-outside .kept .1 .1 .0)), counted-starts _ _ (s .pre .1 .1) (c .before .before .before .before .reset .ensures))))
+    (λ c κs. search needs)
+    (λ c κs. (let s = c .before .before .before .before .before .before .before .before .before .before .before .before .before .before .before in
+    ((s .pre .0 .0, s .pre .0 .1, omega (arith, s .pre .1 .0, c .before .before .before .before .before .before .before .before .mark-outside-arms .ensures .long)), counted-starts _ _ (s .pre .1 .1) (c .before .before .before .before .reset .ensures))))
     (λ c. search needs)
     (λ c. search needs)
-    (λ c. (let s = c .before .before .before .before .before .before .before .before .before .before .before .before .before .before .before .before .before .before in rw (c .before .before .before .before .before .before .before .before .before .before .before .before .before .if1 .taken) (counted-outside _ _ _ _ _ (s .pre .1 .0) (s .pre .0 .0) (c .before .before .before .before .before .before .before .before .before .before .before .mark-outside .ensures .1) (c .before .before .tally .ensures))))
+    (λ c. rw (c .before .before .before .before .before .before .before .before .before .before .before .before .before .if1 .taken) (counted-outside _ _ _ _ _ (c .before .before .before .before .before .before .before .before .before .before .before .mark-outside-arms .ensures) (c .before .before .tally .ensures)))
     (λ c. (let s = c .before .before .before .before .before in nothing-outside _ (s .args .scoped) _ _ (c .if1 .left) (s .pre .1 .1))))

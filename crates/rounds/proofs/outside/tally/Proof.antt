@@ -1,9 +1,8 @@
 -- `rounds::outside::tally` meets its contract. Assumes nothing.
 use native.Mathlib.Omega.{arith}
-use mathlib.Core.Path.{_≡_, refl}
-use lib.ListN.{length, length-set}
-use Rattle.rounds.proofs.outside.Tallying.{Tally, tally-fits, tally-turns, tally-ends}
-use borrow.Author.Needs.{needs}
+use mathlib.Core.Path.{_≡_, refl, _∙_}
+use lib.ListN.{length}
+use Rattle.rounds.proofs.outside.Tallying.{Tally, tally-next, tally-ends}
 use Rattle.rounds.proofs.outside.tally.Statement.{statement}
 use Rattle.rounds.proofs.outside.tally.Tie as tie
 
@@ -21,14 +20,9 @@ tally-spec =
     μ-loop
     (λ c. (record { inside = omega arith; counted = c .before .before .before .before .pre .1 }, refl))
     (λ c. omega (arith, c .loop-test .taken))
-    (λ c. omega (arith, c .before .loop .inv .0 .inside, c .loop-test .taken, c .before .before .before .before .before .before .pre .0 .0 .long, c .before .before .before .before .before .before .good))
-    (λ c. omega (arith, c .before .before .loop .inv .0 .inside, c .before .loop-test .taken, c .before .before .before .before .before .before .before .pre .0 .0 .long))
-    (λ c κs. omega (arith, c .before .before .loop .inv .0 .inside, c .before .loop-test .taken, c .before .before .before .before .before .before .before .pre .0 .1))
-    (λ c. (let f = tally-fits (c .before .before .before .before .before .before .before .before .pre .0 .0) (c .before .before .before .loop .inv .0) (c .before .before .loop-test .taken) (c .marked .result) (c .marked .ensures) in omega (arith, f .1, c .before .before .before .loop .inv .0 .counted .long, c .before .before .before .loop .inv .1, c .before .before .before .before .before .before .before .before .good)))
-    (λ c. (let f = tally-fits (c .before .before .before .before .before .before .before .before .before .pre .0 .0) (c .before .before .before .before .loop .inv .0) (c .before .before .before .loop-test .taken) (c .before .marked .result) (c .before .marked .ensures) in omega (arith, f .1, c .before .before .before .before .loop .inv .0 .counted .long)))
-    (λ c. (let f = tally-fits (c .before .before .before .before .before .before .before .before .before .pre .0 .0) (c .before .before .before .before .loop .inv .0) (c .before .before .before .loop-test .taken) (c .before .marked .result) (c .before .marked .ensures) in omega (arith, f .2, c .before .before .before .before .before .before .before .before .before .good)))
-    (λ c. (let f = tally-fits (c .before .before .before .before .before .before .before .before .before .pre .0 .0) (c .before .before .before .before .loop .inv .0) (c .before .before .before .loop-test .taken) (c .before .marked .result) (c .before .marked .ensures) in omega (arith, f .1, c .before .before .before .before .loop .inv .0 .counted .long)))
-    (λ c. omega (arith, c .before .before .before .loop-test .taken))
-    (λ c. (tally-turns (c .before .before .before .before .before .before .before .before .before .pre .0 .0) (c .before .before .before .before .loop .inv .0) (c .before .before .before .loop-test .taken) (c .before .marked .result) (c .before .marked .ensures), simp length-set (c .before .before .before .before .loop .inv .1)))
+    (λ c κs. (let s = c .before .before .before .before .before .before .before in
+    ((s .pre .0 .1, s .pre .0 .2, omega (arith, c .before .before .loop .inv .0 .inside, c .before .loop-test .taken)), tally-next (c .before .before .loop .inv .0) (c .before .loop-test .taken))))
+    (λ c. omega (arith, c .before .before .before .before .loop-test .taken))
+    (λ c. (record { inside = omega (arith, c .before .before .before .before .before .loop .inv .0 .inside); counted = c .before .before .count-place .ensures }, omega (arith, c .before .before .count-place .kept, c .before .before .before .before .before .loop .inv .1)))
     (λ c. c .before .loop .inv .1)
-    (λ c. tally-ends (c .before .before .before .before .before .before .pre .0 .0) (c .before .loop .inv .0) (c .loop-test .left)))
+    (λ c. tally-ends (c .before .before .before .before .before .before .pre .0 .0) (c .before .before .before .before .before .before .pre .0 .1) (c .before .loop .inv .0) (c .loop-test .left)))

@@ -1,4 +1,4 @@
--- `rounds::rounds_in` meets its contract. Assumes nothing.
+-- `rounds::extract_in` meets its contract. Assumes nothing.
 use native.Mathlib.Omega.{arith}
 use mathlib.Core.Path.{_≡_, refl}
 use lib.ListN.{length, take}
@@ -8,8 +8,8 @@ use Rattle.fmt.specs.checked.Check.{rows-in}
 use Rattle.rounds.proofs.Lending.{lent-fewer}
 use Rattle.rounds.proofs.Ending.{Loop, loop-starts, few-made, ready, turn-next, turn-last, turn-refused}
 use borrow.Author.Needs.{needs}
-use Rattle.rounds.proofs.rounds_in.Statement.{statement}
-use Rattle.rounds.proofs.rounds_in.Tie as tie
+use Rattle.rounds.proofs.extract_in.Statement.{statement}
+use Rattle.rounds.proofs.extract_in.Tie as tie
 
 abbrev Inv-loop : tie.InvT-loop
 Inv-loop rows tokens₀ len scoped first facts₀ classes₀ next₀ heads₀ uses₀ text₀ words₀ made₀ tokens facts classes next heads uses text words made = Loop (rows-in rows) tokens₀ len scoped first tokens words made × (length facts ≡ length facts₀) × (length classes ≡ length classes₀) × (length next ≡ length next₀) × (length heads ≡ length heads₀) × (length uses ≡ length uses₀) × (length text ≡ length text₀)
@@ -17,8 +17,8 @@ Inv-loop rows tokens₀ len scoped first facts₀ classes₀ next₀ heads₀ us
 abbrev μ-loop : tie.MeasureT-loop
 μ-loop rows tokens₀ len scoped first facts₀ classes₀ next₀ heads₀ uses₀ text₀ words₀ made₀ tokens facts classes next heads uses text words made = all-operations (read numbered (take words tokens))
 
-pub rounds-in-spec : {M : Type 1} → statement M
-rounds-in-spec =
+pub extract-in-spec : {M : Type 1} → statement M
+extract-in-spec =
     tie.close
     (tie.spec
     Inv-loop
