@@ -127,7 +127,7 @@ fn equal_trees(tokens: &[u64], i: usize, j: usize) -> bool
 }
 
 // How many of the places have the tree at q.
-fn count_equal(tokens: &[u64], list: &[u64], q: usize) -> usize
+pub fn count_equal(tokens: &[u64], list: &[u64], q: usize) -> usize
     requires { ⌜ Complete (now tokens) × (q < length (now tokens)) ⌝ }
     requires { ⌜ Inside (length (now tokens)) (now list) ⌝ }
     ensures { λ r. ⌜ r ≡ count-places (now (tokens .entry)) q (now (list .entry)) ⌝ }

@@ -19,7 +19,7 @@ use words::tokens::end_of;
 use words::words::Rewritten;
 
 // The most words that can be settled.
-const AREA: usize = 9362;
+const AREA: usize = 1929;
 
 // Few words.
 const FEW: usize = 256;
@@ -112,7 +112,7 @@ fn settle_in(
     spare: &mut [u64],
 ) -> Settled
     requires { ⌜ (len ≤ length (now tokens)) × Complete (take len (now tokens)) ⌝ }
-    requires { ⌜ (len ≤ 9362) × (first ≤ 4294967296) × (length (now places) ≤ 4294967296) ⌝ }
+    requires { ⌜ (len ≤ 1929) × (first ≤ 4294967296) × (length (now places) ≤ 4294967296) ⌝ }
     requires { ⌜ (len ≤ length (now work)) × (length (now work) ≤ length (now spare)) ⌝ }
     ensures { λ r. ⌜ (r ≡ settling (now (base .entry)) (now (places .entry)) from first (now (tokens .entry)) len .answer)
         × (now (tokens .exit) ≡ settling (now (base .entry)) (now (places .entry)) from first (now (tokens .entry)) len .out) ⌝ }
@@ -163,7 +163,7 @@ fn settle_many(
     len: usize,
 ) -> Settled
     requires { ⌜ (len ≤ length (now tokens)) × Complete (take len (now tokens)) ⌝ }
-    requires { ⌜ (len ≤ 9362) × (first ≤ 4294967296) × (length (now places) ≤ 4294967296) ⌝ }
+    requires { ⌜ (len ≤ 1929) × (first ≤ 4294967296) × (length (now places) ≤ 4294967296) ⌝ }
     ensures { λ r. ⌜ (r ≡ settling (now (base .entry)) (now (places .entry)) from first (now (tokens .entry)) len .answer)
         × (now (tokens .exit) ≡ settling (now (base .entry)) (now (places .entry)) from first (now (tokens .entry)) len .out) ⌝ }
 {
