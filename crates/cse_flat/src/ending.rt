@@ -12,7 +12,6 @@ ghost use Rattle.reciprocals.specs.final.Final.{final-rows};
 ghost use Rattle.reciprocals.specs.final.Ready.{There, Settled-front, Ready, Stands, marks, binding-run, final-order, In-order, Positions, lent-rows};
 ghost use Rattle.cse_flat.specs.ending.Answers.{finish-outcome, finishing};
 ghost use Rattle.cse_flat.specs.ending.Needs.{needs-of};
-use reciprocals::reciprocal::Bound;
 use reciprocals::reciprocal::all_there;
 use reciprocals::reciprocal::reciprocal;
 use reciprocals::settle::Settled;
@@ -108,7 +107,7 @@ fn take_settled(
     end - at
 }
 
-// The reciprocal of number j. That it can't be made never comes up.
+// The reciprocal of number j.
 fn take_reciprocal(
     tokens: &[u64],
     settled: &[u64],
@@ -123,12 +122,7 @@ fn take_reciprocal(
     ensures { λ r. ⌜ Stands (final-run results (now (places .entry)) (now (tokens .entry)) (length (now (starts .entry)) + j)) (now (tree .exit)) r ⌝ }
 {
     let first = (starts.len() - results) as u64;
-    let bound = reciprocal(tokens, places, first, j, tree);
-    match bound {
-        Bound::Words(n) => n,
-        Bound::Broken => 0,
-        Bound::NoRoom => 0,
-    }
+    reciprocal(tokens, places, first, j, tree)
 }
 
 // The words of the final tree of number i, at the front of `tree`.

@@ -1,6 +1,7 @@
 pub mod There
 pub mod Quotient
-pub mod Binding
 pub mod Reading
 pub mod Made
 pub mod Whole
+pub mod Unmoved
+pub mod Binding

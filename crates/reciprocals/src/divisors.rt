@@ -14,7 +14,7 @@ ghost use Rattle.spec_tree.specs.text.Text.{before};
 ghost use Rattle.fmt.specs.checked.Check.{rows-in, word-ok};
 ghost use Rattle.laws.specs.positions.Places.{numbered-at, count-places, text-at, insert-place, sort-places, divisors-to-bind};
 ghost use Rattle.rounds.specs.choice.Leading.{HasMarks, Writable};
-ghost use Rattle.reciprocals.specs.divisors.Places.{Inside, Listed, marked-second, outside-places, chosen-at, chosen-places};
+ghost use Rattle.reciprocals.specs.divisors.Places.{Inside, Size-there, Sized, with-sizes, Listed, marked-second, outside-places, chosen-at, chosen-places};
 use fmt::order::before_at;
 use rounds::uses::mark_outside;
 use words::layout::DIV;
@@ -23,6 +23,7 @@ use words::tokens::Equality;
 use words::tokens::Run;
 use words::tokens::end_of;
 use words::tokens::same;
+use words::tokens::tree_end;
 
 // So many words at most, which the arrays hold.
 const MOST_WORDS: usize = 1927;
@@ -126,8 +127,36 @@ fn equal_trees(tokens: &[u64], i: usize, j: usize) -> bool
     }
 }
 
+// The same where the size of each stands at its place: trees of two sizes are not equal, and need not be walked.
+fn equal_sized(tokens: &[u64], sizes: &[u64], i: usize, j: usize) -> bool
+    requires { ⌜ Complete (now tokens) ⌝ }
+    requires { ⌜ (i < length (now tokens)) × (j < length (now tokens)) ⌝ }
+    requires { ⌜ Size-there (now tokens) (now sizes) i × Size-there (now tokens) (now sizes) j ⌝ }
+    ensures { λ r. ⌜ r ≡ eq-tree (numbered-at (now (tokens .entry)) i) (numbered-at (now (tokens .entry)) j) ⌝ }
+{
+    if sizes[i] != sizes[j] {
+        return false;
+    }
+    equal_trees(tokens, i, j)
+}
+
+// Puts the size of the tree at each of some places there.
+fn put_sizes(tokens: &[u64], list: &[u64], sizes: &mut [u64])
+    requires { ⌜ Complete (now tokens) × Inside (length (now tokens)) (now list) ⌝ }
+    requires { ⌜ length (now tokens) ≤ length (now sizes) ⌝ }
+    ensures { λ _. ⌜ now (sizes .exit) ≡ with-sizes (now (tokens .entry)) (now (list .entry)) (now (sizes .entry)) ⌝ }
+{
+    let mut k = 0;
+    while k < list.len() {
+        let q = list[k] as usize;
+        let end = tree_end(tokens, q);
+        sizes[q] = (end - q) as u64;
+        k += 1;
+    }
+}
+
 // How many of the places have the tree at q.
-fn count_equal(tokens: &[u64], list: &[u64], q: usize) -> usize
+pub fn count_equal(tokens: &[u64], list: &[u64], q: usize) -> usize
     requires { ⌜ Complete (now tokens) × (q < length (now tokens)) ⌝ }
     requires { ⌜ Inside (length (now tokens)) (now list) ⌝ }
     ensures { λ r. ⌜ r ≡ count-places (now (tokens .entry)) q (now (list .entry)) ⌝ }
@@ -145,32 +174,54 @@ fn count_equal(tokens: &[u64], list: &[u64], q: usize) -> usize
     count
 }
 
+// The same by sizes.
+fn count_sized(tokens: &[u64], sizes: &[u64], list: &[u64], q: usize) -> usize
+    requires { ⌜ Complete (now tokens) × (q < length (now tokens)) ⌝ }
+    requires { ⌜ Inside (length (now tokens)) (now list) ⌝ }
+    requires { ⌜ Size-there (now tokens) (now sizes) q × Sized (now tokens) (now sizes) (now list) ⌝ }
+    ensures { λ r. ⌜ r ≡ count-places (now (tokens .entry)) q (now (list .entry)) ⌝ }
+{
+    let mut count = 0;
+    let mut k = 0;
+    while k < list.len() {
+        if equal_sized(tokens, sizes, list[k] as usize, q) {
+            count += 1;
+            k += 1;
+        } else {
+            k += 1;
+        }
+    }
+    count
+}
+
 // Whether the divisor at i of all is to be bound: its tree stands first there, twice among all, and once among those outside arms.
-fn is_chosen(tokens: &[u64], all: &[u64], outside: &[u64], i: usize) -> bool
+fn is_chosen(tokens: &[u64], sizes: &[u64], all: &[u64], outside: &[u64], i: usize) -> bool
     requires { ⌜ Complete (now tokens) × (i < length (now all)) ⌝ }
     requires { ⌜ Inside (length (now tokens)) (now all) × Inside (length (now tokens)) (now outside) ⌝ }
+    requires { ⌜ Sized (now tokens) (now sizes) (now all) × Sized (now tokens) (now sizes) (now outside) ⌝ }
     ensures { λ r. ⌜ r ≡ chosen-at (now (tokens .entry)) (now (all .entry)) (now (outside .entry)) i ⌝ }
 {
     let q = all[i] as usize;
-    if count_equal(tokens, &all[..i], q) > 0 {
+    if count_sized(tokens, sizes, &all[..i], q) > 0 {
         return false;
     }
-    if count_equal(tokens, all, q) < 2 {
+    if count_sized(tokens, sizes, all, q) < 2 {
         return false;
     }
-    count_equal(tokens, outside, q) >= 1
+    count_sized(tokens, sizes, outside, q) >= 1
 }
 
 // Lists those to be bound, in the order of their first divisions.
-fn choose(tokens: &[u64], all: &[u64], outside: &[u64], places: &mut [u64]) -> usize
+fn choose(tokens: &[u64], sizes: &[u64], all: &[u64], outside: &[u64], places: &mut [u64]) -> usize
     requires { ⌜ Complete (now tokens) × (length (now all) ≤ length (now places)) ⌝ }
     requires { ⌜ Inside (length (now tokens)) (now all) × Inside (length (now tokens)) (now outside) ⌝ }
+    requires { ⌜ Sized (now tokens) (now sizes) (now all) × Sized (now tokens) (now sizes) (now outside) ⌝ }
     ensures { λ r. ⌜ Listed (chosen-places (now (tokens .entry)) (now (all .entry)) (now (outside .entry))) (now (places .entry)) r (now (places .exit)) ⌝ }
 {
     let mut n = 0;
     let mut i = 0;
     while i < all.len() {
-        if is_chosen(tokens, all, outside, i) {
+        if is_chosen(tokens, sizes, all, outside, i) {
             places[n] = all[i];
             n += 1;
             i += 1;
@@ -181,7 +232,7 @@ fn choose(tokens: &[u64], all: &[u64], outside: &[u64], places: &mut [u64]) -> u
     n
 }
 
-// The same from the words, by way of three tables.
+// The same from the words, by way of three tables. Once the places outside arms are listed, the marks are free for the sizes.
 fn gather(
     tokens: &[u64],
     scoped: bool,
@@ -196,7 +247,9 @@ fn gather(
 {
     let n = list(tokens, all);
     let m = list_outside(tokens, scoped, marks, outside);
-    choose(tokens, &all[..n], &outside[..m], places)
+    put_sizes(tokens, &all[..n], marks);
+    put_sizes(tokens, &outside[..m], marks);
+    choose(tokens, marks, &all[..n], &outside[..m], places)
 }
 
 // The same for few words, in small tables, so that most lists needn't clear the large ones.

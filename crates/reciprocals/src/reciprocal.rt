@@ -2,34 +2,28 @@
 // bound after it. The divisors stand in the words from before the first was bound.
 ghost use mathlib.Core.Path.{_≡_};
 ghost use mathlib.Core.List.{_++_};
-ghost use Prim.Native.Nat.{_+_, _-_, _≤_};
+ghost use Prim.Native.Nat.{_+_, _-_, _≤_, _<_};
 ghost use lib.ListN.{length, drop};
 ghost use lib.Dec.{T};
-ghost use Rattle.reciprocals.specs.reciprocal.Bindings.{all-there, one-over, reciprocal-answer};
+ghost use Rattle.words.specs.words.Words.{Complete};
+ghost use Rattle.reciprocals.specs.divisors.Places.{Inside};
+ghost use Rattle.reciprocals.specs.reciprocal.Bindings.{all-there, one-over, no-division-words, is-plain, whole-reciprocal, Bound-so};
+use crate::divisors::count_equal;
 use crate::settle::Settled;
 use crate::settle::settle;
 use words::copying::copy;
+use words::layout::DIV;
+use words::layout::KINDS;
 use words::layout::QUOTIENT;
 use words::tokens::Run;
 use words::tokens::end_of;
-
-// The most words that can be settled.
-const AREA: usize = 9362;
+use words::tokens::tree_end;
 
 // How many words `1 / d` is besides those of d.
 const BESIDES: usize = 2;
 
 // The word of the constant 1.
 const ONE: u64 = 129;
-
-pub enum Bound {
-    // How many words the reciprocal is.
-    Words(usize),
-    // There is no divisor of that number, or it or one after it isn't there.
-    Broken,
-    // Too many words, places or numbers, or the words lent are fewer than the reciprocal's.
-    NoRoom,
-}
 
 // Whether a tree stands at each place.
 pub fn all_there(base: &[u64], places: &[u64]) -> bool
@@ -45,7 +39,7 @@ pub fn all_there(base: &[u64], places: &[u64]) -> bool
     true
 }
 
-// Writes `1 / d` to the front of work, for the tree d between two places.
+// Writes `1 / d` to the front of out, for the tree d between two places.
 fn write_quotient(base: &[u64], place: usize, end: usize, work: &mut [u64])
     requires { ⌜ (place ≤ end) × (end ≤ length (now base)) ⌝ }
     requires { ⌜ 2 + (end - place) ≤ length (now work) ⌝ }
@@ -56,49 +50,50 @@ fn write_quotient(base: &[u64], place: usize, end: usize, work: &mut [u64])
     copy(&base[place..end], &mut work[BESIDES..]);
 }
 
-// The same for any divisor, in an area of its own: `1 / d`, in which the divisors after d are replaced in order. Where it can't be made nothing is written.
-fn settle_quotient(base: &[u64], places: &[u64], first: u64, j: usize, out: &mut [u64]) -> Bound
-    ensures { λ r. ⌜ (r ≡ reciprocal-answer (now (base .entry)) (now (places .entry)) first j (now (out .entry)) .answer)
-        × (now (out .exit) ≡ reciprocal-answer (now (base .entry)) (now (places .entry)) first j (now (out .entry)) .out) ⌝ }
+// Whether none of some words is a division's.
+fn no_division(words: &[u64]) -> bool
+    ensures { λ r. ⌜ r ≡ no-division-words (now (words .entry)) ⌝ }
 {
-    if j >= places.len() {
-        return Bound::Broken;
-    }
-    let place = places[j] as usize;
-    let Run::Ends(end) = end_of(base, place) else {
-        return Bound::Broken;
-    };
-    if end - place > AREA - BESIDES {
-        return Bound::NoRoom;
-    }
-    let mut work = [0u64; AREA];
-    write_quotient(base, place, end, &mut work);
-    let settled = settle(
-        base,
-        places,
-        j + 1,
-        first,
-        &mut work,
-        BESIDES + (end - place),
-    );
-    match settled {
-        Settled::Words(n) => {
-            if n > out.len() {
-                return Bound::NoRoom;
-            }
-            copy(&work[..n], out);
-            Bound::Words(n)
+    let mut i = 0;
+    while i < words.len() {
+        if words[i] % KINDS == DIV {
+            return false;
         }
-        Settled::Broken => Bound::Broken,
-        Settled::NoRoom => Bound::NoRoom,
+        i += 1;
     }
+    true
 }
 
-// Writes the reciprocal of the divisor number j, which is bound under `__x(first + j)`, to the front of out.
-pub fn reciprocal(base: &[u64], places: &[u64], first: u64, j: usize, out: &mut [u64]) -> Bound
-    requires { ⌜ T (all-there (now base) (now places)) ⌝ }
-    ensures { λ r. ⌜ (r ≡ reciprocal-answer (now (base .entry)) (now (places .entry)) first j (now (out .entry)) .answer)
-        × (now (out .exit) ≡ reciprocal-answer (now (base .entry)) (now (places .entry)) first j (now (out .entry)) .out) ⌝ }
+// Whether `1 / d` stays as it is, for the tree d between two places: nearly always, since few divisors hold a division.
+fn is_plain(base: &[u64], later: &[u64], place: usize, end: usize) -> bool
+    requires { ⌜ Complete (now base) × Inside (length (now base)) (now later) ⌝ }
+    requires { ⌜ (place < end) × (end ≤ length (now base)) ⌝ }
+    ensures { λ r. ⌜ r ≡ is-plain (now (base .entry)) (now (later .entry)) place (end - place) ⌝ }
 {
-    settle_quotient(base, places, first, j, out)
+    if !no_division(&base[place..end]) {
+        return false;
+    }
+    count_equal(base, later, place) == 0
+}
+
+// Writes the reciprocal of the divisor number j, which is bound under `__x(first + j)`, to the front of out; what is left after it there is free. That it can't be settled never comes up.
+pub fn reciprocal(base: &[u64], places: &[u64], first: u64, j: usize, out: &mut [u64]) -> usize
+    requires { ⌜ Complete (now base) × T (all-there (now base) (now places)) × (j < length (now places)) ⌝ }
+    requires { ⌜ (length (now base) ≤ 1927) × (2 + length (now base) ≤ length (now out)) ⌝ }
+    requires { ⌜ (first ≤ 4294967296) × (length (now places) ≤ 4294967296) ⌝ }
+    ensures { λ r. ⌜ Bound-so (whole-reciprocal (now (base .entry)) (now (places .entry)) first j) r (now (out .exit)) ⌝ }
+{
+    let place = places[j] as usize;
+    let end = tree_end(base, place);
+    write_quotient(base, place, end, out);
+    let n = BESIDES + (end - place);
+    if is_plain(base, &places[j + 1..], place, end) {
+        return n;
+    }
+    let settled = settle(base, places, j + 1, first, out, n);
+    match settled {
+        Settled::Words(m) => m,
+        Settled::Broken => n,
+        Settled::NoRoom => n,
+    }
 }

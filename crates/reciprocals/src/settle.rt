@@ -6,7 +6,7 @@ ghost use Prim.Native.Nat.{_+_, _≤_};
 ghost use lib.ListN.{length, take, drop};
 ghost use Rattle.spec_tree.specs.Tokens.{kind-of};
 ghost use Rattle.words.specs.words.Words.{name-of, Complete};
-ghost use Rattle.reciprocals.specs.settle.Steps.{step-words, settled-words};
+ghost use Rattle.reciprocals.specs.settle.Steps.{stand-among, step-words, settled-words};
 ghost use Rattle.reciprocals.specs.settle.Answers.{stepped-answer, Front, settling};
 use replace::divisor::replace_divisor;
 use words::copying::copy;
@@ -17,9 +17,10 @@ use words::tokens::Trees;
 use words::tokens::count_trees;
 use words::tokens::end_of;
 use words::words::Rewritten;
+use words::words::starts_with;
 
 // The most words that can be settled.
-const AREA: usize = 9362;
+const AREA: usize = 1929;
 
 // Few words.
 const FEW: usize = 256;
@@ -41,6 +42,20 @@ enum Stepped {
     Words(usize),
     // No divisor is there.
     Broken,
+}
+
+// Whether the words of a divisor stand among some words: where they don't there is nothing to replace.
+fn stand_among(divisor: &[u64], words: &[u64]) -> bool
+    ensures { λ r. ⌜ r ≡ stand-among (now (divisor .entry)) (now (words .entry)) ⌝ }
+{
+    let mut i = 0;
+    while i < words.len() {
+        if starts_with(&words[i..], divisor) {
+            return true;
+        }
+        i += 1;
+    }
+    false
 }
 
 // Replaces one divisor in the first `len` words of `work`.
@@ -71,6 +86,29 @@ fn step(
     }
 }
 
+// The same, only where there is something to replace.
+fn step_or_stay(
+    base: &[u64],
+    place: usize,
+    name: u64,
+    work: &mut [u64],
+    len: usize,
+    spare: &mut [u64],
+) -> Stepped
+    requires { ⌜ (len ≤ length (now work)) × Complete (take len (now work)) ⌝ }
+    requires { ⌜ (kind-of name ≡ 0) × (length (now work) ≤ length (now spare)) ⌝ }
+    ensures { λ r. ⌜ r ≡ stepped-answer (step-words (now (base .entry)) place (name-of name) (take len (now (work .entry)))) ⌝ }
+    ensures { λ _. ⌜ Front (step-words (now (base .entry)) place (name-of name) (take len (now (work .entry)))) (now (work .exit)) ⌝ }
+{
+    let Run::Ends(end) = end_of(base, place) else {
+        return Stepped::Broken;
+    };
+    if !stand_among(&base[place..end], &work[..len]) {
+        return Stepped::Words(len);
+    }
+    step(base, place, name, work, len, spare)
+}
+
 // Replaces the divisors from number `from` on, one after another.
 fn steps(
     base: &[u64],
@@ -91,7 +129,7 @@ fn steps(
     let mut n = len;
     while k < places.len() {
         let name = LET_NAME + NEXT_NAME * (first + k as u64);
-        let Stepped::Words(m) = step(base, places[k] as usize, name, work, n, spare) else {
+        let Stepped::Words(m) = step_or_stay(base, places[k] as usize, name, work, n, spare) else {
             return Stepped::Broken;
         };
         n = m;
@@ -112,7 +150,7 @@ fn settle_in(
     spare: &mut [u64],
 ) -> Settled
     requires { ⌜ (len ≤ length (now tokens)) × Complete (take len (now tokens)) ⌝ }
-    requires { ⌜ (len ≤ 9362) × (first ≤ 4294967296) × (length (now places) ≤ 4294967296) ⌝ }
+    requires { ⌜ (len ≤ 1929) × (first ≤ 4294967296) × (length (now places) ≤ 4294967296) ⌝ }
     requires { ⌜ (len ≤ length (now work)) × (length (now work) ≤ length (now spare)) ⌝ }
     ensures { λ r. ⌜ (r ≡ settling (now (base .entry)) (now (places .entry)) from first (now (tokens .entry)) len .answer)
         × (now (tokens .exit) ≡ settling (now (base .entry)) (now (places .entry)) from first (now (tokens .entry)) len .out) ⌝ }
@@ -163,7 +201,7 @@ fn settle_many(
     len: usize,
 ) -> Settled
     requires { ⌜ (len ≤ length (now tokens)) × Complete (take len (now tokens)) ⌝ }
-    requires { ⌜ (len ≤ 9362) × (first ≤ 4294967296) × (length (now places) ≤ 4294967296) ⌝ }
+    requires { ⌜ (len ≤ 1929) × (first ≤ 4294967296) × (length (now places) ≤ 4294967296) ⌝ }
     ensures { λ r. ⌜ (r ≡ settling (now (base .entry)) (now (places .entry)) from first (now (tokens .entry)) len .answer)
         × (now (tokens .exit) ≡ settling (now (base .entry)) (now (places .entry)) from first (now (tokens .entry)) len .out) ⌝ }
 {

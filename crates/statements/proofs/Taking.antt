@@ -17,12 +17,9 @@ use Rattle.words.specs.tokens.Answers.{end-answer}
 use Rattle.words.specs.declared.tokens.Run.the-variants as run
 use Rattle.words.specs.words.Words.{some-trees, Complete}
 use Rattle.reciprocals.proofs.bindings.Parts.{All-there}
-use Rattle.reciprocals.specs.reciprocal.Bindings as bindings
-use Rattle.reciprocals.specs.reciprocal.Bindings.{Binding, reciprocal-answer}
-use Rattle.reciprocals.specs.declared.reciprocal.Bound.{Bound}
-use Rattle.reciprocals.specs.declared.reciprocal.Bound.the-variants as bound
+use Rattle.reciprocals.specs.reciprocal.Bindings.{all-there as all-places-there, whole-reciprocal, Bound-so}
 use Rattle.reciprocals.proofs.reciprocal.There.{tested-there}
-use Rattle.reciprocals.proofs.reciprocal.Made.{made, made-words, made-is, bound-always}
+use Rattle.reciprocals.proofs.reciprocal.Made.{made, made-words, made-is, made-so}
 use Rattle.topo_sort.specs.treelist.Starts.{starts-of}
 use Rattle.topo_sort.proofs.treelist.Begins.{tree-number, start-number, ends-within, run-there, words-there, as-many}
 use Rattle.reciprocals.specs.final.Ready.{Stands}
@@ -98,32 +95,15 @@ module _ (held starts : List ℕ) (i : ℕ) (complete : Complete held) (are : st
 
 -- ---- a reciprocal
 
-module _ (ws places : List ℕ) (n j : ℕ) (there : T (bindings.all-there ws places)) (few : length ws ≤ 1927) (low : n ≤ 4294967296) (less : length places ≤ 4294967296) (h : j < length places)
-    (old : List ℕ) (lent : 1929 ≤ length old) where
+module _ (ws places : List ℕ) (n j : ℕ) (there : T (all-places-there ws places)) (h : j < length places) where
   made-run : made-words ws places n j ≡ reciprocal-run ws places n j
   unfolding reciprocal-run all-tokens
   made-run = append-nil (tokens unnumbered (made ws places n j)) ∙ ap (tokens unnumbered) (sym (made-is ws places n j h (Op 0 nil)))
 
-  answer-is :
-      reciprocal-answer ws places n j old
-      ≡ record { answer = bound.Words (length (reciprocal-run ws places n j)); out = reciprocal-run ws places n j ++ drop (length (reciprocal-run ws places n j)) old }
-  answer-is =
-      bound-always ws places n j h (tested-there ws places there) (omega (arith, few)) low less old (omega (arith, few, lent))
-      ∙ ap (λ (r : List ℕ). record { answer = bound.Words (length r); out = r ++ drop (length r) old }) made-run
-
-  pub reciprocal-stands :
-      (c : ℕ) (out : List ℕ) → bound.Words c ≡ reciprocal-answer ws places n j old .answer → out ≡ reciprocal-answer ws places n j old .out
-      → Stands (reciprocal-run ws places n j) out c
-  reciprocal-stands c out e f =
-      let r = reciprocal-run ws places n j in
-      let q : bound.Words c ≡ bound.Words (length r) = e ∙ ap (λ (b : Binding). b .answer) answer-is in
-      let p : c ≡ length r = cc in
-      in-front r old out c p (f ∙ (ap (λ (b : Binding). b .out) answer-is ∙ ap (λ (x : ℕ). r ++ drop x old) (sym p)))
-
-  pub reciprocal-there : (b : Bound) → b ≡ reciprocal-answer ws places n j old .answer → (b ≡ bound.Broken → ⊥) × (b ≡ bound.NoRoom → ⊥)
-  reciprocal-there b e =
-      let q : b ≡ bound.Words (length (reciprocal-run ws places n j)) = e ∙ ap (λ (b : Binding). b .answer) answer-is in
-      ((λ x. let z : _≡_ {A = ℕ} 0 1 = cc in omega arith), (λ x. let z : _≡_ {A = ℕ} 0 1 = cc in omega arith))
+  pub reciprocal-stands : (c : ℕ) (out : List ℕ) → Bound-so (whole-reciprocal ws places n j) c out → Stands (reciprocal-run ws places n j) out c
+  reciprocal-stands c out s =
+      let r = made-so ws places n j h (tested-there ws places there) out c s in
+      record { many = r .0 ∙ ap length made-run; words = r .1 ∙ made-run; inside = r .2 }
 
 -- ---- members replaced
 

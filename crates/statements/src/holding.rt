@@ -2,16 +2,15 @@
 // reciprocals that hold a switch. The divisors stand in the words from before the first was bound.
 ghost use mathlib.Core.Path.{_≡_};
 ghost use mathlib.Core.Bool.{true};
-ghost use mathlib.Core.List.{_++_};
 ghost use Prim.Native.Nat.{_+_, _≤_, _<_};
-ghost use lib.ListN.{length, drop};
+ghost use lib.ListN.{length};
+ghost use Rattle.reciprocals.specs.final.Ready.{Stands};
 ghost use Rattle.replace.specs.outside.Part.{has-arms};
 ghost use Rattle.fusion.specs.Switchless.{no-switch-words};
 ghost use Rattle.fusion.specs.place.Overlay.{overlay};
 ghost use Rattle.fusion.specs.place.Parts.{words-held};
 ghost use Rattle.statements.specs.holding.Holding.{settled-held, reciprocals-held, reciprocal-words, reciprocal-held, whole-there, room-to-hold, Ready, holding};
 use fusion::tables::put;
-use reciprocals::reciprocal::Bound;
 use reciprocals::reciprocal::all_there;
 use reciprocals::reciprocal::reciprocal;
 use reciprocals::settle::Settled;
@@ -65,20 +64,13 @@ pub fn no_switch(words: &[u64]) -> bool
     true
 }
 
-// The reciprocal of number j. That it can't be made never comes up.
+// The reciprocal of number j.
 fn take_reciprocal(tokens: &[u64], places: &[u64], first: u64, j: usize, one: &mut [u64]) -> usize
     requires { ⌜ Ready (now tokens) (now places) first ⌝ }
     requires { ⌜ (j < length (now places)) × (1929 ≤ length (now one)) ⌝ }
-    ensures { λ r. ⌜ r ≡ length (reciprocal-words (now (tokens .entry)) first (now (places .entry)) j) ⌝ }
-    ensures { λ _. ⌜ now (one .exit) ≡ reciprocal-words (now (tokens .entry)) first (now (places .entry)) j
-        ++ drop (length (reciprocal-words (now (tokens .entry)) first (now (places .entry)) j)) (now (one .entry)) ⌝ }
+    ensures { λ r. ⌜ Stands (reciprocal-words (now (tokens .entry)) first (now (places .entry)) j) (now (one .exit)) r ⌝ }
 {
-    let bound = reciprocal(tokens, places, first, j, one);
-    match bound {
-        Bound::Words(n) => n,
-        Bound::Broken => 0,
-        Bound::NoRoom => 0,
-    }
+    reciprocal(tokens, places, first, j, one)
 }
 
 // Writes the reciprocal of number j from place n on, if it holds a switch, and answers the place after it. Words past the end are dropped.

@@ -24,7 +24,6 @@ use fusion::scopeneeds::mark_reads;
 use fusion::tables::put;
 use fusion::tables::put_names;
 use fusion::tables::put_word;
-use reciprocals::reciprocal::Bound;
 use reciprocals::reciprocal::reciprocal;
 use topo_sort::Ordered;
 use topo_sort::order;
@@ -66,19 +65,14 @@ fn take_held(held: &[u64], starts: &[u64], i: usize, tree: &mut [u64]) -> usize
     end - at
 }
 
-// The reciprocal of number j, those of the divisors numbered from `number` on. That it can't be made never comes up.
+// The reciprocal of number j, those of the divisors numbered from `number` on.
 fn take_reciprocal(tokens: &[u64], places: &[u64], number: u64, j: usize, tree: &mut [u64]) -> usize
-    requires { ⌜ T (all-there (now tokens) (now places)) × (length (now tokens) ≤ 1927) ⌝ }
+    requires { ⌜ Complete (now tokens) × T (all-there (now tokens) (now places)) × (length (now tokens) ≤ 1927) ⌝ }
     requires { ⌜ (number ≤ 4294967296) × (length (now places) ≤ 4294967296) ⌝ }
     requires { ⌜ (j < length (now places)) × (1929 ≤ length (now tree)) ⌝ }
     ensures { λ r. ⌜ Stands (reciprocal-run (now (tokens .entry)) (now (places .entry)) number j) (now (tree .exit)) r ⌝ }
 {
-    let bound = reciprocal(tokens, places, number, j, tree);
-    match bound {
-        Bound::Words(n) => n,
-        Bound::Broken => 0,
-        Bound::NoRoom => 0,
-    }
+    reciprocal(tokens, places, number, j, tree)
 }
 
 // The tree of number i of results, lets and reciprocals, before members are replaced.

@@ -89,7 +89,7 @@ among-step : (b c : Bool) (n : ℕ) → c ≡ leb 1 n → elim b as (λ _. Bool)
 among-step true c n e = sym (le-leb 1 (suc n) (omega arith))
 among-step false c n e = e
 
-among-counted : (ws : List ℕ) (q : ℕ) (l : List ℕ) → among-places ws q l ≡ leb 1 (count-places ws q l)
+pub among-counted : (ws : List ℕ) (q : ℕ) (l : List ℕ) → among-places ws q l ≡ leb 1 (count-places ws q l)
 unfolding among-places count-places
 among-counted ws q [] = refl
 among-counted ws q (r ∷ l) = among-step (eq-tree (numbered-at ws r) (numbered-at ws q)) (among-places ws q l) (count-places ws q l) (among-counted ws q l)

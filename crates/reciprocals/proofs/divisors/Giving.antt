@@ -12,7 +12,8 @@ use Rattle.spec_tree.specs.Tree.{eq-tree}
 use Rattle.words.specs.words.Words.{Complete}
 use Rattle.reciprocals.specs.divisors.Listing.{all-places}
 use Rattle.laws.specs.positions.Places.{numbered-at, count-places, distinct-places, shared-places, sort-places, divisors-to-bind}
-use Rattle.reciprocals.specs.divisors.Places.{Inside, Listed, outside-places, chosen-places}
+use Rattle.reciprocals.specs.divisors.Places.{Inside, Sized, with-sizes, Listed, outside-places, chosen-places}
+use Rattle.reciprocals.proofs.divisors.Sizes.{inside-more, with-long, with-kept, with-there}
 use Rattle.reciprocals.proofs.divisors.Within.{divisors-inside, divisors-few, chosen-inside, sort-length}
 
 -- ---- what `list` leaves
@@ -63,6 +64,17 @@ module _ (ws : List ℕ) (scoped : Bool) (complete : Complete ws) {n m : ℕ} {o
 
   pub second-inside : Inside (length ws) (take m out)
   second-inside = subst (Inside (length ws)) (sym (front-is b)) (outside-inside ws scoped complete)
+
+  -- the sizes of both are put in one table
+  pub both-sized :
+      (old mid new : List ℕ) → length ws ≤ length old → mid ≡ with-sizes ws (take n all) old → new ≡ with-sizes ws (take m out) mid
+      → Sized ws new (take n all) × Sized ws new (take m out)
+  both-sized old mid new h e f =
+      let long : length mid ≡ length old = ap length e ∙ with-long ws (take n all) old in
+      let one = inside-more (length ws) (length old) h (take n all) first-inside in
+      let two = inside-more (length ws) (length mid) (omega (arith, h, long)) (take m out) second-inside in
+      let s : Sized ws mid (take n all) = subst (λ (l : List ℕ). Sized ws l (take n all)) (sym e) (with-there ws (take n all) old one) in
+      subst (λ (l : List ℕ). Sized ws l (take n all) × Sized ws l (take m out)) (sym f) (with-kept ws (take m out) mid (take n all) two s, with-there ws (take m out) mid two)
 
   pub gathered :
       {places left : List ℕ} {r : ℕ} → Listed (chosen-places ws (take n all) (take m out)) places r left

@@ -19,11 +19,9 @@ use Rattle.words.specs.tokens.Answers.{end-answer}
 use Rattle.words.specs.declared.tokens.Run.the-variants as run
 use Rattle.words.proofs.words.Scanning.{Put}
 use Rattle.reciprocals.proofs.bindings.Parts.{All-there, settled-are}
-use Rattle.reciprocals.specs.reciprocal.Bindings.{Binding, reciprocal-answer}
-use Rattle.reciprocals.specs.declared.reciprocal.Bound.{Bound}
-use Rattle.reciprocals.specs.declared.reciprocal.Bound.the-variants as bound
+use Rattle.reciprocals.specs.reciprocal.Bindings.{whole-reciprocal, Bound-so}
 use Rattle.reciprocals.proofs.reciprocal.There.{tested-there}
-use Rattle.reciprocals.proofs.reciprocal.Made.{made, made-words, made-is, made-within, bound-always}
+use Rattle.reciprocals.proofs.reciprocal.Made.{made, made-words, made-is, made-within, made-so}
 use Rattle.reciprocals.proofs.reciprocal.Whole.{first-complete, first-read}
 use Rattle.topo_sort.proofs.treelist.Begins.{tree-number, start-number, next-start, last-end, ends-within, run-there, words-there}
 use Rattle.reciprocals.specs.final.Final.{final-trees}
@@ -151,25 +149,8 @@ module _ {ws settled starts places : List ℕ} {k : ℕ} (ready : Ready ws settl
           let below : j < length places = omega arith in
           omega (arith, made-within ws places (m - k) j below there-is, ap length (made-run j below), ap (λ (x : ℕ). length (final-run k places ws x)) z, ready .few)
 
-  module _ (j : ℕ) (h : j < length places) (old : List ℕ) (lent : length ws + 2 ≤ length old) where
-    abbrev answer : Binding
-    answer = reciprocal-answer ws places (m - k) j old
-
-    answer-is : answer ≡ record { answer = bound.Words (length (final-run k places ws (m + j))); out = final-run k places ws (m + j) ++ drop (length (final-run k places ws (m + j))) old }
-    answer-is =
-        bound-always ws places (m - k) j h there-is (omega (arith, ready .few)) (omega (arith, ready .numbers)) (omega (arith, ready .numbers)) old (omega (arith, ready .few))
-        ∙ ap (λ (r : List ℕ). record { answer = bound.Words (length r); out = r ++ drop (length r) old }) (made-run j h)
-
-    pub reciprocal-stands :
-        (n : ℕ) (out : List ℕ) → bound.Words n ≡ reciprocal-answer ws places (m - k) j old .answer → out ≡ reciprocal-answer ws places (m - k) j old .out
-        → Stands (final-run k places ws (m + j)) out n
-    reciprocal-stands n out e f =
-        let r = final-run k places ws (m + j) in
-        let q : bound.Words n ≡ bound.Words (length r) = e ∙ ap (λ (b : Binding). b .answer) answer-is in
-        let p : n ≡ length r = cc in
-        in-front r old out n p (f ∙ (ap (λ (b : Binding). b .out) answer-is ∙ ap (λ (x : ℕ). r ++ drop x old) (sym p)))
-
-    pub reciprocal-there : (b : Bound) → b ≡ reciprocal-answer ws places (m - k) j old .answer → (b ≡ bound.Broken → ⊥) × (b ≡ bound.NoRoom → ⊥)
-    reciprocal-there b e =
-        let q : b ≡ bound.Words (length (final-run k places ws (m + j))) = e ∙ ap (λ (b : Binding). b .answer) answer-is in
-        ((λ x. let z : _≡_ {A = ℕ} 0 1 = cc in omega arith), (λ x. let z : _≡_ {A = ℕ} 0 1 = cc in omega arith))
+  pub reciprocal-stands : (j : ℕ) → j < length places → (n : ℕ) (out : List ℕ) → Bound-so (whole-reciprocal ws places (m - k) j) n out → Stands (final-run k places ws (m + j)) out n
+  reciprocal-stands j h n out s =
+      let r = made-so ws places (m - k) j h there-is out n s in
+      let e = made-run j h in
+      record { many = r .0 ∙ ap length e; words = r .1 ∙ e; inside = r .2 }

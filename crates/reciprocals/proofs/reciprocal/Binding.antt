@@ -1,164 +1,194 @@
--- What binding a reciprocal answers and leaves: each way the code ends is a case of the definition. Assumes nothing.
-use Prim.Native.Nat.{ℕ, _+_, _-_, _≤_, _<_}
+-- The reciprocal of number j stands in front, whether `1 / d` stays as it is or is settled. Assumes nothing.
+use Prim.Native.Nat.{ℕ, zero, suc, _+_, _-_, _≤_, _<_}
 use native.Mathlib.Omega.{arith}
-use mathlib.Core.Path.{_≡_, refl, sym, _∙_, ap}
-use mathlib.Core.Bool.{Bool, true, false}
-use mathlib.Core.Option.{Option, none, some}
-use mathlib.Core.List.{List, _++_}
-use borrow.Author.Tests.{le-leb, lt-leb, lt-ltb, le-ltb}
-use lib.ListN.{length, getD, take, drop, length-drop, length-append}
-use lib.Seq.{length-take-le, take-at}
-use lib.Dec.{ltb}
-use Rattle.spec_tree.specs.Tokens.{run-at, trees-in}
+use mathlib.Core.Path.{_≡_, refl, sym, _∙_, ap, subst}
+use mathlib.Core.Bool.{Bool, true, false, not, _&&_}
+use mathlib.Core.Option.{Option, some}
+use mathlib.Core.List.{List, [], _∷_, _++_, map}
+use borrow.Author.Tests.{le-leb, ne-eqb}
+use lib.ListN.{length, getD, take, drop, length-append, length-drop, length-take}
+use lib.Seq.{take-at}
+use lib.Dec.{T, leb, eqb}
+use Rattle.spec_tree.specs.Tree.{Name, Tree}
+use Rattle.spec_tree.specs.Facts.{size}
+use Rattle.spec_tree.specs.Tokens.{all-tokens, read, numbered, run-at, trees-in}
+use Rattle.spec_tree.proofs.Logic.{and-left, and-right, not-so, not-true}
+use Rattle.spec_tree.proofs.Lists.{rest-is}
+use Rattle.spec_tree.proofs.TokenLaws.{map-drop}
+use Rattle.spec_tree.proofs.TokenCode.{unnumbered, writes-back}
+use Rattle.spec_rewrite.specs.Rewrite.{replace-divisor}
+use Rattle.laws.specs.positions.Places.{numbered-at, among-places, count-places}
 use Rattle.words.specs.tokens.Answers.{end-answer}
 use Rattle.words.specs.declared.tokens.Run.the-variants as run
-use Rattle.words.specs.words.Words.{some-trees}
-use Rattle.reciprocals.specs.settle.Steps.{settled-words}
-use Rattle.reciprocals.specs.settle.Answers.{Settling, settling-by, forest-there, room-for, settling}
+use Rattle.words.proofs.words.Rewriting.{one-long}
+use Rattle.reciprocals.specs.settle.Answers.{Settling, settling}
+use Rattle.reciprocals.specs.declared.settle.Settled.{Settled}
 use Rattle.reciprocals.specs.declared.settle.Settled.the-variants as settled
-use Rattle.reciprocals.proofs.settle.Stepping.{Divisor}
-use Rattle.reciprocals.specs.reciprocal.Bindings.{one-over, Binding, written-by, settled-by, settled-reciprocal, binding-by, reciprocal-answer}
-use Rattle.reciprocals.specs.declared.reciprocal.Bound.{Bound}
-use Rattle.reciprocals.specs.declared.reciprocal.Bound.the-variants as bound
-use Rattle.reciprocals.proofs.reciprocal.Quotient.{one-tree-over, one-over-long}
+use Rattle.reciprocals.specs.divisors.Places.{Inside}
+use Rattle.reciprocals.specs.reciprocal.Bindings.{one-over, no-division-words, is-plain, whole-reciprocal, Bound-so}
+use Rattle.reciprocals.proofs.bindings.Parts.{settle-tree, reciprocal, All-there}
+use Rattle.reciprocals.proofs.settle.Stepping.{Divisor, divisor-there}
+use Rattle.reciprocals.proofs.divisors.Counting.{among-counted}
+use Rattle.reciprocals.proofs.divisors.Within.{inside-take, inside-drop}
+use Rattle.reciprocals.proofs.reciprocal.Reading.{run-trees, over-complete, over-long, over-read}
+use Rattle.reciprocals.proofs.reciprocal.Made.{divisors, divisor, made, made-words, run-is, divisor-inside, so-made}
+use Rattle.reciprocals.proofs.reciprocal.Whole.{settled-from, settling-is}
+use Rattle.reciprocals.proofs.reciprocal.Unmoved.{read-kept, over-settled}
 
-module _ (base places : List ℕ) (first j : ℕ) (old : List ℕ) where
-  abbrev pub place : ℕ
+-- ---- the test
+
+fails : (b : Bool) → not b ≡ true → b ≡ false
+fails true e = sym e
+fails false e = refl
+
+passes : (b : Bool) → not b ≡ false → b ≡ true
+passes true e = refl
+passes false e = sym e
+
+pub not-plain : (base later : List ℕ) (place n : ℕ) (b : Bool) → b ≡ no-division-words (take n (drop place base)) → not b ≡ true → false ≡ is-plain base later place n
+unfolding is-plain
+not-plain base later place n b e f = ap (λ (x : Bool). x && not (among-places base place later)) (sym (fails b f) ∙ e)
+
+pub plain-by :
+    (base later : List ℕ) (place n : ℕ) (b : Bool) → b ≡ no-division-words (take n (drop place base)) → not b ≡ false
+    → (c : ℕ) → c ≡ count-places base place later → eqb c 0 ≡ is-plain base later place n
+unfolding is-plain
+plain-by base later place n b e f c g =
+    ap (λ (x : ℕ). eqb x 0) g
+    ∙ (none-counted (count-places base place later)
+    ∙ (ap not (sym (among-counted base place later)) ∙ ap (λ (x : Bool). x && not (among-places base place later)) (sym (passes b f) ∙ e)))
+  where
+    none-counted : (k : ℕ) → eqb k 0 ≡ not (leb 1 k)
+    none-counted zero = refl
+    none-counted (suc k) = ne-eqb (suc k) 0 (λ e. omega arith) ∙ sym (ap not (le-leb 1 (suc k) (omega arith)))
+
+-- of the places past j, as they are lent
+pub plain-rest :
+    (base places : List ℕ) (j place n : ℕ) (b : Bool) → b ≡ is-plain base (take (length places - (j + 1)) (drop (j + 1) places)) place n → b ≡ true
+    → is-plain base (drop (j + 1) places) place n ≡ true
+plain-rest base places j place n b e f = ap (λ (l : List ℕ). is-plain base l place n) (sym (rest-is places (j + 1))) ∙ (sym e ∙ f)
+
+-- ---- where the divisor stands
+
+-- it has a word
+pub before-end : (base : List ℕ) (place end : ℕ) → Divisor base place end → place < end
+before-end base place end d =
+    let k = end - place in
+    omega (arith, one-long (take k (drop place base)) (d .one), length-take k (drop place base), d .after)
+
+one-inside : (base : List ℕ) (p n : ℕ) → run-at base p ≡ some n → p < length base
+unfolding end-answer
+one-inside base p n e =
+    let d = divisor-there base p (p + n) (sym (ap (end-answer p) e)) in
+    omega (arith, d .within, before-end base p (p + n) d)
+
+there-inside : (base l : List ℕ) → All-there base l → Inside (length base) l
+there-inside base [] h = tt
+there-inside base (p ∷ l) h = (one-inside base p (h .0 .0) (h .0 .1), there-inside base l (h .1))
+
+-- those past j, as they are lent
+pub rest-inside : (base places : List ℕ) (j : ℕ) → All-there base places → Inside (length base) (take (length places - (j + 1)) (drop (j + 1) places))
+rest-inside base places j h =
+    inside-take (length base) (length places - (j + 1)) (drop (j + 1) places) (inside-drop (length base) (j + 1) places (there-inside base places h))
+
+head-same : (a b : Tree) → a ∷ [] ≡ b ∷ [] → a ≡ b
+head-same a b e = cc
+
+-- ---- the words in front
+
+module _ (base places : List ℕ) (first j : ℕ) (h : j < length places) (there : All-there base places) (few : length base ≤ 1927) (old mid : List ℕ) (room : 2 + length base ≤ length old)
+    (end : ℕ) (ended : Divisor base (getD places j 0) end)
+    (written : mid ≡ one-over base (getD places j 0) (end - getD places j 0) ++ drop (2 + (end - getD places j 0)) old) where
+  abbrev place : ℕ
   place = getD places j 0
 
-  abbrev pub Answers : Bound → List ℕ → Type 0
-  Answers r out = (r ≡ reciprocal-answer base places first j old .answer) × (out ≡ reciprocal-answer base places first j old .out)
+  abbrev d : Tree
+  d = divisor base places first j
 
-  answers-by : (b : Bool) (o : Option ℕ) → ltb j (length places) ≡ b → run-at base place ≡ o → (r : Bound) (out : List ℕ) → binding-by base places first j b o old ≡ record { answer = r; out = out } → Answers r out
-  unfolding reciprocal-answer
-  answers-by b o e f r out q =
-      let s : reciprocal-answer base places first j old ≡ record { answer = r; out = out } =
-      ap (λ (x : Bool). binding-by base places first j x (run-at base place) old) e ∙ (ap (λ (y : Option ℕ). binding-by base places first j b y old) f ∙ q) in
-      (sym (ap (λ (x : Binding). x .answer) s), sym (ap (λ (x : Binding). x .out) s))
+  abbrev many : ℕ
+  many = end - getD places j 0
 
-  pub no-number : length places ≤ j → Answers bound.Broken old
-  unfolding binding-by
-  no-number h = answers-by false (run-at base place) (le-ltb j (length places) h) refl bound.Broken old refl
+  abbrev over : List ℕ
+  over = one-over base (getD places j 0) (end - getD places j 0)
 
-  module _ (h : j < length places) where
-    pub no-divisor : run.Broken ≡ end-answer place (run-at base place) → Answers bound.Broken old
-    unfolding end-answer binding-by
-    no-divisor e = go (run-at base place) refl e
-      where
-        go : (o : Option ℕ) → run-at base place ≡ o → run.Broken ≡ end-answer place o → Answers bound.Broken old
-        go none s q = answers-by true none (lt-ltb j (length places) h) s bound.Broken old refl
-        go (some n) s q = let z : _≡_ {A = ℕ} 0 1 = cc in absurd (omega arith)
+  stands : run-at base (getD places j 0) ≡ some (end - getD places j 0)
+  stands = ended .stands
 
-    module _ (end : ℕ) (there : Divisor base place end) where
-      abbrev pub many : ℕ
-      many = end - place
+  many-is : end - getD places j 0 ≡ size (divisor base places first j)
+  many-is = let e : some many ≡ some (size d) = sym stands ∙ run-is base places first j h there in cc
 
-      abbrev became : Option (List ℕ)
-      became = settled-reciprocal base places first j many
+  long-is : length over ≡ 2 + many
+  long-is = over-long base place many stands
 
-      abbrev room : Bool
-      room = room-for (2 + many) first (length places)
+  pub mid-long : length mid ≡ length old
+  mid-long = omega (arith, ap length written, length-append over (drop (2 + many) old), length-drop (2 + many) old, long-is, ended .within, room)
 
-      answers-on : (a : Bool) (o : Option (List ℕ)) → room ≡ a → became ≡ o → (r : Bound) (out : List ℕ) → settled-by a o old ≡ record { answer = r; out = out } → Answers r out
-      unfolding binding-by
-      answers-on a o e f r out q =
-          answers-by true (some many) (lt-ltb j (length places) h) (there .stands) r out
-          (ap (λ (x : Bool). settled-by x became old) e ∙ (ap (λ (y : Option (List ℕ)). settled-by a y old) f ∙ q))
+  pub front-fits : 2 + (end - getD places j 0) ≤ length mid
+  front-fits = omega (arith, mid-long, ended .within, room)
 
-      pub too-long : 9362 - 2 < many → Answers bound.NoRoom old
-      unfolding room-for settled-by
-      too-long g = answers-on false became (rw (lt-leb (2 + many) 9362 (omega (arith, g))) refl) refl bound.NoRoom old refl
+  front : take (2 + many) mid ≡ over
+  front = ap (take (2 + many)) written ∙ take-at over (drop (2 + many) old) (2 + many) long-is
 
-      run-within : many ≤ length (drop place base)
-      run-within = omega (arith, length-drop place base, there .within, there .after)
+  pub bound-plain : is-plain base (drop (j + 1) places) (getD places j 0) (end - getD places j 0) ≡ true → Bound-so (whole-reciprocal base places first j) (2 + (end - getD places j 0)) mid
+  unfolding is-plain
+  bound-plain p =
+      let part = take many (drop place base) in
+      let later = drop (j + 1) places in
+      let among = among-places base place later in
+      let both : T (no-division-words part && not among) = subst T (sym p) tt in
+      let plain = and-left (no-division-words part) (not among) both in
+      let new : among-places base place later ≡ false = not-true among (not-so among (and-right (no-division-words part) (not among) both)) in
+      let i : j + 1 ≡ suc j = omega arith in
+      let same : made base places first j ≡ reciprocal d =
+      ap (λ (l : List Tree). settle-tree l (suc (first + j)) (reciprocal d)) (sym (map-drop (numbered-at base) (suc j) places))
+      ∙ (ap (λ (x : ℕ). settle-tree (map (numbered-at base) (drop x places)) (suc (first + j)) (reciprocal d)) (sym i)
+      ∙ over-settled base place (λ x n. still part plain x n) later (suc (first + j)) new) in
+      let ws : made-words base places first j ≡ over =
+      ap (λ (t : Tree). all-tokens unnumbered (t ∷ [])) same
+      ∙ (ap (all-tokens unnumbered) (sym (over-read base place many stands)) ∙ writes-back over 1 (over-complete base place many stands)) in
+      so-made base places first j h there mid (2 + many) (omega (arith, long-is, ap length ws)) (front ∙ sym ws) front-fits
+    where
+      still : (part : List ℕ) → T (no-division-words (take many (drop place base))) → (x : Tree) (n : Name) → replace-divisor x n d ≡ d
+      still part plain x n =
+          let r : read numbered (take many (drop place base)) ≡ d ∷ [] = run-trees base place many stands in
+          head-same (replace-divisor x n d) d (sym (ap (map (replace-divisor x n)) r) ∙ (read-kept x n (take many (drop place base)) plain ∙ r))
 
-      module _ (area work : List ℕ) (written : work ≡ one-over base place many ++ drop (2 + many) area) where
-        over-long : length (one-over base place many) ≡ 2 + many
-        over-long = one-over-long base place many run-within
+  module _ (low : first ≤ 4294967296) (less : length places ≤ 4294967296) where
+    whole-over : trees-in (take (2 + many) mid) ≡ some 1
+    whole-over = ap trees-in front ∙ over-complete base place many stands
 
-        front : take (2 + many) work ≡ one-over base place many
-        front = ap (take (2 + many)) written ∙ take-at (one-over base place many) (drop (2 + many) area) (2 + many) over-long
+    abbrev S : List ℕ
+    S = settled-from base places there (j + 1) first mid (2 + many) 1 whole-over front-fits (omega (arith, few, ended .within)) low less
 
-        long-enough : 2 + many ≤ length work
-        long-enough = omega (arith, ap length written, length-append (one-over base place many) (drop (2 + many) area), over-long)
+    S-is : S ≡ made-words base places first j
+    S-is =
+        let i : j + 1 ≡ suc j = omega arith in
+        let k : first + (j + 1) ≡ suc (first + j) = omega arith in
+        let ds = divisors base places first j in
+        let r : read numbered (take (2 + many) mid) ≡ reciprocal d ∷ [] = ap (read numbered) front ∙ over-read base place many stands in
+        ap (λ (l : List Tree). all-tokens unnumbered (map (settle-tree (drop (j + 1) ds) (first + (j + 1))) l)) r
+        ∙ (ap (λ (x : ℕ). all-tokens unnumbered (settle-tree (drop x ds) (first + (j + 1)) (reciprocal d) ∷ [])) i
+        ∙ ap (λ (x : ℕ). all-tokens unnumbered (settle-tree (drop (suc j) ds) x (reciprocal d) ∷ [])) k)
 
-        stands : forest-there work (2 + many) ≡ true
-        unfolding forest-there some-trees
-        stands =
-            let c : trees-in (take (2 + many) work) ≡ some 1 = ap trees-in front ∙ one-tree-over base place many (there .one) in
-            rw (le-leb (2 + many) (length work) long-enough) (rw c refl)
+    abbrev left : Settling
+    left = settling base places (j + 1) first mid (2 + (end - getD places j 0))
 
-        abbrev pub left : Settling
-        left = settling base places (j + 1) first work (2 + many)
+    left-is : settling base places (j + 1) first mid (2 + (end - getD places j 0)) ≡ record { answer = settled.Words (length (made-words base places first j)); out = made-words base places first j ++ drop (length (made-words base places first j)) mid }
+    left-is =
+        settling-is base places there (j + 1) first mid (2 + many) 1 whole-over front-fits (omega (arith, few, ended .within)) low less
+        ∙ ap (λ (l : List ℕ). record { answer = settled.Words (length l); out = l ++ drop (length l) mid }) S-is
 
-        left-is : (a : Bool) (o : Option (List ℕ)) → room ≡ a → became ≡ o → left ≡ settling-by true a o work
-        unfolding settling settled-reciprocal
-        left-is a o e f =
-            let g : settled-words base (drop (j + 1) places) (first + (j + 1)) (take (2 + many) work) ≡ o = ap (settled-words base (drop (j + 1) places) (first + (j + 1))) front ∙ f in
-            ap (λ (x : Bool). settling-by x room (settled-words base (drop (j + 1) places) (first + (j + 1)) (take (2 + many) work)) work) stands
-            ∙ (ap (λ (x : Bool). settling-by true x (settled-words base (drop (j + 1) places) (first + (j + 1)) (take (2 + many) work)) work) e
-            ∙ ap (λ (y : Option (List ℕ)). settling-by true a y work) g)
+    pub bound-settled :
+        (m : ℕ) (out : List ℕ) → settled.Words m ≡ settling base places (j + 1) first mid (2 + (end - getD places j 0)) .answer
+        → out ≡ settling base places (j + 1) first mid (2 + (end - getD places j 0)) .out → Bound-so (whole-reciprocal base places first j) m out
+    bound-settled m out e f =
+        let new = made-words base places first j in
+        let q : settled.Words m ≡ settled.Words (length new) = e ∙ ap (λ (s : Settling). s .answer) left-is in
+        let c : m ≡ length new = cc in
+        let o : out ≡ new ++ drop (length new) mid = f ∙ ap (λ (s : Settling). s .out) left-is in
+        so-made base places first j h there out m c (ap (take m) o ∙ take-at new (drop (length new) mid) m (sym c)) (omega (arith, c, ap length o, length-append new (drop (length new) mid)))
 
-        pub unsettled : settled.Broken ≡ left .answer → Answers bound.Broken old
-        unfolding settling-by settled-by
-        unsettled e = go room became refl refl
-          where
-            go : (a : Bool) (o : Option (List ℕ)) → room ≡ a → became ≡ o → Answers bound.Broken old
-            go false o s t = let q : settled.Broken ≡ settled.NoRoom = e ∙ ap (λ (x : Settling). x .answer) (left-is false o s t) in let z : _≡_ {A = ℕ} 0 1 = cc in absurd (omega arith)
-            go true none s t = answers-on true none s t bound.Broken old refl
-            go true (some new) s t = let q : settled.Broken ≡ settled.Words (length new) = e ∙ ap (λ (x : Settling). x .answer) (left-is true (some new) s t) in let z : _≡_ {A = ℕ} 0 1 = cc in absurd (omega arith)
-
-        pub full : settled.NoRoom ≡ left .answer → Answers bound.NoRoom old
-        unfolding settling-by settled-by
-        full e = go room became refl refl
-          where
-            go : (a : Bool) (o : Option (List ℕ)) → room ≡ a → became ≡ o → Answers bound.NoRoom old
-            go false o s t = answers-on false o s t bound.NoRoom old refl
-            go true none s t = let q : settled.NoRoom ≡ settled.Broken = e ∙ ap (λ (x : Settling). x .answer) (left-is true none s t) in let z : _≡_ {A = ℕ} 0 1 = cc in absurd (omega arith)
-            go true (some new) s t = let q : settled.NoRoom ≡ settled.Words (length new) = e ∙ ap (λ (x : Settling). x .answer) (left-is true (some new) s t) in let z : _≡_ {A = ℕ} 0 1 = cc in absurd (omega arith)
-
-        module _ (m : ℕ) (after : List ℕ) (e : settled.Words m ≡ left .answer) (f : after ≡ left .out) where
-          record New : Type 0 where
-            new : List ℕ
-            enough : room ≡ true
-            is : became ≡ some new
-            count : m ≡ length new
-            leaves : after ≡ new ++ drop (length new) work
-
-          new-there : New
-          unfolding settling-by
-          new-there = go room became refl refl
-            where
-              go : (a : Bool) (o : Option (List ℕ)) → room ≡ a → became ≡ o → New
-              go false o s t = let q : settled.Words m ≡ settled.NoRoom = e ∙ ap (λ (x : Settling). x .answer) (left-is false o s t) in let z : _≡_ {A = ℕ} 0 1 = cc in absurd (omega arith)
-              go true none s t = let q : settled.Words m ≡ settled.Broken = e ∙ ap (λ (x : Settling). x .answer) (left-is true none s t) in let z : _≡_ {A = ℕ} 0 1 = cc in absurd (omega arith)
-              go true (some new) s t =
-                  let q : settled.Words m ≡ settled.Words (length new) = e ∙ ap (λ (x : Settling). x .answer) (left-is true (some new) s t) in
-                  let c : m ≡ length new = cc in
-                  record { new = new; enough = s; is = t; count = c; leaves = f ∙ ap (λ (x : Settling). x .out) (left-is true (some new) s t) }
-
-          taken : (x : New) → take m after ≡ x .new
-          taken x = ap (take m) (x .leaves) ∙ take-at (x .new) (drop (length (x .new)) work) m (sym (x .count))
-
-          pub in-area : m ≤ length after
-          in-area = let x = new-there in omega (arith, x .count, ap length (x .leaves), length-append (x .new) (drop (length (x .new)) work))
-
-          pub taken-long : length (take m after) ≡ m
-          taken-long = length-take-le m after in-area
-
-          pub small-out : length old < m → Answers bound.NoRoom old
-          unfolding settled-by written-by
-          small-out g =
-              let x = new-there in
-              answers-on true (some (x .new)) (x .enough) (x .is) bound.NoRoom old
-              (ap (λ (b : Bool). written-by b (x .new) old) (lt-leb (length (x .new)) (length old) (omega (arith, g, x .count))))
-
-          pub bound-so : m ≤ length old → (out : List ℕ) → out ≡ take m after ++ drop (length (take m after)) old → Answers (bound.Words m) out
-          unfolding settled-by written-by
-          bound-so g out q =
-              let x = new-there in
-              let w : out ≡ x .new ++ drop (length (x .new)) old = q ∙ ap (λ (l : List ℕ). l ++ drop (length l) old) (taken x) in
-              answers-on true (some (x .new)) (x .enough) (x .is) (bound.Words m) out
-              (ap (λ (b : Bool). written-by b (x .new) old) (le-leb (length (x .new)) (length old) (omega (arith, g, x .count)))
-              ∙ (ap (λ (i : ℕ). record { answer = bound.Words i; out = x .new ++ drop (length (x .new)) old }) (sym (x .count))
-              ∙ ap (λ (l : List ℕ). record { answer = bound.Words m; out = l }) (sym w)))
+    pub always-settled : (b : Settled) → b ≡ settling base places (j + 1) first mid (2 + (end - getD places j 0)) .answer → (b ≡ settled.Broken → ⊥) × (b ≡ settled.NoRoom → ⊥)
+    always-settled b e =
+        let q : b ≡ settled.Words (length (made-words base places first j)) = e ∙ ap (λ (s : Settling). s .answer) left-is in
+        ((λ x. let z : _≡_ {A = ℕ} 0 1 = cc in omega arith), (λ x. let z : _≡_ {A = ℕ} 0 1 = cc in omega arith))

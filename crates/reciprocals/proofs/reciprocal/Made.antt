@@ -1,15 +1,12 @@
--- Where a tree stands at each place and there is room, binding the reciprocal of number j answers with the words of element j of the settled reciprocals, at most
--- two more than the divisor's (01, "Reciprocals"). Assumes nothing.
+-- Where a tree stands at each place, the words of the reciprocal of number j are those of element j of the settled reciprocals, at most two more than the
+-- divisor's (01, "Reciprocals"). Assumes nothing.
 use Prim.Native.Nat.{ℕ, zero, suc, _+_, _≤_, _<_}
 use native.Mathlib.Omega.{arith}
-use mathlib.Core.Path.{_≡_, refl, sym, _∙_, ap}
-use mathlib.Core.Bool.{Bool, true}
+use mathlib.Core.Path.{_≡_, refl, sym, _∙_, ap, subst}
 use mathlib.Core.Option.{Option, some}
 use mathlib.Core.List.{List, [], _∷_, _++_, map}
-use borrow.Author.Tests.{le-leb, lt-leb, lt-ltb}
 use lib.ListN.{length, getD, take, drop}
 use lib.Seq.{drop-cons, take-suc}
-use lib.Dec.{leb}
 use Rattle.spec_tree.specs.Facts.{size}
 use Rattle.spec_tree.specs.Tree.{Tree}
 use Rattle.spec_tree.specs.Tokens.{all-tokens, read, numbered, run-at, trees-in}
@@ -17,10 +14,8 @@ use Rattle.spec_tree.proofs.TokenLaws.{map-drop}
 use Rattle.spec_tree.proofs.TokenCode.{unnumbered, all-tokens-append}
 use Rattle.laws.specs.positions.Places.{numbered-at}
 use Rattle.reciprocals.specs.settle.Steps.{settled-words}
-use Rattle.reciprocals.specs.settle.Answers.{room-for}
 use Rattle.reciprocals.proofs.bindings.Parts.{settle-tree, reciprocal, settled-reciprocals, reciprocal-of, All-there, settled-are}
-use Rattle.reciprocals.specs.reciprocal.Bindings.{one-over, written-by, settled-by, settled-reciprocal, binding-by, reciprocal-answer}
-use Rattle.reciprocals.specs.declared.reciprocal.Bound.the-variants as bound
+use Rattle.reciprocals.specs.reciprocal.Bindings.{one-over, settled-reciprocal, whole-reciprocal, Bound-so}
 use Rattle.reciprocals.proofs.reciprocal.There.{there-after, there-at}
 use Rattle.reciprocals.proofs.reciprocal.Reading.{inside, run-long, over-complete, over-long, over-read, settled-no-more, settled-complete, settled-read}
 
@@ -125,32 +120,13 @@ module _ (base places : List ℕ) (first j : ℕ) where
           ap (λ (l : List Tree). read numbered (all-tokens unnumbered l)) (sym settled-over)
           ∙ (settled-read (drop (suc j) divisors) (suc (first + j)) over ∙ settled-over)
 
-      -- ---- what binding answers
+      -- ---- what binding leaves
 
-      module _ (small : 2 + size divisor ≤ 9362) (low : first ≤ 4294967296) (few : length places ≤ 4294967296) (old : List ℕ) where
-        room : room-for (2 + size divisor) first (length places) ≡ true
-        unfolding room-for
-        room = rw (le-leb (2 + size divisor) 9362 small) (rw (le-leb first 4294967296 low) (rw (le-leb (length places) 4294967296 few) refl))
+      -- the words in front are those
+      pub made-so : (out : List ℕ) (n : ℕ) → Bound-so (whole-reciprocal base places first j) n out → (n ≡ length made-words) × (take n out ≡ made-words) × (n ≤ length out)
+      unfolding Bound-so whole-reciprocal
+      made-so out n s = subst (λ (o : Option (List ℕ)). Bound-so o n out) became s
 
-        -- all turns on whether the words fit
-        pub answer-is : reciprocal-answer base places first j old ≡ written-by (leb (length made-words) (length old)) made-words old
-        unfolding reciprocal-answer binding-by settled-by
-        answer-is =
-            ap (λ (b : Bool). binding-by base places first j b (run-at base (getD places j 0)) old) (lt-ltb j (length places) h)
-            ∙ (ap (λ (o : Option ℕ). binding-by base places first j true o old) run-is
-            ∙ (ap (λ (b : Bool). settled-by b (settled-reciprocal base places first j (size divisor)) old) room
-            ∙ ap (λ (o : Option (List ℕ)). settled-by true o old) became))
-
-        pub bound-when : length made-words ≤ length old → reciprocal-answer base places first j old ≡ record { answer = bound.Words (length made-words); out = made-words ++ drop (length made-words) old }
-        unfolding written-by
-        bound-when fits = answer-is ∙ ap (λ (b : Bool). written-by b made-words old) (le-leb (length made-words) (length old) fits)
-
-        pub full-when : length old < length made-words → reciprocal-answer base places first j old ≡ record { answer = bound.NoRoom; out = old }
-        unfolding written-by
-        full-when short = answer-is ∙ ap (λ (b : Bool). written-by b made-words old) (lt-leb (length made-words) (length old) short)
-
-      -- where two more words than the base's can be settled and are lent
-      pub bound-always :
-          2 + length base ≤ 9362 → first ≤ 4294967296 → length places ≤ 4294967296 → (old : List ℕ) → 2 + length base ≤ length old
-          → reciprocal-answer base places first j old ≡ record { answer = bound.Words (length made-words); out = made-words ++ drop (length made-words) old }
-      bound-always small low few old lent = bound-when (omega (arith, small, divisor-inside)) low few old (omega (arith, made-within, lent))
+      pub so-made : (out : List ℕ) (n : ℕ) → n ≡ length made-words → take n out ≡ made-words → n ≤ length out → Bound-so (whole-reciprocal base places first j) n out
+      unfolding Bound-so whole-reciprocal
+      so-made out n e f l = subst (λ (o : Option (List ℕ)). Bound-so o n out) (sym became) (e, f, l)

@@ -76,10 +76,14 @@ module _ (base : List ℕ) (place n : ℕ) (stands : run-at base place ≡ some 
   pub over-long : length (one-over base place n) ≡ 2 + n
   over-long = one-over-long base place n run-within
 
+  -- one tree is read from them
+  pub run-trees : read numbered run ≡ divisor ∷ []
+  unfolding tree-of
+  run-trees = one-alone (read numbered run) (complete-length numbered run 1 one-run) ∙ ap (λ (t : Tree). t ∷ []) run-read
+
   pub over-read : read numbered (one-over base place n) ≡ reciprocal divisor ∷ []
-  unfolding one-over tree-of
-  over-read =
-      read-over run divisor (one-alone (read numbered run) (complete-length numbered run 1 one-run) ∙ ap (λ (t : Tree). t ∷ []) run-read)
+  unfolding one-over
+  over-read = read-over run divisor run-trees
 
 -- ---- settled trees
 

@@ -23,7 +23,7 @@ use Rattle.reciprocals.proofs.reciprocal.Reading.{settled-no-more, sett
 
 module _ (base places : List ℕ) (there : All-there base places) where
   -- any words, by the divisors from any number on
-  module _ (from first : ℕ) (old : List ℕ) (len m : ℕ) (complete : trees-in (take len old) ≡ some m) (lent : len ≤ length old) (small : len ≤ 9362) (low : first ≤ 4294967296) (few : length places ≤ 4294967296) where
+  module _ (from first : ℕ) (old : List ℕ) (len m : ℕ) (complete : trees-in (take len old) ≡ some m) (lent : len ≤ length old) (small : len ≤ 1929) (low : first ≤ 4294967296) (few : length places ≤ 4294967296) where
     abbrev pub settled-from : List ℕ
     settled-from = all-tokens unnumbered (map (settle-tree (drop from (map (numbered-at base) places)) (first + from)) (read numbered (take len old)))
 
@@ -33,7 +33,7 @@ module _ (base places : List ℕ) (there : All-there base places) where
 
     room : room-for len first (length places) ≡ true
     unfolding room-for
-    room = rw (le-leb len 9362 small) (rw (le-leb first 4294967296 low) (rw (le-leb (length places) 4294967296 few) refl))
+    room = rw (le-leb len 1929 small) (rw (le-leb first 4294967296 low) (rw (le-leb (length places) 4294967296 few) refl))
 
     became : settled-words base (drop from places) (first + from) (take len old) ≡ some settled-from
     became =
@@ -56,7 +56,7 @@ module _ (base places : List ℕ) (there : All-there base places) where
     first-words = all-tokens unnumbered first-trees
 
     pub first-settled :
-        (old : List ℕ) → take (length base) old ≡ base → length base ≤ length old → length base ≤ 9362 → first ≤ 4294967296 → length places ≤ 4294967296
+        (old : List ℕ) → take (length base) old ≡ base → length base ≤ length old → length base ≤ 1929 → first ≤ 4294967296 → length places ≤ 4294967296
         → settling base places 0 first old (length base) ≡ record { answer = settled.Words (length first-words); out = first-words ++ drop (length first-words) old }
     first-settled old copy lent small low few =
         let i : first + 0 ≡ first = omega arith in

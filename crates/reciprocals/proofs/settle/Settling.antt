@@ -186,24 +186,24 @@ module _ (base places : List ℕ) (from first : ℕ) (old : List ℕ) (len : ℕ
     unfolding settling-by
     full e = answers-by true false there e settled.NoRoom old refl
 
-    pub long-list : 9362 < len → Answers settled.NoRoom old
+    pub long-list : 1929 < len → Answers settled.NoRoom old
     unfolding room-for
-    long-list g = full (rw (lt-leb len 9362 g) refl)
+    long-list g = full (rw (lt-leb len 1929 g) refl)
 
-    module _ (short : len ≤ 9362) where
+    module _ (short : len ≤ 1929) where
       pub high-number : 4294967296 < first → Answers settled.NoRoom old
       unfolding room-for
-      high-number g = full (rw (le-leb len 9362 short) (rw (lt-leb first 4294967296 g) refl))
+      high-number g = full (rw (le-leb len 1929 short) (rw (lt-leb first 4294967296 g) refl))
 
       module _ (low : first ≤ 4294967296) where
         pub many-places : 4294967296 < length places → Answers settled.NoRoom old
         unfolding room-for
-        many-places g = full (rw (le-leb len 9362 short) (rw (le-leb first 4294967296 low) (rw (lt-leb (length places) 4294967296 g) refl)))
+        many-places g = full (rw (le-leb len 1929 short) (rw (le-leb first 4294967296 low) (rw (lt-leb (length places) 4294967296 g) refl)))
 
         module _ (few : length places ≤ 4294967296) where
           room : room-for len first (length places) ≡ true
           unfolding room-for
-          room = rw (le-leb len 9362 short) (rw (le-leb first 4294967296 low) (rw (le-leb (length places) 4294967296 few) refl))
+          room = rw (le-leb len 1929 short) (rw (le-leb first 4294967296 low) (rw (le-leb (length places) 4294967296 few) refl))
 
           -- no divisor is left to replace
           pub nothing-to-settle : length places ≤ from → Answers (settled.Words len) old

@@ -3,6 +3,7 @@
 use Prim.Native.Nat.{ℕ, zero, suc, _+_, _-_, _≤_, _<_}
 use native.Mathlib.Omega.{arith}
 use mathlib.Core.Path.{_≡_, refl, sym, _∙_, ap, subst}
+use mathlib.Core.Bool.{Bool, true, false, not}
 use mathlib.Core.Option.{Option, none, some}
 use mathlib.Core.List.{List, [], _∷_, _++_}
 use lib.ListN.{length, getD, take, drop, length-drop, length-append}
@@ -22,8 +23,9 @@ use Rattle.words.specs.declared.words.Rewritten.the-variants as rewritten
 use Rattle.words.proofs.words.Requests.{all-sound}
 use Rattle.words.proofs.words.Rewriting.{Segment, segment, one-long}
 use Rattle.replace.proofs.divisor.Chaining.{never-longer, as-many-trees}
-use Rattle.reciprocals.specs.settle.Steps.{step-words}
+use Rattle.reciprocals.specs.settle.Steps.{stand-among, step-words}
 use Rattle.reciprocals.specs.settle.Answers.{stepped-answer, Front}
+use Rattle.reciprocals.proofs.settle.Missing.{words-stay}
 use Rattle.reciprocals.specs.declared.settle.Stepped.{Stepped}
 use Rattle.reciprocals.specs.declared.settle.Stepped.the-variants as stepped
 
@@ -149,3 +151,24 @@ module _ (base : List ℕ) (place end name : ℕ) (ws spare : List ℕ) (there :
       let g : after ≡ new ++ drop (length new) work = f ∙ ap (λ (l : List ℕ). l ++ drop (length l) work) t in
       subst (λ (w : Option (List ℕ)). (stepped.Words n ≡ stepped-answer w) × Front w after) (sym step-makes)
       (ap stepped.Words c, ap (take (length new)) g ∙ take-at new (drop (length new) work) (length new) refl)
+
+-- where the divisor's words don't stand among the words, these stay
+pub stays-so :
+    (base : List ℕ) (place end name len : ℕ) (work : List ℕ) → Divisor base place end → len ≤ length work → Complete (take len work)
+    → (b : Bool) → b ≡ stand-among (take (end - place) (drop place base)) (take len work) → not b ≡ true
+    → Ends base place name (take len work) (stepped.Words len) work
+unfolding stepped-answer Front
+stays-so base place end name len work there h c b e f =
+    let d = take (end - place) (drop place base) in
+    let ws = take len work in
+    let l = length-take-le len work h in
+    let missing : stand-among d ws ≡ false = sym e ∙ fails b f in
+    let same : rewritten-words (replace-divisor (tree-of d) (name-of name)) ws ≡ ws = words-stay d (there .one) (name-of name) ws c missing in
+    let became : step-words base place (name-of name) ws ≡ some ws =
+    step-on base place (name-of name) ws (some (end - place)) (there .stands)
+    ∙ (ap (λ (t : Tree). some (rewritten-words (replace-divisor t (name-of name)) ws)) (sym (there .read-so)) ∙ ap some same) in
+    subst (λ (w : Option (List ℕ)). (stepped.Words len ≡ stepped-answer w) × Front w work) (sym became) (ap stepped.Words (sym l), ap (λ (i : ℕ). take i work) l)
+  where
+    fails : (b : Bool) → not b ≡ true → b ≡ false
+    fails true q = sym q
+    fails false q = refl

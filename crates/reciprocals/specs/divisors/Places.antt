@@ -3,16 +3,31 @@ use Prim.Native.Nat.{ℕ, _<_}
 use mathlib.Core.Path.{_≡_}
 use mathlib.Core.Bool.{Bool, not, _&&_, cond}
 use mathlib.Core.List.{List, [], _∷_, _++_}
-use lib.ListN.{length, getD, take, drop}
+use lib.ListN.{length, getD, take, drop, set}
 use lib.Dec.{leb}
+use Rattle.spec_tree.specs.Facts.{size}
 use Rattle.rounds.specs.uses.Marks.{is-marked}
 use Rattle.reciprocals.specs.divisors.Listing.{second-answer}
-use Rattle.laws.specs.positions.Places.{divisor-places, outside-at, among-places, count-places, distinct-places, shared-places}
+use Rattle.laws.specs.positions.Places.{numbered-at, divisor-places, outside-at, among-places, count-places, distinct-places, shared-places}
 
 -- each place is below n
 abbrev pub Inside : ℕ → List ℕ → Type 0
 Inside n [] = Unit {0}
 Inside n (q ∷ l) = (q < n) × Inside n l
+
+-- the size of the tree at a place stands there in a table, and so at each of some places
+abbrev pub Size-there : List ℕ → List ℕ → ℕ → Type 0
+Size-there ws sizes q = (q < length sizes) × (getD sizes q 0 ≡ size (numbered-at ws q))
+
+abbrev pub Sized : List ℕ → List ℕ → List ℕ → Type 0
+Sized ws sizes [] = Unit {0}
+Sized ws sizes (q ∷ l) = Size-there ws sizes q × Sized ws sizes l
+
+-- they are put there
+unfoldable pub with-sizes : List ℕ → List ℕ → List ℕ → List ℕ
+unfolding size numbered-at
+with-sizes ws [] sizes = sizes
+with-sizes ws (q ∷ l) sizes = with-sizes ws l (set sizes q (size (numbered-at ws q)))
 
 -- places stand in front, n of them, and everything after is as it was
 pub record Listed (new old : List ℕ) (n : ℕ) (out : List ℕ) : Type 0 where

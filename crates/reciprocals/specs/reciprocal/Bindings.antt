@@ -1,17 +1,18 @@
--- The binding of one divisor's reciprocal as words (01, "Reciprocals"): the words of `1 / d` settled by the divisors after it, and what binding answers and
--- leaves, by cases. Assumes nothing.
-use Prim.Native.Nat.{ℕ, _+_}
-use mathlib.Core.Bool.{Bool, true, false, _&&_}
+-- The binding of one divisor's reciprocal as words (01, "Reciprocals"): the words of `1 / d` settled by the divisors after it, where they stand, and when they stay
+-- as they are. Assumes nothing.
+use Prim.Native.Nat.{ℕ, _+_, _≤_}
+use mathlib.Core.Path.{_≡_}
+use mathlib.Core.Bool.{Bool, true, false, not, _&&_}
 use mathlib.Core.Option.{Option, none, some}
-use mathlib.Core.List.{List, [], _∷_, _++_}
+use mathlib.Core.List.{List, [], _∷_}
 use lib.ListN.{length, getD, take, drop}
-use lib.Dec.{leb, ltb}
-use Rattle.spec_tree.specs.Tokens.{run-at}
+use lib.Dec.{eqb}
+use Rattle.spec_tree.specs.Kinds.{Div}
+use Rattle.spec_tree.specs.Facts.{size}
+use Rattle.spec_tree.specs.Tokens.{run-at, kind-of}
 use Rattle.words.specs.words.Words.{some-trees}
+use Rattle.laws.specs.positions.Places.{numbered-at, among-places}
 use Rattle.reciprocals.specs.settle.Steps.{settled-words}
-use Rattle.reciprocals.specs.settle.Answers.{room-for}
-use Rattle.reciprocals.specs.declared.reciprocal.Bound.{Bound}
-use Rattle.reciprocals.specs.declared.reciprocal.Bound.the-variants as bound
 
 -- whether a tree stands at each place
 unfoldable pub all-there : List ℕ → List ℕ → Bool
@@ -23,22 +24,15 @@ all-there base (place ∷ l) = some-trees (run-at base place) && all-there base 
 unfoldable pub one-over : List ℕ → ℕ → ℕ → List ℕ
 one-over base place n = 134 ∷ 129 ∷ take n (drop place base)
 
--- what binding answers, and the words lent after it
-pub record Binding : Type 0 where
-  pub answer : Bound
-  pub out : List ℕ
+-- none of some words is a division's
+unfoldable pub no-division-words : List ℕ → Bool
+no-division-words [] = true
+no-division-words (w ∷ ws) = not (eqb (kind-of w) Div) && no-division-words ws
 
--- by whether the words fit in what is lent
-unfoldable pub written-by : Bool → List ℕ → List ℕ → Binding
-written-by true new old = record { answer = bound.Words (length new); out = new ++ drop (length new) old }
-written-by false new old = record { answer = bound.NoRoom; out = old }
-
--- by whether there is room to settle, and what the words become
-unfoldable pub settled-by : Bool → Option (List ℕ) → List ℕ → Binding
-unfolding written-by
-settled-by false new old = record { answer = bound.NoRoom; out = old }
-settled-by true none old = record { answer = bound.Broken; out = old }
-settled-by true (some new) old = written-by (leb (length new) (length old)) new old
+-- 1 / d stays as it is: there is no division in d, the n words from a place on, and none of the divisors after it is d
+unfoldable pub is-plain : List ℕ → List ℕ → ℕ → ℕ → Bool
+unfolding no-division-words among-places
+is-plain base later place n = no-division-words (take n (drop place base)) && not (among-places base place later)
 
 module _ (base places : List ℕ) (first j : ℕ) where
   -- the reciprocal of number j is settled from number j + 1 on
@@ -46,13 +40,12 @@ module _ (base places : List ℕ) (first j : ℕ) where
   unfolding settled-words one-over
   settled-reciprocal n = settled-words base (drop (j + 1) places) (first + (j + 1)) (one-over base (getD places j 0) n)
 
-  -- by whether there is a divisor of that number, and how many words it is
-  unfoldable pub binding-by : Bool → Option ℕ → List ℕ → Binding
-  unfolding settled-by settled-reciprocal room-for
-  binding-by false run old = record { answer = bound.Broken; out = old }
-  binding-by true none old = record { answer = bound.Broken; out = old }
-  binding-by true (some n) old = settled-by (room-for (2 + n) first (length places)) (settled-reciprocal n) old
+  -- all words of the divisor of number j
+  unfoldable pub whole-reciprocal : Option (List ℕ)
+  unfolding settled-reciprocal size numbered-at
+  whole-reciprocal = settled-reciprocal (size (numbered-at base (getD places j 0)))
 
-  unfoldable pub reciprocal-answer : List ℕ → Binding
-  unfolding binding-by run-at
-  reciprocal-answer old = binding-by (ltb j (length places)) (run-at base (getD places j 0)) old
+-- words were made, and they stand in front, n of them
+unfoldable pub Bound-so : Option (List ℕ) → ℕ → List ℕ → Type 0
+Bound-so none n out = ⊥
+Bound-so (some new) n out = (n ≡ length new) × (take n out ≡ new) × (n ≤ length out)

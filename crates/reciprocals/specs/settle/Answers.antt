@@ -41,7 +41,7 @@ unfolding trees-in some-trees
 forest-there ws len = leb len (length ws) && some-trees (trees-in (take len ws))
 
 unfoldable pub room-for : ℕ → ℕ → ℕ → Bool
-room-for len first places = leb len 9362 && (leb first 4294967296 && leb places 4294967296)
+room-for len first places = leb len 1929 && (leb first 4294967296 && leb places 4294967296)
 
 -- the first `len` words settled by the steps from number `from` on
 unfoldable pub settling : List ℕ → List ℕ → ℕ → ℕ → List ℕ → ℕ → Settling

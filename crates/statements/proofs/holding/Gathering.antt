@@ -4,12 +4,13 @@ use native.Mathlib.Omega.{arith}
 use mathlib.Core.Path.{_≡_, refl, sym, _∙_, ap}
 use mathlib.Core.Bool.{Bool, true, false}
 use mathlib.Core.List.{List, _++_, map}
-use lib.ListN.{length, take, drop, length-append}
-use lib.Seq.{length-take-le, take-at}
+use lib.ListN.{length, take, length-append}
+use lib.Seq.{length-take-le}
 use Rattle.spec_tree.specs.Tokens.{read, numbered}
 use Rattle.spec_tree.proofs.TokenCode.{all-tokens-append}
 use Rattle.words.specs.words.Words.{number}
 use Rattle.laws.specs.positions.Places.{numbered-at}
+use Rattle.reciprocals.specs.final.Ready.{Stands}
 use Rattle.reciprocals.proofs.bindings.Parts.{settle-tree, settled-reciprocals}
 use Rattle.fusion.specs.Switchless.{no-switch-words, with-switches}
 use Rattle.fusion.specs.place.Overlay.{overlay}
@@ -53,15 +54,15 @@ module _ (ws places : List ℕ) (first : ℕ) (ready : Ready ws places first) (j
   -- ---- one of them
 
   -- its words are in front of what they were written to
-  module _ (old one : List ℕ) (m : ℕ) (count : m ≡ length (reciprocal-words ws first places j)) (written : one ≡ reciprocal-words ws first places j ++ drop (length (reciprocal-words ws first places j)) old) where
+  module _ (one : List ℕ) (m : ℕ) (stands : Stands (reciprocal-words ws first places j) one m) where
     pub one-inside : m ≤ length one
-    one-inside = omega (arith, count, ap length written, length-append (reciprocal-words ws first places j) (drop (length (reciprocal-words ws first places j)) old))
+    one-inside = stands .inside
 
     pub one-counted : m ≡ length (take m one)
     one-counted = sym (length-take-le m one one-inside)
 
-    pub one-front : take m one ≡ reciprocal-words ws first places j
-    one-front = ap (take m) written ∙ take-at (reciprocal-words ws first places j) (drop (length (reciprocal-words ws first places j)) old) m (sym count)
+    one-front : take m one ≡ reciprocal-words ws first places j
+    one-front = stands .words
 
     pub one-passed :
         (r : Bool) → r ≡ no-switch-words (take m one) → r ≡ true → (n : ℕ) (work : List ℕ)
@@ -75,7 +76,7 @@ module _ (ws places : List ℕ) (first : ℕ) (ready : Ready ws places first) (j
         → (n + m ≡ n + length (reciprocal-held ws first places j)) × (out ≡ overlay n (reciprocal-held ws first places j) work)
     one-written r e f n work out o =
         let some = held-one ws places first ready j more (ap no-switch-words (sym one-front) ∙ (sym e ∙ f)) in
-        (omega (arith, count, ap length some), o ∙ ap (λ (l : List ℕ). overlay n l work) (one-front ∙ sym some))
+        (omega (arith, stands .many, ap length some), o ∙ ap (λ (l : List ℕ). overlay n l work) (one-front ∙ sym some))
 
   -- no overflow
   pub one-small : (m n : ℕ) → m ≡ length (reciprocal-words ws first places j) → n ≤ 8796093022208 → n + m ≤ 8796093024137

@@ -1,4 +1,4 @@
--- The trees settled and a reciprocal taken, where all is there and there is room: neither is ever refused. Which reciprocals hold a switch is told from their words.
+-- The trees settled and a reciprocal taken, where all is there and there is room: settling is never refused. Which reciprocals hold a switch is told from their words.
 -- Assumes nothing.
 use Prim.Native.Nat.{ℕ, suc, _+_, _≤_, _<_}
 use native.Mathlib.Omega.{arith}
@@ -19,12 +19,11 @@ use Rattle.reciprocals.specs.settle.Answers.{Settling, settling}
 use Rattle.reciprocals.specs.declared.settle.Settled.{Settled}
 use Rattle.reciprocals.specs.declared.settle.Settled.the-variants as settled
 use Rattle.reciprocals.proofs.bindings.Parts.{settle-tree, settled-reciprocals, All-there}
-use Rattle.reciprocals.specs.reciprocal.Bindings.{Binding, reciprocal-answer}
-use Rattle.reciprocals.specs.declared.reciprocal.Bound.{Bound}
-use Rattle.reciprocals.specs.declared.reciprocal.Bound.the-variants as bound
+use Rattle.reciprocals.specs.reciprocal.Bindings.{whole-reciprocal, Bound-so}
+use Rattle.reciprocals.specs.final.Ready.{Stands}
 use Rattle.reciprocals.proofs.reciprocal.There.{tested-there}
 use Rattle.reciprocals.proofs.reciprocal.Whole.{first-words, first-settled, first-no-more}
-use Rattle.reciprocals.proofs.reciprocal.Made.{settled-long, made, made-words, made-is, made-within, made-complete, made-read, bound-always}
+use Rattle.reciprocals.proofs.reciprocal.Made.{settled-long, made, made-words, made-is, made-within, made-complete, made-read, made-so}
 use Rattle.fusion.specs.Switchless.{switchless, all-switchless, no-switch-words, with-switches}
 use Rattle.fusion.proofs.Outer.{no-switch-read, read-no-switch}
 use Rattle.fusion.specs.place.Overlay.{overlay}
@@ -135,27 +134,10 @@ module _ (ws places : List ℕ) (first : ℕ) (ready : Ready ws places first) wh
     pub words-short : length (reciprocal-words ws first places j) ≤ 1929
     words-short = omega (arith, ready .1 .0, ap length words-are, made-within ws places first j more there)
 
-    module _ (old : List ℕ) (lent : 1929 ≤ length old) where
-      abbrev R : List ℕ
-      R = reciprocal-words ws first places j
-
-      binding-so : reciprocal-answer ws places first j old ≡ record { answer = bound.Words (length (reciprocal-words ws first places j)); out = reciprocal-words ws first places j ++ drop (length (reciprocal-words ws first places j)) old }
-      binding-so =
-          bound-always ws places first j more there (omega (arith, ready .1 .0)) (ready .1 .1 .0) (ready .1 .1 .1) old (omega (arith, lent, ready .1 .0))
-          ∙ ap (λ (l : List ℕ). record { answer = bound.Words (length l); out = l ++ drop (length l) old }) (sym words-are)
-
-      pub reciprocal-taken :
-          (n : ℕ) (out : List ℕ) → bound.Words n ≡ reciprocal-answer ws places first j old .answer → out ≡ reciprocal-answer ws places first j old .out
-          → (n ≡ length (reciprocal-words ws first places j)) × (out ≡ reciprocal-words ws first places j ++ drop (length (reciprocal-words ws first places j)) old)
-      reciprocal-taken n out e f =
-          let q : bound.Words n ≡ bound.Words (length R) = e ∙ ap (λ (s : Binding). s .answer) binding-so in
-          let p : n ≡ length R = cc in
-          (p, f ∙ ap (λ (s : Binding). s .out) binding-so)
-
-      pub reciprocal-always : (b : Bound) → b ≡ reciprocal-answer ws places first j old .answer → (b ≡ bound.Broken → ⊥) × (b ≡ bound.NoRoom → ⊥)
-      reciprocal-always b e =
-          let q : b ≡ bound.Words (length R) = e ∙ ap (λ (s : Binding). s .answer) binding-so in
-          ((λ x. let z : _≡_ {A = ℕ} 0 1 = cc in omega arith), (λ x. let z : _≡_ {A = ℕ} 0 1 = cc in omega arith))
+    pub reciprocal-taken : (n : ℕ) (out : List ℕ) → Bound-so (whole-reciprocal ws places first j) n out → Stands (reciprocal-words ws first places j) out n
+    reciprocal-taken n out s =
+        let r = made-so ws places first j more there out n s in
+        record { many = r .0 ∙ ap length (sym words-are); words = r .1 ∙ sym words-are; inside = r .2 }
 
     -- ---- whether it holds a switch
 

@@ -17,6 +17,6 @@ take-tree-spec =
     (λ c. c .before .before .before .before .before .before .before .before .pre .0 .1 .enough)
     (λ c. let p = c .before .before .before .before .before .before .before .before .pre .0 .1 in omega (arith, trees-few p, p .low))
     (λ c. c .if1 .left)
-    (λ c κs. let p = c .before .before .before .before .before .before .before .before .before .pre .0 .1 in ((p .there, p .few), ((omega (arith, trees-few p, p .low), omega (arith, places-few p)), (omega (arith, c .before .if1 .left, c .before .before .before .before .before .before .before .before .before .pre .1 .0), c .before .before .before .before .before .before .before .before .before .pre .1 .1))))
+    (λ c κs. let p = c .before .before .before .before .before .before .before .before .before .pre .0 .1 in (((_, p .complete), p .there, p .few), ((omega (arith, trees-few p, p .low), omega (arith, places-few p)), (omega (arith, c .before .if1 .left, c .before .before .before .before .before .before .before .before .before .pre .1 .0), c .before .before .before .before .before .before .before .before .before .pre .1 .1))))
     (λ c. search needs)
     (λ c. after-stands (c .before .before .before .before .before .before .before .before .before .before .before .before .pre .0 .1) (c .before .before .before .before .before .before .before .before .before .before .before .before .args .i) (c .before .before .before .before .if1 .left) _ refl _ _ (c .before .before .take-reciprocal .ensures)))

@@ -1,6 +1,6 @@
 -- `cse_flat::ending::take_reciprocal` meets its contract. Assumes nothing.
-use mathlib.Core.Path.{sym, _∙_}
-use Rattle.reciprocals.proofs.final.Taking.{reciprocal-stands, reciprocal-there}
+use native.Mathlib.Omega.{arith}
+use Rattle.reciprocals.proofs.final.Taking.{reciprocal-stands}
 use borrow.Author.Needs.{needs}
 use Rattle.cse_flat.proofs.ending.take_reciprocal.Statement.{statement}
 use Rattle.cse_flat.proofs.ending.take_reciprocal.Tie as tie
@@ -10,13 +10,6 @@ take-reciprocal-spec =
     tie.close
     (tie.spec
     (λ c. c .before .before .before .before .before .pre .0 .enough)
-    (λ c κs. search needs)
+    (λ c κs. let s = c .before .before .before .before .before .before in let r = s .pre .0 in (((_, r .complete), r .there, s .pre .1 .0), ((omega (arith, r .few), omega (arith, r .few, s .pre .1 .1)), (omega (arith, r .numbers), omega (arith, r .numbers)))))
     (λ c. search needs)
-    (λ c. search needs)
-    (λ c. search needs)
-    (λ c. search needs)
-    (λ c. let start = c .before .before .before .before .before .before .before .before .before .before .before .before in let bound-here = c .before .bound in let reciprocal-here = c .before .before .before .before .before .reciprocal in reciprocal-stands (start .pre .0) (start .args .j) (start .pre .1 .0) (start .args .tree .now) (start .pre .1 .1) (bound-here .given .0 .0) _ (sym (bound-here .given .1) ∙ reciprocal-here .ensures .0) (reciprocal-here .ensures .1))
-    (λ c. search needs)
-    (λ c. let start = c .before .before .before .before .before .before .before .before .before .before .before in let reciprocal-here = c .before .before .before .before .reciprocal in absurd (reciprocal-there (start .pre .0) (start .args .j) (start .pre .1 .0) (start .args .tree .now) (start .pre .1 .1) (reciprocal-here .result) (reciprocal-here .ensures .0) .0 (c .enum-told .given .1)))
-    (λ c. search needs)
-    (λ c. let start = c .before .before .before .before .before .before .before .before .before .before .before in let reciprocal-here = c .before .before .before .before .reciprocal in absurd (reciprocal-there (start .pre .0) (start .args .j) (start .pre .1 .0) (start .args .tree .now) (start .pre .1 .1) (reciprocal-here .result) (reciprocal-here .ensures .0) .1 (c .enum-told2 .given .1))))
+    (λ c. let s = c .before .before .before .before .before .before .before .before .before in reciprocal-stands (s .pre .0) (s .args .j) (s .pre .1 .0) _ _ (c .before .before .reciprocal .ensures)))

@@ -1,0 +1,33 @@
+-- `reciprocals::settle::stand_among` meets its contract: what is still to be looked through decides. Assumes nothing.
+use native.Mathlib.Omega.{arith}
+use Prim.Native.Nat.{_-_}
+use mathlib.Core.Path.{refl}
+use lib.ListN.{length}
+use Rattle.reciprocals.proofs.settle.Missing.{Decides, turn-found, turn-missed, all-missed}
+use borrow.Author.Needs.{needs}
+use Rattle.reciprocals.proofs.settle.stand_among.Statement.{statement}
+use Rattle.reciprocals.proofs.settle.stand_among.Tie as tie
+
+abbrev Inv-loop : tie.InvT-loop
+Inv-loop divisor words i₀ i = Decides divisor words i
+
+abbrev μ-loop : tie.MeasureT-loop
+μ-loop divisor words i₀ i = length words - i
+
+pub stand-among-spec : {M : Type 1} → statement M
+stand-among-spec =
+    tie.close
+    (tie.spec
+    Inv-loop
+    μ-loop
+    (λ c. refl)
+    (λ c. search needs)
+    (λ c. search needs)
+    (λ c. search needs)
+    (λ c. search needs)
+    (λ c κs. search needs)
+    (λ c. turn-found (c .before .before .before .before .before .before .before .args .divisor .now) (c .before .before .before .before .before .before .before .args .words .now) (c .before .before .before .before .loop .i) (c .before .before .before .loop-test .taken) (c .before .before .before .before .loop .inv) _ (c .before .starts-with .ensures) (c .if1 .taken))
+    (λ c. search needs)
+    (λ c. search needs)
+    (λ c. turn-missed (c .before .before .before .before .before .before .before .args .divisor .now) (c .before .before .before .before .before .before .before .args .words .now) (c .before .before .before .before .loop .i) (c .before .before .before .loop-test .taken) (c .before .before .before .before .loop .inv) _ (c .before .starts-with .ensures) (c .if1 .left))
+    (λ c. all-missed (c .before .before .before .before .args .divisor .now) (c .before .before .before .before .args .words .now) (c .before .loop .i) (c .loop-test .left) (c .before .loop .inv)))
