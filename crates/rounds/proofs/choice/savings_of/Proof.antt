@@ -38,4 +38,5 @@ savings-of-spec =
     (λ c. (let s = c .before .before .before .before .before .before .before .before .before .before .before .before .before .before in let a = s .args in let w = a .tokens .now in let i = a .i in let h = s .pre .1 .0 .0 in let op = costs-operation w i h (omega (arith, s .pre .1 .1 .0 .cost-at i h, c .before .before .before .before .before .before .before .if1 .left)) in
     omega (arith, small-product (getD (a .uses .now) (getD (a .classes .now) i 0 / 4) 0 - 1) (getD (a .facts .now) (4 * i + 1) 0) (omega (arith, s .pre .1 .1 .1 .0 .uses-are i h op, uses-few w (s .pre .0) i h, s .pre .1 .0 .1)) (omega (arith, s .pre .1 .1 .0 .cost-at i h, cost-few w (s .pre .0) i h, s .pre .1 .0 .1)))))
     (λ c. (let s = c .before .before .before .before .before .before .before .before .before .before .before .before .before .before in let a = s .args in let w = a .tokens .now in let i = a .i in let h = s .pre .1 .0 .0 in let op = costs-operation w i h (omega (arith, s .pre .1 .1 .0 .cost-at i h, c .before .before .before .before .before .before .before .if1 .left)) in
-    saved w (a .scoped) i _ _ (getD (a .uses .now) (getD (a .classes .now) i 0 / 4) 0) (s .pre .1 .1 .0 .cost-at i h) (omega (arith, c .before .before .before .before .before .before .before .if1 .left)) (s .pre .1 .1 .0 .symbol-at i h) (omega (arith, c .before .before .if3 .left)) (s .pre .1 .1 .1 .0 .uses-are i h op) (omega (arith, c .before .before .before .before .if2 .left)) (some-outside w (a .scoped) i _ (c .before .outside-uses .ensures ∙ outside-count (a .scoped) (s .pre .1 .1 .1 .0) (s .pre .1 .1 .1 .1) i h op) (omega (arith, c .if4 .left))))))
+    saved w (a .scoped) i _ _ (getD (a .uses .now) (getD (a .classes .now) i 0 / 4) 0) (s .pre .1 .1 .0 .cost-at i h) (omega (arith, c .before .before .before .before .before .before .before .if1 .left)) (s .pre .1 .1 .0 .symbol-at i h) (omega (arith, c .before .before .if3 .left))
+    (s .pre .1 .1 .1 .0 .uses-are i h op) (omega (arith, c .before .before .before .before .if2 .left)) (some-outside w (a .scoped) i _ (c .before .outside-uses .ensures ∙ outside-count (a .scoped) (s .pre .1 .1 .1 .0) (s .pre .1 .1 .1 .1) i h op) (omega (arith, c .if4 .left))))))

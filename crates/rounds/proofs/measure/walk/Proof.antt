@@ -35,10 +35,23 @@ walk-spec =
     (λ c κs. search needs)
     (λ c. omega (arith, fits _ _ _ _ _ (c .before .before .before .before .before .before .before .loop .inv) (c .before .before .before .before .before .before .loop-test .taken), c .before .before .before .before .before .before .before .before .before .before .good, c .before .before .before .before .before .before .before .before .before .before .pre .1))
     (λ c. omega (arith, fits _ _ _ _ _ (c .before .before .before .before .before .before .before .loop .inv) (c .before .before .before .before .before .before .loop-test .taken), c .before .before .before .before .before .before .before .before .before .before .good, c .before .before .before .before .before .before .before .before .before .before .pre .1))
-    (λ c. omega (arith, fits _ _ _ _ _ (c .before .before .before .before .before .before .before .before .loop .inv) (c .before .before .before .before .before .before .before .loop-test .taken), c .before .before .before .before .before .before .before .before .before .before .before .good, c .before .before .before .before .before .before .before .before .before .before .before .pre .1))
+    (λ c. omega (
+      arith,
+      fits _ _ _ _ _ (c .before .before .before .before .before .before .before .before .loop .inv)
+          (c .before .before .before .before .before .before .before .loop-test .taken),
+      c .before .before .before .before .before .before .before .before .before .before .before .good,
+      c .before .before .before .before .before .before .before .before .before .before .before .pre .1,
+    ))
     (λ c κs. search needs)
-    (λ c. omega (arith, fits _ _ _ _ _ (c .before .before .before .before .before .before .before .before .before .loop .inv) (c .before .before .before .before .before .before .before .before .loop-test .taken), c .before .before .before .before .before .before .before .before .before .before .before .before .good, c .before .before .before .before .before .before .before .before .before .before .before .before .pre .1))
+    (λ c. omega (
+      arith,
+      fits _ _ _ _ _ (c .before .before .before .before .before .before .before .before .before .loop .inv)
+          (c .before .before .before .before .before .before .before .before .loop-test .taken),
+      c .before .before .before .before .before .before .before .before .before .before .before .before .good,
+      c .before .before .before .before .before .before .before .before .before .before .before .before .pre .1,
+    ))
     (λ c. omega (arith, c .before .before .before .before .before .before .before .before .loop-test .taken))
     (λ c. omega (arith, c .before .before .before .before .before .before .before .before .loop-test .taken))
-    (λ c. gathering-turns _ _ _ _ _ (c .before .before .before .before .before .before .before .before .before .loop .inv) (c .before .before .before .before .before .before .before .before .loop-test .taken) (c .before .before .before .before .before .mix .result) (c .before .before .larger .result) (c .larger2 .result) (c .before .before .before .before .before .mix .ensures) (c .before .before .larger .ensures) (c .larger2 .ensures))
+    (λ c. gathering-turns _ _ _ _ _ (c .before .before .before .before .before .before .before .before .before .loop .inv) (c .before .before .before .before .before .before .before .before .loop-test .taken) (c .before .before .before .before .before .mix .result)
+    (c .before .before .larger .result) (c .larger2 .result) (c .before .before .before .before .before .mix .ensures) (c .before .before .larger .ensures) (c .larger2 .ensures))
     (λ c. gathering-ends _ _ _ _ _ (c .before .loop .inv) (c .loop-test .left)))

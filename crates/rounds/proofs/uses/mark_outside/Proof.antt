@@ -19,7 +19,8 @@ mark-outside-spec =
     (λ c κs. (complete (c .before .before .before .before .before .before .before .before .args .tokens .now) (c .before .before .enum-told .given .0 .0) (sym (c .before .before .enum-told .given .1) ∙ c .before .before .before .before .count-trees .ensures), c .before .before .before .before .before .if1 .left))
     (λ c. search needs)
     (λ c. (let a = c .before .before .before .before .before .before .before .before .before .before .before .args in
-    rw (c .before .before .before .before .if2 .taken) (gives-done (a .tokens .now) true (a .marks .now) _ (c .before .before .before .before .before .enum-told .given .0 .0) (c .before .before .before .before .before .before .before .before .if1 .left) (sym (c .before .before .before .before .before .enum-told .given .1) ∙ c .before .before .before .before .before .before .before .count-trees .ensures) (c .before .before .mark-outside-arms .ensures))))
+    rw (c .before .before .before .before .if2 .taken) (gives-done (a .tokens .now) true (a .marks .now) _ (c .before .before .before .before .before .enum-told .given .0 .0) (c .before .before .before .before .before .before .before .before .if1 .left) (sym
+    (c .before .before .before .before .before .enum-told .given .1) ∙ c .before .before .before .before .before .before .before .count-trees .ensures) (c .before .before .mark-outside-arms .ensures))))
     (λ c κs. search needs)
     (λ c. search needs)
     (λ c. (let a = c .before .before .before .before .before .before .before .before .before .before .before .args in

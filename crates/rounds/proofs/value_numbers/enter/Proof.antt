@@ -14,23 +14,39 @@ enter-spec =
     (λ c κs. (let s = c .before .before .before .before .before .before .before .before .before .before in (omega (arith, s .pre .0), omega (arith, s .pre .0, s .pre .1 .1 .0 .known .long))))
     (λ c. search needs)
     (λ c. search needs)
-    (λ c. (let s = c .before .before .before .before .before .before .before .before .before .before .before .before .before .before .before in let l = c .before .before .before .before .put-leaf .ensures in
-    (leaf-put (omega (arith, c .before .before .before .before .before .before .before .if1 .taken)) l, leaf-passing (s .pre .1 .1 .0) (s .pre .0 .0) (s .pre .0 .1) (omega (arith, c .before .before .before .before .before .before .before .if1 .taken)) l, leaf-counted (s .pre .1 .1 .1) (s .pre .0 .0) (s .pre .0 .1) (omega (arith, c .before .before .before .before .before .before .before .if1 .taken)))))
+    (λ c. (let s = c .before .before .before .before .before .before .before .before .before .before .before .before .before .before .before in let l = c .before .before .before .before .put-leaf .ensures in (
+      leaf-put (omega (arith, c .before .before .before .before .before .before .before .if1 .taken)) l,
+      leaf-passing (s .pre .1 .1 .0) (s .pre .0 .0) (s .pre .0 .1) (omega (arith, c .before .before .before .before .before .before .before .if1 .taken)) l,
+      leaf-counted (s .pre .1 .1 .1) (s .pre .0 .0)
+          (s .pre .0 .1) (omega (arith, c .before .before .before .before .before .before .before .if1 .taken)),
+    )))
     (λ c κs. (let s = c .before .before .before .before .before .before .before .before .before .before in (s .pre .0, (omega (arith, c .before .before .if1 .left), ((s .pre .1 .0 .0, s .pre .1 .1 .0 .known), s .pre .1 .0 .1)))))
     (λ c κs. (let s = c .before .before .before .before .before .before .before .before .before .before .before .before .before .before .before .before .before in let p = c .before .before .before .before .before .before .put-facts .ensures in
     ((s .pre .0 .0, s .pre .0 .1, omega (arith, c .before .before .before .before .before .before .before .before .before .if1 .left)), ((p .1, p .2), (put-sized (p .0) (s .pre .1 .0 .0), s .pre .1 .1 .0)))))
-    (λ c. (let s = c .before .before .before .before .before .before .before .before .before .before .before .before .before .before .before .before .before .before .before .before .before .before .before .before in let f = uses-fit (s .pre .1 .1 .1) (s .pre .0 .0) (s .pre .0 .1) (omega (arith, c .before .before .before .before .before .before .before .before .before .before .before .before .before .before .before .before .if1 .left)) (c .before .before .before .before .before .before .link .result) (c .before .before .before .before .before .before .link .ensures .0) in
+    (λ c. (let s = c .before .before .before .before .before .before .before .before .before .before .before .before .before .before .before .before .before .before .before .before .before .before .before .before in let f = uses-fit (s .pre .1 .1 .1) (s .pre .0 .0) (s .pre .0 .1) (omega
+    (arith, c .before .before .before .before .before .before .before .before .before .before .before .before .before .before .before .before .if1 .left)) (c .before .before .before .before .before .before .link .result) (c .before .before .before .before .before .before .link .ensures .0) in
     omega (arith, f .0, f .1, s .pre .1 .1 .1 .long, s .good)))
-    (λ c. (let s = c .before .before .before .before .before .before .before .before .before .before .before .before .before .before .before .before .before .before .before .before .before .before .before .before .before in let f = uses-fit (s .pre .1 .1 .1) (s .pre .0 .0) (s .pre .0 .1) (omega (arith, c .before .before .before .before .before .before .before .before .before .before .before .before .before .before .before .before .before .if1 .left)) (c .before .before .before .before .before .before .before .link .result) (c .before .before .before .before .before .before .before .link .ensures .0) in
+    (λ c. (let s = c .before .before .before .before .before .before .before .before .before .before .before .before .before .before .before .before .before .before .before .before .before .before .before .before .before in let f = uses-fit (s .pre .1 .1 .1) (s .pre .0 .0) (s .pre .0 .1) (omega
+    (arith, c .before .before .before .before .before .before .before .before .before .before .before .before .before .before .before .before .before .if1 .left)) (c .before .before .before .before .before .before .before .link .result)
+    (c .before .before .before .before .before .before .before .link .ensures .0) in
     omega (arith, f .0, f .1, s .pre .1 .1 .1 .long, s .good)))
-    (λ c. (let s = c .before .before .before .before .before .before .before .before .before .before .before .before .before .before .before .before .before .before .before .before .before .before .before .before .before in let f = uses-fit (s .pre .1 .1 .1) (s .pre .0 .0) (s .pre .0 .1) (omega (arith, c .before .before .before .before .before .before .before .before .before .before .before .before .before .before .before .before .before .if1 .left)) (c .before .before .before .before .before .before .before .link .result) (c .before .before .before .before .before .before .before .link .ensures .0) in
+    (λ c. (let s = c .before .before .before .before .before .before .before .before .before .before .before .before .before .before .before .before .before .before .before .before .before .before .before .before .before in let f = uses-fit (s .pre .1 .1 .1) (s .pre .0 .0) (s .pre .0 .1) (omega
+    (arith, c .before .before .before .before .before .before .before .before .before .before .before .before .before .before .before .before .before .if1 .left)) (c .before .before .before .before .before .before .before .link .result)
+    (c .before .before .before .before .before .before .before .link .ensures .0) in
     omega (arith, f .0, f .1, s .pre .1 .1 .1 .long, s .good)))
-    (λ c. (let s = c .before .before .before .before .before .before .before .before .before .before .before .before .before .before .before .before .before .before .before .before .before .before .before .before .before in let f = uses-fit (s .pre .1 .1 .1) (s .pre .0 .0) (s .pre .0 .1) (omega (arith, c .before .before .before .before .before .before .before .before .before .before .before .before .before .before .before .before .before .if1 .left)) (c .before .before .before .before .before .before .before .link .result) (c .before .before .before .before .before .before .before .link .ensures .0) in
+    (λ c. (let s = c .before .before .before .before .before .before .before .before .before .before .before .before .before .before .before .before .before .before .before .before .before .before .before .before .before in let f = uses-fit (s .pre .1 .1 .1) (s .pre .0 .0) (s .pre .0 .1) (omega
+    (arith, c .before .before .before .before .before .before .before .before .before .before .before .before .before .before .before .before .before .if1 .left)) (c .before .before .before .before .before .before .before .link .result)
+    (c .before .before .before .before .before .before .before .link .ensures .0) in
     omega (arith, f .0, f .1, s .pre .1 .1 .1 .long, s .good)))
     (λ c. search needs)
     (λ c. search needs)
     (λ c. search needs)
     (λ c. search needs)
     (λ c. search needs)
-    (λ c. (let s = c .before .before .before .before .before .before .before .before .before .before .before .before .before .before .before .before .before .before .before .before .before .before .before .before .before in
-    (c .before .before .before .before .before .before .before .before .before .before .before .before .before .before .put-facts .ensures .0, c .before .before .before .before .before .before .before .link .ensures .1, uses-turn (s .pre .1 .1 .1) (s .pre .0 .0) (s .pre .0 .1) (omega (arith, c .before .before .before .before .before .before .before .before .before .before .before .before .before .before .before .before .before .if1 .left)) (c .before .before .before .before .before .before .before .link .result) (c .before .before .before .before .before .before .before .link .ensures .0)))))
+    (λ c. (let s = c .before .before .before .before .before .before .before .before .before .before .before .before .before .before .before .before .before .before .before .before .before .before .before .before .before in (
+      c .before .before .before .before .before .before .before .before .before .before .before .before .before .before .put-facts .ensures .0,
+      c .before .before .before .before .before .before .before .link .ensures .1,
+      uses-turn (s .pre .1 .1 .1) (s .pre .0 .0) (s .pre .0 .1) (omega
+          (arith, c .before .before .before .before .before .before .before .before .before .before .before .before .before .before .before .before .before .if1 .left)) (c .before .before .before .before .before .before .before .link .result)
+          (c .before .before .before .before .before .before .before .link .ensures .0),
+    ))))

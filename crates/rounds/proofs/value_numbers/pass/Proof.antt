@@ -26,7 +26,20 @@ pass-spec =
     (λ c κs. (let s = c .before .before .before .before .before .before .before .before .before .before .before .before .before in let k = c .before .before .before .before .before .before .loop .inv .0 in let h = c .before .before .before .before .before .loop-test .taken in
     ((s .pre .0 .0, omega (arith, k .passing .inside, h), omega (arith, k .filling .long, k .filling .room)), ((filling-sized (k .filling) _ (omega (arith, h)), filling-ready (k .filling) h (s .pre .0 .0)), (passing-next (k .passing) h, counts-next (k .uses) h)))))
     (λ c. omega (arith, c .before .before .before .before .before .before .before .before .before .before .before .before .before .before .before .before .loop-test .taken))
-    (λ c. (pass-turns (c .before .before .before .before .before .before .before .before .before .before .before .before .before .before .before .before .before .loop .inv .0) (c .before .before .before .before .before .before .before .before .before .before .before .before .before .before .before .before .loop-test .taken) (c .before .before .before .before .before .before .before .before .before .before .before .before .before .before .before .before .before .before .before .before .before .before .before .before .pre .0 .0) (c .before .before .before .before .before .before .before .before .before .before .enter .ensures), omega (arith, c .before .before .before .before .before .before .before .before .before .before .enter .kept, c .before .before .before .before .before .before .before .before .before .before .before .before .before .before .before .before .before .loop .inv .1), omega (arith, c .before .before .before .before .before .before .before .before .before .before .enter .kept, c .before .before .before .before .before .before .before .before .before .before .before .before .before .before .before .before .before .loop .inv .2), omega (arith, c .before .before .before .before .before .before .before .before .before .before .enter .kept, c .before .before .before .before .before .before .before .before .before .before .before .before .before .before .before .before .before .loop .inv .3), omega (arith, c .before .before .before .before .before .before .before .before .before .before .enter .kept, c .before .before .before .before .before .before .before .before .before .before .before .before .before .before .before .before .before .loop .inv .4)))
+    (λ c. (
+      pass-turns (c .before .before .before .before .before .before .before .before .before .before .before .before .before .before .before .before .before .loop .inv .0)
+          (c .before .before .before .before .before .before .before .before .before .before .before .before .before .before .before .before .loop-test .taken)
+          (c .before .before .before .before .before .before .before .before .before .before .before .before .before .before .before .before .before .before .before .before .before .before .before .before .pre .0 .0)
+          (c .before .before .before .before .before .before .before .before .before .before .enter .ensures),
+      omega
+          (arith, c .before .before .before .before .before .before .before .before .before .before .enter .kept, c .before .before .before .before .before .before .before .before .before .before .before .before .before .before .before .before .before .loop .inv .1),
+      omega
+          (arith, c .before .before .before .before .before .before .before .before .before .before .enter .kept, c .before .before .before .before .before .before .before .before .before .before .before .before .before .before .before .before .before .loop .inv .2),
+      omega
+          (arith, c .before .before .before .before .before .before .before .before .before .before .enter .kept, c .before .before .before .before .before .before .before .before .before .before .before .before .before .before .before .before .before .loop .inv .3),
+      omega
+          (arith, c .before .before .before .before .before .before .before .before .before .before .enter .kept, c .before .before .before .before .before .before .before .before .before .before .before .before .before .before .before .before .before .loop .inv .4),
+    ))
     (λ c. c .before .loop .inv .0 .filling .room)
     (λ c. c .before .loop .inv .1)
     (λ c. c .before .loop .inv .2)
