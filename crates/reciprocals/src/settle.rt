@@ -2,7 +2,7 @@
 // reciprocal. The divisors stand in the words from before the first was bound, so a reciprocal needs no tree of its own: it is made from its divisor when it is
 // needed.
 ghost use mathlib.Core.Path.{_≡_};
-ghost use Prim.Native.Nat.{_+_, _≤_};
+ghost use Prim.Native.Nat.{_+_, _≤_, _<_};
 ghost use lib.ListN.{length, take, drop};
 ghost use Rattle.spec_tree.specs.Tokens.{kind-of};
 ghost use Rattle.words.specs.words.Words.{name-of, Complete};
@@ -46,10 +46,11 @@ enum Stepped {
 
 // Whether the words of a divisor stand among some words: where they don't there is nothing to replace.
 fn stand_among(divisor: &[u64], words: &[u64]) -> bool
+    requires { ⌜ 0 < length (now divisor) ⌝ }
     ensures { λ r. ⌜ r ≡ stand-among (now (divisor .entry)) (now (words .entry)) ⌝ }
 {
     let mut i = 0;
-    while i < words.len() {
+    while i + divisor.len() <= words.len() {
         if starts_with(&words[i..], divisor) {
             return true;
         }

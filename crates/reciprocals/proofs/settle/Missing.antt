@@ -6,7 +6,7 @@ use mathlib.Core.Bool.{Bool, true, false, _||_}
 use mathlib.Core.Option.{Option, none, some}
 use mathlib.Core.List.{List, [], _∷_}
 use borrow.Author.Tests.{leb-false}
-use lib.ListN.{length, getD, take, drop, drop-of-length-le}
+use lib.ListN.{length, getD, take, drop, length-drop}
 use lib.Seq.{drop-cons}
 use lib.Dec.{T, eqb, leb, eqb→eq, leb→le}
 use Rattle.spec_tree.specs.Tree.{Name, Tree}
@@ -50,9 +50,14 @@ module _ (d : List ℕ) where
         let k : i + 1 ≡ suc i = omega arith in
         ap (λ (j : ℕ). stand-among d (drop j ws)) k ∙ (ap (λ (x : Bool). x || stand-among d (drop (suc i) ws)) (sym f ∙ sym (told b e)) ∙ next)
 
-  pub all-missed : (ws : List ℕ) (i : ℕ) → length ws ≤ i → Decides ws i → false ≡ stand-among d ws
+  -- too few words are left
+  too-few : (ws : List ℕ) → length ws < length d → stand-among d ws ≡ false
   unfolding stand-among
-  all-missed ws i h state = ap (stand-among d) (sym (drop-of-length-le ws {i = i} h)) ∙ state
+  too-few [] h = refl
+  too-few (w ∷ ws) h = ap (λ (b : Bool). b || stand-among d ws) (sym (begins-short (w ∷ ws) d h)) ∙ too-few ws (omega arith)
+
+  pub all-missed : (ws : List ℕ) (i : ℕ) → 0 < length d → length ws < i + length d → Decides ws i → false ≡ stand-among d ws
+  all-missed ws i one h state = sym (too-few (drop i ws) (omega (arith, length-drop i ws, one, h))) ∙ state
 
   -- ---- nothing is replaced
 
