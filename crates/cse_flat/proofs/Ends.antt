@@ -1,5 +1,5 @@
 -- What the flat form answers and leaves, by what unfolding, the rounds and the end answer (01, "Turned down": Extract). Assumes nothing.
-use Prim.Native.Nat.{ℕ, _≤_}
+use Prim.Native.Nat.{ℕ, _+_, _≤_}
 use mathlib.Core.Path.{_≡_, refl, sym, _∙_, ap, subst}
 use mathlib.Core.Bool.{Bool, true, false, _||_}
 use mathlib.Core.List.{List}
@@ -19,7 +19,7 @@ use Rattle.cse_flat.specs.declared.ending.Finished.the-variants as finis
 use Rattle.cse_flat.specs.refined.Parts.{extract-from}
 use Rattle.cse_flat.proofs.refined.Ending.{call-short, call-enough, from-nine, final-counts}
 use Rattle.cse_flat.proofs.refined.Flat.{flat-ten}
-use Rattle.cse_flat.proofs.refined.Finishing.{finishes, flat-trees-there, flat-room-for, flat-bindings, flat-outcome}
+use Rattle.cse_flat.proofs.refined.Finishing.{finishes, flat-trees-there, flat-room-for, flat-fits, flat-bindings, flat-outcome}
 use Rattle.cse_flat.specs.Answers.{extraction-answer, Lists}
 use Rattle.cse_flat.specs.declared.Extraction.{Extraction}
 use Rattle.cse_flat.specs.declared.Extraction.the-variants as extraction
@@ -108,6 +108,9 @@ module _ (rows roots table : List ℕ) (h : T (laid-out rows roots)) (ws : List 
 
     pub finish-there : T (trees-there (take n tokens) (length roots) (take d places)) × T (room-for (take n tokens) (length roots) (take d places))
     finish-there = (flat-trees-there rows roots lent h ws same n m d tokens places l, flat-room-for rows roots lent h ws same n m d tokens places l)
+
+    pub finish-room : (length (take n tokens) ≤ length ws) × (length (drop (length roots) (read numbered (take n tokens))) + length (take d places) ≤ length ws)
+    finish-room = flat-fits rows roots lent h ws same n m d tokens places l
 
     pub finish-counts : m ≡ length (drop (length roots) (read numbered (take n tokens)))
     finish-counts = flat-bindings rows roots lent h ws same n m d tokens places l

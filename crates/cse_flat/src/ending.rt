@@ -10,7 +10,7 @@ ghost use Rattle.topo_sort.specs.links.Links.{Lent, Stmt-linked, Linked};
 ghost use Rattle.reciprocals.specs.final.Entries.{final-run, entry-row, entry-tree, entry, entries};
 ghost use Rattle.reciprocals.specs.final.Final.{final-rows};
 ghost use Rattle.reciprocals.specs.final.Ready.{There, Settled-front, Ready, Stands, marks, binding-run, final-order, In-order, Positions, lent-rows};
-ghost use Rattle.cse_flat.specs.ending.Answers.{finish-outcome, finishing};
+ghost use Rattle.cse_flat.specs.ending.Answers.{finish-outcome, finishing, Room};
 ghost use Rattle.cse_flat.specs.ending.Needs.{needs-of};
 use reciprocals::reciprocal::all_there;
 use reciprocals::reciprocal::reciprocal;
@@ -43,14 +43,6 @@ const FEW_LINKS: usize = 1024;
 
 // The words of a row of a table of bits.
 const ROW: usize = 32;
-
-// The most words of a tree: a reciprocal has two besides its divisor's.
-const TREE: usize = 1026;
-
-// Few words, or so many bindings, and the most words of a tree among them.
-const FEW_WORDS: usize = 256;
-
-const FEW_TREE: usize = 258;
 
 // Bindings that need each other, and an answer of more rows than lent.
 const RING: u64 = 11;
@@ -788,7 +780,7 @@ fn settle_all(
 }
 
 // Settles the trees from before, and lists where each begins.
-fn finish_with(
+fn finish_there(
     tokens: &[u64],
     results: usize,
     trees: usize,
@@ -821,102 +813,20 @@ fn finish_with(
     )
 }
 
-// The same for few words and few bindings, so that most lists needn't clear the large arrays.
-fn finish_few(
-    tokens: &[u64],
-    results: usize,
-    trees: usize,
-    places: &[u64],
-    work: &mut [u64],
-    table: &mut [u64],
-) -> Finished
-    requires { ⌜ There (now tokens) results trees (now places) × (length (now tokens) ≤ 256) ⌝ }
-    requires { ⌜ ((trees - results) + length (now places) ≤ 256) × (32768 ≤ length (now work)) ⌝ }
-    ensures { λ r. ⌜ (r ≡ finish-outcome (final-rows (length (now (table .entry))) results (now (places .entry)) (now (tokens .entry))) (now (table .entry)) .answer)
-        × (now (table .exit) ≡ finish-outcome (final-rows (length (now (table .entry))) results (now (places .entry)) (now (tokens .entry))) (now (table .entry)) .table) ⌝ }
-{
-    let mut settled = [0u64; FEW_WORDS];
-    let mut starts = [0u64; FEW_WORDS];
-    let mut tree = [0u64; FEW_TREE];
-    let mut taken = [0u64; FEW_WORDS];
-    finish_with(
-        tokens,
-        results,
-        trees,
-        places,
-        &mut settled,
-        &mut starts,
-        &mut tree,
-        &mut taken,
-        work,
-        table,
-    )
-}
-
-// The same for the most words and bindings.
-fn finish_many(
-    tokens: &[u64],
-    results: usize,
-    trees: usize,
-    places: &[u64],
-    work: &mut [u64],
-    table: &mut [u64],
-) -> Finished
-    requires { ⌜ There (now tokens) results trees (now places) × (32768 ≤ length (now work)) ⌝ }
-    ensures { λ r. ⌜ (r ≡ finish-outcome (final-rows (length (now (table .entry))) results (now (places .entry)) (now (tokens .entry))) (now (table .entry)) .answer)
-        × (now (table .exit) ≡ finish-outcome (final-rows (length (now (table .entry))) results (now (places .entry)) (now (tokens .entry))) (now (table .entry)) .table) ⌝ }
-{
-    let mut settled = [0u64; MOST];
-    let mut starts = [0u64; MOST];
-    let mut tree = [0u64; TREE];
-    let mut taken = [0u64; MOST];
-    finish_with(
-        tokens,
-        results,
-        trees,
-        places,
-        &mut settled,
-        &mut starts,
-        &mut tree,
-        &mut taken,
-        work,
-        table,
-    )
-}
-
-// The end where the trees and the divisors are there.
-fn finish_there(
-    tokens: &[u64],
-    results: usize,
-    trees: usize,
-    places: &[u64],
-    work: &mut [u64],
-    table: &mut [u64],
-) -> Finished
-    requires { ⌜ There (now tokens) results trees (now places) × (32768 ≤ length (now work)) ⌝ }
-    ensures { λ r. ⌜ (r ≡ finish-outcome (final-rows (length (now (table .entry))) results (now (places .entry)) (now (tokens .entry))) (now (table .entry)) .answer)
-        × (now (table .exit) ≡ finish-outcome (final-rows (length (now (table .entry))) results (now (places .entry)) (now (tokens .entry))) (now (table .entry)) .table) ⌝ }
-{
-    let count = trees - results + places.len();
-    if tokens.len() > FEW_WORDS {
-        return finish_many(tokens, results, trees, places, work, table);
-    }
-    if count > FEW_WORDS {
-        return finish_many(tokens, results, trees, places, work, table);
-    }
-    finish_few(tokens, results, trees, places, work, table)
-}
-
 // The words of all trees are `results` results, then the bindings by number from 0 on; the divisors to bind stand at the places, in order. The answer's rows stand
-// in front of what was in the table; unless the answer is Rows, nothing is written.
+// in front of what was in the table; unless the answer is Rows, nothing is written. What else is lent is worked in.
 pub fn finish(
     tokens: &[u64],
     results: usize,
     places: &[u64],
+    settled: &mut [u64],
+    starts: &mut [u64],
+    tree: &mut [u64],
+    taken: &mut [u64],
     work: &mut [u64],
     table: &mut [u64],
 ) -> Finished
-    requires { ⌜ 32768 ≤ length (now work) ⌝ }
+    requires { ⌜ Room (now tokens) results (now places) (length (now settled)) (length (now starts)) (length (now tree)) (length (now taken)) (length (now work)) ⌝ }
     ensures { λ r. ⌜ (r ≡ finishing (now (tokens .entry)) results (now (places .entry)) (now (table .entry)) .answer)
         × (now (table .exit) ≡ finishing (now (tokens .entry)) results (now (places .entry)) (now (table .entry)) .table) ⌝ }
 {
@@ -935,5 +845,16 @@ pub fn finish(
     if places.len() > MOST - (trees - results) {
         return Finished::NoRoom;
     }
-    finish_there(tokens, results, trees, places, work, table)
+    finish_there(
+        tokens,
+        results,
+        trees,
+        places,
+        settled,
+        starts,
+        tree,
+        taken,
+        work,
+        table,
+    )
 }

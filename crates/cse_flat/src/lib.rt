@@ -5,7 +5,7 @@ pub mod workarea;
 
 ghost use mathlib.Core.Path.{_≡_};
 ghost use mathlib.Core.Bool.{false};
-ghost use Prim.Native.Nat.{_≤_};
+ghost use Prim.Native.Nat.{_+_, _≤_};
 ghost use lib.ListN.{length, take, drop};
 ghost use lib.Dec.{T};
 ghost use Rattle.spec_tree.specs.Outcome.{ok};
@@ -16,7 +16,8 @@ ghost use Rattle.laws.specs.positions.Names.{is-number, symbols-pass};
 ghost use Rattle.rounds.specs.kept.Sound.{extractable};
 ghost use Rattle.spec_cse.specs.Call.{extract-call, table-after};
 ghost use Rattle.reciprocals.specs.final.Final.{final-rows};
-ghost use Rattle.cse_flat.specs.ending.Answers.{trees-there, room-for};
+ghost use Rattle.rounds.specs.Answers.{Lent};
+ghost use Rattle.cse_flat.specs.ending.Answers.{trees-there, room-for, Room};
 ghost use Rattle.cse_flat.specs.refined.Parts.{extract-from};
 ghost use Rattle.cse_flat.specs.Answers.{extraction-answer, Lists};
 use crate::ending::Finished;
@@ -27,12 +28,20 @@ use node_rows::unfolded::unfold;
 use reciprocals::divisors::divisors_to_bind;
 use rounds::Rounds;
 use rounds::extract_all;
+use rounds::extract_in;
 use words::copying::put;
 
 // The most words of a list's trees, and so the most places.
 const MOST: usize = 1024;
 
 const FEW: usize = 256;
+
+// Four words of facts for each place, and chains for them.
+const FACTS: usize = 4096;
+
+const FEW_FACTS: usize = 1024;
+
+const CHAINS: usize = 2048;
 
 const SHORT_WORK: u64 = 8;
 
@@ -80,21 +89,75 @@ pub fn extract_and_list(
     Listed::Words(words, made, divisors)
 }
 
+// The same with tables lent to the rounds.
+fn list_in(
+    rows: &[u64],
+    tokens: &mut [u64],
+    len: usize,
+    facts: &mut [u64],
+    classes: &mut [u64],
+    next: &mut [u64],
+    heads: &mut [u64],
+    uses: &mut [u64],
+    text: &mut [u8],
+    places: &mut [u64],
+) -> Listed
+    requires { ⌜ T (extractable (rows-in (now rows)) 0 (take len (now tokens))) × T (symbols-pass (is-number (rows-in (now rows))) (take len (now tokens))) ⌝ }
+    requires { ⌜ (len ≤ 1927) × (len ≤ length (now tokens)) ⌝ }
+    requires { ⌜ Lent len (length (now facts)) (length (now classes)) (length (now next)) (length (now heads)) (length (now uses)) ⌝ }
+    requires { ⌜ (131072 ≤ length (now text)) × (len ≤ length (now places)) ⌝ }
+    ensures { λ r. ⌜ Lists (rows-in (now (rows .entry))) false 0 (take len (now (tokens .entry))) r (now (tokens .exit)) (now (places .exit)) ⌝ }
+{
+    let rounds = extract_in(
+        rows,
+        tokens,
+        len,
+        false,
+        0,
+        facts,
+        classes,
+        next,
+        heads,
+        uses,
+        text,
+    );
+    let Rounds::Done(words, made) = rounds else {
+        return Listed::Refused;
+    };
+    let bound = divisors_to_bind(rows, &tokens[..words], false, text, places);
+    Listed::Words(words, made, bound)
+}
+
 // The end of the flat form, with the number of bindings that rounds made. That the trees aren't there, or have no room, never comes up.
 fn finish_flat(
     tokens: &[u64],
     results: usize,
     places: &[u64],
     made: usize,
+    settled: &mut [u64],
+    starts: &mut [u64],
+    tree: &mut [u64],
+    taken: &mut [u64],
     work: &mut [u64],
     table: &mut [u64],
 ) -> Extraction
     requires { ⌜ T (trees-there (now tokens) results (now places)) × T (room-for (now tokens) results (now places)) ⌝ }
-    requires { ⌜ (made ≡ length (drop results (read numbered (now tokens)))) × (32768 ≤ length (now work)) ⌝ }
+    requires { ⌜ made ≡ length (drop results (read numbered (now tokens))) ⌝ }
+    requires { ⌜ Room (now tokens) results (now places) (length (now settled)) (length (now starts)) (length (now tree)) (length (now taken)) (length (now work)) ⌝ }
     ensures { λ r. ⌜ (r ≡ extraction-answer (final-rows (length (now (table .entry))) results (now (places .entry)) (now (tokens .entry))))
         × (now (table .exit) ≡ table-after (final-rows (length (now (table .entry))) results (now (places .entry)) (now (tokens .entry))) (now (table .entry))) ⌝ }
 {
-    let finished = finish(tokens, results, places, work, table);
+    let finished = finish(
+        tokens,
+        results,
+        places,
+        settled,
+        starts,
+        tree,
+        taken,
+        work,
+        table,
+    );
     match finished {
         Finished::Rows(n) => Extraction::Rows(n, made),
         Finished::Refused(number) => Extraction::Refused(number),
@@ -103,23 +166,40 @@ fn finish_flat(
     }
 }
 
-// The flat form on the words of the list's trees, with room for the places of divisors. The work area is free.
+// The flat form on the words of the list's trees. The tables of the rounds serve the end too, when they have served, and the work area is free for it.
 fn extract_words(
     rows: &[u64],
     roots: &[u64],
     len: usize,
     tokens: &mut [u64],
     places: &mut [u64],
+    facts: &mut [u64],
+    classes: &mut [u64],
+    next: &mut [u64],
+    heads: &mut [u64],
+    uses: &mut [u64],
     work: &mut [u64],
     text: &mut [u8],
     table: &mut [u64],
 ) -> Extraction
     requires { ⌜ (unfolded (now rows) (now roots) ≡ ok (take len (now tokens))) × (len ≤ length (now tokens)) × (len ≤ length (now places)) ⌝ }
-    requires { ⌜ (32768 ≤ length (now work)) × (131072 ≤ length (now text)) ⌝ }
+    requires { ⌜ Lent len (length (now facts)) (length (now classes)) (length (now next)) (length (now heads)) (length (now uses)) ⌝ }
+    requires { ⌜ (len + 2 ≤ length (now facts)) × (32768 ≤ length (now work)) × (131072 ≤ length (now text)) ⌝ }
     ensures { λ r. ⌜ (r ≡ extraction-answer (extract-from false (now (rows .entry)) (now (roots .entry)) (length (now (table .entry)))))
         × (now (table .exit) ≡ table-after (extract-from false (now (rows .entry)) (now (roots .entry)) (length (now (table .entry)))) (now (table .entry))) ⌝ }
 {
-    let listed = extract_and_list(rows, tokens, len, false, 0, text, places);
+    let listed = list_in(
+        rows,
+        tokens,
+        len,
+        facts,
+        classes,
+        next,
+        heads,
+        uses,
+        text,
+        places,
+    );
     let Listed::Words(words, made, divisors) = listed else {
         return Extraction::Refused(BAD_COEFFICIENT);
     };
@@ -128,6 +208,10 @@ fn extract_words(
         roots.len(),
         &places[..divisors],
         made,
+        classes,
+        next,
+        facts,
+        uses,
         work,
         table,
     )
@@ -149,6 +233,11 @@ fn extract_few(
 {
     let mut tokens = [0u64; FEW];
     let mut places = [0u64; FEW];
+    let mut facts = [0u64; FEW_FACTS];
+    let mut classes = [0u64; FEW];
+    let mut next = [0u64; FEW];
+    let mut heads = [0u64; FEW];
+    let mut uses = [0u64; FEW];
     put(&work[..len], 0, &mut tokens);
     extract_words(
         rows,
@@ -156,6 +245,11 @@ fn extract_few(
         len,
         &mut tokens,
         &mut places,
+        &mut facts,
+        &mut classes,
+        &mut next,
+        &mut heads,
+        &mut uses,
         work,
         text,
         table,
@@ -178,6 +272,11 @@ fn extract_many(
 {
     let mut tokens = [0u64; MOST];
     let mut places = [0u64; MOST];
+    let mut facts = [0u64; FACTS];
+    let mut classes = [0u64; MOST];
+    let mut next = [0u64; MOST];
+    let mut heads = [0u64; CHAINS];
+    let mut uses = [0u64; MOST];
     put(&work[..len], 0, &mut tokens);
     extract_words(
         rows,
@@ -185,6 +284,11 @@ fn extract_many(
         len,
         &mut tokens,
         &mut places,
+        &mut facts,
+        &mut classes,
+        &mut next,
+        &mut heads,
+        &mut uses,
         work,
         text,
         table,

@@ -89,7 +89,7 @@ module _ (ws : List ℕ) (k : ℕ) (places old : List ℕ) where
       pub not-there : all-there ws places ≡ false → Finishes finished.Broken old
       not-there e = broken (tested false e)
 
-      made-is : length (drop k (read numbered ws)) ≡ m - k
+      pub made-is : length (drop k (read numbered ws)) ≡ m - k
       made-is = omega (arith, length-drop k (read numbered ws), complete-length numbered ws m complete)
 
       pub too-long : all-there ws places ≡ true → 1024 < length ws → Finishes finished.NoRoom old

@@ -20,7 +20,8 @@ use Rattle.reciprocals.specs.reciprocal.Bindings.{all-there}
 use Rattle.reciprocals.specs.final.Final.{final-rows}
 use Rattle.cse_flat.specs.ending.Answers.{finish-outcome, finish-by, at-least, trees-there, room-for, finishing}
 use Rattle.cse_flat.specs.refined.Parts.{extract-from, Rounds-listed}
-use Rattle.cse_flat.proofs.refined.Flat.{to-bind, flat-rest, flat-complete, flat-results, flat-short, flat-room, flat-there, flat-made}
+use Rattle.cse_flat.proofs.refined.Starting.{start-short}
+use Rattle.cse_flat.proofs.refined.Flat.{to-bind, flat-rest, flat-complete, flat-results, flat-shorter, flat-short, flat-room, flat-there, flat-made}
 use borrow.Author.Tests.{ltb-false}
 use Rattle.reciprocals.proofs.reciprocal.There.{there-tested}
 
@@ -48,7 +49,14 @@ module _ (rows roots : List ℕ) (lent : ℕ) (h : T (laid-out rows roots)) (ws 
     flat-room-for =
         let e = ap length ds-are in
         and-both (leb (length vs) 1024) (leb (length (drop (length roots) (read numbered vs)) + length ds) 1024) (le→leb (length vs) 1024 (flat-short rows roots lent h ws same vs (l .0)))
-        (le→leb (length (drop (length roots) (read numbered vs)) + length ds) 1024 (omega (arith, e, flat-room rows roots lent h ws same vs (l .0))))
+        (le→leb (length (drop (length roots) (read numbered vs)) + length ds) 1024 (omega (arith, e, flat-room rows roots lent h ws same vs (l .0), start-short rows roots h)))
+
+    -- nor is more needed than the list has words
+    pub flat-fits : (length vs ≤ length ws) × (length (drop (length roots) (read numbered vs)) + length ds ≤ length ws)
+    flat-fits =
+        let e = ap length ds-are in
+        let w = ap length same in
+        (omega (arith, w, flat-shorter rows roots lent h ws same vs (l .0)), omega (arith, e, w, flat-room rows roots lent h ws same vs (l .0)))
 
     pub flat-bindings : m ≡ length (drop (length roots) (read numbered vs))
     flat-bindings = l .1 ∙ flat-made rows roots lent h ws same vs (l .0)

@@ -93,16 +93,19 @@ module _ (rows roots : List ℕ) (lent : ℕ) (h : T (laid-out rows roots)) (ws 
     pub flat-results : length roots ≤ left-trees (t .rows) false k 0 start vs left
     flat-results = omega (arith, left-results (t .rows) false k 0 start vs left, roots-are rows roots)
 
-    pub flat-short : length vs ≤ 1024
-    flat-short = omega (arith, left-short (t .rows) false k 0 start vs left, start-short rows roots h)
+    pub flat-shorter : length vs ≤ length start
+    flat-shorter = left-short (t .rows) false k 0 start vs left
 
-    pub flat-room : length (drop (length roots) (read numbered vs)) + length to-bind ≤ 1024
+    pub flat-short : length vs ≤ 1024
+    flat-short = omega (arith, flat-shorter, start-short rows roots h)
+
+    pub flat-room : length (drop (length roots) (read numbered vs)) + length to-bind ≤ length start
     flat-room =
         let m = left-made (t .rows) false k 0 start vs left in
         let d = left-divisors (t .rows) false k 0 start vs left in
         let s = ap length to-bind-same in
         let n : length (drop k (read numbered vs)) ≡ length (drop (length roots) (read numbered vs)) = ap (λ (j : ℕ). length (drop j (read numbered vs))) (roots-are rows roots) in
-        omega (arith, m, d, s, n, start-short rows roots h)
+        omega (arith, m, d, s, n)
 
     pub flat-there : All-there vs to-bind
     flat-there = to-bind-there vs (left-trees (t .rows) false k 0 start vs left) flat-complete (name-in (rows-in rows)) false

@@ -1,5 +1,5 @@
 -- What the end of flat extraction answers, and what it leaves in the table, by cases. Assumes nothing.
-use Prim.Native.Nat.{ℕ, _+_}
+use Prim.Native.Nat.{ℕ, _+_, _≤_}
 use mathlib.Core.Bool.{Bool, true, false, _&&_}
 use mathlib.Core.Option.{Option, none, some}
 use mathlib.Core.List.{List, _++_}
@@ -49,3 +49,11 @@ room-for ws k places = leb (length ws) 1024 && leb (length (drop k (read numbere
 unfoldable pub finishing : List ℕ → ℕ → List ℕ → List ℕ → Finishing
 unfolding finish-by trees-there room-for final-rows
 finishing ws k places old = finish-by (trees-there ws k places) (room-for ws k places) (final-rows (length old) k places ws) old
+
+-- how many words are lent to the end: for the settled trees and where they begin, for one tree, for the bindings in order, and for a table of bits
+pub record Room (ws : List ℕ) (k : ℕ) (places : List ℕ) (settled starts tree taken work : ℕ) : Type 0 where
+  pub for-settled : length ws ≤ settled
+  pub for-starts : length ws ≤ starts
+  pub for-tree : length ws + 2 ≤ tree
+  pub for-taken : length (drop k (read numbered ws)) + length places ≤ taken
+  pub for-bits : 32768 ≤ work

@@ -3,16 +3,16 @@ use mathlib.Core.Path.{sym}
 use lib.Seq.{length-take-le}
 use Rattle.reciprocals.proofs.final.Starting.{trees-many, ready-is, ready-long}
 use borrow.Author.Needs.{needs}
-use Rattle.cse_flat.proofs.ending.finish_with.Statement.{statement}
-use Rattle.cse_flat.proofs.ending.finish_with.Tie as tie
-use Rattle.cse_flat.proofs.ending.finish_with.Reads as reads
-use Rattle.cse_flat.proofs.ending.finish_with.Lts as lts
+use Rattle.cse_flat.proofs.ending.finish_there.Statement.{statement}
+use Rattle.cse_flat.proofs.ending.finish_there.Tie as tie
+use Rattle.cse_flat.proofs.ending.finish_there.Reads as reads
+use Rattle.cse_flat.proofs.ending.finish_there.Lts as lts
 use Rattle.cse_flat.proofs.ending.finish_settled.Reads as finish-settled-reads
 use Rattle.cse_flat.proofs.ending.settle_all.Reads as settle-all-reads
 use Rattle.topo_sort.proofs.treelist.list_trees.Reads as list-trees-reads
 
-pub finish-with-spec : {M : Type 1} → statement M
-finish-with-spec =
+pub finish-there-spec : {M : Type 1} → statement M
+finish-there-spec =
     tie.close
     (tie.spec
     (λ c κs. search needs)
