@@ -33,13 +33,8 @@ use words::tokens::count_trees;
 // The most words, and the most bindings.
 const MOST: usize = 1024;
 
-// The links that there is room for: a binding's are no more than its words.
-const LINKS: usize = 4096;
-
-// The same for few bindings, so that most lists needn't clear the large arrays.
+// Few bindings, so that most lists needn't clear the large arrays.
 const FEW: usize = 64;
-
-const FEW_LINKS: usize = 1024;
 
 // The words of a row of a table of bits.
 const ROW: usize = 32;
@@ -315,7 +310,7 @@ fn order_by_bits(
     )
 }
 
-// The same by links in lists that are empty, and by a table of bits where there is no room for them.
+// The same by links in the work area, in lists that are empty, and by a table of bits where there is no room for them: a binding's links are no more than its words.
 fn order_with(
     tokens: &[u64],
     settled: &[u64],
@@ -324,7 +319,6 @@ fn order_with(
     results: usize,
     tree: &mut [u64],
     heads: &mut [u64],
-    links: &mut [u64],
     waiting: &mut [u64],
     stack: &mut [u64],
     work: &mut [u64],
@@ -332,9 +326,9 @@ fn order_with(
 ) -> Ordered
     requires { ⌜ Ready (now tokens) (now settled) (now starts) (now places) results ⌝ }
     requires { ⌜ (length (now heads) ≡ (length (now starts) - results) + length (now places)) × (length (now tokens) + 2 ≤ length (now tree)) ⌝ }
-    requires { ⌜ (length (now links) ≤ 65536) × (length (now heads) ≤ length (now waiting)) ⌝ }
+    requires { ⌜ (length (now work) ≡ 65536) × (length (now heads) ≤ length (now waiting)) ⌝ }
     requires { ⌜ (length (now heads) ≤ length (now stack)) × (length (now heads) ≤ length (now taken)) ⌝ }
-    requires { ⌜ (now heads ≡ replicate (length (now heads)) 0) × (32768 ≤ length (now work)) ⌝ }
+    requires { ⌜ now heads ≡ replicate (length (now heads)) 0 ⌝ }
     ensures { λ r. ⌜ In-order (final-order results (now (places .entry)) (now (tokens .entry)) (length (now (heads .entry)))) (length (now (heads .entry))) (now (taken .entry)) (now (taken .exit)) r ⌝ }
 {
     let count = heads.len();
@@ -346,11 +340,11 @@ fn order_with(
         results,
         tree,
         heads,
-        links,
+        work,
         waiting,
     );
     if room {
-        return order_linked(heads, links, count, waiting, stack, taken);
+        return order_linked(heads, work, count, waiting, stack, taken);
     }
     order_by_bits(
         tokens,
@@ -374,17 +368,16 @@ fn order_many(
     results: usize,
     count: usize,
     tree: &mut [u64],
+    waiting: &mut [u64],
     work: &mut [u64],
     taken: &mut [u64],
 ) -> Ordered
     requires { ⌜ Ready (now tokens) (now settled) (now starts) (now places) results ⌝ }
-    requires { ⌜ (count ≡ (length (now starts) - results) + length (now places)) × (count ≤ length (now taken)) ⌝ }
-    requires { ⌜ (length (now tokens) + 2 ≤ length (now tree)) × (32768 ≤ length (now work)) ⌝ }
+    requires { ⌜ (count ≡ (length (now starts) - results) + length (now places)) × (count ≤ length (now taken)) × (count ≤ length (now waiting)) ⌝ }
+    requires { ⌜ (length (now tokens) + 2 ≤ length (now tree)) × (length (now work) ≡ 65536) ⌝ }
     ensures { λ r. ⌜ In-order (final-order results (now (places .entry)) (now (tokens .entry)) count) count (now (taken .entry)) (now (taken .exit)) r ⌝ }
 {
     let mut heads = [0u64; MOST];
-    let mut links = [0u64; LINKS];
-    let mut waiting = [0u64; MOST];
     let mut stack = [0u64; MOST];
     order_with(
         tokens,
@@ -394,8 +387,7 @@ fn order_many(
         results,
         tree,
         &mut heads[..count],
-        &mut links,
-        &mut waiting,
+        waiting,
         &mut stack,
         work,
         taken,
@@ -411,17 +403,16 @@ fn order_few(
     results: usize,
     count: usize,
     tree: &mut [u64],
+    waiting: &mut [u64],
     work: &mut [u64],
     taken: &mut [u64],
 ) -> Ordered
     requires { ⌜ Ready (now tokens) (now settled) (now starts) (now places) results ⌝ }
-    requires { ⌜ (count ≡ (length (now starts) - results) + length (now places)) × (count ≤ length (now taken)) ⌝ }
-    requires { ⌜ (length (now tokens) + 2 ≤ length (now tree)) × (count ≤ 64) × (32768 ≤ length (now work)) ⌝ }
+    requires { ⌜ (count ≡ (length (now starts) - results) + length (now places)) × (count ≤ length (now taken)) × (count ≤ length (now waiting)) ⌝ }
+    requires { ⌜ (length (now tokens) + 2 ≤ length (now tree)) × (count ≤ 64) × (length (now work) ≡ 65536) ⌝ }
     ensures { λ r. ⌜ In-order (final-order results (now (places .entry)) (now (tokens .entry)) count) count (now (taken .entry)) (now (taken .exit)) r ⌝ }
 {
     let mut heads = [0u64; FEW];
-    let mut links = [0u64; FEW_LINKS];
-    let mut waiting = [0u64; FEW];
     let mut stack = [0u64; FEW];
     order_with(
         tokens,
@@ -431,8 +422,7 @@ fn order_few(
         results,
         tree,
         &mut heads[..count],
-        &mut links,
-        &mut waiting,
+        waiting,
         &mut stack,
         work,
         taken,
@@ -448,12 +438,13 @@ fn take_in_order(
     results: usize,
     count: usize,
     tree: &mut [u64],
+    waiting: &mut [u64],
     work: &mut [u64],
     taken: &mut [u64],
 ) -> Ordered
     requires { ⌜ Ready (now tokens) (now settled) (now starts) (now places) results ⌝ }
-    requires { ⌜ (count ≡ (length (now starts) - results) + length (now places)) × (count ≤ length (now taken)) ⌝ }
-    requires { ⌜ (length (now tokens) + 2 ≤ length (now tree)) × (32768 ≤ length (now work)) ⌝ }
+    requires { ⌜ (count ≡ (length (now starts) - results) + length (now places)) × (count ≤ length (now taken)) × (count ≤ length (now waiting)) ⌝ }
+    requires { ⌜ (length (now tokens) + 2 ≤ length (now tree)) × (length (now work) ≡ 65536) ⌝ }
     ensures { λ r. ⌜ In-order (final-order results (now (places .entry)) (now (tokens .entry)) count) count (now (taken .entry)) (now (taken .exit)) r ⌝ }
 {
     if count <= FEW {
@@ -465,6 +456,7 @@ fn take_in_order(
             results,
             count,
             tree,
+            waiting,
             work,
             taken,
         );
@@ -477,6 +469,7 @@ fn take_in_order(
         results,
         count,
         tree,
+        waiting,
         work,
         taken,
     )
@@ -719,11 +712,12 @@ fn finish_settled(
     results: usize,
     tree: &mut [u64],
     taken: &mut [u64],
+    waiting: &mut [u64],
     work: &mut [u64],
     table: &mut [u64],
 ) -> Finished
     requires { ⌜ Ready (now tokens) (now settled) (now starts) (now places) results × (length (now tokens) + 2 ≤ length (now tree)) ⌝ }
-    requires { ⌜ ((length (now starts) - results) + length (now places) ≤ length (now taken)) × (32768 ≤ length (now work)) ⌝ }
+    requires { ⌜ ((length (now starts) - results) + length (now places) ≤ length (now taken)) × ((length (now starts) - results) + length (now places) ≤ length (now waiting)) × (length (now work) ≡ 65536) ⌝ }
     ensures { λ r. ⌜ (r ≡ finish-outcome (final-rows (length (now (table .entry))) results (now (places .entry)) (now (tokens .entry))) (now (table .entry)) .answer)
         × (now (table .exit) ≡ finish-outcome (final-rows (length (now (table .entry))) results (now (places .entry)) (now (tokens .entry))) (now (table .entry)) .table) ⌝ }
 {
@@ -736,6 +730,7 @@ fn finish_settled(
         results,
         count,
         tree,
+        waiting,
         work,
         taken,
     );
@@ -789,12 +784,13 @@ fn finish_there(
     starts: &mut [u64],
     tree: &mut [u64],
     taken: &mut [u64],
+    waiting: &mut [u64],
     work: &mut [u64],
     table: &mut [u64],
 ) -> Finished
     requires { ⌜ There (now tokens) results trees (now places) × (length (now tokens) ≤ length (now settled)) ⌝ }
     requires { ⌜ (length (now tokens) ≤ length (now starts)) × (length (now tokens) + 2 ≤ length (now tree)) ⌝ }
-    requires { ⌜ ((trees - results) + length (now places) ≤ length (now taken)) × (32768 ≤ length (now work)) ⌝ }
+    requires { ⌜ ((trees - results) + length (now places) ≤ length (now taken)) × ((trees - results) + length (now places) ≤ length (now waiting)) × (length (now work) ≡ 65536) ⌝ }
     ensures { λ r. ⌜ (r ≡ finish-outcome (final-rows (length (now (table .entry))) results (now (places .entry)) (now (tokens .entry))) (now (table .entry)) .answer)
         × (now (table .exit) ≡ finish-outcome (final-rows (length (now (table .entry))) results (now (places .entry)) (now (tokens .entry))) (now (table .entry)) .table) ⌝ }
 {
@@ -808,6 +804,7 @@ fn finish_there(
         results,
         tree,
         taken,
+        waiting,
         work,
         table,
     )
@@ -823,10 +820,11 @@ pub fn finish(
     starts: &mut [u64],
     tree: &mut [u64],
     taken: &mut [u64],
+    waiting: &mut [u64],
     work: &mut [u64],
     table: &mut [u64],
 ) -> Finished
-    requires { ⌜ Room (now tokens) results (now places) (length (now settled)) (length (now starts)) (length (now tree)) (length (now taken)) (length (now work)) ⌝ }
+    requires { ⌜ Room (now tokens) results (now places) (length (now settled)) (length (now starts)) (length (now tree)) (length (now taken)) (length (now waiting)) (length (now work)) ⌝ }
     ensures { λ r. ⌜ (r ≡ finishing (now (tokens .entry)) results (now (places .entry)) (now (table .entry)) .answer)
         × (now (table .exit) ≡ finishing (now (tokens .entry)) results (now (places .entry)) (now (table .entry)) .table) ⌝ }
 {
@@ -854,6 +852,7 @@ pub fn finish(
         starts,
         tree,
         taken,
+        waiting,
         work,
         table,
     )

@@ -36,6 +36,9 @@ const MOST: usize = 1024;
 
 const FEW: usize = 256;
 
+// The words of the work area that are used.
+const WORK: usize = 65536;
+
 // Four words of facts for each place, and chains for them.
 const FACTS: usize = 4096;
 
@@ -138,12 +141,13 @@ fn finish_flat(
     starts: &mut [u64],
     tree: &mut [u64],
     taken: &mut [u64],
+    waiting: &mut [u64],
     work: &mut [u64],
     table: &mut [u64],
 ) -> Extraction
     requires { ⌜ T (trees-there (now tokens) results (now places)) × T (room-for (now tokens) results (now places)) ⌝ }
     requires { ⌜ made ≡ length (drop results (read numbered (now tokens))) ⌝ }
-    requires { ⌜ Room (now tokens) results (now places) (length (now settled)) (length (now starts)) (length (now tree)) (length (now taken)) (length (now work)) ⌝ }
+    requires { ⌜ Room (now tokens) results (now places) (length (now settled)) (length (now starts)) (length (now tree)) (length (now taken)) (length (now waiting)) (length (now work)) ⌝ }
     ensures { λ r. ⌜ (r ≡ extraction-answer (final-rows (length (now (table .entry))) results (now (places .entry)) (now (tokens .entry))))
         × (now (table .exit) ≡ table-after (final-rows (length (now (table .entry))) results (now (places .entry)) (now (tokens .entry))) (now (table .entry))) ⌝ }
 {
@@ -155,6 +159,7 @@ fn finish_flat(
         starts,
         tree,
         taken,
+        waiting,
         work,
         table,
     );
@@ -184,7 +189,7 @@ fn extract_words(
 ) -> Extraction
     requires { ⌜ (unfolded (now rows) (now roots) ≡ ok (take len (now tokens))) × (len ≤ length (now tokens)) × (len ≤ length (now places)) ⌝ }
     requires { ⌜ Lent len (length (now facts)) (length (now classes)) (length (now next)) (length (now heads)) (length (now uses)) ⌝ }
-    requires { ⌜ (len + 2 ≤ length (now facts)) × (32768 ≤ length (now work)) × (131072 ≤ length (now text)) ⌝ }
+    requires { ⌜ (len + 2 ≤ length (now facts)) × (length (now work) ≡ 65536) × (131072 ≤ length (now text)) ⌝ }
     ensures { λ r. ⌜ (r ≡ extraction-answer (extract-from false (now (rows .entry)) (now (roots .entry)) (length (now (table .entry)))))
         × (now (table .exit) ≡ table-after (extract-from false (now (rows .entry)) (now (roots .entry)) (length (now (table .entry)))) (now (table .entry))) ⌝ }
 {
@@ -212,6 +217,7 @@ fn extract_words(
         next,
         facts,
         uses,
+        heads,
         work,
         table,
     )
@@ -227,7 +233,7 @@ fn extract_few(
     table: &mut [u64],
 ) -> Extraction
     requires { ⌜ (unfolded (now rows) (now roots) ≡ ok (take len (now work))) × (len ≤ 256) ⌝ }
-    requires { ⌜ (32768 ≤ length (now work)) × (131072 ≤ length (now text)) ⌝ }
+    requires { ⌜ (length (now work) ≡ 65536) × (131072 ≤ length (now text)) ⌝ }
     ensures { λ r. ⌜ (r ≡ extraction-answer (extract-from false (now (rows .entry)) (now (roots .entry)) (length (now (table .entry)))))
         × (now (table .exit) ≡ table-after (extract-from false (now (rows .entry)) (now (roots .entry)) (length (now (table .entry)))) (now (table .entry))) ⌝ }
 {
@@ -266,7 +272,7 @@ fn extract_many(
     table: &mut [u64],
 ) -> Extraction
     requires { ⌜ (unfolded (now rows) (now roots) ≡ ok (take len (now work))) × (len ≤ 1024) ⌝ }
-    requires { ⌜ (32768 ≤ length (now work)) × (131072 ≤ length (now text)) ⌝ }
+    requires { ⌜ (length (now work) ≡ 65536) × (131072 ≤ length (now text)) ⌝ }
     ensures { λ r. ⌜ (r ≡ extraction-answer (extract-from false (now (rows .entry)) (now (roots .entry)) (length (now (table .entry)))))
         × (now (table .exit) ≡ table-after (extract-from false (now (rows .entry)) (now (roots .entry)) (length (now (table .entry)))) (now (table .entry))) ⌝ }
 {
@@ -303,7 +309,7 @@ fn extract_flat(
     text: &mut [u8],
     table: &mut [u64],
 ) -> Extraction
-    requires { ⌜ (32768 ≤ length (now work)) × (131072 ≤ length (now text)) ⌝ }
+    requires { ⌜ (length (now work) ≡ 65536) × (131072 ≤ length (now text)) ⌝ }
     ensures { λ r. ⌜ (r ≡ extraction-answer (extract-from false (now (rows .entry)) (now (roots .entry)) (length (now (table .entry)))))
         × (now (table .exit) ≡ table-after (extract-from false (now (rows .entry)) (now (roots .entry)) (length (now (table .entry)))) (now (table .entry))) ⌝ }
 {
@@ -332,5 +338,5 @@ pub fn cse(
     if is_short(work.len(), text.len()) {
         return Extraction::Refused(SHORT_WORK);
     }
-    extract_flat(rows, roots, work, text, table)
+    extract_flat(rows, roots, &mut work[..WORK], text, table)
 }

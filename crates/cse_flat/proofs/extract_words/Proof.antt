@@ -34,22 +34,28 @@ extract-words-spec =
     (λ c. let a = c .before .before .before .before .before .before .before .before .before .before .before .before .before .before .before .before .before .before .before .before .before .before .before .before .before .before .before .before .before .before .before .before .before .before .before .before .before .before .before .before .before .args in let p = c .before .before .before .before .before .before .before .before .before .before .before .before .before .before .before .before .before .before .before .before .before .before .before .before .before .before .before .before .before .before .before .before .before .before .before .before .before .before .before .before .before .pre in let u = unfolded-words (a .rows .now) (a .roots .now) (take (a .len) (a .tokens .now)) (p .0 .0) in let y = c .before .before .before .before .before .before .before .before .before .before .before .before .before .before .before .before .before .before .before .before .list-in in let l = c .before .before .listed .given in words-long (a .rows .now) (a .roots .now) (a .table .now) (u .0) _ (u .1) (y .result) _ _ (y .ensures) (l .0 .0) (l .0 .1 .0) (l .0 .1 .1 .0) (l .1))
     (λ c. let a = c .before .before .before .before .before .before .before .before .before .before .before .before .before .before .before .before .before .before .before .before .before .before .before .before .before .before .before .before .before .before .before .before .before .before .before .before .before .before .before .before .before .args in let p = c .before .before .before .before .before .before .before .before .before .before .before .before .before .before .before .before .before .before .before .before .before .before .before .before .before .before .before .before .before .before .before .before .before .before .before .before .before .before .before .before .before .pre in let u = unfolded-words (a .rows .now) (a .roots .now) (take (a .len) (a .tokens .now)) (p .0 .0) in let y = c .before .before .before .before .before .before .before .before .before .before .before .before .before .before .before .before .before .before .before .before .list-in in let l = c .before .before .listed .given in places-there (a .rows .now) (a .roots .now) (a .table .now) (u .0) _ (u .1) (y .result) _ _ (y .ensures) (l .0 .0) (l .0 .1 .0) (l .0 .1 .1 .0) (l .1))
     (λ c. let a = c .before .before .before .before .before .before .before .before .before .before .before .before .before .before .before .before .before .before .before .before .before .before .before .before .before .before .before .before .before .before .before .before .before .before .before .before .before .before .before .before .before .before .args in let p = c .before .before .before .before .before .before .before .before .before .before .before .before .before .before .before .before .before .before .before .before .before .before .before .before .before .before .before .before .before .before .before .before .before .before .before .before .before .before .before .before .before .before .pre in let u = unfolded-words (a .rows .now) (a .roots .now) (take (a .len) (a .tokens .now)) (p .0 .0) in let y = c .before .before .before .before .before .before .before .before .before .before .before .before .before .before .before .before .before .before .before .before .before .list-in in let l = c .before .before .before .listed .given in places-long (a .rows .now) (a .roots .now) (a .table .now) (u .0) _ (u .1) (y .result) _ _ (y .ensures) (l .0 .0) (l .0 .1 .0) (l .0 .1 .1 .0) (l .1))
-    (λ c κs. let a = c .before .before .before .before .before .before .before .before .before .before .before .before .before .before .before .before .before .before .before .before .before .before .before .before .before .before .before .before .before .before .before .before .before .before .before .before .before .before .before .before .before .before .before .before .before .before .before .before .args in let p = c .before .before .before .before .before .before .before .before .before .before .before .before .before .before .before .before .before .before .before .before .before .before .before .before .before .before .before .before .before .before .before .before .before .before .before .before .before .before .before .before .before .before .before .before .before .before .before .before .pre in let u = unfolded-words (a .rows .now) (a .roots .now) (take (a .len) (a .tokens .now)) (p .0 .0) in let y = c .before .before .before .before .before .before .before .before .before .before .before .before .before .before .before .before .before .before .before .before .before .before .before .before .before .before .before .list-in in let l = c .before .before .before .before .before .before .before .before .before .listed .given in let k = y .kept in let long = length-take-le (a .len) (a .tokens .now) (p .0 .1) in let r = finish-room (a .rows .now) (a .roots .now) (a .table .now) (u .0) _ (u .1) (y .result) _ _ (y .ensures) (l .0 .0) (l .0 .1 .0) (l .0 .1 .1 .0) (l .1) in
-    (finish-there (a .rows .now) (a .roots .now) (a .table .now) (u .0) _ (u .1) (y .result) _ _ (y .ensures) (l .0 .0) (l .0 .1 .0) (l .0 .1 .1 .0) (l .1), (finish-counts (a .rows .now) (a .roots .now) (a .table .now) (u .0) _ (u .1) (y .result) _ _ (y .ensures) (l .0 .0) (l .0 .1 .0) (l .0 .1 .1 .0) (l .1), record {
-      for-settled = omega (arith, r .0, long, p .1 .0 .for-classes, k .1 .1 .1 .1 .0);
-      for-starts = omega (arith, r .0, long, p .1 .0 .for-next, k .1 .1 .1 .1 .1 .0);
-      for-tree = omega (arith, r .0, long, p .1 .1 .0, k .1 .1 .1 .0);
-      for-taken = omega (arith, r .1, long, p .1 .0 .for-uses, k .1 .1 .1 .1 .1 .1 .1 .0);
-      for-bits = p .1 .1 .1;
-    })))
-    (λ c. search needs)
-    (λ c. search needs)
-    (λ c. search needs)
-    (λ c. search needs)
-    (λ c. search needs)
-    (λ c. search needs)
-    (λ c. search needs)
-    (λ c. search needs)
-    (λ c. search needs)
-    (λ c. search needs)
-    (λ c. let a = c .before .before .before .before .before .before .before .before .before .before .before .before .before .before .before .before .before .before .before .before .before .before .before .before .before .before .before .before .before .before .before .before .before .before .before .before .before .before .before .before .before .before .before .before .before .before .before .before .before .before .before .before .before .before .before .before .before .before .before .before .before .args in let p = c .before .before .before .before .before .before .before .before .before .before .before .before .before .before .before .before .before .before .before .before .before .before .before .before .before .before .before .before .before .before .before .before .before .before .before .before .before .before .before .before .before .before .before .before .before .before .before .before .before .before .before .before .before .before .before .before .before .before .before .before .before .pre in let u = unfolded-words (a .rows .now) (a .roots .now) (take (a .len) (a .tokens .now)) (p .0 .0) in let y = c .before .before .before .before .before .before .before .before .before .before .before .before .before .before .before .before .before .before .before .before .before .before .before .before .before .before .before .before .before .before .before .before .before .before .before .before .before .before .before .before .list-in in let l = c .before .before .before .before .before .before .before .before .before .before .before .before .before .before .before .before .before .before .before .before .before .before .listed .given in ends-so (a .rows .now) (a .roots .now) (a .table .now) (u .0) _ (u .1) (y .result) _ _ (y .ensures) (l .0 .0) (l .0 .1 .0) (l .0 .1 .1 .0) (l .1) _ _ (c .before .before .before .before .before .before .before .before .before .before .before .before .finish-flat .ensures)))
+    (λ c κs. let a = c .before .before .before .before .before .before .before .before .before .before .before .before .before .before .before .before .before .before .before .before .before .before .before .before .before .before .before .before .before .before .before .before .before .before .before .before .before .before .before .before .before .before .before .before .before .before .before .before .before .args in let p = c .before .before .before .before .before .before .before .before .before .before .before .before .before .before .before .before .before .before .before .before .before .before .before .before .before .before .before .before .before .before .before .before .before .before .before .before .before .before .before .before .before .before .before .before .before .before .before .before .before .pre in let u = unfolded-words (a .rows .now) (a .roots .now) (take (a .len) (a .tokens .now)) (p .0 .0) in let y = c .before .before .before .before .before .before .before .before .before .before .before .before .before .before .before .before .before .before .before .before .before .before .before .before .before .before .before .before .list-in in let l = c .before .before .before .before .before .before .before .before .before .before .listed .given in let k = y .kept in let long = length-take-le (a .len) (a .tokens .now) (p .0 .1) in let r = finish-room (a .rows .now) (a .roots .now) (a .table .now) (u .0) _ (u .1) (y .result) _ _ (y .ensures) (l .0 .0) (l .0 .1 .0) (l .0 .1 .1 .0) (l .1) in (
+      finish-there (a .rows .now) (a .roots .now) (a .table .now) (u .0) _ (u .1) (y .result) _ _ (y .ensures) (l .0 .0) (l .0 .1 .0) (l .0 .1 .1 .0) (l .1),
+      (
+        finish-counts (a .rows .now) (a .roots .now) (a .table .now) (u .0) _ (u .1) (y .result) _ _ (y .ensures) (l .0 .0) (l .0 .1 .0) (l .0 .1 .1 .0) (l .1),
+        record {
+          for-settled = omega (arith, r .0, long, p .1 .0 .for-classes, k .1 .1 .1 .1 .0);
+          for-starts = omega (arith, r .0, long, p .1 .0 .for-next, k .1 .1 .1 .1 .1 .0);
+          for-tree = omega (arith, r .0, long, p .1 .1 .0, k .1 .1 .1 .0);
+          for-taken = omega (arith, r .1, long, p .1 .0 .for-uses, k .1 .1 .1 .1 .1 .1 .1 .0);
+          for-waiting = omega (arith, r .1, long, p .1 .0 .for-marks, k .1 .1 .1 .1 .1 .1 .0);
+          for-links = p .1 .1 .1;
+        },
+      ),
+    ))
+    (λ c. omega (arith, c .before .before .before .before .before .before .before .before .before .before .before .before .before .before .before .before .before .before .before .before .before .before .before .before .before .before .before .before .before .before .before .before .before .before .before .before .before .before .before .before .before .before .before .list-in .kept .1 .0))
+    (λ c. omega (arith, c .before .before .before .before .before .before .before .before .before .before .before .before .before .before .before .before .before .before .before .before .before .before .before .before .before .before .before .before .before .before .before .before .before .before .before .before .before .before .before .before .before .before .before .list-in .kept .1 .1 .1 .1 .1 .1 .1 .1 .1 .0))
+    (λ c. omega (arith, c .before .before .before .before .before .before .before .before .before .before .before .before .before .before .before .before .before .before .before .before .before .before .before .before .before .before .before .before .before .before .before .before .before .before .before .before .before .before .before .before .before .before .before .list-in .kept .1 .1 .1 .0, c .before .before .before .before .before .before .before .before .before .before .before .before .before .before .finish-flat .kept .1 .1 .1 .1 .1 .1 .0))
+    (λ c. omega (arith, c .before .before .before .before .before .before .before .before .before .before .before .before .before .before .before .before .before .before .before .before .before .before .before .before .before .before .before .before .before .before .before .before .before .before .before .before .before .before .before .before .before .before .before .list-in .kept .1 .1 .1 .1 .0, c .before .before .before .before .before .before .before .before .before .before .before .before .before .before .finish-flat .kept .1 .1 .1 .1 .0))
+    (λ c. omega (arith, c .before .before .before .before .before .before .before .before .before .before .before .before .before .before .before .before .before .before .before .before .before .before .before .before .before .before .before .before .before .before .before .before .before .before .before .before .before .before .before .before .before .before .before .list-in .kept .1 .1 .1 .1 .1 .0, c .before .before .before .before .before .before .before .before .before .before .before .before .before .before .finish-flat .kept .1 .1 .1 .1 .1 .0))
+    (λ c. omega (arith, c .before .before .before .before .before .before .before .before .before .before .before .before .before .before .before .before .before .before .before .before .before .before .before .before .before .before .before .before .before .before .before .before .before .before .before .before .before .before .before .before .before .before .before .list-in .kept .1 .1 .1 .1 .1 .1 .0, c .before .before .before .before .before .before .before .before .before .before .before .before .before .before .finish-flat .kept .1 .1 .1 .1 .1 .1 .1 .1 .0))
+    (λ c. omega (arith, c .before .before .before .before .before .before .before .before .before .before .before .before .before .before .before .before .before .before .before .before .before .before .before .before .before .before .before .before .before .before .before .before .before .before .before .before .before .before .before .before .before .before .before .list-in .kept .1 .1 .1 .1 .1 .1 .1 .0, c .before .before .before .before .before .before .before .before .before .before .before .before .before .before .finish-flat .kept .1 .1 .1 .1 .1 .1 .1 .0))
+    (λ c. omega (arith, c .before .before .before .before .before .before .before .before .before .before .before .before .before .before .finish-flat .kept .1 .1 .1 .1 .1 .1 .1 .1 .1 .0))
+    (λ c. omega (arith, c .before .before .before .before .before .before .before .before .before .before .before .before .before .before .before .before .before .before .before .before .before .before .before .before .before .before .before .before .before .before .before .before .before .before .before .before .before .before .before .before .before .before .before .list-in .kept .1 .1 .1 .1 .1 .1 .1 .1 .0))
+    (λ c. omega (arith, c .before .before .before .before .before .before .before .before .before .before .before .before .before .before .finish-flat .kept .1 .1 .1 .1 .1 .1 .1 .1 .1 .1 .0))
+    (λ c. let a = c .before .before .before .before .before .before .before .before .before .before .before .before .before .before .before .before .before .before .before .before .before .before .before .before .before .before .before .before .before .before .before .before .before .before .before .before .before .before .before .before .before .before .before .before .before .before .before .before .before .before .before .before .before .before .before .before .before .before .before .before .before .before .before .before .args in let p = c .before .before .before .before .before .before .before .before .before .before .before .before .before .before .before .before .before .before .before .before .before .before .before .before .before .before .before .before .before .before .before .before .before .before .before .before .before .before .before .before .before .before .before .before .before .before .before .before .before .before .before .before .before .before .before .before .before .before .before .before .before .before .before .before .pre in let u = unfolded-words (a .rows .now) (a .roots .now) (take (a .len) (a .tokens .now)) (p .0 .0) in let y = c .before .before .before .before .before .before .before .before .before .before .before .before .before .before .before .before .before .before .before .before .before .before .before .before .before .before .before .before .before .before .before .before .before .before .before .before .before .before .before .before .before .before .before .list-in in let l = c .before .before .before .before .before .before .before .before .before .before .before .before .before .before .before .before .before .before .before .before .before .before .before .before .before .listed .given in ends-so (a .rows .now) (a .roots .now) (a .table .now) (u .0) _ (u .1) (y .result) _ _ (y .ensures) (l .0 .0) (l .0 .1 .0) (l .0 .1 .1 .0) (l .1) _ _ (c .before .before .before .before .before .before .before .before .before .before .before .before .before .before .finish-flat .ensures)))

@@ -82,5 +82,5 @@ module _ (words bytes : ℕ) (e : (ltb words work-words || ltb bytes work-bytes)
   enough-bytes = ltb-false bytes 131072 (or-right-false (ltb words 65536) (ltb bytes 131072) e)
 
 -- the front of the work area
-pub front-long : (work : List ℕ) → 65536 ≤ length work → 1024 ≡ length (take 1024 work)
-front-long work h = sym (length-take-le 1024 work (omega (arith, h)))
+pub front-long : (work : List ℕ) → 65536 ≤ length work → 65536 ≡ length (take 65536 work)
+front-long work h = sym (length-take-le 65536 work h)

@@ -1,5 +1,6 @@
 -- What the end of flat extraction answers, and what it leaves in the table, by cases. Assumes nothing.
 use Prim.Native.Nat.{ℕ, _+_, _≤_}
+use mathlib.Core.Path.{_≡_}
 use mathlib.Core.Bool.{Bool, true, false, _&&_}
 use mathlib.Core.Option.{Option, none, some}
 use mathlib.Core.List.{List, _++_}
@@ -50,10 +51,12 @@ unfoldable pub finishing : List ℕ → ℕ → List ℕ → List ℕ → Finish
 unfolding finish-by trees-there room-for final-rows
 finishing ws k places old = finish-by (trees-there ws k places) (room-for ws k places) (final-rows (length old) k places ws) old
 
--- how many words are lent to the end: for the settled trees and where they begin, for one tree, for the bindings in order, and for a table of bits
-pub record Room (ws : List ℕ) (k : ℕ) (places : List ℕ) (settled starts tree taken work : ℕ) : Type 0 where
+-- how many words are lent to the end: for the settled trees and where they begin, for one tree, for the bindings in order and what they wait for, and for links or
+-- a table of bits
+pub record Room (ws : List ℕ) (k : ℕ) (places : List ℕ) (settled starts tree taken waiting work : ℕ) : Type 0 where
   pub for-settled : length ws ≤ settled
   pub for-starts : length ws ≤ starts
   pub for-tree : length ws + 2 ≤ tree
   pub for-taken : length (drop k (read numbered ws)) + length places ≤ taken
-  pub for-bits : 32768 ≤ work
+  pub for-waiting : length (drop k (read numbered ws)) + length places ≤ waiting
+  pub for-links : work ≡ 65536

@@ -15,14 +15,13 @@ pub order-many-spec : {M : Type 1} → statement M
 order-many-spec =
     tie.close
     (tie.spec
-    (λ c. let p = c .before .before .before .before .before .before .before .before .pre in omega (arith, p .0 .numbers, p .1 .0 .0))
-    (λ c. let p = c .before .before .before .before .before .before .before .before .before .pre in zeros-many (c .before .before .before .before .before .before .before .before .before .args .count) 1024 (omega (arith, p .0 .numbers, p .1 .0 .0)))
-    (λ c. search needs)
-    (λ c. search needs)
+    (λ c. let p = c .before .before .before .before .before .before .before .before .before .pre in omega (arith, p .0 .numbers, p .1 .0 .0))
+    (λ c. let p = c .before .before .before .before .before .before .before .before .before .before .pre in zeros-many (c .before .before .before .before .before .before .before .before .before .before .args .count) 1024 (omega (arith, p .0 .numbers, p .1 .0 .0)))
     (λ c. search needs)
     (λ c κs. let p = c .before .before .before .before .before .before .before .before .before .before .before .before .before .before .pre in
     let len = zeros-many (c .before .before .before .before .before .before .before .before .before .before .before .before .before .before .args .count) 1024 (omega (arith, p .0 .numbers, p .1 .0 .0)) in
-    (p .0, ((omega (arith, len, p .1 .0 .0), p .1 .1 .0), ((search needs, omega (arith, len, p .0 .numbers, p .1 .0 .0)), ((omega (arith, len, p .0 .numbers, p .1 .0 .0), omega (arith, len, p .1 .0 .1)), (zeros-front (c .before .before .before .before .before .before .before .before .before .before .before .before .before .before .args .count) 1024 (omega (arith, p .0 .numbers, p .1 .0 .0)) ∙ ap (λ (n : ℕ). replicate {A = ℕ} n 0) len, p .1 .1 .1))))))
+    (p .0, ((omega (arith, len, p .1 .0 .0), p .1 .1 .0), ((p .1 .1 .1, omega (arith, len, p .1 .0 .2)), ((omega (arith, len, p .0 .numbers, p .1 .0 .0), omega (arith, len, p .1 .0 .1)), zeros-front (c .before .before .before .before .before .before .before .before .before .before .before .before .before .before .args .count) 1024 (omega (arith, p .0 .numbers, p .1 .0 .0)) ∙ ap (λ (n : ℕ). replicate {A = ℕ} n 0) len)))))
+    (λ c. search needs)
     (λ c. search needs)
     (λ c. search needs)
     (λ c. search needs)
