@@ -19,6 +19,8 @@ use Rattle.laws.specs.positions.Places.{numbered-at}
 use Rattle.laws.specs.positions.Rounds.{next-number, bind-each-on}
 use Rattle.laws.proofs.positions.Coded.{is-alone, none-fit, one-fits, first-fits, rest-fits, read-fits, read-again, bind-on-fits}
 use Rattle.laws.proofs.positions.Extraction.{Every}
+use Rattle.laws.proofs.switches.Words.{ends-within}
+use Rattle.laws.proofs.answer.CodeLaws.{run-starts}
 use Rattle.reciprocals.proofs.bindings.Parts.{settle-tree, settled-reciprocals, bound-are-settled, All-there}
 use Rattle.reciprocals.specs.reciprocal.Bindings.{all-there}
 use Rattle.reciprocals.proofs.reciprocal.There.{tested-there}
@@ -30,8 +32,8 @@ use Rattle.fusion.specs.Switchless.{switchless, with-switches}
 use Rattle.fusion.specs.Words.{steps-at}
 use Rattle.fusion.specs.place.Parts.{place-groups, joined-groups, trees-held, words-held, reciprocals-first, lets-count, held-words, settled-trees, steps-from, fused-run}
 use Rattle.fusion.specs.place.Whole.{stmts-count, tree-run}
-use Rattle.fusion.proofs.place.Small.{Small, small-at, place-small, divisors-small, held-small}
-use Rattle.statements.specs.Prepared.{Prepared, run-number, reciprocal-run, settled-run, fused-by}
+use Rattle.fusion.proofs.place.Small.{Small, small-at, place-small, divisors-small, settled-small, held-small}
+use Rattle.statements.specs.Prepared.{Prepared, Roomy, run-number, reciprocal-run, settled-run, fused-by}
 
 -- ---- within the code
 
@@ -190,13 +192,28 @@ module _ {ws : List ℕ} {k first : ℕ} {places held starts members ends number
   pub held-many : length starts ≤ length (read numbered held)
   held-many = omega (arith, ap length held-read, length-append S (with-switches R), settled-count)
 
-  pub held-run-short : (i : ℕ) → length (run-number held i) ≤ 1929
-  unfolding run-number
-  held-run-short i =
-      let hs = held-words ws k first places in
-      let l = tokens-length unnumbered (getD (read numbered held) i (Op 0 nil)) in
-      let e = ap (λ (l : List ℕ). size (getD (read numbered l) i (Op 0 nil))) (p .held-is) in
-      omega (arith, l, e, small-at 1929 (read numbered hs) (omega arith) (each-small ws k first places places-there (p .few)) i)
+  -- ---- no tree has more than two words besides those that rounds leave
+
+  divisors-within : (l : List ℕ) → All-there ws l → Every (Small (length ws)) (map (numbered-at ws) l)
+  divisors-within [] h = tt
+  divisors-within (q ∷ l) h = ((let e = ends-within ws m (p .complete) q (run-starts ws q (h .0 .0) (h .0 .1)) in omega arith), divisors-within l (h .1))
+
+  pub settled-run-short : (i : ℕ) → length (settled-run ws k first places i) ≤ 2 + length ws
+  unfolding settled-run
+  settled-run-short i =
+      let e = settled-small (length ws) ws (omega arith) places (divisors-within places places-there) k first in
+      omega (
+        arith,
+        tokens-length unnumbered (getD (settled-trees ws k first places) i (Op 0 nil)),
+        small-at (2 + length ws) (settled-trees ws k first places) (omega arith) e i,
+      )
+
+  pub held-room : (n : ℕ) → length ws + 2 ≤ n → Roomy held n
+  held-room n h q inside =
+      let e = held-small (length ws) ws (omega arith) places (divisors-within places places-there) (reciprocals-first ws k first places) in
+      let s = subst (λ (l : List Tree). Every (Small (2 + length ws)) l) (sym (held-again ws k first places places-there)) e in
+      let z = place-small (2 + length ws) (held-words ws k first places) (omega arith) s q in
+      omega (arith, z, ap (λ (hs : List ℕ). size (numbered-at hs q)) (p .held-is), h)
 
   -- ---- a reciprocal
 

@@ -29,7 +29,7 @@ use Rattle.fusion.proofs.Switchless.{Of-switches}
 use Rattle.fusion.proofs.scopeneeds.Arms.{key-inside, key-stands}
 use Rattle.fusion.specs.place.Overlay.{overlay}
 use Rattle.fusion.specs.place.Parts.{place-groups, joined-groups, group-at, group-start, group-end, opener, steps-from, key-run, match-head}
-use Rattle.statements.specs.Prepared.{most, Prepared, Grouped, Fusable, fused-by, begin-of}
+use Rattle.statements.specs.Prepared.{most, Prepared, Grouped, Roomy, Fusable, fused-by, begin-of}
 use Rattle.statements.proofs.Held.{held-complete, held-places-small, rewritten-one}
 use Rattle.statements.proofs.Groups.{end-is, begin-is, group-long, group-inside, group-part, opener-is, group-switches, opener-switch, members-there, members-steps}
 use Rattle.statements.proofs.Taking.{put-front, stands-as}
@@ -48,6 +48,10 @@ next-begins ends (suc g) ne = ap (λ (i : ℕ). getD ends i 0) (let z : suc g - 
 
 pub grouped : {ws : List ℕ} {k first : ℕ} {places held starts members ends numbers : List ℕ} → Prepared ws k first places held starts members ends numbers → Grouped held members ends numbers
 grouped {ws} {k} {first} {places} {held} p = record { complete = held-complete p; short = p .short; members-are = p .members-are; ends-are = p .ends-are; numbered = p .numbered; small = p .small; trees-small = held-places-small ws k first places held (p .there) (p .few) (p .held-is) }
+
+-- few words have room for each of their trees
+pub few-room : {held members ends numbers : List ℕ} → Grouped held members ends numbers → (n : ℕ) → length held ≤ n → Roomy held n
+few-room {held} G n h q inside = omega (arith, ends-within held (G .complete .0) (G .complete .1) q inside, h)
 
 module _ {held members ends numbers : List ℕ} (G : Grouped held members ends numbers) (g : ℕ) (h : g < length ends) where
   abbrev gs : List (List ℕ)
@@ -140,6 +144,9 @@ module _ {held members ends numbers : List ℕ} (G : Grouped held members ends n
       pub stop-inside : s ≤ length held
       stop-inside = omega (arith, es, ends-within held (G .complete .0) (G .complete .1) k k-inside)
 
+      pub key-short : s - (getD members b 0 + 1) ≤ 1929
+      key-short = omega (arith, es, G .trees-small k)
+
       key-words : take (s - k) (drop k held) ≡ words-at held k
       unfolding words-at
       key-words = let z : s - k ≡ size (numbered-at held k) = omega (arith, es) in ap (λ (n : ℕ). take n (drop k held)) z
@@ -150,11 +157,11 @@ module _ {held members ends numbers : List ℕ} (G : Grouped held members ends n
       long-part : (n x : ℕ) (l : List ℕ) → x + n ≤ length l → length (take n (drop x l)) ≡ n
       long-part n x l w = length-take-le n (drop x l) (omega (arith, w, length-drop x l))
 
-      pub key-stands-there : (old out : List ℕ) → length old ≡ 1929 → out ≡ overlay 0 (take (s - (getD members b 0 + 1)) (drop (getD members b 0 + 1) held)) old → Stands (words-at held (getD members b 0 + 1)) out (s - (getD members b 0 + 1))
+      pub key-stands-there : (old out : List ℕ) → Roomy held (length old) → out ≡ overlay 0 (take (s - (getD members b 0 + 1)) (drop (getD members b 0 + 1) held)) old → Stands (words-at held (getD members b 0 + 1)) out (s - (getD members b 0 + 1))
       key-stands-there old out l f =
           let w = long-part (s - k) k held (omega (arith, stop-inside, es)) in
           let y = ap length key-words in
-          put-front (words-at held k) old out (s - k) (omega (arith, w, y)) (omega (arith, w, y, es, G .trees-small k, l)) (f ∙ ap (λ (x : List ℕ). overlay 0 x old) key-words)
+          put-front (words-at held k) old out (s - k) (omega (arith, w, y)) (omega (arith, w, y, es, l k k-inside)) (f ∙ ap (λ (x : List ℕ). overlay 0 x old) key-words)
 
       pub key-complete : (out : List ℕ) (n : ℕ) → Stands (words-at held (getD members b 0 + 1)) out n → Complete (take n out)
       key-complete out n t = (1, ap trees-in (t .words) ∙ key-one)

@@ -167,7 +167,7 @@ module _ {ws : List ℕ} {k first : ℕ} {places held starts members ends number
   unfolding stmts-order
   order-is = refl
 
-  module _ (bits waiting stack taken : List ℕ) (count : ℕ) (ec : count ≡ stmts-count ws k first places numbers) (more : 2048 ≤ length waiting) (deep : 2048 ≤ length stack) (lent : 2048 ≤ length taken) where
+  module _ (bits waiting stack taken : List ℕ) (count : ℕ) (ec : count ≡ stmts-count ws k first places numbers) (more : count ≤ length waiting) (deep : count ≤ length stack) (lent : 2048 ≤ length taken) where
     few : count ≤ 2048
     few = omega (arith, ec, p .statements)
 
@@ -176,7 +176,7 @@ module _ {ws : List ℕ} {k first : ℕ} {places held starts members ends number
     roomy wide =
         rw (le-leb count 2048 few)
         (rw (le-leb (32 * count) (length bits) wide)
-        (rw (le-leb count (length waiting) (omega (arith, few))) (rw (le-leb count (length stack) (omega (arith, few))) (rw (le-leb count (length taken) (omega (arith, few))) refl))))
+        (rw (le-leb count (length waiting) more) (rw (le-leb count (length stack) deep) (rw (le-leb count (length taken) (omega (arith, few))) refl))))
 
     told-as : (order taken' : List ℕ) → taken' ≡ reverse order → order-answer true count order ≡ order-told taken' (stmts-count ws k first places numbers)
     unfolding order-answer order-told

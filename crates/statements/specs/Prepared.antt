@@ -58,6 +58,10 @@ pub record Grouped (held members ends numbers : List ℕ) : Type 0 where
   pub small : (i : ℕ) → i < length numbers → getD numbers i 0 ≤ most
   pub trees-small : (p : ℕ) → size (numbered-at held p) ≤ 1929
 
+-- the tree at each place of some words has room in n words
+abbrev pub Roomy : List ℕ → ℕ → Type 0
+Roomy held n = (p : ℕ) → p < length held → size (numbered-at held p) ≤ n
+
 -- ---- the words of one tree
 
 -- the tree of number i among some words

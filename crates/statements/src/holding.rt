@@ -26,6 +26,11 @@ const AREA: usize = 1927;
 // A reciprocal is at most two words more than its divisor.
 const ROOM: usize = 1929;
 
+// Few words, and what a reciprocal among them takes, so that most scopes needn't clear the longer array.
+const FEW: usize = 128;
+
+const FEW_ROOM: usize = 130;
+
 // Where the first number and the number of places are at most this, every name has a word.
 const NUMBERS: u64 = 4294967296;
 
@@ -67,14 +72,38 @@ pub fn no_switch(words: &[u64]) -> bool
 // The reciprocal of number j.
 fn take_reciprocal(tokens: &[u64], places: &[u64], first: u64, j: usize, one: &mut [u64]) -> usize
     requires { ⌜ Ready (now tokens) (now places) first ⌝ }
-    requires { ⌜ (j < length (now places)) × (1929 ≤ length (now one)) ⌝ }
+    requires { ⌜ (j < length (now places)) × (length (now tokens) + 2 ≤ length (now one)) ⌝ }
     ensures { λ r. ⌜ Stands (reciprocal-words (now (tokens .entry)) first (now (places .entry)) j) (now (one .exit)) r ⌝ }
 {
     reciprocal(tokens, places, first, j, one)
 }
 
 // Writes the reciprocal of number j from place n on, if it holds a switch, and answers the place after it. Words past the end are dropped.
-fn hold_one(
+fn hold_with(
+    tokens: &[u64],
+    places: &[u64],
+    first: u64,
+    j: usize,
+    one: &mut [u64],
+    work: &mut [u64],
+    n: usize,
+) -> usize
+    requires { ⌜ Ready (now tokens) (now places) first ⌝ }
+    requires { ⌜ (j < length (now places)) × (n ≤ 8796093022208) ⌝ }
+    requires { ⌜ length (now tokens) + 2 ≤ length (now one) ⌝ }
+    ensures { λ r. ⌜ r ≡ n + length (reciprocal-held (now (tokens .entry)) first (now (places .entry)) j) ⌝ }
+    ensures { λ _. ⌜ now (work .exit) ≡ overlay n (reciprocal-held (now (tokens .entry)) first (now (places .entry)) j) (now (work .entry)) ⌝ }
+{
+    let m = take_reciprocal(tokens, places, first, j, one);
+    if no_switch(&one[..m]) {
+        return n;
+    }
+    put(&one[..m], n, work);
+    n + m
+}
+
+// The same in an array for the most words.
+fn hold_many(
     tokens: &[u64],
     places: &[u64],
     first: u64,
@@ -88,12 +117,46 @@ fn hold_one(
     ensures { λ _. ⌜ now (work .exit) ≡ overlay n (reciprocal-held (now (tokens .entry)) first (now (places .entry)) j) (now (work .entry)) ⌝ }
 {
     let mut one = [0u64; ROOM];
-    let m = take_reciprocal(tokens, places, first, j, &mut one);
-    if no_switch(&one[..m]) {
-        return n;
+    hold_with(tokens, places, first, j, &mut one, work, n)
+}
+
+// The same for few words.
+fn hold_few(
+    tokens: &[u64],
+    places: &[u64],
+    first: u64,
+    j: usize,
+    work: &mut [u64],
+    n: usize,
+) -> usize
+    requires { ⌜ Ready (now tokens) (now places) first ⌝ }
+    requires { ⌜ (j < length (now places)) × (n ≤ 8796093022208) ⌝ }
+    requires { ⌜ length (now tokens) ≤ 128 ⌝ }
+    ensures { λ r. ⌜ r ≡ n + length (reciprocal-held (now (tokens .entry)) first (now (places .entry)) j) ⌝ }
+    ensures { λ _. ⌜ now (work .exit) ≡ overlay n (reciprocal-held (now (tokens .entry)) first (now (places .entry)) j) (now (work .entry)) ⌝ }
+{
+    let mut one = [0u64; FEW_ROOM];
+    hold_with(tokens, places, first, j, &mut one, work, n)
+}
+
+// The same in the shorter array where it has room.
+fn hold_one(
+    tokens: &[u64],
+    places: &[u64],
+    first: u64,
+    j: usize,
+    work: &mut [u64],
+    n: usize,
+) -> usize
+    requires { ⌜ Ready (now tokens) (now places) first ⌝ }
+    requires { ⌜ (j < length (now places)) × (n ≤ 8796093022208) ⌝ }
+    ensures { λ r. ⌜ r ≡ n + length (reciprocal-held (now (tokens .entry)) first (now (places .entry)) j) ⌝ }
+    ensures { λ _. ⌜ now (work .exit) ≡ overlay n (reciprocal-held (now (tokens .entry)) first (now (places .entry)) j) (now (work .entry)) ⌝ }
+{
+    if tokens.len() > FEW {
+        return hold_many(tokens, places, first, j, work, n);
     }
-    put(&one[..m], n, work);
-    n + m
+    hold_few(tokens, places, first, j, work, n)
 }
 
 // Writes all reciprocals that hold a switch from place `len` on.

@@ -15,7 +15,7 @@ ghost use Rattle.fusion.specs.place.Overlay.{overlay};
 ghost use Rattle.fusion.specs.place.Parts.{place-groups, key-run, let-run, value-run, lets-count, match-head};
 ghost use Rattle.fusion.specs.place.Reads.{with-reads};
 ghost use Rattle.fusion.specs.place.Whole.{stmts-count, tree-run, reads-run, needs-table, stmts-order, values-runs};
-ghost use Rattle.statements.specs.Prepared.{Prepared, Readied, Grouped, run-number, reciprocal-run, settled-run, Fusable, fused-by, begin-of, order-told, match-reads, head-run};
+ghost use Rattle.statements.specs.Prepared.{Prepared, Readied, Grouped, Roomy, run-number, reciprocal-run, settled-run, Fusable, fused-by, begin-of, order-told, match-reads, head-run};
 use crate::holding::no_switch;
 use fusion::fuse::Fused;
 use fusion::fuse::fuse;
@@ -41,11 +41,20 @@ const ROW: usize = 32;
 
 const BITS: usize = 65536;
 
-// Of a table for 64 statements, so that most scopes needn't clear the large one.
+// Of a table for 64 statements, so that most of the other scopes needn't clear the large one.
 const FEW_BITS: usize = 2048;
 
 // The most words of a tree: a reciprocal has two besides its divisor's.
 const TREE: usize = 1929;
+
+// Few words, the most words of a tree among them, few statements and the words of a table for them, so that most scopes needn't clear the long arrays.
+const FEW_WORDS: usize = 128;
+
+const FEW_TREE: usize = 130;
+
+const FEW: usize = 32;
+
+const FEW_ROWS: usize = 1024;
 
 // A match's row has the kind of its switches and MATCH more.
 const MATCH: u64 = 4;
@@ -69,7 +78,7 @@ fn take_held(held: &[u64], starts: &[u64], i: usize, tree: &mut [u64]) -> usize
 fn take_reciprocal(tokens: &[u64], places: &[u64], number: u64, j: usize, tree: &mut [u64]) -> usize
     requires { ⌜ Complete (now tokens) × T (all-there (now tokens) (now places)) × (length (now tokens) ≤ 1927) ⌝ }
     requires { ⌜ (number ≤ 4294967296) × (length (now places) ≤ 4294967296) ⌝ }
-    requires { ⌜ (j < length (now places)) × (1929 ≤ length (now tree)) ⌝ }
+    requires { ⌜ (j < length (now places)) × (length (now tokens) + 2 ≤ length (now tree)) ⌝ }
     ensures { λ r. ⌜ Stands (reciprocal-run (now (tokens .entry)) (now (places .entry)) number j) (now (tree .exit)) r ⌝ }
 {
     reciprocal(tokens, places, number, j, tree)
@@ -89,7 +98,7 @@ fn take_tree(
     tree: &mut [u64],
 ) -> usize
     requires { ⌜ Readied (now tokens) results first (now places) (now held) (now starts) (now members) (now numbers) ⌝ }
-    requires { ⌜ (i < length (now starts) + length (now places)) × (1929 ≤ length (now tree)) ⌝ }
+    requires { ⌜ (i < length (now starts) + length (now places)) × (length (now tokens) + 2 ≤ length (now tree)) ⌝ }
     ensures { λ r. ⌜ Stands (settled-run (now (tokens .entry)) results first (now (places .entry)) i) (now (tree .exit)) r ⌝ }
 {
     if i < starts.len() {
@@ -131,7 +140,7 @@ fn take_final(
     tree: &mut [u64],
 ) -> usize
     requires { ⌜ Readied (now tokens) results first (now places) (now held) (now starts) (now members) (now numbers) ⌝ }
-    requires { ⌜ (i < length (now starts) + length (now places)) × (length (now tree) ≡ 1929) ⌝ }
+    requires { ⌜ (i < length (now starts) + length (now places)) × (length (now tokens) + 2 ≤ length (now tree)) ⌝ }
     ensures { λ r. ⌜ Stands (tree-run (now (tokens .entry)) results first (now (places .entry)) (now (numbers .entry)) i) (now (tree .exit)) r ⌝ }
 {
     let n = take_tree(
@@ -170,7 +179,7 @@ fn take_key(
     tree: &mut [u64],
 ) -> usize
     requires { ⌜ Grouped (now held) (now members) (now ends) (now numbers) ⌝ }
-    requires { ⌜ (g < length (now ends)) × (length (now tree) ≡ 1929) ⌝ }
+    requires { ⌜ (g < length (now ends)) × Roomy (now held) (length (now tree)) ⌝ }
     ensures { λ r. ⌜ Stands (key-run (now (held .entry)) (place-groups (now (held .entry))) (now (numbers .entry)) g) (now (tree .exit)) r ⌝ }
 {
     let begin = group_begin(ends, g);
@@ -199,7 +208,7 @@ fn mark_let(
     bits: &mut [u64],
 )
     requires { ⌜ Prepared (now tokens) results first (now places) (now held) (now starts) (now members) (now ends) (now numbers) ⌝ }
-    requires { ⌜ (p < (length (now starts) - results) + length (now places)) × (length (now tree) ≡ 1929) ⌝ }
+    requires { ⌜ (p < (length (now starts) - results) + length (now places)) × (length (now tokens) + 2 ≤ length (now tree)) ⌝ }
     ensures { λ _. ⌜ now (bits .exit) ≡ with-reads first ((length (now (starts .entry)) - results) + length (now (places .entry))) (now (numbers .entry)) (now (ends .entry))
         (tree-run (now (tokens .entry)) results first (now (places .entry)) (now (numbers .entry)) (results + p)) p (now (bits .entry)) ⌝ }
 {
@@ -233,7 +242,7 @@ fn mark_match(
     bits: &mut [u64],
 )
     requires { ⌜ Grouped (now held) (now members) (now ends) (now numbers) ⌝ }
-    requires { ⌜ (g < length (now ends)) × (length (now tree) ≡ 1929) ⌝ }
+    requires { ⌜ (g < length (now ends)) × Roomy (now held) (length (now tree)) ⌝ }
     ensures { λ _. ⌜ now (bits .exit) ≡ with-reads first lets (now (numbers .entry)) (now (ends .entry))
         (match-reads (now (held .entry)) (place-groups (now (held .entry))) (now (numbers .entry)) g) row (now (bits .entry)) ⌝ }
 {
@@ -269,7 +278,7 @@ fn mark_stmt(
     bits: &mut [u64],
 )
     requires { ⌜ Prepared (now tokens) results first (now places) (now held) (now starts) (now members) (now ends) (now numbers) ⌝ }
-    requires { ⌜ (p < stmts-count (now tokens) results first (now places) (now numbers)) × (length (now tree) ≡ 1929) ⌝ }
+    requires { ⌜ (p < stmts-count (now tokens) results first (now places) (now numbers)) × (length (now tokens) + 2 ≤ length (now tree)) ⌝ }
     ensures { λ _. ⌜ now (bits .exit) ≡ with-reads first ((length (now (starts .entry)) - results) + length (now (places .entry))) (now (numbers .entry)) (now (ends .entry))
         (reads-run (now (tokens .entry)) results first (now (places .entry)) (now (numbers .entry)) p) p (now (bits .entry)) ⌝ }
 {
@@ -321,7 +330,7 @@ fn mark_stmts(
     bits: &mut [u64],
 )
     requires { ⌜ Prepared (now tokens) results first (now places) (now held) (now starts) (now members) (now ends) (now numbers) ⌝ }
-    requires { ⌜ (count ≤ stmts-count (now tokens) results first (now places) (now numbers)) × (length (now tree) ≡ 1929) ⌝ }
+    requires { ⌜ (count ≤ stmts-count (now tokens) results first (now places) (now numbers)) × (length (now tokens) + 2 ≤ length (now tree)) ⌝ }
     ensures { λ _. ⌜ now (bits .exit) ≡ needs-table (now (tokens .entry)) results first (now (places .entry)) (now (numbers .entry)) count (now (bits .entry)) ⌝ }
 {
     let mut p = 0;
@@ -356,6 +365,49 @@ fn order_with(
     ends: &[u64],
     numbers: &[u64],
     count: usize,
+    tree: &mut [u64],
+    waiting: &mut [u64],
+    stack: &mut [u64],
+    bits: &mut [u64],
+    taken: &mut [u64],
+) -> Ordered
+    requires { ⌜ Prepared (now tokens) results first (now places) (now held) (now starts) (now members) (now ends) (now numbers) ⌝ }
+    requires { ⌜ (count ≡ stmts-count (now tokens) results first (now places) (now numbers)) × (2048 ≤ length (now taken)) ⌝ }
+    requires { ⌜ (length (now tokens) + 2 ≤ length (now tree)) × (count ≤ length (now waiting)) × (count ≤ length (now stack)) ⌝ }
+    requires { ⌜ now bits ≡ replicate (32 * count) 0 ⌝ }
+    ensures { λ r. ⌜ (r ≡ order-told (stmts-order (now (tokens .entry)) results first (now (places .entry)) (now (numbers .entry))) (stmts-count (now (tokens .entry)) results first (now (places .entry)) (now (numbers .entry))))
+        × (now (taken .exit) ≡ stmts-order (now (tokens .entry)) results first (now (places .entry)) (now (numbers .entry))
+        ++ drop (length (stmts-order (now (tokens .entry)) results first (now (places .entry)) (now (numbers .entry)))) (now (taken .entry))) ⌝ }
+{
+    mark_stmts(
+        tokens,
+        results,
+        first,
+        places,
+        held,
+        starts,
+        members,
+        ends,
+        numbers,
+        count,
+        tree,
+        bits,
+    );
+    order(bits, count, waiting, stack, taken)
+}
+
+// The same in arrays for the most words and statements.
+fn order_many(
+    tokens: &[u64],
+    results: usize,
+    first: u64,
+    places: &[u64],
+    held: &[u64],
+    starts: &[u64],
+    members: &[u64],
+    ends: &[u64],
+    numbers: &[u64],
+    count: usize,
     bits: &mut [u64],
     taken: &mut [u64],
 ) -> Ordered
@@ -369,7 +421,7 @@ fn order_with(
     let mut tree = [0u64; TREE];
     let mut waiting = [0u64; MOST];
     let mut stack = [0u64; MOST];
-    mark_stmts(
+    order_with(
         tokens,
         results,
         first,
@@ -381,9 +433,11 @@ fn order_with(
         numbers,
         count,
         &mut tree,
+        &mut waiting,
+        &mut stack,
         bits,
-    );
-    order(bits, count, &mut waiting, &mut stack, taken)
+        taken,
+    )
 }
 
 // The same by a table that is all no: the one lent where it has a row for each statement, and else the largest. Since this function calls itself, the compiler
@@ -427,6 +481,85 @@ fn order_in(
             taken,
         );
     }
+    order_many(
+        tokens,
+        results,
+        first,
+        places,
+        held,
+        starts,
+        members,
+        ends,
+        numbers,
+        count,
+        &mut bits[..end],
+        taken,
+    )
+}
+
+// The same for many words or statements.
+fn order_wide(
+    tokens: &[u64],
+    results: usize,
+    first: u64,
+    places: &[u64],
+    held: &[u64],
+    starts: &[u64],
+    members: &[u64],
+    ends: &[u64],
+    numbers: &[u64],
+    count: usize,
+    taken: &mut [u64],
+) -> Ordered
+    requires { ⌜ Prepared (now tokens) results first (now places) (now held) (now starts) (now members) (now ends) (now numbers) ⌝ }
+    requires { ⌜ (count ≡ stmts-count (now tokens) results first (now places) (now numbers)) × (2048 ≤ length (now taken)) ⌝ }
+    ensures { λ r. ⌜ (r ≡ order-told (stmts-order (now (tokens .entry)) results first (now (places .entry)) (now (numbers .entry))) (stmts-count (now (tokens .entry)) results first (now (places .entry)) (now (numbers .entry))))
+        × (now (taken .exit) ≡ stmts-order (now (tokens .entry)) results first (now (places .entry)) (now (numbers .entry))
+        ++ drop (length (stmts-order (now (tokens .entry)) results first (now (places .entry)) (now (numbers .entry)))) (now (taken .entry))) ⌝ }
+{
+    let mut bits = [0u64; FEW_BITS];
+    order_in(
+        tokens,
+        results,
+        first,
+        places,
+        held,
+        starts,
+        members,
+        ends,
+        numbers,
+        count,
+        &mut bits,
+        taken,
+    )
+}
+
+// The same for few words and few statements.
+fn order_few(
+    tokens: &[u64],
+    results: usize,
+    first: u64,
+    places: &[u64],
+    held: &[u64],
+    starts: &[u64],
+    members: &[u64],
+    ends: &[u64],
+    numbers: &[u64],
+    count: usize,
+    taken: &mut [u64],
+) -> Ordered
+    requires { ⌜ Prepared (now tokens) results first (now places) (now held) (now starts) (now members) (now ends) (now numbers) ⌝ }
+    requires { ⌜ (count ≡ stmts-count (now tokens) results first (now places) (now numbers)) × (2048 ≤ length (now taken)) ⌝ }
+    requires { ⌜ (length (now tokens) ≤ 128) × (count ≤ 32) ⌝ }
+    ensures { λ r. ⌜ (r ≡ order-told (stmts-order (now (tokens .entry)) results first (now (places .entry)) (now (numbers .entry))) (stmts-count (now (tokens .entry)) results first (now (places .entry)) (now (numbers .entry))))
+        × (now (taken .exit) ≡ stmts-order (now (tokens .entry)) results first (now (places .entry)) (now (numbers .entry))
+        ++ drop (length (stmts-order (now (tokens .entry)) results first (now (places .entry)) (now (numbers .entry)))) (now (taken .entry))) ⌝ }
+{
+    let mut tree = [0u64; FEW_TREE];
+    let mut waiting = [0u64; FEW];
+    let mut stack = [0u64; FEW];
+    let mut bits = [0u64; FEW_ROWS];
+    let end = ROW * count;
     order_with(
         tokens,
         results,
@@ -438,6 +571,9 @@ fn order_in(
         ends,
         numbers,
         count,
+        &mut tree,
+        &mut waiting,
+        &mut stack,
         &mut bits[..end],
         taken,
     )
@@ -462,9 +598,38 @@ pub fn order_stmts(
         × (now (taken .exit) ≡ stmts-order (now (tokens .entry)) results first (now (places .entry)) (now (numbers .entry))
         ++ drop (length (stmts-order (now (tokens .entry)) results first (now (places .entry)) (now (numbers .entry)))) (now (taken .entry))) ⌝ }
 {
-    let mut bits = [0u64; FEW_BITS];
     let count = starts.len() - results + places.len() + ends.len();
-    order_in(
+    if tokens.len() > FEW_WORDS {
+        return order_wide(
+            tokens,
+            results,
+            first,
+            places,
+            held,
+            starts,
+            members,
+            ends,
+            numbers,
+            count,
+            taken,
+        );
+    }
+    if count > FEW {
+        return order_wide(
+            tokens,
+            results,
+            first,
+            places,
+            held,
+            starts,
+            members,
+            ends,
+            numbers,
+            count,
+            taken,
+        );
+    }
+    order_few(
         tokens,
         results,
         first,
@@ -475,13 +640,49 @@ pub fn order_stmts(
         ends,
         numbers,
         count,
-        &mut bits,
         taken,
     )
 }
 
 // Makes the final tree of number i and writes it from a place on; the place after it.
-fn make_tree(
+fn make_with(
+    tokens: &[u64],
+    results: usize,
+    first: u64,
+    places: &[u64],
+    held: &[u64],
+    starts: &[u64],
+    members: &[u64],
+    numbers: &[u64],
+    i: usize,
+    tree: &mut [u64],
+    at: usize,
+    table: &mut [u64],
+) -> usize
+    requires { ⌜ Readied (now tokens) results first (now places) (now held) (now starts) (now members) (now numbers) ⌝ }
+    requires { ⌜ (i < length (now starts) + length (now places)) × (at + length (tree-run (now tokens) results first (now places) (now numbers) i) ≤ 9223372036854775808) ⌝ }
+    requires { ⌜ length (now tokens) + 2 ≤ length (now tree) ⌝ }
+    ensures { λ r. ⌜ (r ≡ at + length (tree-run (now (tokens .entry)) results first (now (places .entry)) (now (numbers .entry)) i))
+        × (now (table .exit) ≡ overlay at (tree-run (now (tokens .entry)) results first (now (places .entry)) (now (numbers .entry)) i) (now (table .entry))) ⌝ }
+{
+    let n = take_final(
+        tokens,
+        results,
+        first,
+        places,
+        held,
+        starts,
+        members,
+        numbers,
+        i,
+        tree,
+    );
+    put(&tree[..n], at, table);
+    at + n
+}
+
+// The same in an array for the most words.
+fn make_many(
     tokens: &[u64],
     results: usize,
     first: u64,
@@ -500,7 +701,7 @@ fn make_tree(
         × (now (table .exit) ≡ overlay at (tree-run (now (tokens .entry)) results first (now (places .entry)) (now (numbers .entry)) i) (now (table .entry))) ⌝ }
 {
     let mut tree = [0u64; TREE];
-    let n = take_final(
+    make_with(
         tokens,
         results,
         first,
@@ -511,9 +712,95 @@ fn make_tree(
         numbers,
         i,
         &mut tree,
-    );
-    put(&tree[..n], at, table);
-    at + n
+        at,
+        table,
+    )
+}
+
+// The same for few words.
+fn make_few(
+    tokens: &[u64],
+    results: usize,
+    first: u64,
+    places: &[u64],
+    held: &[u64],
+    starts: &[u64],
+    members: &[u64],
+    numbers: &[u64],
+    i: usize,
+    at: usize,
+    table: &mut [u64],
+) -> usize
+    requires { ⌜ Readied (now tokens) results first (now places) (now held) (now starts) (now members) (now numbers) ⌝ }
+    requires { ⌜ (i < length (now starts) + length (now places)) × (at + length (tree-run (now tokens) results first (now places) (now numbers) i) ≤ 9223372036854775808) ⌝ }
+    requires { ⌜ length (now tokens) ≤ 128 ⌝ }
+    ensures { λ r. ⌜ (r ≡ at + length (tree-run (now (tokens .entry)) results first (now (places .entry)) (now (numbers .entry)) i))
+        × (now (table .exit) ≡ overlay at (tree-run (now (tokens .entry)) results first (now (places .entry)) (now (numbers .entry)) i) (now (table .entry))) ⌝ }
+{
+    let mut tree = [0u64; FEW_TREE];
+    make_with(
+        tokens,
+        results,
+        first,
+        places,
+        held,
+        starts,
+        members,
+        numbers,
+        i,
+        &mut tree,
+        at,
+        table,
+    )
+}
+
+// The same in the shorter array where it has room.
+fn make_tree(
+    tokens: &[u64],
+    results: usize,
+    first: u64,
+    places: &[u64],
+    held: &[u64],
+    starts: &[u64],
+    members: &[u64],
+    numbers: &[u64],
+    i: usize,
+    at: usize,
+    table: &mut [u64],
+) -> usize
+    requires { ⌜ Readied (now tokens) results first (now places) (now held) (now starts) (now members) (now numbers) ⌝ }
+    requires { ⌜ (i < length (now starts) + length (now places)) × (at + length (tree-run (now tokens) results first (now places) (now numbers) i) ≤ 9223372036854775808) ⌝ }
+    ensures { λ r. ⌜ (r ≡ at + length (tree-run (now (tokens .entry)) results first (now (places .entry)) (now (numbers .entry)) i))
+        × (now (table .exit) ≡ overlay at (tree-run (now (tokens .entry)) results first (now (places .entry)) (now (numbers .entry)) i) (now (table .entry))) ⌝ }
+{
+    if tokens.len() > FEW_WORDS {
+        return make_many(
+            tokens,
+            results,
+            first,
+            places,
+            held,
+            starts,
+            members,
+            numbers,
+            i,
+            at,
+            table,
+        );
+    }
+    make_few(
+        tokens,
+        results,
+        first,
+        places,
+        held,
+        starts,
+        members,
+        numbers,
+        i,
+        at,
+        table,
+    )
 }
 
 // Writes the final tree of number i from a place on; the place after it. One without a switch stands as it is in what is held. That it lacks words never comes up.
@@ -700,7 +987,33 @@ fn head_row(held: &[u64], members: &[u64], ends: &[u64], numbers: &[u64], g: usi
 }
 
 // Writes the rows of the match of group g before its arms, from a place on: its own, its key's and its names'; the place after them.
-pub fn write_match_head(
+fn head_with(
+    held: &[u64],
+    members: &[u64],
+    ends: &[u64],
+    numbers: &[u64],
+    g: usize,
+    tree: &mut [u64],
+    at: usize,
+    table: &mut [u64],
+) -> usize
+    requires { ⌜ Grouped (now held) (now members) (now ends) (now numbers) ⌝ }
+    requires { ⌜ (g < length (now ends)) × Roomy (now held) (length (now tree)) ⌝ }
+    requires { ⌜ at + length (head-run (now held) (place-groups (now held)) (now numbers) g) ≤ 9223372036854775808 ⌝ }
+    ensures { λ r. ⌜ (r ≡ at + length (head-run (now (held .entry)) (place-groups (now (held .entry))) (now (numbers .entry)) g))
+        × (now (table .exit) ≡ overlay at (head-run (now (held .entry)) (place-groups (now (held .entry))) (now (numbers .entry)) g) (now (table .entry))) ⌝ }
+{
+    let n = take_key(held, members, ends, numbers, g, tree);
+    let begin = group_begin(ends, g);
+    let end = ends[g] as usize;
+    put_word(head_row(held, members, ends, numbers, g), at, table);
+    put(&tree[..n], at + 1, table);
+    put_names(&numbers[begin..end], at + 1 + n, table);
+    at + 1 + n + (end - begin)
+}
+
+// The same in an array for the most words.
+fn head_many(
     held: &[u64],
     members: &[u64],
     ends: &[u64],
@@ -716,11 +1029,47 @@ pub fn write_match_head(
         × (now (table .exit) ≡ overlay at (head-run (now (held .entry)) (place-groups (now (held .entry))) (now (numbers .entry)) g) (now (table .entry))) ⌝ }
 {
     let mut tree = [0u64; TREE];
-    let n = take_key(held, members, ends, numbers, g, &mut tree);
-    let begin = group_begin(ends, g);
-    let end = ends[g] as usize;
-    put_word(head_row(held, members, ends, numbers, g), at, table);
-    put(&tree[..n], at + 1, table);
-    put_names(&numbers[begin..end], at + 1 + n, table);
-    at + 1 + n + (end - begin)
+    head_with(held, members, ends, numbers, g, &mut tree, at, table)
+}
+
+// The same for few words.
+fn head_few(
+    held: &[u64],
+    members: &[u64],
+    ends: &[u64],
+    numbers: &[u64],
+    g: usize,
+    at: usize,
+    table: &mut [u64],
+) -> usize
+    requires { ⌜ Grouped (now held) (now members) (now ends) (now numbers) ⌝ }
+    requires { ⌜ (g < length (now ends)) × (length (now held) ≤ 128) ⌝ }
+    requires { ⌜ at + length (head-run (now held) (place-groups (now held)) (now numbers) g) ≤ 9223372036854775808 ⌝ }
+    ensures { λ r. ⌜ (r ≡ at + length (head-run (now (held .entry)) (place-groups (now (held .entry))) (now (numbers .entry)) g))
+        × (now (table .exit) ≡ overlay at (head-run (now (held .entry)) (place-groups (now (held .entry))) (now (numbers .entry)) g) (now (table .entry))) ⌝ }
+{
+    let mut tree = [0u64; FEW_TREE];
+    head_with(held, members, ends, numbers, g, &mut tree, at, table)
+}
+
+// The same in the shorter array where it has room.
+pub fn write_match_head(
+    held: &[u64],
+    members: &[u64],
+    ends: &[u64],
+    numbers: &[u64],
+    g: usize,
+    at: usize,
+    table: &mut [u64],
+) -> usize
+    requires { ⌜ Grouped (now held) (now members) (now ends) (now numbers) ⌝ }
+    requires { ⌜ g < length (now ends) ⌝ }
+    requires { ⌜ at + length (head-run (now held) (place-groups (now held)) (now numbers) g) ≤ 9223372036854775808 ⌝ }
+    ensures { λ r. ⌜ (r ≡ at + length (head-run (now (held .entry)) (place-groups (now (held .entry))) (now (numbers .entry)) g))
+        × (now (table .exit) ≡ overlay at (head-run (now (held .entry)) (place-groups (now (held .entry))) (now (numbers .entry)) g) (now (table .entry))) ⌝ }
+{
+    if held.len() > FEW_WORDS {
+        return head_many(held, members, ends, numbers, g, at, table);
+    }
+    head_few(held, members, ends, numbers, g, at, table)
 }

@@ -11,7 +11,7 @@ use borrow.Fn.PlainCycle.{Measures, is, falls, and}
 use Rattle.statements.proofs.order_in.Reads as order-in
 use Rattle.statements.proofs.order_in.Kinds as order-in-kinds
 use Rattle.statements.proofs.+order_in.Lts-order_in as order-in-lts
-use Rattle.statements.proofs.order_with.Reads as order-with-reads
+use Rattle.statements.proofs.order_many.Reads as order-many-reads
 use Rattle.statements.proofs.+order_in.{statement}
 use Rattle.statements.proofs.+order_in.Tie.{close}
 
@@ -25,7 +25,7 @@ abbrev order-in-below : ℕ → In 9 order-in-kinds.ps
 order-in-below t = and 9 order-in-kinds.ps (falls 9 order-in-kinds.ps _<_ μ-order-in t) order-in.Pre
 
 pub +order-in-spec : {M : Type 1} → statement M
-+order-in-spec = close μ-order-in λ t. order-in-lts.spec (order-in-below t, order-in.Post, order-with-reads.Asked, order-with-reads.Learnt)
++order-in-spec = close μ-order-in λ t. order-in-lts.spec (order-in-below t, order-in.Post, order-many-reads.Asked, order-many-reads.Learnt)
     (order-in-at t)
     order-in.Post
     (λ c. let start = c .before .before .before .before .before .before .before .before .before in omega (arith, start .pre .1 .0 .statements, start .pre .1 .1 .0 .0))

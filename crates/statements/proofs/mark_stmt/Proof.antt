@@ -1,7 +1,7 @@
 -- `statements::mark_stmt` meets its contract. Assumes nothing.
 use native.Mathlib.Omega.{arith}
 use mathlib.Core.Path.{_∙_}
-use Rattle.statements.proofs.Held.{trees-few, places-few}
+use Rattle.statements.proofs.Held.{trees-few, places-few, held-room}
 use Rattle.statements.proofs.Keys.{grouped}
 use Rattle.statements.proofs.Marking.{reads-same, let-reads, later-reads, stmt-group}
 use borrow.Author.Needs.{needs}
@@ -17,7 +17,7 @@ mark-stmt-spec =
     (λ c κs. let start = c .before .before .before .before .before .before .before .before .before .before .before .before in (start .pre .0, (c .before .before .if1 .taken, start .pre .1 .1)))
     (λ c κs. let start = c .before .before .before .before .before .before .before .before .before .before .before .before in
     let p = start .pre .0 in
-    (grouped p, (stmt-group p (start .args .p) (c .before .before .if1 .left) (start .pre .1 .0), start .pre .1 .1)))
+    (grouped p, (stmt-group p (start .args .p) (c .before .before .if1 .left) (start .pre .1 .0), held-room p _ (start .pre .1 .1))))
     (λ c. search needs)
     (λ c. search needs)
     (λ c. let start = c .before .before .before .before .before .before .before .before .before .before .before .before .before .before .before .before .before in

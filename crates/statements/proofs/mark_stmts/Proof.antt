@@ -20,7 +20,7 @@ mark-stmts-spec =
     Inv-loop
     μ-loop
     (λ c. let start = c .before .before .before .before .before .before .before .before .before in (marked-begins (start .pre .0) (start .args .bits .now) (start .args .count), refl))
-    (λ c κs. let start = c .before .before .before .before .before .before .before .before .before .before .before .before .before in (start .pre .0, (omega (arith, c .before .before .loop-test .taken, start .pre .1 .0), c .before .before .before .loop .inv .1 ∙ start .pre .1 .1)))
+    (λ c κs. let start = c .before .before .before .before .before .before .before .before .before .before .before .before .before in (start .pre .0, (omega (arith, c .before .before .loop-test .taken, start .pre .1 .0), omega (arith, c .before .before .before .loop .inv .1, start .pre .1 .1))))
     (λ c. omega (arith, c .before .before .before .before .before .before .before .loop-test .taken))
     (λ c. omega (arith, c .before .before .before .before .before .before .before .loop-test .taken))
     (λ c. (marked-turns (c .before .before .before .before .before .before .before .before .before .before .before .before .before .before .before .before .before .before .pre .0) (c .before .before .before .before .before .before .before .before .loop .inv .0) (c .before .before .before .before .before .before .before .loop-test .taken) _ (c .before .before .before .before .mark-stmt .ensures), c .before .before .before .before .mark-stmt .kept .1 .1 .1 .1 .1 .1 .1 .1 .1 .1 .0 ∙ c .before .before .before .before .before .before .before .before .loop .inv .1))

@@ -1,6 +1,5 @@
 -- `statements::order_stmts` meets its contract. Assumes nothing.
 use native.Mathlib.Omega.{arith}
-use Rattle.reciprocals.proofs.final.Marking.{zeros-own}
 use Rattle.statements.proofs.Held.{trees-few, places-few}
 use Rattle.statements.proofs.Marking.{counted}
 use borrow.Author.Needs.{needs}
@@ -14,7 +13,12 @@ order-stmts-spec =
     (λ c. c .before .before .before .before .before .before .before .before .pre .0 .enough)
     (λ c. let p = c .before .before .before .before .before .before .before .before .pre .0 in omega (arith, trees-few p, places-few p))
     (λ c. let p = c .before .before .before .before .before .before .before .before .pre .0 in omega (arith, counted p, p .statements))
+    (λ c κs. let p = c .before .before .before .before .before .before .before .before .before .before .pre in (p .0, (counted (p .0), p .1)))
     (λ c. search needs)
-    (λ c κs. let start = c .before .before .before .before .before .before .before .before .before .before in (start .pre .0, ((counted (start .pre .0), start .pre .1), zeros-own 2048)))
+    (λ c. search needs)
+    (λ c κs. let p = c .before .before .before .before .before .before .before .before .before .before .before .pre in (p .0, (counted (p .0), p .1)))
+    (λ c. search needs)
+    (λ c. search needs)
+    (λ c κs. let p = c .before .before .before .before .before .before .before .before .before .before .before .pre in (p .0, ((counted (p .0), p .1), (omega (arith, c .before .before .if1 .left), omega (arith, c .before .if2 .left)))))
     (λ c. search needs)
     (λ c. search needs))
