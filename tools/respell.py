@@ -18,7 +18,9 @@ NAME = re.compile(r"[^\s(){}.;,@\"«»\[\]:&|!]+")
 DASHED = re.compile(r"◌?[A-Za-zμ][\w']*(-[\w']+)+◌?")
 DECLARED = re.compile(r"(?m)^ *(?:(?:pub|abbrev|unfoldable|record|data|ruleset) +)*([^\s(){}:]+)(?: [^:\n]*)? :(?: |$)")
 USE = re.compile(r"\b(?:pub )?use\s+([^\s;{]+?)\.?\{([^}]*)\}")
-LITERAL = re.compile(r"\"(?:[^\"\\]|\\.)*\"")
+TEXT = r"\"(?:[^\"\\]|\\.)*\""
+# A prime ends a name in antt and stands round a byte in Rust.
+LITERAL = {"--": re.compile(TEXT), "//": re.compile(TEXT + r"|b?'(?:\\[^']+|[^\\'])'")}
 
 
 def read(path):
@@ -69,9 +71,9 @@ def split_comment(line, mark):
         at += len(mark)
 
 
-def outside_strings(code, change):
+def outside_strings(code, mark, change):
     out, last = [], 0
-    for m in LITERAL.finditer(code):
+    for m in LITERAL[mark].finditer(code):
         out += [change(code[last : m.start()]), m.group()]
         last = m.end()
     return "".join(out) + change(code[last:])
@@ -121,7 +123,7 @@ def main():
         mark = "--" if p.endswith(".antt") else "//"
         for line in read(p).splitlines(keepends=True):
             code, comment = split_comment(line, mark)
-            lines.append((outside_strings(code, change), comment))
+            lines.append((outside_strings(code, mark, change), comment))
         new_texts[p] = lines
         meet = {}
         for n in seen:

@@ -2,6 +2,7 @@
 // input, its answer on standard output, or one line for a refusal. A sheet that could not be read to its end has no
 // answer. It lends 131,072 rows and 524,288 bytes, and an answer that is longer is refused by 12 or 14:
 // spec_program/specs/Program `csescoped`.
+#![tactic(auto)]
 mod sheet;
 
 use crate::sheet::{Said, scoped_sheet};

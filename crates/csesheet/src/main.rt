@@ -1,6 +1,7 @@
 // The program `csesheet` (01, "Sheet and printing"): a sheet on standard input, its flat answer on standard output, or
 // one line for a refusal. A sheet that could not be read to its end has no answer. What is lent is long enough for every
 // sheet, where need be after a try with less: the table for the rows of any flat answer, `out` for any line.
+#![tactic(auto)]
 ghost use Rattle.std.specs.Prelude.{◌≤◌, length};
 
 use flat_sheet::{Flat, flat_sheet};

@@ -57,6 +57,6 @@ pub(crate) fn put_integer(out: &mut [u8], dry: bool, to: usize, code: u64) -> us
     if code % 2 == 0 {
         return put_decimal(out, dry, to, code / 2);
     }
-    let at = put(out, dry, to, b'_');
+    let at = put(out, dry, to, b'-');
     put_decimal(out, dry, at, code / 2 + 1)
 }

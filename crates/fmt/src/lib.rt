@@ -3,6 +3,8 @@
 //   checked                    whether words are a tree that an answer may hold
 //   shapes, writer             an operation's form, and the whole text: `write_tree`
 //   order                      which of two texts, or trees by their texts, comes first
+#![tactic(auto)]
+
 pub mod checked;
 pub mod emit;
 mod kindnames;

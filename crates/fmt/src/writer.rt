@@ -111,7 +111,7 @@ fn put_opening(out: &mut [u8], dry: bool, to: usize, kind: u64) -> usize
     ensures { Writes dry out.old to (opening kind) out.new result }
 {
     if kind == NEG {
-        return crate::emit::put(out, dry, to, b'_');
+        return crate::emit::put(out, dry, to, b'-');
     }
     if kind <= POW {
         return crate::emit::place(out, to);
@@ -127,7 +127,7 @@ fn sign(kind: u64) -> u8
         return b'+';
     }
     if kind == SUB {
-        return b'_';
+        return b'-';
     }
     if kind == MUL { b'*' } else { b'/' }
 }

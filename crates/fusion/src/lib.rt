@@ -4,6 +4,7 @@
 //   scopeneeds         what a match reads
 //   tables             rows laid over a table
 //   place              definitions: a scope by places
+#![tactic(auto)]
 pub mod fuse;
 pub mod groups;
 pub mod scopeneeds;

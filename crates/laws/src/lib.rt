@@ -4,3 +4,4 @@
 //   positions   the same extraction on words with numbers for names, place by place: the level between trees and code
 //   switches    switches, their groups and columns by places
 //   outernames  which names from outside an arm's answer reads
+#![tactic(auto)]

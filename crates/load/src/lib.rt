@@ -1,4 +1,6 @@
 // Load: a sheet's bytes become node rows and roots, or a refusal by its number and record, for any bytes. A refusal changes nothing that is lent.
+#![tactic(auto)]
+
 mod fields;
 mod numerals;
 mod one_record;

@@ -2,6 +2,8 @@
 //   kinds, names, fields   operand counts by kind; symbols' names; the fields of a row
 //   rows, records          every limit of the list, and the length of its sheet: `check_rows`
 //   unfolded               the trees of the roots, one word for each occurrence: `unfold`
+#![tactic(auto)]
+
 pub mod fields;
 pub mod kinds;
 pub mod names;

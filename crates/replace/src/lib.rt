@@ -1,6 +1,7 @@
 // `replace` of the source (01, "Rewriting"), on words of trees, from one slice to another: an equal node becomes the new symbol, and in a Mul the target's
 // factors do, as often as they are all there. Such a product is written once: its coefficient, its signs, the factors that there are then, each rewritten by itself,
 // and the symbols at their end.
+#![tactic(auto)]
 mod coefficient;
 pub mod divisor;
 mod factors;

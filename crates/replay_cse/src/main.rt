@@ -1,5 +1,6 @@
 // Prints what `csesheet` prints for stored sheets. Standard input has a sheet on each line, a slash for each CRLF, and a line `# N` stands before what is printed for
 // the sheet on line N: its flat answer, or the refusal. The file `stdout` has what the source gives for these sheets (compare/replays/main.rs).
+#![tactic(auto)]
 ghost use Rattle.std.specs.Prelude.{◌≤◌, length};
 ghost use Rattle.io.specs.Counts.{IsPrefixLen};
 

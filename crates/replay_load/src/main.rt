@@ -1,5 +1,6 @@
 // Prints what load gives for stored sheets. Standard input has a sheet on each line (compare/sheets/stored.rs says how it is laid out). Load is called on each, and
 // a line says what it returns, and a digest of all that it leaves in memory. The file `stdout` has what a reading of the paper in Rust gives for these sheets.
+#![tactic(auto)]
 ghost use Rattle.std.specs.Prelude.{◌≤◌, length};
 
 use libc::{STDIN_FILENO, STDOUT_FILENO};

@@ -1,5 +1,6 @@
 // Prints stored trees and answers. Standard input has words of trees and rows of answers (compare/texts/stored.rs says how a line is laid out). Each tree is measured
 // and written, each answer printed, and what is answered and all bytes lent are written out. The file `stdout` has what the source's own `Display` gives for these.
+#![tactic(auto)]
 ghost use Rattle.std.specs.Prelude.{◌≤◌, length};
 
 use fmt::writer::{Text, write_tree};

@@ -4,3 +4,4 @@
 //   told       a scope's steps, told as rows
 //   agree      the scope by places and the scope on trees give the same
 //   measured, call   what the call of extract measures and answers
+#![tactic(auto)]

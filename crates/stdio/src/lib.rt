@@ -1,6 +1,7 @@
 // Standard input and output of the programs, by the C library's calls that tell of failure: a sheet that was read in
 // part has no answer, and that an answer was not written whole is told. No contract can say which bytes come or go;
 // these say that no more are counted than were lent.
+#![tactic(auto)]
 ghost use Rattle.std.specs.Prelude.{length};
 ghost use Rattle.stdio.specs.Within.{Within};
 

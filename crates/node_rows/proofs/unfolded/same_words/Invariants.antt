@@ -1,0 +1,14 @@
+use mathlib.Core.Path.{◌≡◌}
+use Prim.Native.Nat.{ℕ, ◌≤◌, ◌<◌, ◌-◌}
+use native.Mathlib.Omega.{arith}
+use lib.ListN.{length, get_or}
+use borrow.Author.Count.{below_more}
+use Rattle.node_rows.proofs.unfolded.WordLaws.{differ, agree}
+use borrow.Author.Rules.{rules}
+use Rattle.node_rows.proofs.unfolded.same_words.Given as goal
+
+abbrev pub invariant-loop-k : goal.invariant-loop-k
+invariant-loop-k l = (l.k ≤ length l.a) × ((j : ℕ) → j < l.k → get_or l.a j 0 ≡ get_or l.b j 0)
+
+abbrev pub decreases-loop-k : goal.decreases-loop-k
+decreases-loop-k l = length l.a - l.k
