@@ -1,6 +1,7 @@
 // The public operation Extract in the flat form, `cse` of the source (01, "Turned down": Extract): node rows and roots in, rows of the answer out. What the
 // scoped form does too stands in a function of its own: the rounds with the divisors that they leave to bind.
 #![tactic(auto)]
+
 mod ending;
 pub mod workarea;
 

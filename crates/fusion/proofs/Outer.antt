@@ -194,9 +194,12 @@ node_parts w l e h = go (word_is w)
     neither true n f = denied (leb 1 n) (λ t. f (leb→le 1 n t))
     neither false n f = tt
 
+    opened : (k : ℕ) (t : Tree) (l : List Tree) → T (switchless (Op k (forest (t ∷ l)))) → T (not (is_switch k) && switchless_each (t ◂ forest l))
+    opened k t l h = unfold switchless in unfold switch_node in unfold forest in h
+
     head : (k : ℕ) (l : List Tree) → T (switchless (Op k (forest l))) → 1 ≤ length l → T (not (is_switch k))
     head k [] h m = absurd (omega arith)
-    head k (t ∷ l) h m = and_left (not (is_switch k)) (switchless_each (t ◂ forest l)) (unfold switchless in unfold switch_node in unfold forest in h)
+    head k (t ∷ l) h m = and_left (not (is_switch k)) (switchless_each (t ◂ forest l)) (opened k t l h)
 
     tail : (k : ℕ) (l : List Tree) → T (switchless (Op k (forest l))) → T (all_switchless l)
     tail k l h = all_below l (and_right (not (switch_node (Op k (forest l)))) (switchless_each (forest l)) (unfold switchless in h))

@@ -5,6 +5,7 @@
 //   tables             rows laid over a table
 //   place              definitions: a scope by places
 #![tactic(auto)]
+
 pub mod fuse;
 pub mod groups;
 pub mod scopeneeds;
