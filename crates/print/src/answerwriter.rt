@@ -21,7 +21,7 @@ use words::tokens::tree_end;
 const LINE_FEED: u8 = 10;
 
 // What a match switches on, by the place of its key.
-#[derive(Drop)]
+#[derive(Clone, Copy)]
 pub enum Switch {
     Index(usize),
     Sign(usize),

@@ -1,5 +1,6 @@
 // Printing an answer from its rows, for callers: 13 is decided first, then the text is measured, 14 decided, and the text written.
 #![tactic(auto)]
+
 mod answers;
 mod answerwriter;
 pub mod depth;

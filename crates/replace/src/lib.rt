@@ -2,6 +2,7 @@
 // factors do, as often as they are all there. Such a product is written once: its coefficient, its signs, the factors that there are then, each rewritten by itself,
 // and the symbols at their end.
 #![tactic(auto)]
+
 mod coefficient;
 pub mod divisor;
 mod factors;

@@ -1,6 +1,7 @@
 // The order of bindings, as topo_sort_intermediates has it (01, "Order"): bindings free of others form a stack, the top is taken, and its dependents join the top
 // when their last need is met. What needs what is a table of bits: row j, column i is yes where statement j needs statement i.
 #![tactic(auto)]
+
 pub mod links;
 pub mod reads;
 pub mod treelist;

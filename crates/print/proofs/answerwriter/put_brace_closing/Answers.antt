@@ -1,0 +1,16 @@
+-- `print::answerwriter::put_brace_closing` meets its contract. Assumes nothing.
+use Rattle.print.proofs.told.MarkLaws.{nothing, no_brace_after, bare_brace_after, brace_after}
+use Rattle.print.specs.told.Pieces.{brace_closing}
+use Rattle.spec_tree.specs.Bytes.{bytes}
+use Rattle.fmt.proofs.emit.WriteLaws.{writes_then, writes_as}
+use borrow.Author.Rules.{rules}
+use Rattle.print.proofs.answerwriter.put_brace_closing.Goals as goal
+
+pub shape_of-out-then-n-eq0 : goal.shape_of-out-then-n-eq0
+shape_of-out-then-n-eq0 c = nothing (brace_closing c.args.bare c.args.n) (no_brace_after c.args.bare c.args.n c.if-n-eq0.true) c.place.ensures
+
+pub returns-then-n-eq0 : goal.returns-then-n-eq0
+returns-then-n-eq0 c = nothing (brace_closing c.args.bare c.args.n) (bare_brace_after c.args.bare c.args.n c.NO_STEP.if2.true) c.NO_STEP.place2.ensures
+
+pub shape_of-out-then-bare : goal.shape_of-out-then-bare
+shape_of-out-then-bare c = writes_as (bytes " }"
