@@ -4,6 +4,7 @@
 //   reciprocal   the binding of one divisor, settled by the later ones
 //   bindings, final   laws: bindings and final rows by places
 #![tactic(auto)]
+
 pub mod divisors;
 pub mod reciprocal;
 pub mod settle;

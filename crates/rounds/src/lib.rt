@@ -1,6 +1,7 @@
 // The rounds of extraction on words of trees (01, "Extraction"), the first part of `cse_scope` of the source. In a round the tree at the best place gets the next name, which stands for it in all the trees,
 // and is the last of them itself; rounds go on until no candidate is left. Local arrays hold what is worked out beside the words: the facts and marks of the places, the places of factors, and the words written.
 #![tactic(auto)]
+
 pub mod choice;
 mod measure;
 mod outside;

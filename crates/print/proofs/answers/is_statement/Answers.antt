@@ -1,4 +1,5 @@
 -- `print::answers::is_statement` meets its contract. Assumes nothing.
+use Rattle.laws.proofs.answer.CodeLaws.{statement_low, statement_high}
 use Rattle.print.proofs.answers.is_statement.Goals as goal
 
 pub returns-then-row-lt-LET : goal.returns-then-row-lt-LET

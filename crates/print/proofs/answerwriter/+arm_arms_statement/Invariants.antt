@@ -30,7 +30,7 @@ abbrev pub decreases-arm-loop-i : goal.decreases-arm-loop-i
 decreases-arm-loop-i l = l.count - l.i
 
 abbrev pub invariant-arms-loop-i : goal.invariant-arms-loop-i
-invariant-arms-loop-i l = (length l.out ≡ length l.initial.out) × ((l : Arms) → ArmsAt (rows_in l.rows) l.words l.bound l.count l.at l → ArmsLeft (rows_in l.rows) l.words l.bound l.count l.at l.bare l.defaulted l.dry l.initial.out l.initial.end l l.i l.next l.out l.end)
+invariant-arms-loop-i l = (length l.out ≡ length l.initial.out) × ((l' : Arms) → ArmsAt (rows_in l.rows) l.words l.bound l.count l.at l' → ArmsLeft (rows_in l.rows) l.words l.bound l.count l.at l.bare l.defaulted l.dry l.initial.out l.initial.end l' l.i l.next l.out l.end)
 
 abbrev pub decreases-arms-loop-i : goal.decreases-arms-loop-i
 decreases-arms-loop-i l = l.count - l.i

@@ -6,11 +6,11 @@ use Rattle.fmt.proofs.emit.WriteLaws.{writes_then, writes_as}
 use borrow.Author.Rules.{rules}
 use Rattle.print.proofs.answerwriter.put_arms_closing.Goals as goal
 
-pub shape_of-out-then-bare : goal.shape_of-out-then-bare
-shape_of-out-then-bare c = nothing (arms_closing c.args.bare c.args.defaulted) (bare_ends c.args.bare c.args.defaulted c.if-bare.true) c.place.ensures
-
 pub returns-then-bare : goal.returns-then-bare
-returns-then-bare c = nothing (arms_closing c.args.bare c.args.defaulted) (default_ends c.args.bare c.args.defaulted c.if-bare.false c.NO_STEP.if2.true) c.NO_STEP.place2.ensures
+returns-then-bare c = nothing (arms_closing c.args.bare c.args.defaulted) (bare_ends c.args.bare c.args.defaulted c.if-bare.true) c.place.ensures
 
-pub shape_of-out-then-defaulted : goal.shape_of-out-then-defaulted
-shape_of-out-then-defaulted c = writes_as (bytes " _ => panic };"
+pub returns-then-defaulted : goal.returns-then-defaulted
+returns-then-defaulted c = nothing (arms_closing c.args.bare c.args.defaulted) (default_ends c.args.bare c.args.defaulted c.if-bare.false c.if-defaulted.true) c.place-then-defaulted.ensures
+
+pub returns : goal.returns
+returns c = writes_as (bytes " _ => panic };") (arms_closing c.args.bare c.args.defaulted) (panic_ends c.args.bare c.args.defaulted c.if-bare.false c.if-defaulted.false) c.put_bytes.ensures

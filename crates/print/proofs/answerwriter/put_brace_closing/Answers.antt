@@ -6,11 +6,11 @@ use Rattle.fmt.proofs.emit.WriteLaws.{writes_then, writes_as}
 use borrow.Author.Rules.{rules}
 use Rattle.print.proofs.answerwriter.put_brace_closing.Goals as goal
 
-pub shape_of-out-then-n-eq0 : goal.shape_of-out-then-n-eq0
-shape_of-out-then-n-eq0 c = nothing (brace_closing c.args.bare c.args.n) (no_brace_after c.args.bare c.args.n c.if-n-eq0.true) c.place.ensures
-
 pub returns-then-n-eq0 : goal.returns-then-n-eq0
-returns-then-n-eq0 c = nothing (brace_closing c.args.bare c.args.n) (bare_brace_after c.args.bare c.args.n c.NO_STEP.if2.true) c.NO_STEP.place2.ensures
+returns-then-n-eq0 c = nothing (brace_closing c.args.bare c.args.n) (no_brace_after c.args.bare c.args.n c.if-n-eq0.true) c.place.ensures
 
-pub shape_of-out-then-bare : goal.shape_of-out-then-bare
-shape_of-out-then-bare c = writes_as (bytes " }"
+pub returns-then-bare : goal.returns-then-bare
+returns-then-bare c = nothing (brace_closing c.args.bare c.args.n) (bare_brace_after c.args.bare c.args.n c.if-bare.true) c.place-then-bare.ensures
+
+pub returns : goal.returns
+returns c = writes_as (bytes " }") (brace_closing c.args.bare c.args.n) (brace_after c.args.bare c.args.n c.if-n-eq0.false c.if-bare.false) c.put_bytes.ensures

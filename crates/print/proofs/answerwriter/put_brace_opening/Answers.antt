@@ -13,4 +13,4 @@ pub returns-then-bare : goal.returns-then-bare
 returns-then-bare c = nothing (brace_opening c.args.bare c.args.n) (bare_brace c.args.bare c.args.n c.if-bare.true) c.place-then-bare.ensures
 
 pub returns : goal.returns
-returns c = writes_as (bytes "{ ") (brace_opening c.args.bare c.args.n) (brace c.args.bare c.args.n c.if-n-eq0.false c.if-bare.false) c.put_bytes.ensures)
+returns c = writes_as (bytes "{ ") (brace_opening c.args.bare c.args.n) (brace c.args.bare c.args.n c.if-n-eq0.false c.if-bare.false) c.put_bytes.ensures

@@ -7,8 +7,7 @@ use borrow.Author.Rules.{rules}
 use Rattle.print.proofs.answerwriter.put_side_opening.Goals as goal
 
 pub returns-then-i-eq0 : goal.returns-then-i-eq0
-returns-then-i-eq0 c = writes_as (bytes " >= 0 { ") (side_opening c.args.i) (side_first c.args.i c.if-i-eq0.true) c.put_bytes.ensures)
-    (λ c'. search rules)
-    (λ c' κs. search rules)
-    (λ c'. search rules)
-    (λ c'. writes_as (bytes " } else { ") (side_opening c'.before.before.before.before.before.before.before.args.i) (side_second c'.before.before.before.before.before.before.before.args.i c'.before.before.before.before.before.if1.false) c'.before.before.put_bytes2.ensures)
+returns-then-i-eq0 c = writes_as (bytes " >= 0 { ") (side_opening c.args.i) (side_first c.args.i c.if-i-eq0.true) c.put_bytes.ensures
+
+pub returns : goal.returns
+returns c = writes_as (bytes " } else { ") (side_opening c.args.i) (side_second c.args.i c.if-i-eq0.false) c.put_bytes-2.ensures
