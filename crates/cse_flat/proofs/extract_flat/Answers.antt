@@ -18,11 +18,11 @@ pub extract_few-requires : goal.extract_few-requires
 extract_few-requires c = let a = c.args in
     let x = c.unfold-unfolded in
     let u = unfold_words a.rows.now a.roots.now a.work.now x.result _ x.ensures c.in-Tokens.len c.in-Tokens.is in
-    record { roots_value = (u.0, c.if-len-le-FEW.true); work_len = (omega (arith, x.auto.work, c.requires.0), c.requires.1) }
+    record { roots_value = (u.0, c.if-len-le-FEW.true); work_len = (omega (arith, x.auto.out, c.requires.0), c.requires.1) }
 
 pub extract_many-requires : goal.extract_many-requires
 extract_many-requires c = let a = c.args in
     let x = c.unfold-unfolded in
     let u = unfold_words a.rows.now a.roots.now a.work.now x.result _ x.ensures c.in-Tokens.len c.in-Tokens.is in
     let v = unfold_tokens a.rows.now a.roots.now a.work.now x.result _ x.ensures c.in-Tokens.len c.in-Tokens.is in
-    record { roots_value = (u.0, omega (arith, v.1, start_short a.rows.now a.roots.now v.0)); work_len = (omega (arith, x.auto.work, c.requires.0), c.requires.1) }
+    record { roots_value = (u.0, omega (arith, v.1, start_short a.rows.now a.roots.now v.0)); work_len = (omega (arith, x.auto.out, c.requires.0), c.requires.1) }
