@@ -14,15 +14,15 @@ need_source() {
 }
 
 # FOLDER...: all Rust files stand in one folder, since `mod` looks for them beside main.rs: this folder's, the source's unchanged, and those of the
-# folders named, in place of others of the same name
+# folders named, in place of others of the same name. They are copies, since the gate refuses links.
 gather() {
     build=$out/build
     rm -rf "$build"
     mkdir -p "$build"
-    ln -s "$PWD"/compare/*.rs "$build"
-    [ ! -f "$source/cse.rs" ] || ln -s "$source/cse.rs" "$source/fmt.rs" "$build"
+    cp compare/*.rs "$build"
+    [ ! -f "$source/cse.rs" ] || cp "$source/cse.rs" "$source/fmt.rs" "$build"
     for folder; do
-        ln -sf "$PWD/compare/$folder"/*.rs "$build"
+        cp "compare/$folder"/*.rs "$build"
     done
 }
 
@@ -33,10 +33,10 @@ compile() {
     rustc -O --edition 2024 "$@" -o "$out/$program" "$build/main.rs"
 }
 
-# PROGRAM: the functions that capi exports as a static library, and the program, linked with it
+# PROGRAM: the program, linked with the functions that capi exports
 link() {
-    rt staticlib capi >"$out/staticlib.log" 2>&1 || { cat "$out/staticlib.log"; exit 1; }
-    compile "$1" -L target/staticlib -l static=capi
+    bindings/build
+    compile "$1" -L target/bindings -l static=paddlecrook
 }
 
 # The source in the build's folder with three lines more, one of them in place of a comment, which test what a scope is

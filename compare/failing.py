@@ -1,5 +1,5 @@
 #!/usr/bin/env python3
-"""failing.py PROGRAM SHEET ANSWER: what target/bin/PROGRAM does where its input can't be read to the end or its
+"""failing.py PROGRAM SHEET ANSWER: what the program in this file does where its input can't be read to the end or its
 output can't be written, and that what comes or goes in parts is whole. SHEET is a file with a good sheet, and ANSWER
 one with its answer. Ends at the first thing that is not as it should be."""
 import errno
@@ -14,14 +14,15 @@ import tempfile
 import time
 import tty
 
-PROGRAM, SHEET, ANSWER = sys.argv[1], open(sys.argv[2], "rb").read(), open(sys.argv[3], "rb").read()
+FILE, SHEET, ANSWER = sys.argv[1], open(sys.argv[2], "rb").read(), open(sys.argv[3], "rb").read()
+PROGRAM = os.path.basename(FILE)
 UNREAD = f"{PROGRAM}: the sheet could not be read\n".encode()
 UNWRITTEN = f"{PROGRAM}: the answer could not be written\n".encode()
 REFUSED = b"refused 6 0\n"
 
 
 def start(**given):
-    return subprocess.Popen(["target/bin/" + PROGRAM], stderr=subprocess.PIPE, **given)
+    return subprocess.Popen([FILE], stderr=subprocess.PIPE, **given)
 
 
 def hold(what, process, out, told, written=None):
@@ -141,7 +142,7 @@ def no_more_than(count):
 
 def try_writing():
     full, sheet = os.open("/dev/full", os.O_WRONLY), long_sheet()
-    answer = subprocess.run(["target/bin/" + PROGRAM], stdin=given(sheet), stdout=subprocess.PIPE).stdout
+    answer = subprocess.run([FILE], stdin=given(sheet), stdout=subprocess.PIPE).stdout
     if answer.count(b"\n") != 16 or len(answer) < 16000:
         sys.exit(f"programs: FAILED: {PROGRAM} answers the long sheet by {answer[:200]!r}")
     for what, text in ("an answer", SHEET), ("a refusal", b"x"), ("many lines", sheet):

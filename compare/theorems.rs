@@ -54,7 +54,7 @@ fn theorem(s: &mut String, n: usize, case: &Case) {
 
 fn outcome(o: &Outcome) -> String {
     match o {
-        Outcome::Refused(n) => format!("turned-down {n}"),
+        Outcome::Refused(n) => format!("turned_down {n}"),
         Outcome::Given {
             rows,
             extracted,

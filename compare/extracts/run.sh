@@ -5,7 +5,7 @@ cd "$(dirname "$0")/.."
 
 need_source
 gather sheets extracts
-ln -s "$PWD/bindings/paddlecrook.rs" "$build"
+cp bindings/paddlecrook.rs "$build"
 bindings/build
 
 # NAME: the driver, with the source as it is in the build's folder
