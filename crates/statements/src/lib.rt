@@ -1,6 +1,7 @@
 // The parts of one scope once its arms are done (01, "Scoped fusion", "Order"): its statements put in the order of their needs, and the rows of a let, of the values
 // and of a match before its arms. A tree is taken from what the scope holds or, as a reciprocal, made when it is needed; then its members are replaced by their names.
 #![tactic(auto)]
+
 pub mod holding;
 
 ghost use Rattle.std.specs.Prelude.{◌≡◌, ◌++◌, ◌+◌, ◌-◌, ◌*◌, ◌≤◌, ◌<◌, T, length, take, drop, replicate};
