@@ -1,5 +1,6 @@
 // A sheet's flat answer in rows: load, and then extract. What is lent is long enough where a program lends it, so that it never sees 7, 8 or 12.
 #![tactic(auto)]
+
 ghost use Rattle.std.specs.Prelude.{◌≡◌, false, ◌≤◌, length, take};
 ghost use Rattle.spec_sheet.specs.Call.{load_call};
 ghost use Rattle.spec_cse.specs.Call.{extract_call, table_after};
