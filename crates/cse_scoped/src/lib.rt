@@ -1,6 +1,7 @@
 // The public operation Extract in the scoped form, `cse_scoped` of the source (01, "Turned down": Extract): node rows and roots in, rows of the answer out. The
 // scope of the roots is done first over rows of this crate's own, which finds every refusal before anything is written; an answer that has more, and that the table has room for, is done once more.
 #![tactic(auto)]
+
 mod one_scope;
 
 ghost use Rattle.std.specs.Prelude.{◌≡◌, true, ◌≤◌, length};
