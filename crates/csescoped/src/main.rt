@@ -3,20 +3,22 @@
 // answer. It lends 131,072 rows and 524,288 bytes, and an answer that is longer is refused by 12 or 14:
 // spec_program/specs/Program `csescoped`.
 #![tactic(auto)]
+
 mod sheet;
 
 use crate::sheet::{Said, scoped_sheet};
 use print::lines::refusal_line;
+use std::io::{Stderr, Stdout};
 use stdio::{Moved, read_sheet, say};
 
-fn say_refused(number: u64, record: u64) {
+fn say_refused(to: Stdout, errors: Stderr, number: u64, record: u64) {
     let mut out = [0u8; 128];
     let n = refusal_line(number, record, &mut out);
-    say(b"csescoped", &out, n);
+    say(to, errors, b"csescoped", &out, n);
 }
 
 // All that is printed for a sheet.
-fn say_sheet(sheet: &[u8]) {
+fn say_sheet(to: Stdout, errors: Stderr, sheet: &[u8]) {
     let mut rows = [0u64; 35840];
     let mut roots = [0u64; 64];
     let mut work = [0u64; 65536];
@@ -27,16 +29,16 @@ fn say_sheet(sheet: &[u8]) {
         sheet, &mut rows, &mut roots, &mut work, &mut text, &mut table, &mut out,
     );
     match said {
-        Said::Refused(number, record) => say_refused(number, record),
+        Said::Refused(number, record) => say_refused(to, errors, number, record),
         Said::Bytes(n) => {
-            say(b"csescoped", &out, n);
+            say(to, errors, b"csescoped", &out, n);
         }
     }
 }
 
-fn main() {
+fn main(rt: HostRuntime) {
     let mut sheet = [0u8; 65536];
-    if let Moved::Bytes(n) = read_sheet(b"csescoped", &mut sheet) {
-        say_sheet(&sheet[..n]);
+    if let Moved::Bytes(n) = read_sheet(rt.stdin(), rt.stderr(), b"csescoped", &mut sheet) {
+        say_sheet(rt.stdout(), rt.stderr(), &sheet[..n]);
     }
 }
