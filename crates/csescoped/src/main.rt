@@ -4,6 +4,8 @@
 // spec_program/specs/Program `csescoped`.
 #![tactic(auto)]
 
+ghost use Rattle.std.specs.Prelude.{◌≡◌, length};
+
 mod sheet;
 
 use crate::sheet::{Said, scoped_sheet};
@@ -17,6 +19,14 @@ fn say_refused(to: Stdout, errors: Stderr, number: u64, record: u64) {
     say(to, errors, b"csescoped", &out, n);
 }
 
+// Zeros for the text. That they are so many is proved for any number: to count half a million takes more stack than the
+// check has.
+fn zeros<const N: usize>() -> [u8; N]
+    ensures { N ≡ length result }
+{
+    [0; N]
+}
+
 // All that is printed for a sheet.
 fn say_sheet(to: Stdout, errors: Stderr, sheet: &[u8]) {
     let mut rows = [0u64; 35840];
@@ -24,7 +34,7 @@ fn say_sheet(to: Stdout, errors: Stderr, sheet: &[u8]) {
     let mut work = [0u64; 65536];
     let mut text = [0u8; 131072];
     let mut table = [0u64; 131072];
-    let mut out = [0u8; 524288];
+    let mut out = zeros::<524288>();
     let said = scoped_sheet(
         sheet, &mut rows, &mut roots, &mut work, &mut text, &mut table, &mut out,
     );
