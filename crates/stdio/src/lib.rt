@@ -6,7 +6,7 @@
 ghost use Rattle.std.specs.Prelude.{length};
 ghost use Rattle.stdio.specs.Within.{Within};
 
-use std::io::{ErrorKind, Print, Read, Stderr, Stdin, Stdout};
+use std::io::{Error, ErrorKind, Print, Read, Stderr, Stdin, Stdout};
 
 #[derive(Drop)]
 pub enum Moved {
@@ -15,8 +15,12 @@ pub enum Moved {
     Failed,
 }
 
-// One read. A call that a signal interrupted has moved nothing, and is made again: a proved loop has to end, so the turns
-// are as many as no run uses up.
+// A call that a signal interrupted has moved nothing, and is made again.
+fn interrupted(e: &Error) -> bool {
+    e.kind() == ErrorKind::Interrupted
+}
+
+// One read. A proved loop has to end, so its turns are counted, and are as many as no run uses up.
 fn read_some(input: Stdin, buffer: &mut [u8]) -> Moved
     ensures { Within result (length buffer.old) }
 {
@@ -24,7 +28,7 @@ fn read_some(input: Stdin, buffer: &mut [u8]) -> Moved
         match (&input).read(buffer) {
             Ok(n) => return Moved::Bytes(n),
             Err(e) => {
-                if e.kind() != ErrorKind::Interrupted {
+                if !interrupted(&e) {
                     return Moved::Failed;
                 }
             }
@@ -41,7 +45,7 @@ fn write_some<P: Print>(to: &P, bytes: &[u8]) -> Moved
         match to.write_some(bytes) {
             Ok(n) => return Moved::Bytes(n),
             Err(e) => {
-                if e.kind() != ErrorKind::Interrupted {
+                if !interrupted(&e) {
                     return Moved::Failed;
                 }
             }
