@@ -3,40 +3,52 @@
 // answer. It lends 131,072 rows and 524,288 bytes, and an answer that is longer is refused by 12 or 14:
 // spec_program/specs/Program `csescoped`.
 #![tactic(auto)]
+
+ghost use Rattle.std.specs.Prelude.{◌≡◌, length};
+
 mod sheet;
 
 use crate::sheet::{Said, scoped_sheet};
 use print::lines::refusal_line;
+use std::io::{Stderr, Stdout};
 use stdio::{Moved, read_sheet, say};
 
-fn say_refused(number: u64, record: u64) {
+fn say_refused(to: Stdout, errors: Stderr, number: u64, record: u64) {
     let mut out = [0u8; 128];
     let n = refusal_line(number, record, &mut out);
-    say(b"csescoped", &out, n);
+    say(to, errors, b"csescoped", &out, n);
+}
+
+// Zeros for the text. That they are so many is proved for any number: to count half a million takes more stack than the
+// check has.
+fn zeros<const N: usize>() -> [u8; N]
+    ensures { N ≡ length result }
+{
+    [0; N]
 }
 
 // All that is printed for a sheet.
-fn say_sheet(sheet: &[u8]) {
+fn say_sheet(to: Stdout, errors: Stderr, sheet: &[u8]) {
     let mut rows = [0u64; 35840];
     let mut roots = [0u64; 64];
     let mut work = [0u64; 65536];
     let mut text = [0u8; 131072];
     let mut table = [0u64; 131072];
-    let mut out = [0u8; 524288];
+    let mut out = zeros::<524288>();
     let said = scoped_sheet(
         sheet, &mut rows, &mut roots, &mut work, &mut text, &mut table, &mut out,
     );
     match said {
-        Said::Refused(number, record) => say_refused(number, record),
+        Said::Refused(number, record) => say_refused(to, errors, number, record),
         Said::Bytes(n) => {
-            say(b"csescoped", &out, n);
+            say(to, errors, b"csescoped", &out, n);
         }
     }
 }
 
-fn main() {
+fn main(rt: HostRuntime) {
     let mut sheet = [0u8; 65536];
-    if let Moved::Bytes(n) = read_sheet(b"csescoped", &mut sheet) {
-        say_sheet(&sheet[..n]);
+    if let Moved::Bytes(n) = read_sheet(rt.stdin(), rt.stderr(), b"csescoped", &mut sheet) {
+        say_sheet(rt.stdout(), rt.stderr(), &sheet[..n]);
     }
 }

@@ -1,12 +1,14 @@
 // Prints what `csesheet` prints for stored sheets. Standard input has a sheet on each line, a slash for each CRLF, and a line `# N` stands before what is printed for
 // the sheet on line N: its flat answer, or the refusal. The file `stdout` has what the source gives for these sheets (compare/replays/main.rs).
 #![tactic(auto)]
+
 ghost use Rattle.std.specs.Prelude.{◌≤◌, length};
 ghost use Rattle.io.specs.Counts.{IsPrefixLen};
 
 use flat_sheet::{Flat, flat_sheet};
-use libc::{STDIN_FILENO, STDOUT_FILENO};
 use print::lines::{Line, line_at, refusal_line};
+use std::io::Stdout;
+use stdio::{Moved, read_all, write_all};
 
 const LF: u8 = 10;
 
@@ -17,39 +19,39 @@ const SLASH: u8 = 47;
 
 // ---- what is printed for a sheet
 
-fn say(out: &[u8], n: usize) {
+fn say(to: Stdout, out: &[u8], n: usize) {
     if n <= out.len() {
-        io::write_all(STDOUT_FILENO, &out[..n]);
+        write_all(&to, &out[..n]);
     }
 }
 
-fn say_refused(number: u64, record: u64) {
+fn say_refused(to: Stdout, number: u64, record: u64) {
     let mut out = [0u8; 128];
     let n = refusal_line(number, record, &mut out);
-    say(&out, n);
+    say(to, &out, n);
 }
 
 // The lines of an answer, one after another.
-fn say_lines(rows: &[u64], answer: &[u64]) {
+fn say_lines(to: Stdout, rows: &[u64], answer: &[u64]) {
     let mut out = [0u8; 65536];
     let mut at = 0;
     while at < answer.len() {
         let Line::Text(n, next) = line_at(rows, answer, at, &mut out) else {
             return;
         };
-        say(&out, n);
+        say(to, &out, n);
         at = next;
     }
 }
 
 // The lines of the answer in the first words of the table.
-fn say_answer(rows: &[u64], end: usize, table: &[u64], count: usize)
+fn say_answer(to: Stdout, rows: &[u64], end: usize, table: &[u64], count: usize)
     requires { (end ≤ length rows.now) × (count ≤ length table.now) }
 {
-    say_lines(&rows[..end], &table[..count]);
+    say_lines(to, &rows[..end], &table[..count]);
 }
 
-fn say_sheet(sheet: &[u8]) {
+fn say_sheet(to: Stdout, sheet: &[u8]) {
     let mut rows = [0u64; 35840];
     let mut roots = [0u64; 64];
     let mut work = [0u64; 65536];
@@ -59,8 +61,8 @@ fn say_sheet(sheet: &[u8]) {
         sheet, &mut rows, &mut roots, &mut work, &mut text, &mut table,
     );
     match answer {
-        Flat::Refused(number, record) => say_refused(number, record),
-        Flat::Rows(end, count) => say_answer(&rows, end, &table, count),
+        Flat::Refused(number, record) => say_refused(to, number, record),
+        Flat::Rows(end, count) => say_answer(to, &rows, end, &table, count),
     }
 }
 
@@ -105,26 +107,32 @@ fn put_sheet(line: &[u8], sheet: &mut [u8]) -> usize
     n
 }
 
-fn say_number(number: u64) {
-    io::write_all(STDOUT_FILENO, b"# ");
-    io::print_decimal(STDOUT_FILENO, number);
-    io::write_all(STDOUT_FILENO, b"\n");
+fn say_decimal(to: Stdout, n: u64) {
+    let mut digits = [0u8; 20];
+    let k = io::decimal(n, &mut digits);
+    write_all(&to, &digits[..k]);
 }
 
-fn say_line(number: u64, line: &[u8]) {
-    say_number(number);
+fn say_number(to: Stdout, number: u64) {
+    write_all(&to, b"# ");
+    say_decimal(to, number);
+    write_all(&to, b"\n");
+}
+
+fn say_line(to: Stdout, number: u64, line: &[u8]) {
+    say_number(to, number);
     let mut sheet = [0u8; 65536];
     let n = put_sheet(line, &mut sheet);
-    say_sheet(&sheet[..n]);
+    say_sheet(to, &sheet[..n]);
 }
 
-fn replay(list: &[u8]) {
+fn replay(to: Stdout, list: &[u8]) {
     let mut at = 0;
     let mut number: u64 = 0;
     while at < list.len() {
         let end = line_end(list, at);
         number += 1;
-        say_line(number, &list[at..end]);
+        say_line(to, number, &list[at..end]);
         if end == list.len() {
             return;
         }
@@ -132,8 +140,9 @@ fn replay(list: &[u8]) {
     }
 }
 
-fn main() {
+fn main(rt: HostRuntime) {
     let mut list = [0u8; 65536];
-    let n = io::read_full(STDIN_FILENO, &mut list);
-    replay(&list[..n]);
+    if let Moved::Bytes(n) = read_all(rt.stdin(), &mut list) {
+        replay(rt.stdout(), &list[..n]);
+    }
 }

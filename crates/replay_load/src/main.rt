@@ -1,10 +1,12 @@
 // Prints what load gives for stored sheets. Standard input has a sheet on each line (compare/sheets/stored.rs says how it is laid out). Load is called on each, and
 // a line says what it returns, and a digest of all that it leaves in memory. The file `stdout` has what a reading of the paper in Rust gives for these sheets.
 #![tactic(auto)]
+
 ghost use Rattle.std.specs.Prelude.{◌≤◌, length};
 
-use libc::{STDIN_FILENO, STDOUT_FILENO};
 use load::{Loaded, load};
+use std::io::Stdout;
+use stdio::{Moved, read_all, write_all};
 
 // Bytes that mean something in the list.
 const LF: u8 = 10;
@@ -213,28 +215,34 @@ fn digest(from: u64, words: &[u64]) -> u64 {
     d
 }
 
-fn say_number(n: u64) {
-    io::print_decimal(STDOUT_FILENO, n);
-    io::write_all(STDOUT_FILENO, b" ");
+fn say_decimal(to: Stdout, n: u64) {
+    let mut digits = [0u8; 20];
+    let k = io::decimal(n, &mut digits);
+    write_all(&to, &digits[..k]);
+}
+
+fn say_number(to: Stdout, n: u64) {
+    say_decimal(to, n);
+    write_all(&to, b" ");
 }
 
 // 01's number or 0, the record or how many rows, how many roots, and the digest.
-fn say_answer(number: u64, count: u64, roots: u64, digest: u64) {
-    say_number(number);
-    say_number(count);
-    say_number(roots);
-    io::print_decimal(STDOUT_FILENO, digest);
-    io::write_all(STDOUT_FILENO, b"\n");
+fn say_answer(to: Stdout, number: u64, count: u64, roots: u64, digest: u64) {
+    say_number(to, number);
+    say_number(to, count);
+    say_number(to, roots);
+    say_decimal(to, digest);
+    write_all(&to, b"\n");
 }
 
-fn say_sheet(sheet: &[u8], rows: &mut [u64], roots: &mut [u64]) {
+fn say_sheet(to: Stdout, sheet: &[u8], rows: &mut [u64], roots: &mut [u64]) {
     fill(rows);
     fill(roots);
     let loaded = load(sheet, rows, roots);
     let d = digest(digest(0, rows), roots);
     match loaded {
-        Loaded::Table(n, m) => say_answer(0, n as u64, m as u64, d),
-        Loaded::Refused(number, record) => say_answer(number, record, 0, d),
+        Loaded::Table(n, m) => say_answer(to, 0, n as u64, m as u64, d),
+        Loaded::Refused(number, record) => say_answer(to, number, record, 0, d),
     }
 }
 
@@ -242,6 +250,7 @@ fn say_sheet(sheet: &[u8], rows: &mut [u64], roots: &mut [u64]) {
 
 // The sheet has n bytes, and so many words and places are lent.
 fn say_lent(
+    to: Stdout,
     sheet: &[u8],
     n: usize,
     rows: &mut [u64],
@@ -258,7 +267,7 @@ fn say_lent(
     if places > roots.len() {
         return;
     }
-    say_sheet(&sheet[..n], &mut rows[..words], &mut roots[..places]);
+    say_sheet(to, &sheet[..n], &mut rows[..words], &mut roots[..places]);
 }
 
 fn is_remark(line: &[u8]) -> bool {
@@ -268,15 +277,15 @@ fn is_remark(line: &[u8]) -> bool {
     line[0] == REMARK
 }
 
-fn say_remark(line: &[u8]) {
-    io::write_all(STDOUT_FILENO, line);
-    io::write_all(STDOUT_FILENO, b"\n");
+fn say_remark(to: Stdout, line: &[u8]) {
+    write_all(&to, line);
+    write_all(&to, b"\n");
 }
 
 // A remark is printed as it is.
-fn say_line(line: &[u8]) {
+fn say_line(to: Stdout, line: &[u8]) {
     if is_remark(line) {
-        say_remark(line);
+        say_remark(to, line);
         return;
     }
     if line.len() < COLUMNS {
@@ -288,14 +297,14 @@ fn say_line(line: &[u8]) {
     let n = put_sheet(&line[COLUMNS..], &mut sheet);
     let words = number(&line[0..5]) as usize;
     let places = number(&line[6..9]) as usize;
-    say_lent(&sheet, n, &mut rows, words, &mut roots, places);
+    say_lent(to, &sheet, n, &mut rows, words, &mut roots, places);
 }
 
-fn replay(list: &[u8]) {
+fn replay(to: Stdout, list: &[u8]) {
     let mut at = 0;
     while at < list.len() {
         let end = find(list, at, LF);
-        say_line(&list[at..end]);
+        say_line(to, &list[at..end]);
         if end == list.len() {
             return;
         }
@@ -303,8 +312,9 @@ fn replay(list: &[u8]) {
     }
 }
 
-fn main() {
+fn main(rt: HostRuntime) {
     let mut list = [0u8; 65536];
-    let n = io::read_full(STDIN_FILENO, &mut list);
-    replay(&list[..n]);
+    if let Moved::Bytes(n) = read_all(rt.stdin(), &mut list) {
+        replay(rt.stdout(), &list[..n]);
+    }
 }

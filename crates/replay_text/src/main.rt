@@ -1,11 +1,13 @@
 // Prints stored trees and answers. Standard input has words of trees and rows of answers (compare/texts/stored.rs says how a line is laid out). Each tree is measured
 // and written, each answer printed, and what is answered and all bytes lent are written out. The file `stdout` has what the source's own `Display` gives for these.
 #![tactic(auto)]
+
 ghost use Rattle.std.specs.Prelude.{◌≤◌, length};
 
 use fmt::writer::{Text, write_tree};
-use libc::{STDIN_FILENO, STDOUT_FILENO};
 use print::{Printed, print};
+use std::io::Stdout;
+use stdio::{Moved, read_all, write_all};
 
 // Bytes that mean something in the list.
 const LF: u8 = 10;
@@ -87,48 +89,54 @@ fn fill(out: &mut [u8]) {
     }
 }
 
-fn say_number(n: usize) {
-    io::print_decimal(STDOUT_FILENO, n as u64);
-    io::write_all(STDOUT_FILENO, b" ");
+fn say_decimal(to: Stdout, n: u64) {
+    let mut digits = [0u8; 20];
+    let k = io::decimal(n, &mut digits);
+    write_all(&to, &digits[..k]);
 }
 
-fn say_bytes(out: &[u8]) {
-    io::write_all(STDOUT_FILENO, out);
-    io::write_all(STDOUT_FILENO, b"\n");
+fn say_number(to: Stdout, n: usize) {
+    say_decimal(to, n as u64);
+    write_all(&to, b" ");
+}
+
+fn say_bytes(to: Stdout, out: &[u8]) {
+    write_all(&to, out);
+    write_all(&to, b"\n");
 }
 
 // The places after a tree's words and after its text, and the bytes lent.
-fn say_text(text: Text, out: &[u8]) {
+fn say_text(to: Stdout, text: Text, out: &[u8]) {
     match text {
         Text::Ends(next, end) => {
-            say_number(next);
-            say_number(end);
-            say_bytes(out);
+            say_number(to, next);
+            say_number(to, end);
+            say_bytes(to, out);
         }
-        Text::Broken => say_bytes(b"broken"),
+        Text::Broken => say_bytes(to, b"broken"),
     }
 }
 
 // Measures the text, which writes nothing, and then writes it.
-fn say_tree(rows: &[u64], words: &[u64], out: &mut [u8]) {
+fn say_tree(to: Stdout, rows: &[u64], words: &[u64], out: &mut [u8]) {
     fill(out);
     let measured = write_tree(rows, words, 0, out, true, 0);
-    say_text(measured, out);
+    say_text(to, measured, out);
     let written = write_tree(rows, words, 0, out, false, 0);
-    say_text(written, out);
+    say_text(to, written, out);
 }
 
 // How many bytes an answer's text has, or by which number it is refused, and the bytes lent.
-fn say_answer(rows: &[u64], words: &[u64], out: &mut [u8]) {
+fn say_answer(to: Stdout, rows: &[u64], words: &[u64], out: &mut [u8]) {
     fill(out);
     match print(rows, words, out) {
-        Printed::Bytes(n) => say_number(n),
+        Printed::Bytes(n) => say_number(to, n),
         Printed::Refused(q) => {
-            io::write_all(STDOUT_FILENO, b"refused ");
-            say_number(q as usize);
+            write_all(&to, b"refused ");
+            say_number(to, q as usize);
         }
     }
-    say_bytes(out);
+    say_bytes(to, out);
 }
 
 // ---- lines of the list
@@ -141,7 +149,7 @@ fn is_answer(line: &[u8]) -> bool {
 }
 
 // The first n words: those of a tree or an answer's rows, and how many bytes are lent.
-fn say_words(answer: bool, rows: &[u64], words: &[u64], n: usize, out: &mut [u8]) {
+fn say_words(to: Stdout, answer: bool, rows: &[u64], words: &[u64], n: usize, out: &mut [u8]) {
     if n == 0 {
         return;
     }
@@ -154,27 +162,27 @@ fn say_words(answer: bool, rows: &[u64], words: &[u64], n: usize, out: &mut [u8]
         return;
     }
     if answer {
-        say_answer(rows, &words[..last], &mut out[..room]);
+        say_answer(to, rows, &words[..last], &mut out[..room]);
         return;
     }
-    say_tree(rows, &words[..last], &mut out[..room]);
+    say_tree(to, rows, &words[..last], &mut out[..room]);
 }
 
-fn say_line(line: &[u8], rows: &[u64]) {
+fn say_line(to: Stdout, line: &[u8], rows: &[u64]) {
     let mut words = [0u64; 16384];
     let mut out = [0u8; 4096];
     let n = read_words(line, &mut words);
-    say_words(is_answer(line), rows, &words, n, &mut out);
+    say_words(to, is_answer(line), rows, &words, n, &mut out);
 }
 
 // The lines from a place on.
-fn replay(list: &[u8], from: usize, rows: &[u64])
+fn replay(to: Stdout, list: &[u8], from: usize, rows: &[u64])
     requires { from ≤ length list.now }
 {
     let mut at = from;
     while at < list.len() {
         let end = find(list, at, LF);
-        say_line(&list[at..end], rows);
+        say_line(to, &list[at..end], rows);
         if end == list.len() {
             return;
         }
@@ -183,7 +191,7 @@ fn replay(list: &[u8], from: usize, rows: &[u64])
 }
 
 // The first line has the node rows.
-fn start(list: &[u8], rows: &mut [u64]) {
+fn start(to: Stdout, list: &[u8], rows: &mut [u64]) {
     let end = find(list, 0, LF);
     if end == list.len() {
         return;
@@ -192,12 +200,13 @@ fn start(list: &[u8], rows: &mut [u64]) {
     if n > rows.len() {
         return;
     }
-    replay(list, end + 1, &rows[..n]);
+    replay(to, list, end + 1, &rows[..n]);
 }
 
-fn main() {
+fn main(rt: HostRuntime) {
     let mut list = [0u8; 262144];
-    let n = io::read_full(STDIN_FILENO, &mut list);
-    let mut rows = [0u64; 700];
-    start(&list[..n], &mut rows);
+    if let Moved::Bytes(n) = read_all(rt.stdin(), &mut list) {
+        let mut rows = [0u64; 700];
+        start(rt.stdout(), &list[..n], &mut rows);
+    }
 }

@@ -1,0 +1,7 @@
+-- `csesheet::say_any` is safe. Assumes nothing.
+use Rattle.flat_sheet.proofs.Steps.{parts_inside}
+use borrow.Author.Rules.{rules}
+use Rattle.csesheet.proofs.say_any.Goals as goal
+
+pub say_answer-requires : goal.say_answer-requires
+say_answer-requires c = parts_inside _ _ _ _ _ _ _ _ _ _ _ c.flat_sheet-answer.ensures c.in-Rows.is
