@@ -1,6 +1,7 @@
 // What programs in other languages call. A slice goes in as a pointer and a length; an answer comes back as a number, and its values in a slice that the
 // caller lends, since an enum cannot pass.
 #![tactic(auto)]
+
 ghost use Rattle.std.specs.Prelude.{◌≡◌, true, false, ◌&&◌, ◌≤◌, length};
 ghost use Rattle.spec_sheet.specs.Call.{load_call};
 ghost use Rattle.spec_cse.specs.Call.{extract_call, table_after};
