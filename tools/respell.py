@@ -5,8 +5,8 @@ usage: tools/respell.py          at the top, on files that have been brought to 
 
     trees-in  ->  trees_in        Rows-laid  ->  RowsLaid
 
-A name that a file imports from a library stays there. Rust's own names have no dash, and strings are left alone; of a
-comment or a page only what stands between backticks is read. A line that begins 'look:' names two spellings that become
+A name that a file imports from a library stays there. Rust's own names have no dash; strings, comments and pages are
+left alone. A line that begins 'look:' names two spellings that become
 one in a file: a definition and the Rust function that it defines may share a name, and nothing else should. A second
 run changes nothing.
 """
@@ -42,13 +42,6 @@ def texts():
         dirs[:] = sorted(d for d in dirs if d not in ("out", "target"))
         for f in sorted(files):
             if f.endswith((".rt", ".antt")):
-                yield os.path.join(folder, f)
-
-
-def pages():
-    for folder in (".", "docs", "bindings", "compare"):
-        for f in sorted(os.listdir(folder)):
-            if f.endswith(".md"):
                 yield os.path.join(folder, f)
 
 
@@ -110,13 +103,6 @@ def main():
 
         return lambda code: NAME.sub(one, code)
 
-    def in_ticks(comment):
-        def one(m):
-            n = m.group()
-            return moved.get(n, spelled(n) if n in declared else n)
-
-        return re.sub(r"`[^`\n]*`", lambda m: NAME.sub(one, m.group()), comment)
-
     for p in texts():
         seen, lines = set(), []
         change = turn(imports[p], seen)
@@ -132,12 +118,7 @@ def main():
                 clashes.append(f"look: {p}: {min(n, meet[to])} and {max(n, meet[to])} are both {to} now")
             meet[to] = n
     for p, lines in new_texts.items():
-        text = "".join(code + in_ticks(comment) for code, comment in lines)
-        if text != read(p):
-            with open(p, "w", encoding="utf-8") as f:
-                f.write(text)
-    for p in pages():
-        text = in_ticks(read(p))
+        text = "".join(code + comment for code, comment in lines)
         if text != read(p):
             with open(p, "w", encoding="utf-8") as f:
                 f.write(text)
