@@ -8,7 +8,7 @@ ghost use Rattle.io.specs.Counts.{IsPrefixLen};
 use flat_sheet::{Flat, flat_sheet};
 use print::lines::{Line, line_at, refusal_line};
 use std::io::Stdout;
-use stdio::{Moved, read_all, write_all};
+use stdio::{read_front, write_all};
 
 const LF: u8 = 10;
 
@@ -142,7 +142,6 @@ fn replay(to: Stdout, list: &[u8]) {
 
 fn main(rt: HostRuntime) {
     let mut list = [0u8; 65536];
-    if let Moved::Bytes(n) = read_all(rt.stdin(), &mut list) {
-        replay(rt.stdout(), &list[..n]);
-    }
+    let n = read_front(rt.stdin(), &mut list);
+    replay(rt.stdout(), &list[..n]);
 }

@@ -6,7 +6,7 @@ ghost use Rattle.std.specs.Prelude.{◌≤◌, length};
 
 use load::{Loaded, load};
 use std::io::Stdout;
-use stdio::{Moved, read_all, write_all};
+use stdio::{read_front, write_all};
 
 // Bytes that mean something in the list.
 const LF: u8 = 10;
@@ -314,7 +314,6 @@ fn replay(to: Stdout, list: &[u8]) {
 
 fn main(rt: HostRuntime) {
     let mut list = [0u8; 65536];
-    if let Moved::Bytes(n) = read_all(rt.stdin(), &mut list) {
-        replay(rt.stdout(), &list[..n]);
-    }
+    let n = read_front(rt.stdin(), &mut list);
+    replay(rt.stdout(), &list[..n]);
 }

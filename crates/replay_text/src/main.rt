@@ -7,7 +7,7 @@ ghost use Rattle.std.specs.Prelude.{◌≤◌, length};
 use fmt::writer::{Text, write_tree};
 use print::{Printed, print};
 use std::io::Stdout;
-use stdio::{Moved, read_all, write_all};
+use stdio::{read_front, write_all};
 
 // Bytes that mean something in the list.
 const LF: u8 = 10;
@@ -205,8 +205,7 @@ fn start(to: Stdout, list: &[u8], rows: &mut [u64]) {
 
 fn main(rt: HostRuntime) {
     let mut list = [0u8; 262144];
-    if let Moved::Bytes(n) = read_all(rt.stdin(), &mut list) {
-        let mut rows = [0u64; 700];
-        start(rt.stdout(), &list[..n], &mut rows);
-    }
+    let n = read_front(rt.stdin(), &mut list);
+    let mut rows = [0u64; 700];
+    start(rt.stdout(), &list[..n], &mut rows);
 }

@@ -3,7 +3,7 @@
 // no more are counted than were lent.
 #![tactic(auto)]
 
-ghost use Rattle.std.specs.Prelude.{length};
+ghost use Rattle.std.specs.Prelude.{◌≤◌, length};
 ghost use Rattle.stdio.specs.Within.{Within};
 
 use std::io::{Error, ErrorKind, Print, Read, Stderr, Stdin, Stdout};
@@ -54,8 +54,23 @@ fn write_some<P: Print>(to: &P, bytes: &[u8]) -> Moved
     Moved::Failed
 }
 
+// Reads until the input ends, all that is lent is full, or a read fails, and tells how many bytes had come by then.
+pub fn read_front(input: Stdin, buffer: &mut [u8]) -> usize
+    ensures { result ≤ length buffer.new }
+{
+    let mut done = 0;
+    while done < buffer.len() {
+        match (&input).read(&mut buffer[done..]) {
+            Ok(0) => return done,
+            Ok(more) => done += more,
+            Err(_) => return done,
+        }
+    }
+    done
+}
+
 // Reads until the input ends or all that is lent is full.
-pub fn read_all(input: Stdin, buffer: &mut [u8]) -> Moved
+fn read_all(input: Stdin, buffer: &mut [u8]) -> Moved
     ensures { Within result (length buffer.new) }
 {
     let mut done = 0;
