@@ -28,6 +28,11 @@ const SCOPES: usize = 9;
 // How many rows are kept of the first time. Few answers have more; each is a word of the stack.
 const KEPT: usize = 4096;
 
+// With at most so many words of node rows few rows are kept, so that nothing long is cleared.
+const FEW_NODES: usize = 4480;
+
+const FEW_KEPT: usize = 512;
+
 const SHORT_WORK: u64 = 8;
 
 const BAD_ROWS: u64 = 9;
@@ -77,7 +82,34 @@ fn lay_rows(
     scope_roots(rows, roots, work, text, table);
 }
 
-// The scoped form after 8: 12 where the table has too few rows, before any is written.
+// The scoped form after 8, with an array for rows to keep: 12 where the table has too few rows, before any is written.
+fn write_in(
+    rows: &[u64],
+    roots: &[u64],
+    work: &mut [u64],
+    text: &mut [u8],
+    table: &mut [u64],
+    kept: &mut [u64],
+) -> Extraction
+    requires work_len { (length work.old ≡ 65536) × (131072 ≤ length text.old) }
+    requires roots_bound { told_rows (roots_told rows.now roots.now) ≤ most_rows }
+    ensures { (result ≡ extraction_answer (roots_rows rows.now roots.now (length table.old)))
+        × (table.new ≡ table_after (roots_rows rows.now roots.now (length table.old)) table.old) }
+{
+    let told = scope_roots(rows, roots, work, text, kept);
+    match told {
+        Scoped::Told(end, steps, next, extracted) => {
+            if table.len() < end {
+                return Extraction::Refused(FEW_ROWS);
+            }
+            lay_rows(rows, roots, work, text, kept, end, table);
+            Extraction::Rows(end, extracted)
+        }
+        Scoped::Refused(number) => Extraction::Refused(number),
+    }
+}
+
+// The same with an array of its own: a short one where there are few node rows.
 fn write_rows(
     rows: &[u64],
     roots: &[u64],
@@ -90,18 +122,12 @@ fn write_rows(
     ensures { (result ≡ extraction_answer (roots_rows rows.now roots.now (length table.old)))
         × (table.new ≡ table_after (roots_rows rows.now roots.now (length table.old)) table.old) }
 {
-    let mut kept = [0u64; KEPT];
-    let told = scope_roots(rows, roots, work, text, &mut kept);
-    match told {
-        Scoped::Told(end, steps, next, extracted) => {
-            if table.len() < end {
-                return Extraction::Refused(FEW_ROWS);
-            }
-            lay_rows(rows, roots, work, text, &kept, end, table);
-            Extraction::Rows(end, extracted)
-        }
-        Scoped::Refused(number) => Extraction::Refused(number),
+    if rows.len() <= FEW_NODES {
+        let mut kept = [0u64; FEW_KEPT];
+        return write_in(rows, roots, work, text, table, &mut kept);
     }
+    let mut kept = [0u64; KEPT];
+    write_in(rows, roots, work, text, table, &mut kept)
 }
 
 // The scoped answer's rows in front of what stands in the table, and the extraction count; or 8, 9, 10, 11, 23 or 12, with nothing written to the table. What is

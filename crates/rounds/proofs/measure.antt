@@ -1,3 +1,4 @@
+pub mod Pairs
 pub mod WordFacts
 pub mod Walking
 pub mod Together

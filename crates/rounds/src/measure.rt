@@ -82,6 +82,38 @@ fn walk(facts: &[u64], classes: &[u64], w: u64, place: usize, count: usize) -> F
     }
 }
 
+// The same for two trees, which most operations have: the second starts after the first.
+fn both(facts: &[u64], classes: &[u64], w: u64, place: usize) -> Facts
+    requires inside { Inside facts.now place 2 × Walk facts.now classes.now place 2 }
+    requires place_bound { (total (column facts.now 0 place 2) < 2 ^ 64) × (total (column facts.now 1 place 2) < 2 ^ 64) }
+    ensures { Together facts.now classes.now w place 2 result.size result.cost result.depth result.symbol result.key }
+{
+    let row = PER_PLACE * place;
+    let size = facts[row];
+    let second = place + size as usize;
+    let other = PER_PLACE * second;
+    let key = mix(w, classes[place]);
+    Facts {
+        size: size + facts[other],
+        cost: facts[row + COST] + facts[other + COST],
+        depth: larger(facts[row + DEPTH], facts[other + DEPTH]),
+        symbol: larger(facts[row + SYMBOL], facts[other + SYMBOL]),
+        key: mix(key, classes[second]),
+    }
+}
+
+// What the operands of a word have together.
+fn of_operands(facts: &[u64], classes: &[u64], w: u64, place: usize, count: usize) -> Facts
+    requires inside { Inside facts.now place count × Walk facts.now classes.now place count }
+    requires count_bound { (total (column facts.now 0 place count) < 2 ^ 64) × (total (column facts.now 1 place count) < 2 ^ 64) }
+    ensures { Together facts.now classes.now w place count result.size result.cost result.depth result.symbol result.key }
+{
+    if count == 2 {
+        return both(facts, classes, w, place);
+    }
+    walk(facts, classes, w, place, count)
+}
+
 // The greatest cost of the `count` trees from `place` on, 0 where there are none.
 fn greatest_cost(facts: &[u64], place: usize, count: usize) -> u64
     requires { Inside facts.now place count }
@@ -132,7 +164,7 @@ pub fn facts_at(tokens: &[u64], facts: &[u64], classes: &[u64], at: usize) -> Fa
 {
     let w = tokens[at];
     let count = (w / KINDS) as usize;
-    let all = walk(facts, classes, w, at + 1, count);
+    let all = of_operands(facts, classes, w, at + 1, count);
     let costs = operands_cost(facts, w % KINDS, at + 1, count, all.cost);
     Facts {
         size: 1 + all.size,

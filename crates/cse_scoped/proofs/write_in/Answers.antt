@@ -1,9 +1,9 @@
--- `cse_scoped::write_rows` meets its contract. Assumes nothing.
+-- `cse_scoped::write_in` meets its contract. Assumes nothing.
 use native.Mathlib.Omega.{arith}
 use Rattle.scope_laws.specs.measured.Roots.{roots_told}
 use Rattle.cse_scoped.proofs.Ends.{counts_rows, counts_none, keeps, leaves, twelve, writes_rows, writes_none}
 use borrow.Author.Rules.{rules}
-use Rattle.cse_scoped.proofs.write_rows.Goals as goal
+use Rattle.cse_scoped.proofs.write_in.Goals as goal
 
 pub returns-then-table-end : goal.returns-then-table-end
 returns-then-table-end c = let a = c.args in let o = roots_told a.rows.now a.roots.now in twelve a.rows.now a.roots.now a.table.now _ (counts_rows o c.scope_roots-told.result c.scope_roots-told.ensures.0 c.in-Told.end c.in-Told.steps c.in-Told.next c.in-Told.extracted c.in-Told.is) (omega (arith, c.if-table-end.true))
