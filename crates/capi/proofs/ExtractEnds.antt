@@ -3,8 +3,8 @@ use Prim.Native.Nat.{ℕ, ◌≤◌}
 use mathlib.Core.Path.{◌≡◌, refl, sym, subst}
 use mathlib.Core.List.{List}
 use lib.ListN.{length, set}
-use Rattle.cse_flat.specs.declared.Extraction.{Extraction}
-use Rattle.cse_flat.specs.declared.Extraction.TheVariants as extraction
+use Rattle.cse_flat.specs.Extraction.{Extraction}
+use Rattle.cse_flat.specs.Extraction as extraction
 use Rattle.capi.specs.Extracts.{extracted_number, extracted_answer}
 use Rattle.capi.proofs.Ends.{two_set}
 

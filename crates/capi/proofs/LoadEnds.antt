@@ -8,8 +8,8 @@ use borrow.Author.Tests.{le-leb, lt-leb}
 use lib.ListN.{length, set}
 use Rattle.spec_tree.specs.Outcome.{Outcome, ok, refused}
 use Rattle.spec_tree.specs.Rows.{Table}
-use Rattle.load.specs.declared.Loaded.{Loaded}
-use Rattle.load.specs.declared.Loaded.TheVariants as loaded
+use Rattle.load.specs.Loaded.{Loaded}
+use Rattle.load.specs.Loaded as loaded
 use Rattle.load.specs.Loads as load
 use Rattle.capi.specs.Loads.{loaded_number, loaded_answer, LoadsBy, Loads}
 use Rattle.capi.proofs.Ends.{one_set, two_set}

@@ -3,8 +3,8 @@ use Prim.Native.Nat.{ℕ, ◌≤◌}
 use mathlib.Core.Path.{◌≡◌, refl, sym, subst}
 use mathlib.Core.List.{List}
 use lib.ListN.{length, set}
-use Rattle.print.specs.declared.Printed.{Printed}
-use Rattle.print.specs.declared.Printed.TheVariants as printed
+use Rattle.print.specs.Printing.{Printed}
+use Rattle.print.specs.Printing as printed
 use Rattle.capi.specs.Prints.{printed_number, printed_answer}
 use Rattle.capi.proofs.Ends.{one_set}
 

@@ -1,7 +1,7 @@
 -- What extract that is called from another language returns and leaves in each slice that is lent (01, "Turned down": Extract). Assumes nothing.
 use Rattle.std.specs.Prelude.{ℕ, List, ◌∷◌, drop}
-use Rattle.cse_flat.specs.declared.Extraction.{Extraction}
-use Rattle.cse_flat.specs.declared.Extraction.TheVariants as extraction
+use Rattle.cse_flat.specs.Extraction.{Extraction}
+use Rattle.cse_flat.specs.Extraction as extraction
 use Rattle.capi.specs.Calls.{Calls}
 
 -- 0 for an answer, and 01's number for a list that is refused

@@ -1,7 +1,7 @@
 -- What print that is called from another language returns and leaves in each slice that is lent (01, "Turned down": Print). Assumes nothing.
 use Rattle.std.specs.Prelude.{ℕ, List, ◌∷◌, drop}
-use Rattle.print.specs.declared.Printed.{Printed}
-use Rattle.print.specs.declared.Printed.TheVariants as printed
+use Rattle.print.specs.Printing.{Printed}
+use Rattle.print.specs.Printing as printed
 use Rattle.capi.specs.Calls.{Calls}
 
 -- 0 for an answer's text, and 01's number for one that is refused

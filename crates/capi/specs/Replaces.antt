@@ -1,13 +1,13 @@
 -- What `replace` that is called from another language returns and leaves in each slice that is lent (01, "Rewriting"). Assumes nothing.
-use Rattle.std.specs.Prelude.{ℕ, ◌*◌, ◌/◌, ◌&&◌, List, ◌∷◌, length, drop}
+use Rattle.std.specs.Prelude.{ℕ, ◌*◌, ◌/◌, ◌&&◌, List, ◌∷◌, length, drop, Result, Ok, Err}
 use Rattle.spec_cse.specs.AnswerRows.{no_deeper}
 use Rattle.words.specs.words.Words.{tree_of, name_of}
 use Rattle.replace.specs.closed.Closed.{endless}
 use Rattle.replace.specs.replacing.Replacing.{replaced_words, replaceable}
 use Rattle.replace.specs.Answers.{Replacement, replacement, short_of_room}
 use Rattle.replace.specs.unchanged.Unchanged.{unchanged}
-use Rattle.replace.specs.declared.Replaced.{Replaced}
-use Rattle.replace.specs.declared.Replaced.TheVariants as replaced
+use Rattle.replace.specs.declared.ReplaceError.{ReplaceError}
+use Rattle.replace.specs.declared.ReplaceError.TheVariants as replace_error
 use Rattle.capi.specs.Calls.{Calls}
 
 -- Words and a target that stand deeper than an answer's are as words that aren't trees; and where a coefficient is refused nothing is written.
@@ -20,17 +20,17 @@ replace_call ws part name places old =
     unchanged (replacement sound short without_end (replaced_words (tree_of part) (name_of name) ws) ws old) old
 
 -- as for the other rewritings, and 10 for a rebuilt coefficient outside the constants
-unfoldable pub replaced_number : Replaced → ℕ
-replaced_number (replaced.Words n) = 0
-replaced_number replaced.Refused = 10
-replaced_number replaced.Broken = 253
-replaced_number replaced.NoRoom = 254
+unfoldable pub replaced_number : Result ℕ ReplaceError → ℕ
+replaced_number (Ok n) = 0
+replaced_number (Err replace_error.Refused) = 10
+replaced_number (Err replace_error.Broken) = 253
+replaced_number (Err replace_error.NoRoom) = 254
 
-unfoldable pub replaced_answer : Replaced → List ℕ → List ℕ
-replaced_answer (replaced.Words n) old = n ∷ drop 1 old
-replaced_answer replaced.Refused old = old
-replaced_answer replaced.Broken old = old
-replaced_answer replaced.NoRoom old = old
+unfoldable pub replaced_answer : Result ℕ ReplaceError → List ℕ → List ℕ
+replaced_answer (Ok n) old = n ∷ drop 1 old
+replaced_answer (Err replace_error.Refused) old = old
+replaced_answer (Err replace_error.Broken) old = old
+replaced_answer (Err replace_error.NoRoom) old = old
 
 abbrev pub Replaces : Replacement → List ℕ → List ℕ → ℕ → List ℕ → List ℕ → Type 0
 Replaces w old_out old_answer = Calls 1 (replaced_number w.answer) w.out (replaced_answer w.answer old_answer) old_out old_answer

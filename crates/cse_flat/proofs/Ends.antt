@@ -1,4 +1,5 @@
 -- What the flat form answers and leaves, by what unfolding, the rounds and the end answer (01, "Turned down": Extract). Assumes nothing.
+use Rattle.std.specs.Prelude.{Result, Ok, Err}
 use Prim.Native.Nat.{ℕ, ◌+◌, ◌≤◌}
 use mathlib.Core.Path.{◌≡◌, refl, sym, ◌∙◌, ap, subst}
 use mathlib.Core.Bool.{Bool, true, false, ◌||◌}
@@ -6,6 +7,8 @@ use mathlib.Core.List.{List}
 use lib.ListN.{length, take, drop}
 use lib.Seq.{length-take-le}
 use lib.Dec.{T, ltb}
+use Rattle.refusal.specs.declared.Refusal.{Refusal as RefusalName}
+use Rattle.refusal.specs.Numbers.{number_of}
 use Rattle.spec_tree.specs.Outcome.{Refusal, Outcome, ok, refused, by}
 use Rattle.spec_tree.specs.Layout.{table_of, laid_out}
 use Rattle.spec_tree.specs.Tokens.{read, numbered}
@@ -13,18 +16,16 @@ use Rattle.spec_cse.specs.Call.{Extracted, work_words, work_bytes, extract_call,
 use Rattle.fmt.specs.checked.Check.{rows_in}
 use Rattle.laws.proofs.positions.RowNames.{tree_words}
 use Rattle.reciprocals.specs.final.Final.{final_rows}
-use Rattle.cse_flat.specs.ending.Answers.{finish_outcome, trees_there, room_for, finishing}
-use Rattle.cse_flat.specs.declared.ending.Finished.{Finished}
-use Rattle.cse_flat.specs.declared.ending.Finished.TheVariants as finished
+use Rattle.cse_flat.specs.ending.Answers.{by_number, finish_outcome, trees_there, room_for}
 use Rattle.cse_flat.specs.refined.Parts.{extract_from}
 use Rattle.cse_flat.proofs.refined.Ending.{call_short, call_enough, from_nine, final_counts}
 use Rattle.cse_flat.proofs.refined.Flat.{flat_ten}
-use Rattle.cse_flat.proofs.refined.Finishing.{finishes, flat_trees_there, flat_room_for, flat_fits, flat_bindings, flat_outcome}
+use Rattle.cse_flat.proofs.refined.Finishing.{flat_trees_there, flat_room_for, flat_fits, flat_bindings, flat_outcome}
+use Rattle.cse_flat.specs.Extraction.{Extraction}
+use Rattle.cse_flat.specs.Extraction as extraction
 use Rattle.cse_flat.specs.Answers.{extraction_answer, Lists}
-use Rattle.cse_flat.specs.declared.Extraction.{Extraction}
-use Rattle.cse_flat.specs.declared.Extraction.TheVariants as extraction
 use Rattle.cse_flat.specs.declared.Listed.{Listed}
-use Rattle.cse_flat.specs.declared.Listed.TheVariants as listed
+use Rattle.replace.specs.declared.NotConstant.{NotConstant}
 
 -- what a function answers and leaves in the table, from what the definition gives
 abbrev pub AnswersBy : Outcome Extracted → List ℕ → Extraction → List ℕ → Type 0
@@ -34,19 +35,20 @@ pub refuses : (o : Outcome Extracted) (i : Refusal) → o ≡ refused i → (old
 unfolding extraction_answer table_after
 refuses o i e old = subst (λ (o : Outcome Extracted). AnswersBy o old (extraction.Refused i.number) old) (sym e) (refl, refl)
 
+-- by another name of the number
+pub refuses_so : (o : Outcome Extracted) (old : List ℕ) (p q : ℕ) → p ≡ q → AnswersBy o old (extraction.Refused p) old → AnswersBy o old (extraction.Refused q) old
+refuses_so o old p q e = subst (λ (n : ℕ). AnswersBy o old (extraction.Refused n) old) e
+
 -- ---- the end, by what it answers
 
 module _ (ws : List ℕ) (k : ℕ) (places table : List ℕ) (made : ℕ) where
   abbrev final : Outcome Extracted
   final = final_rows (length table) k places ws
 
-  module _ (there : T (trees_there ws k places) × T (room_for ws k places)) (count : made ≡ length (drop k (read numbered ws))) (f : Finished) (new : List ℕ)
-      (given : (f ≡ (finishing ws k places table).answer) × (new ≡ (finishing ws k places table).table)) where
-    abbrev By : Finished → Type 0
-    By (finished.Rows n) = AnswersBy final table (extraction.Rows n made) new
-    By (finished.Refused q) = AnswersBy final table (extraction.Refused q) new
-    By finished.Broken = ⊥
-    By finished.NoRoom = ⊥
+  module _ (count : made ≡ length (drop k (read numbered ws))) (f : Result ℕ RefusalName) (new : List ℕ) (given : (by_number f ≡ (finish_outcome final table).answer) × (new ≡ (finish_outcome final table).table)) where
+    abbrev By : Result ℕ ℕ → Type 0
+    By (Ok n) = AnswersBy final table (extraction.Rows n made) new
+    By (Err q) = AnswersBy final table (extraction.Refused q) new
 
     by_outcome : (o : Outcome Extracted) → final ≡ o → new ≡ (finish_outcome o table).table → By (finish_outcome o table).answer
     unfolding finish_outcome extraction_answer table_after
@@ -55,22 +57,14 @@ module _ (ws : List ℕ) (k : ℕ) (places table : List ℕ) (made : ℕ) where
         (ap (extraction.Rows (length x.words)) (count ∙ sym (final_counts (length table) k places ws x e)), t)
     by_outcome (refused i) e t = subst (λ (o : Outcome Extracted). AnswersBy o table (extraction.Refused i.number) new) (sym e) (refl, t)
 
-    ended : By f
-    ended =
-        let e = finishes ws k places table there.0 there.1 in
-        subst By (sym (given.0 ∙ ap (λ (z : _). z.answer) e)) (by_outcome final refl (given.1 ∙ ap (λ (z : _). z.table) e))
+    ended : By (by_number f)
+    ended = subst By (sym given.0) (by_outcome final refl given.1)
 
-    pub ends_in_rows : (n : ℕ) → f ≡ finished.Rows n → AnswersBy final table (extraction.Rows n made) new
-    ends_in_rows n e = subst By e ended
+    pub ends_in_rows : (n : ℕ) → f ≡ Ok n → AnswersBy final table (extraction.Rows n made) new
+    ends_in_rows n e = subst (λ (r : Result ℕ RefusalName). By (by_number r)) e ended
 
-    pub ends_refused : (q : ℕ) → f ≡ finished.Refused q → AnswersBy final table (extraction.Refused q) new
-    ends_refused q e = subst By e ended
-
-    pub never_broken : f ≡ finished.Broken → ⊥
-    never_broken e = subst By e ended
-
-    pub never_roomless : f ≡ finished.NoRoom → ⊥
-    never_roomless e = subst By e ended
+    pub ends_refused : (q : RefusalName) → f ≡ Err q → AnswersBy final table (extraction.Refused (number_of q)) new
+    ends_refused q e = subst (λ (r : Result ℕ RefusalName). By (by_number r)) e ended
 
 -- ---- the flat form
 
@@ -84,15 +78,24 @@ module _ (rows roots table : List ℕ) (h : T (laid_out rows roots)) (ws : List 
   abbrev outcome : Outcome Extracted
   outcome = extract_from false rows roots lent
 
-  module _ (r : Listed) (tokens places : List ℕ) (lists : Lists (rows_in rows) false 0 ws r tokens places) where
-    pub stops_at_10 : r ≡ listed.Refused → AnswersBy outcome table (extraction.Refused 10) table
-    stops_at_10 e =
-        let l = subst (λ (q : Listed). Lists (rows_in rows) false 0 ws q tokens places) e lists in
+  module _ (r : Result Listed NotConstant) (tokens places : List ℕ) (lists : Lists (rows_in rows) false 0 ws r tokens places) where
+    pub stops_at_10 : (e : NotConstant) → r ≡ Err e → AnswersBy outcome table (extraction.Refused 10) table
+    stops_at_10 n e =
+        let l = subst (λ (q : Result Listed NotConstant). Lists (rows_in rows) false 0 ws q tokens places) e lists in
         refuses outcome (by 10) (flat_ten rows roots lent h ws same l.0 l.1) table
 
-  module _ (r : Listed) (tokens places : List ℕ) (lists : Lists (rows_in rows) false 0 ws r tokens places) (n m d : ℕ) (is_listed : r ≡ listed.Words n m d) where
-    l : Lists (rows_in rows) false 0 ws (listed.Words n m d) tokens places
-    l = subst (λ (q : Listed). Lists (rows_in rows) false 0 ws q tokens places) is_listed lists
+  module _ (r : Result Listed NotConstant) (tokens places : List ℕ) (lists : Lists (rows_in rows) false 0 ws r tokens places) (all : Listed) (is_listed : r ≡ Ok all) where
+    abbrev n : ℕ
+    n = all.words
+
+    abbrev m : ℕ
+    m = all.made
+
+    abbrev d : ℕ
+    d = all.divisors
+
+    l : Lists (rows_in rows) false 0 ws (Ok all) tokens places
+    l = subst (λ (q : Result Listed NotConstant). Lists (rows_in rows) false 0 ws q tokens places) is_listed lists
 
     pub words_there : n ≤ length tokens
     words_there = l.3

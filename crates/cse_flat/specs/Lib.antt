@@ -1,3 +1,5 @@
 pub mod Answers
+pub mod Extraction
 pub mod ending
 pub mod refined
+pub mod trees

@@ -1,4 +1,5 @@
-// 8 (01, "Turned down": Extract): whether the work area lent is shorter than its fixed length, which is the same for both forms.
+// 8 (01, "Turned down": Extract): whether the work area lent is shorter than its fixed length, which is the same for
+// both forms.
 ghost use Rattle.std.specs.Prelude.{◌≡◌, ◌||◌, ltb};
 ghost use Rattle.spec_cse.specs.Call.{work_words, work_bytes};
 
@@ -11,8 +12,5 @@ const WORK_BYTES: usize = 131072;
 pub fn is_short(words: usize, bytes: usize) -> bool
     ensures { result ≡ (ltb words work_words || ltb bytes work_bytes) }
 {
-    if words < WORK_WORDS {
-        return true;
-    }
-    bytes < WORK_BYTES
+    words < WORK_WORDS || bytes < WORK_BYTES
 }

@@ -23,12 +23,12 @@ use Rattle.cse_scoped.proofs.one_scope.Laying.{laid_exact}
 use Rattle.cse_flat.specs.refined.Parts.{extract_from}
 use Rattle.cse_flat.proofs.refined.Ending.{call_short, call_enough}
 use Rattle.cse_flat.specs.Answers.{extraction_answer}
-use Rattle.cse_flat.specs.declared.Extraction.{Extraction}
-use Rattle.cse_flat.specs.declared.Extraction.TheVariants as extraction
+use Rattle.cse_flat.specs.Extraction.{Extraction}
+use Rattle.cse_flat.specs.Extraction as extraction
 use Rattle.cse_flat.proofs.Ends.{AnswersBy, refuses}
 use Rattle.cse_scoped.specs.one_scope.Answers.{scope_answer, ScopeLaid, told_rows}
-use Rattle.cse_scoped.specs.declared.one_scope.Scoped.{Scoped}
-use Rattle.cse_scoped.specs.declared.one_scope.Scoped.TheVariants as scoped
+use Rattle.cse_scoped.specs.one_scope.Scoped.{Scoped}
+use Rattle.cse_scoped.specs.one_scope.Scoped as scoped
 use Rattle.scope_laws.specs.measured.Roots.{scopes, roots_told, told_or_12, roots_rows}
 use Rattle.scope_laws.proofs.measured.Measuring.{too_few, enough, table_told}
 use Rattle.cse_scoped.specs.Kept.{Keeps}
@@ -36,6 +36,10 @@ use Rattle.cse_scoped.specs.Kept.{Keeps}
 -- what the scope of the roots answers and leaves in a table
 abbrev pub ScopesBy : Outcome Told → List ℕ → Scoped → List ℕ → Type 0
 ScopesBy o old r new = (r ≡ scope_answer o 0) × ScopeLaid o 0 old new
+
+-- by another name of the number
+pub stops_so : (o : Outcome Told) (old : List ℕ) (p q : ℕ) → p ≡ q → ScopesBy o old (scoped.Refused p) old → ScopesBy o old (scoped.Refused q) old
+stops_so o old p q e = subst (λ (n : ℕ). ScopesBy o old (scoped.Refused n) old) e
 
 -- the same table by another name
 pub laid_by : (o : Outcome Told) (old kept new : List ℕ) → new ≡ kept → ScopeLaid o 0 old kept → ScopeLaid o 0 old new

@@ -1,22 +1,25 @@
-// The public operation Extract in the scoped form, `cse_scoped` of the source (01, "Turned down": Extract): node rows and roots in, rows of the answer out. The
-// scope of the roots is done first over rows of this crate's own, which finds every refusal before anything is written; an answer that has more, and that the table has room for, is done once more.
+// The public operation Extract in the scoped form, `cse_scoped` of the source (01, "Turned down": Extract): node rows
+// and roots in, rows of the answer out. The scope of the roots is done first over rows of this crate's own, which finds
+// every refusal before anything is written; an answer that has more, and that the table has room for, is done once
+// more.
 #![tactic(auto)]
 
 mod one_scope;
 
 ghost use Rattle.std.specs.Prelude.{◌≡◌, true, ◌≤◌, length};
 ghost use Rattle.spec_cse.specs.Call.{extract_call, table_after};
-ghost use Rattle.cse_flat.specs.Answers.{extraction_answer};
-ghost use Rattle.cse_scoped.specs.one_scope.Answers.{scope_answer, ScopeLaid, told_rows};
+ghost use Rattle.cse_flat.specs.Answers.{extraction_answer, told};
+ghost use Rattle.cse_scoped.specs.one_scope.Answers.{scope_answer, scope_named, ScopeLaid, told_rows};
 ghost use Rattle.cse_scoped.specs.one_scope.Frame.{most_rows};
 ghost use Rattle.scope_laws.specs.measured.Roots.{roots_told, roots_rows};
 ghost use Rattle.cse_scoped.specs.Kept.{Keeps};
 
-use crate::one_scope::{Scoped, scope};
-use cse_flat::Extraction;
+use crate::one_scope::{ScopeRows, scope};
+use cse_flat::Extracted;
 use cse_flat::workarea::is_short;
 use fusion::tables::put;
-use node_rows::unfolded::{Unfolded, unfold};
+use node_rows::unfolded::unfold;
+use refusal::Refusal;
 use words::layout::RESULT;
 
 // The words of the work area, which the open scopes share.
@@ -33,30 +36,21 @@ const FEW_NODES: usize = 4480;
 
 const FEW_KEPT: usize = 512;
 
-const SHORT_WORK: u64 = 8;
-
-const BAD_ROWS: u64 = 9;
-
-const FEW_ROWS: u64 = 12;
-
-// The scope of the roots' trees, whose words are written into the work area anew, or 9. Its rows are laid over the front of the table; where
-// they have no room, what is left there is free.
+// The scope of the roots' trees, whose words are written into the work area anew, or 9. Its rows are laid over the
+// front of the table; where they have no room, what is left there is free.
 fn scope_roots(
     rows: &[u64],
     roots: &[u64],
     work: &mut [u64],
     text: &mut [u8],
     table: &mut [u64],
-) -> Scoped
+) -> Result<ScopeRows, Refusal>
     requires work_len { (length work.old ≡ 65536) × (131072 ≤ length text.old) }
     requires roots_bound { told_rows (roots_told rows.now roots.now) ≤ most_rows }
-    ensures { (result ≡ scope_answer (roots_told rows.now roots.now) 0)
+    ensures { (scope_named result ≡ scope_answer (roots_told rows.now roots.now) 0)
         × ScopeLaid (roots_told rows.now roots.now) 0 table.old table.new }
 {
-    let unfolded = unfold(rows, roots, work);
-    let Unfolded::Tokens(len) = unfolded else {
-        return Scoped::Refused(BAD_ROWS);
-    };
+    let len = unfold(rows, roots, work)?;
     scope(rows, work, len, SCOPES, RESULT, 0, text, 0, table)
 }
 
@@ -77,9 +71,9 @@ fn lay_rows(
 {
     if end <= kept.len() {
         put(&kept[..end], 0, table);
-        return;
+    } else {
+        let _ = scope_roots(rows, roots, work, text, table);
     }
-    scope_roots(rows, roots, work, text, table);
 }
 
 // The scoped form after 8, with an array for rows to keep: 12 where the table has too few rows, before any is written.
@@ -90,23 +84,21 @@ fn write_in(
     text: &mut [u8],
     table: &mut [u64],
     kept: &mut [u64],
-) -> Extraction
+) -> Result<Extracted, Refusal>
     requires work_len { (length work.old ≡ 65536) × (131072 ≤ length text.old) }
     requires roots_bound { told_rows (roots_told rows.now roots.now) ≤ most_rows }
-    ensures { (result ≡ extraction_answer (roots_rows rows.now roots.now (length table.old)))
+    ensures { (told result ≡ extraction_answer (roots_rows rows.now roots.now (length table.old)))
         × (table.new ≡ table_after (roots_rows rows.now roots.now (length table.old)) table.old) }
 {
-    let told = scope_roots(rows, roots, work, text, kept);
-    match told {
-        Scoped::Told(end, steps, next, extracted) => {
-            if table.len() < end {
-                return Extraction::Refused(FEW_ROWS);
-            }
-            lay_rows(rows, roots, work, text, kept, end, table);
-            Extraction::Rows(end, extracted)
-        }
-        Scoped::Refused(number) => Extraction::Refused(number),
+    let scope = scope_roots(rows, roots, work, text, kept)?;
+    if table.len() < scope.end {
+        return Err(Refusal::TooManyRows);
     }
+    lay_rows(rows, roots, work, text, kept, scope.end, table);
+    Ok(Extracted {
+        rows: scope.end,
+        count: scope.extracted,
+    })
 }
 
 // The same with an array of its own: a short one where there are few node rows.
@@ -116,34 +108,33 @@ fn write_rows(
     work: &mut [u64],
     text: &mut [u8],
     table: &mut [u64],
-) -> Extraction
+) -> Result<Extracted, Refusal>
     requires work_len { (length work.old ≡ 65536) × (131072 ≤ length text.old) }
     requires roots_bound { told_rows (roots_told rows.now roots.now) ≤ most_rows }
-    ensures { (result ≡ extraction_answer (roots_rows rows.now roots.now (length table.old)))
+    ensures { (told result ≡ extraction_answer (roots_rows rows.now roots.now (length table.old)))
         × (table.new ≡ table_after (roots_rows rows.now roots.now (length table.old)) table.old) }
 {
     if rows.len() <= FEW_NODES {
-        let mut kept = [0u64; FEW_KEPT];
-        return write_in(rows, roots, work, text, table, &mut kept);
+        write_in(rows, roots, work, text, table, &mut [0; FEW_KEPT])
+    } else {
+        write_in(rows, roots, work, text, table, &mut [0; KEPT])
     }
-    let mut kept = [0u64; KEPT];
-    write_in(rows, roots, work, text, table, &mut kept)
 }
 
-// The scoped answer's rows in front of what stands in the table, and the extraction count; or 8, 9, 10, 11, 23 or 12, with nothing written to the table. What is
-// left in the work area is free.
+// The scoped answer's rows in front of what stands in the table, and the extraction count; or 8, 9, 10, 11, 23 or 12,
+// with nothing written to the table. What is left in the work area is free.
 pub fn cse_scoped(
     rows: &[u64],
     roots: &[u64],
     work: &mut [u64],
     text: &mut [u8],
     table: &mut [u64],
-) -> Extraction
-    ensures { (result ≡ extraction_answer (extract_call true (length work.old) (length text.old) rows.now roots.now (length table.old)))
+) -> Result<Extracted, Refusal>
+    ensures { (told result ≡ extraction_answer (extract_call true (length work.old) (length text.old) rows.now roots.now (length table.old)))
         × (table.new ≡ table_after (extract_call true (length work.old) (length text.old) rows.now roots.now (length table.old)) table.old) }
 {
     if is_short(work.len(), text.len()) {
-        return Extraction::Refused(SHORT_WORK);
+        return Err(Refusal::ShortWork);
     }
     write_rows(rows, roots, &mut work[..AREA], text, table)
 }

@@ -8,14 +8,15 @@ ghost use Rattle.std.specs.Prelude.{◌≡◌, length};
 
 mod sheet;
 
-use crate::sheet::{Said, scoped_sheet};
+use crate::sheet::scoped_sheet;
+use load::Refused;
 use print::lines::refusal_line;
 use std::io::{Stderr, Stdout};
-use stdio::{Moved, read_sheet, say};
+use stdio::{read_sheet, say};
 
-fn say_refused(to: Stdout, errors: Stderr, number: u64, record: u64) {
+fn say_refused(to: Stdout, errors: Stderr, refused: Refused) {
     let mut out = [0u8; 128];
-    let n = refusal_line(number, record, &mut out);
+    let n = refusal_line(u64::from(refused.refusal), refused.record, &mut out);
     say(to, errors, b"csescoped", &out, n);
 }
 
@@ -39,16 +40,16 @@ fn say_sheet(to: Stdout, errors: Stderr, sheet: &[u8]) {
         sheet, &mut rows, &mut roots, &mut work, &mut text, &mut table, &mut out,
     );
     match said {
-        Said::Refused(number, record) => say_refused(to, errors, number, record),
-        Said::Bytes(n) => {
+        Ok(n) => {
             say(to, errors, b"csescoped", &out, n);
         }
+        Err(refused) => say_refused(to, errors, refused),
     }
 }
 
 fn main(rt: HostRuntime) {
     let mut sheet = [0u8; 65536];
-    if let Moved::Bytes(n) = read_sheet(rt.stdin(), rt.stderr(), b"csescoped", &mut sheet) {
+    if let Ok(n) = read_sheet(rt.stdin(), rt.stderr(), b"csescoped", &mut sheet) {
         say_sheet(rt.stdout(), rt.stderr(), &sheet[..n]);
     }
 }

@@ -1,15 +1,14 @@
 // The program `csesheet` (01, "Sheet and printing"): a sheet on standard input, its flat answer on standard output, or
-// one line for a refusal. A sheet that could not be read to its end has no answer. What is lent is long enough for every
-// sheet, where need be after a try with less: the table for the rows of any flat answer, `out` for any line.
+// one line for a refusal. A sheet that could not be read to its end has no answer. What is lent is long enough for
+// every sheet, where need be after a try with less: the table for the rows of any flat answer, `out` for any line.
 #![tactic(auto)]
 
-ghost use Rattle.std.specs.Prelude.{◌≤◌, length};
-
-use flat_sheet::{Flat, flat_sheet};
-use print::lines::{Line, line_at, refusal_line};
-use print::{Printed, print};
+use flat_sheet::flat_sheet;
+use print::lines::{line_at, refusal_line};
+use print::print;
+use refusal::Refusal;
 use std::io::{Stderr, Stdout};
-use stdio::{Moved, read_sheet, say};
+use stdio::{read_sheet, say};
 
 fn say_refused(to: Stdout, errors: Stderr, number: u64, record: u64) {
     let mut out = [0u8; 128];
@@ -21,22 +20,16 @@ fn say_refused(to: Stdout, errors: Stderr, number: u64, record: u64) {
 fn say_lines(to: Stdout, errors: Stderr, rows: &[u64], answer: &[u64]) {
     let mut out = [0u8; 65536];
     let mut at = 0;
+    // No `for`: a line has as many rows as its tree has nodes, and tells where the next begins.
     while at < answer.len() {
-        let Line::Text(n, next) = line_at(rows, answer, at, &mut out) else {
+        let Ok(line) = line_at(rows, answer, at, &mut out) else {
             return;
         };
-        if !say(to, errors, b"csesheet", &out, n) {
+        if !say(to, errors, b"csesheet", &out, line.bytes) {
             return;
         }
-        at = next;
+        at = line.next;
     }
-}
-
-// The lines of the answer in the first words of the table.
-fn say_answer(to: Stdout, errors: Stderr, rows: &[u64], end: usize, table: &[u64], count: usize)
-    requires { (end ≤ length rows.now) × (count ≤ length table.now) }
-{
-    say_lines(to, errors, &rows[..end], &table[..count]);
 }
 
 // All that is printed for a sheet, with room for the rows of any answer, line by line.
@@ -50,33 +43,24 @@ fn say_any(to: Stdout, errors: Stderr, sheet: &[u8]) {
         sheet, &mut rows, &mut roots, &mut work, &mut text, &mut table,
     );
     match answer {
-        Flat::Refused(number, record) => say_refused(to, errors, number, record),
-        Flat::Rows(end, count) => say_answer(to, errors, &rows, end, &table, count),
+        Ok(flat) => say_lines(to, errors, &rows[..flat.rows], &table[..flat.answer]),
+        Err(refused) => say_refused(to, errors, u64::from(refused.refusal), refused.record),
     }
 }
 
-// The text of the answer in the first words of the table, at once where it is short; otherwise all anew.
-fn say_text(
-    to: Stdout,
-    errors: Stderr,
-    sheet: &[u8],
-    rows: &[u64],
-    end: usize,
-    table: &[u64],
-    count: usize,
-)
-    requires { (end ≤ length rows.now) × (count ≤ length table.now) }
-{
+// The text of the answer, at once where it is short; otherwise all anew.
+fn say_text(to: Stdout, errors: Stderr, sheet: &[u8], rows: &[u64], answer: &[u64]) {
     let mut out = [0u8; 16384];
-    match print(&rows[..end], &table[..count], &mut out) {
-        Printed::Bytes(n) => {
-            say(to, errors, b"csesheet", &out, n);
-        }
-        Printed::Refused(_) => say_any(to, errors, sheet),
+    if let Ok(n) = print(rows, answer, &mut out) {
+        say(to, errors, b"csesheet", &out, n);
+    } else {
+        say_any(to, errors, sheet);
     }
 }
 
-// All that is printed for a sheet, tried with room for few rows first, which are enough for nearly every answer.
+// All that is printed for a sheet, tried with room for few rows first, which are enough for nearly every answer. It
+// stays apart from `say_any`: it lends less, and what each does with its answer differs, so one function of both by the
+// length would choose again what to do.
 fn say_few(to: Stdout, errors: Stderr, sheet: &[u8]) {
     let mut rows = [0u64; 35840];
     let mut roots = [0u64; 64];
@@ -87,14 +71,9 @@ fn say_few(to: Stdout, errors: Stderr, sheet: &[u8]) {
         sheet, &mut rows, &mut roots, &mut work, &mut text, &mut table,
     );
     match answer {
-        Flat::Refused(number, record) => {
-            if number == 12 {
-                say_any(to, errors, sheet);
-            } else {
-                say_refused(to, errors, number, record);
-            }
-        }
-        Flat::Rows(end, count) => say_text(to, errors, sheet, &rows, end, &table, count),
+        Ok(flat) => say_text(to, errors, sheet, &rows[..flat.rows], &table[..flat.answer]),
+        Err(refused) if refused.refusal == Refusal::TooManyRows => say_any(to, errors, sheet),
+        Err(refused) => say_refused(to, errors, u64::from(refused.refusal), refused.record),
     }
 }
 
@@ -110,7 +89,7 @@ fn say_sheet(to: Stdout, errors: Stderr, sheet: &[u8]) {
 
 fn main(rt: HostRuntime) {
     let mut sheet = [0u8; 65536];
-    if let Moved::Bytes(n) = read_sheet(rt.stdin(), rt.stderr(), b"csesheet", &mut sheet) {
+    if let Ok(n) = read_sheet(rt.stdin(), rt.stderr(), b"csesheet", &mut sheet) {
         say_sheet(rt.stdout(), rt.stderr(), &sheet[..n]);
     }
 }

@@ -12,13 +12,13 @@ use Rattle.spec_tree.proofs.LayoutLaws.{table_long}
 use Rattle.spec_sheet.specs.Call.{load_call, rows_after, roots_after}
 use Rattle.spec_cse.specs.Call.{Extracted, extract_call, table_after}
 use Rattle.cse_flat.specs.Answers.{extraction_answer}
-use Rattle.cse_flat.specs.declared.Extraction.TheVariants as extraction
-use Rattle.load.specs.declared.Loaded.{Loaded}
-use Rattle.load.specs.declared.Loaded.TheVariants as loaded
+use Rattle.cse_flat.specs.Extraction as extraction
+use Rattle.load.specs.Loaded.{Loaded}
+use Rattle.load.specs.Loaded as loaded
 use Rattle.load.specs.Loads.{answered, Loads}
 use Rattle.flat_sheet.specs.FlatSheet.{extracted_from, from_extract, flat_answer, flat_table, Flattened}
-use Rattle.flat_sheet.specs.declared.Flat.{Flat}
-use Rattle.flat_sheet.specs.declared.Flat.TheVariants as flat
+use Rattle.flat_sheet.specs.Flat.{Flat}
+use Rattle.flat_sheet.specs.Flat as flat
 use Rattle.spec_tree.proofs.Lists.{front}
 use Rattle.spec_sheet.proofs.Loadable.{loaded_domain}
 
@@ -46,7 +46,6 @@ module _ (words places : ℕ) (sheet old_rows old_roots new_rows new_roots : Lis
     loads : load_call words places sheet ≡ ok table
     words_are : take (35 * n) new_rows ≡ table_words table.rows
     roots_are : take m new_roots ≡ table.roots
-    long : 35 * n ≡ length (table_words table.rows)
     few : n ≤ 1024
     rows_fit : 35 * n ≤ length new_rows
     roots_fit : m ≤ length new_roots
@@ -66,7 +65,6 @@ module _ (words places : ℕ) (sheet old_rows old_roots new_rows new_roots : Lis
             loads = f;
             words_are = ap₂ take c h ∙ front (table_words t.rows) old_rows;
             roots_are = ap₂ take b k ∙ front t.roots old_roots;
-            long = c;
             few = omega (arith, a, (loaded_domain words places sheet t f).few_rows);
             rows_fit = omega (arith, c, ap length h, length-append (table_words t.rows) (drop (length (table_words t.rows)) old_rows));
             roots_fit = omega (arith, b, ap length k, length-append t.roots (drop (length t.roots) old_roots));
@@ -92,7 +90,7 @@ module _ (words places : ℕ) (sheet old_rows old_roots new_rows new_roots : Lis
 
   pub flattened :
       (n m work text : ℕ) (old new : List ℕ) (r : Flat) → got ≡ loaded.Table n m
-      → (r ≡ from_extract (35 * n) (extract_call false work text (take (35 * n) new_rows) (take m new_roots) (length old)))
+      → (r ≡ from_extract (length (take (35 * n) new_rows)) (extract_call false work text (take (35 * n) new_rows) (take m new_roots) (length old)))
       × (new ≡ table_after (extract_call false work text (take (35 * n) new_rows) (take m new_roots) (length old)) old)
       → Flattened (load_call words places sheet) (extracted_from work text (length old)) old_rows old_roots old r new_rows new_roots new
   unfolding extracted_from
@@ -102,7 +100,7 @@ module _ (words places : ℕ) (sheet old_rows old_roots new_rows new_roots : Lis
       let x = extract_call false work text in
       let same : x (take (35 * n) new_rows) (take m new_roots) (length old) ≡ x (table_words t.rows) t.roots (length old) =
       ap₂ (λ (ws ns : List ℕ). x ws ns (length old)) R.words_are R.roots_are in
-      let a : r ≡ flat_answer (ok t) (extracted_from work text (length old)) = p.0 ∙ ap₂ from_extract R.long same in
+      let a : r ≡ flat_answer (ok t) (extracted_from work text (length old)) = p.0 ∙ ap₂ from_extract (ap length R.words_are) same in
       let b : new ≡ flat_table (ok t) (extracted_from work text (length old)) old = p.1 ∙ ap (λ (o : Outcome Extracted). table_after o old) same in
       record {
         answer_is = subst (λ (o : Outcome Table). r ≡ flat_answer o (extracted_from work text (length old))) (sym R.loads) a;

@@ -5,8 +5,8 @@ use Rattle.spec_tree.specs.Rows.{Table}
 use Rattle.spec_tree.specs.Layout.{table_words}
 use Rattle.spec_sheet.specs.Call.{rows_after, roots_after}
 use Rattle.spec_cse.specs.Call.{Extracted, extract_call, table_after}
-use Rattle.flat_sheet.specs.declared.Flat.{Flat}
-use Rattle.flat_sheet.specs.declared.Flat.TheVariants as flat
+use Rattle.flat_sheet.specs.Flat.{Flat}
+use Rattle.flat_sheet.specs.Flat as flat
 
 -- extract on a table's rows, by the lengths of the work area and how many answer rows are lent
 unfoldable pub extracted_from : ℕ → ℕ → ℕ → Table → Outcome Extracted

@@ -1,5 +1,6 @@
 // Writers of bytes that never fail. Each takes the slice, the place to write at, and `dry`: where that is true nothing is written and only the place moves on, so
-// that a text can be measured before it is written. A place past the end stays one after it.
+// that a text can be measured before it is written. A place past the end stays one after it. The three stay parameters, and are no struct with methods: the C
+// interface lends them so (`cse_text`), and each call hands on the place that the one before it answers, which a method would hide.
 ghost use Rattle.std.specs.Prelude.{◌≡◌, ◌∷◌, [], ◌+◌, min, length};
 ghost use Rattle.spec_tree.specs.Bytes.{decimal, integer};
 ghost use Rattle.spec_tree.specs.Tokens.{constant_at};
@@ -9,7 +10,7 @@ ghost use Rattle.fmt.specs.emit.Writing.{Writes};
 pub fn place(out: &[u8], to: usize) -> usize
     ensures { result ≡ min to (length out.now + 1) }
 {
-    if to > out.len() { out.len() + 1 } else { to }
+    to.min(out.len() + 1)
 }
 
 // One byte.
@@ -19,10 +20,9 @@ pub fn put(out: &mut [u8], dry: bool, to: usize, b: u8) -> usize
     if to >= out.len() {
         return out.len() + 1;
     }
-    if dry {
-        return to + 1;
+    if !dry {
+        out[to] = b;
     }
-    out[to] = b;
     to + 1
 }
 
@@ -31,10 +31,8 @@ pub fn put_bytes(out: &mut [u8], dry: bool, to: usize, s: &[u8]) -> usize
     ensures { Writes dry out.old to s.now out.new result }
 {
     let mut at = place(out, to);
-    let mut i = 0;
-    while i < s.len() {
-        at = put(out, dry, at, s[i]);
-        i += 1;
+    for b in s {
+        at = put(out, dry, at, *b);
     }
     at
 }
@@ -44,10 +42,10 @@ pub fn put_decimal(out: &mut [u8], dry: bool, to: usize, n: u64) -> usize
     ensures { Writes dry out.old to (decimal n) out.new result }
 {
     if n < 10 {
-        return put(out, dry, to, 48 + n as u8);
+        return put(out, dry, to, b'0' + n as u8);
     }
     let at = put_decimal(out, dry, to, n / 10);
-    put(out, dry, at, 48 + (n % 10) as u8)
+    put(out, dry, at, b'0' + (n % 10) as u8)
 }
 
 // A constant by its code; the codes 0, 1, 2, 3 are those of 0, -1, 1, -2.

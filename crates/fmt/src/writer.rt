@@ -7,7 +7,10 @@ ghost use Rattle.fmt.specs.shapes.Places.{tree_here, Stands, Passes};
 ghost use Rattle.fmt.specs.shapes.Operands.{opening, sign, between, closing, left_test, right_test, brackets};
 ghost use Rattle.fmt.specs.writer.Answers.{write_answer};
 
-use crate::checked::Checked;
+use crate::checked::tree_ok;
+use crate::emit::{place, put, put_bytes, put_integer};
+use crate::kindnames::put_kind_name;
+use crate::symbols::put_name;
 use words::layout::{ADD, CONST, DIV, KINDS, MUL, NEG, POW, SUB, SYM};
 
 // The precedences of the source: sums, products, Neg, Pow, and everything else.
@@ -21,143 +24,116 @@ const POWERS: u64 = 4;
 
 const ATOMS: u64 = 10;
 
-#[derive(Drop)]
-pub enum Text {
-    // The place after the tree's words, and the place after its text.
-    Ends(usize, usize),
-    Broken,
-}
-
 // The place after the words that were read, and the place after the text that was written.
-#[derive(Drop)]
+#[derive(Clone, Copy, Debug, PartialEq, Eq)]
 pub struct Pos {
     pub next: usize,
     pub to: usize,
 }
 
+#[tactic(auto, unfolding(spec_tree::specs::text::Text::precedence))]
 fn precedence(kind: u64) -> u64
     ensures { result ≡ precedence kind }
 {
-    if kind < NEG {
-        return ATOMS;
+    match kind {
+        NEG => MINUS,
+        ADD | SUB => SUMS,
+        MUL | DIV => PRODUCTS,
+        POW => POWERS,
+        _ => ATOMS,
     }
-    if kind == NEG {
-        return MINUS;
-    }
-    if kind <= SUB {
-        return SUMS;
-    }
-    if kind <= DIV {
-        return PRODUCTS;
-    }
-    if kind == POW { POWERS } else { ATOMS }
 }
 
 // Whether a first operand stands in brackets, by its parent's kind and its own precedence.
+#[tactic(auto, unfolding(crate::specs::shapes::Operands::left_test))]
 fn left_in_brackets(parent: u64, p: u64) -> bool
     ensures { result ≡ left_test parent p }
 {
-    if parent == NEG {
-        if p == SUMS {
-            return true;
-        }
-        return p == MINUS;
+    match parent {
+        NEG => p == SUMS || p == MINUS,
+        SYM..=SUB => p < SUMS,
+        MUL | DIV => p < PRODUCTS,
+        POW => p <= POWERS,
+        _ => false,
     }
-    if parent <= SUB {
-        return p < SUMS;
-    }
-    if parent <= DIV {
-        return p < PRODUCTS;
-    }
-    if parent == POW {
-        return p <= POWERS;
-    }
-    false
 }
 
 // Whether any other operand does. On the right of - and / an operand of the same precedence does too.
+#[tactic(auto, unfolding(crate::specs::shapes::Operands::right_test))]
 fn right_in_brackets(parent: u64, p: u64) -> bool
     ensures { result ≡ right_test parent p }
 {
-    if parent == ADD {
-        return p < SUMS;
+    match parent {
+        ADD => p < SUMS,
+        SUB => p <= SUMS,
+        MUL => p < PRODUCTS,
+        DIV => p <= PRODUCTS,
+        POW => p < ATOMS,
+        _ => false,
     }
-    if parent == SUB {
-        return p <= SUMS;
-    }
-    if parent == MUL {
-        return p < PRODUCTS;
-    }
-    if parent == DIV {
-        return p <= PRODUCTS;
-    }
-    if parent == POW {
-        return p < ATOMS;
-    }
-    false
 }
 
+#[tactic(auto, unfolding(crate::specs::shapes::Operands::brackets))]
 fn in_brackets(parent: u64, index: u64, p: u64) -> bool
     ensures { result ≡ brackets parent index p }
 {
     if index == 0 {
-        return left_in_brackets(parent, p);
+        left_in_brackets(parent, p)
+    } else {
+        right_in_brackets(parent, p)
     }
-    right_in_brackets(parent, p)
 }
 
 // What stands before the operands.
+#[tactic(auto, using(crate::proofs::emit::WriteLaws::writes_none), unfolding(crate::specs::shapes::Operands::opening))]
 fn put_opening(out: &mut [u8], dry: bool, to: usize, kind: u64) -> usize
     ensures { Writes dry out.old to (opening kind) out.new result }
 {
-    if kind == NEG {
-        return crate::emit::put(out, dry, to, b'-');
+    match kind {
+        NEG => put(out, dry, to, b'-'),
+        SYM..=POW => place(out, to),
+        _ => put_kind_name(out, dry, to, kind),
     }
-    if kind <= POW {
-        return crate::emit::place(out, to);
-    }
-    crate::kindnames::put_kind_name(out, dry, to, kind)
 }
 
 // An operator's sign, as far as Div.
+#[tactic(auto, unfolding(crate::specs::shapes::Operands::sign))]
 fn sign(kind: u64) -> u8
     ensures { result ≡ sign kind }
 {
-    if kind == ADD {
-        return b'+';
+    match kind {
+        ADD => b'+',
+        SUB => b'-',
+        MUL => b'*',
+        _ => b'/',
     }
-    if kind == SUB {
-        return b'-';
-    }
-    if kind == MUL { b'*' } else { b'/' }
 }
 
 // What stands before operand `index`: nothing before the first.
+#[tactic(auto, using(crate::proofs::emit::WriteLaws::writes_none), unfolding(crate::specs::shapes::Operands::between, crate::specs::shapes::Operands::separator))]
 fn put_between(out: &mut [u8], dry: bool, to: usize, kind: u64, index: u64) -> usize
     ensures { Writes dry out.old to (between kind index) out.new result }
 {
     if index == 0 {
-        return crate::emit::place(out, to);
+        return place(out, to);
     }
-    if kind <= DIV {
-        let mut infix = *b"   ";
-        infix[1] = sign(kind);
-        return crate::emit::put_bytes(out, dry, to, &infix);
+    match kind {
+        SYM..=DIV => put_bytes(out, dry, to, &[b' ', sign(kind), b' ']),
+        POW => put(out, dry, to, b'^'),
+        _ => put_bytes(out, dry, to, b", "),
     }
-    if kind == POW {
-        return crate::emit::put(out, dry, to, b'^');
-    }
-    crate::emit::put_bytes(out, dry, to, b", ")
 }
 
 // What stands after them.
+#[tactic(auto, using(crate::proofs::emit::WriteLaws::writes_none), unfolding(crate::specs::shapes::Operands::closing))]
 fn put_closing(out: &mut [u8], dry: bool, to: usize, kind: u64) -> usize
     ensures { Writes dry out.old to (closing kind) out.new result }
 {
     if kind <= POW {
-        return crate::emit::place(out, to);
+        place(out, to)
+    } else {
+        put(out, dry, to, b')')
     }
-    crate::emit::put(out, dry, to, b')')
 }
 
 // The expression writer.
@@ -179,21 +155,19 @@ pub fn expression(
     let below = w / KINDS;
     let mut next = at + 1;
     if kind == SYM {
-        let e = crate::symbols::put_name(rows, out, dry, to, below);
+        let e = put_name(rows, out, dry, to, below);
         return Pos { next, to: e };
     }
     if kind == CONST {
-        let e = crate::emit::put_integer(out, dry, to, below);
+        let e = put_integer(out, dry, to, below);
         return Pos { next, to: e };
     }
     let mut end = put_opening(out, dry, to, kind);
-    let mut i: u64 = 0;
-    while i < below {
+    for i in 0..below {
         let start = put_between(out, dry, end, kind, i);
         let p = child(rows, tokens, next, out, dry, start, kind, i);
         next = p.next;
         end = p.to;
-        i += 1;
     }
     let e = put_closing(out, dry, end, kind);
     Pos { next, to: e }
@@ -219,9 +193,9 @@ fn child(
     let w = tokens[at];
     let p = precedence(w % KINDS);
     if in_brackets(parent, index, p) {
-        let open = crate::emit::put(out, dry, to, b'(');
+        let open = put(out, dry, to, b'(');
         let inner = expression(rows, tokens, at, out, dry, open);
-        let e = crate::emit::put(out, dry, inner.to, b')');
+        let e = put(out, dry, inner.to, b')');
         return Pos {
             next: inner.next,
             to: e,
@@ -230,7 +204,7 @@ fn child(
     expression(rows, tokens, at, out, dry, to)
 }
 
-// The text of the tree at `at`, written from `to` on; Broken, and nothing written, where its words aren't all there or it isn't a tree of an answer. The node
+// The text of the tree at `at`, written from `to` on; None, and nothing written, where its words aren't all there or it isn't a tree of an answer. The node
 // rows have the names of the list's symbols. Where `dry` nothing is written and the places are the same.
 pub fn write_tree(
     rows: &[u64],
@@ -239,13 +213,10 @@ pub fn write_tree(
     out: &mut [u8],
     dry: bool,
     to: usize,
-) -> Text
+) -> Option<Pos>
     ensures { (result ≡ (write_answer rows.now tokens.now at dry out.old to).answer)
         × (out.new ≡ (write_answer rows.now tokens.now at dry out.old to).bytes) }
 {
-    let Checked::Ends(_) = crate::checked::tree_ok(rows, tokens, at) else {
-        return Text::Broken;
-    };
-    let p = expression(rows, tokens, at, out, dry, to);
-    Text::Ends(p.next, p.to)
+    tree_ok(rows, tokens, at)?;
+    Some(expression(rows, tokens, at, out, dry, to))
 }

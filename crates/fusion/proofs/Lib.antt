@@ -4,6 +4,7 @@ pub mod Whole
 pub mod Places
 pub mod Sizes
 pub mod Switchless
+pub mod Tests
 pub mod Outer
 pub mod Held
 pub mod Sorting

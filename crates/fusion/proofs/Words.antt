@@ -8,10 +8,10 @@ use lib.ListN.{length, get_or, drop}
 use lib.Seq.{drop-cons}
 use lib.Dec.{T}
 use Rattle.spec_tree.specs.Tree.{Name, mname, Tree, Sym}
-use Rattle.spec_tree.specs.Tokens.{all_tokens, read, numbered, run_at, trees_in, kind_of, below_of, name_by}
+use Rattle.spec_tree.specs.Tokens.{all_tokens, read, numbered, run_at, trees_in, below_of, name_by}
 use Rattle.spec_tree.proofs.TokenCode.{unnumbered, writes_back}
 use Rattle.spec_rewrite.specs.Rewrite.{replace_outside_arms}
-use Rattle.words.specs.words.Words.{number, rewritten_words, tree_of, name_of}
+use Rattle.words.specs.words.Words.{rewritten_words, tree_of, name_of}
 use Rattle.words.proofs.words.Chains.{readable, name_readable, rewritten_trees, rewritten_complete, rewritten_twice}
 use Rattle.words.proofs.words.Rewriting.{rewritten_short}
 use Rattle.replace.proofs.outside.Chaining.{outside_readable}
@@ -32,9 +32,6 @@ use Rattle.reciprocals.proofs.reciprocal.Reading.{settle_readable}
 -- the word of a symbol of a match
 abbrev pub m_word : ℕ → ℕ
 m_word n = 128 + 192 * n
-
-pub m_word_symbol : (n : ℕ) → kind_of (m_word n) ≡ 0
-m_word_symbol n = omega arith
 
 pub m_word_name : (n : ℕ) → name_of (m_word n) ≡ mname n
 unfolding name_of name_by

@@ -25,29 +25,15 @@ pub fn put(words: &[u64], at: usize, table: &mut [u64])
     if at > table.len() {
         return;
     }
-    let room = table.len() - at;
-    let mut i = 0;
-    while i < words.len() {
-        if i >= room {
-            return;
-        }
-        table[at + i] = words[i];
-        i += 1;
-    }
+    let n = words.len().min(table.len() - at);
+    table[at..at + n].copy_from_slice(&words[..n]);
 }
 
 // Whether each number has a row.
-fn fit(numbers: &[u64]) -> bool
+pub(crate) fn fit(numbers: &[u64]) -> bool
     ensures { result ≡ names_fit numbers.now }
 {
-    let mut i = 0;
-    while i < numbers.len() {
-        if numbers[i] > NUMBERS {
-            return false;
-        }
-        i += 1;
-    }
-    true
+    numbers.iter().all(|n| *n <= NUMBERS)
 }
 
 // Writes the rows of names of these numbers from a place on.
@@ -58,14 +44,9 @@ fn write_names(numbers: &[u64], at: usize, table: &mut [u64])
     if at > table.len() {
         return;
     }
-    let room = table.len() - at;
-    let mut i = 0;
-    while i < numbers.len() {
-        if i >= room {
-            return;
-        }
+    let n = numbers.len().min(table.len() - at);
+    for i in 0..n {
         table[at + i] = MATCH_NAME_ROW + NEXT_NAME * numbers[i];
-        i += 1;
     }
 }
 
@@ -74,10 +55,9 @@ pub fn put_names(numbers: &[u64], at: usize, table: &mut [u64]) -> bool
     ensures { (result ≡ names_fit numbers.now)
         × (table.new ≡ names_put (names_fit numbers.now) numbers.now at table.old) }
 {
-    if fit(numbers) {
+    let fits = fit(numbers);
+    if fits {
         write_names(numbers, at, table);
-        true
-    } else {
-        false
     }
+    fits
 }

@@ -28,8 +28,8 @@ use Rattle.guarantee.proofs.passing.Printed.{answer_read_back}
 use Rattle.guarantee.proofs.Operation.{Called, call_is, AnswersFor, answered_call, flat_refused_by_8_9_10_or_12, scoped_refused_by_8_9_10_11_12_or_23, scoped_refused_by_8_9_10_11_or_12}
 use Rattle.guarantee.proofs.Operation as operation
 use Rattle.cse_flat.specs.Answers.{extraction_answer}
-use Rattle.cse_flat.specs.declared.Extraction.{Extraction}
-use Rattle.cse_flat.specs.declared.Extraction.TheVariants as extraction
+use Rattle.cse_flat.specs.Extraction.{Extraction}
+use Rattle.cse_flat.specs.Extraction as extraction
 use borrow.Author.Tests.{le-ltb}
 
 -- ---- an outcome from what is handed back

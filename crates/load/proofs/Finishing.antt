@@ -1,5 +1,6 @@
 -- The ends of `finish` and of `load`. Assumes nothing.
-use Prim.Native.Nat.{ℕ, ◌+◌, ◌-◌, ◌*◌, ◌/◌, ◌≤◌, ◌<◌}
+use Rattle.std.specs.Prelude.{Some, None}
+use Prim.Native.Nat.{ℕ, ◌*◌, ◌/◌, ◌≤◌, ◌<◌}
 use mathlib.Core.Path.{◌≡◌, refl, sym, ap, ap₂, ◌∙◌, subst}
 use mathlib.Core.Bool.{Bool, true, false, ◌&&◌, cond}
 use mathlib.Core.List.{List, [], ◌++◌}
@@ -18,19 +19,18 @@ use Rattle.spec_tree.proofs.LayoutLaws.{table_long, rows_back}
 use Rattle.spec_sheet.specs.Sheet.{records_from, load_records, load}
 use Rattle.spec_sheet.specs.Call.{load_call, rows_after, roots_after}
 use Rattle.spec_sheet.proofs.Loaded.{Good, records_good}
-use Rattle.node_rows.specs.declared.rows.Checked.TheVariants as checks
 use Rattle.node_rows.specs.rows.Check.{laid_in_domain, check_domain, checked}
 use Rattle.load.specs.recordlist.Steps.{empty, Outcomes, AllRead}
-use Rattle.load.specs.declared.recordlist.Records.{Records}
-use Rattle.load.specs.declared.recordlist.Records.TheVariants as records
-use Rattle.load.specs.declared.Loaded.{Loaded}
-use Rattle.load.specs.declared.Loaded.TheVariants as loaded
+use Rattle.load.specs.recordlist.Records.{Records}
+use Rattle.load.specs.recordlist.Records as records
+use Rattle.load.specs.Loaded.{Loaded}
+use Rattle.load.specs.Loaded as loaded
 use Rattle.load.specs.Loads.{Loads, Finished, FinishedBy}
 
 -- ---- finish
 
 module _ (ws ns : List ℕ) where
-  pub laid_true : (n : ℕ) → checked (checks.Laid n) ≡ check_domain ws ns → laid_in_domain ws ns ≡ true
+  pub laid_true : (n : ℕ) → checked (Some n) ≡ check_domain ws ns → laid_in_domain ws ns ≡ true
   unfolding check_domain
   laid_true n e = go (laid_in_domain ws ns) e
     where
@@ -38,7 +38,7 @@ module _ (ws ns : List ℕ) where
       go true e = refl
       go false e = absurd (let z : ◌≡◌ {A = ℕ} 0 1 = cc in omega arith)
 
-  pub laid_false : checked checks.Refused ≡ check_domain ws ns → laid_in_domain ws ns ≡ false
+  pub laid_false : checked None ≡ check_domain ws ns → laid_in_domain ws ns ≡ false
   unfolding check_domain
   laid_false e = go (laid_in_domain ws ns) e
     where
@@ -139,13 +139,5 @@ module _ (sheet rows roots : List ℕ) where
               let F2 = subst (λ (l : List ℕ). Finished l list_part i rows roots answer new_rows new_roots) (p ∙ H.rows_are) F in
               let F3 = subst (λ (l : List ℕ). Finished (table_words t.rows) l i rows roots answer new_rows new_roots) (q ∙ H.roots_are) F2 in
               done t e z.1 G (within_limits (trees t)) refl (subst (λ (b : Bool). FinishedBy b (table_words t.rows) t.roots i rows roots answer new_rows new_roots) (laid_is t G) F3)
-
--- what the counts of all records are good for
-pub read_bounds : (s : List ℕ) (r : Records) (n m i : ℕ) (words list : List ℕ) → r ≡ records.All n m i → AllRead s r words list → (n ≤ 1024) × (m ≤ 64) × (35875 ≤ length words) × (64 ≤ length list)
-read_bounds s r n m i words list e R = go (load_records 0 (records_from [] s) empty) (subst (λ (q : Records). AllRead s q words list) e R)
-  where
-    go : (o : Outcome Table) → Outcomes s o (records.All n m i) words list → (n ≤ 1024) × (m ≤ 64) × (35875 ≤ length words) × (64 ≤ length list)
-    go (refused x) z = absurd z
-    go (ok t) z = let H = z.0 in (H.rows_few, H.roots_few, H.words_long, H.list_long)
 
 -- the answers of reading are those two alone

@@ -1,4 +1,3 @@
-pub mod Plain
 pub mod Commas
 pub mod Ends
 pub mod Copies

@@ -1,3 +1,4 @@
+pub mod Loaded
 pub mod Loads
 pub mod fields
 pub mod numerals

@@ -4,8 +4,8 @@ use Rattle.spec_tree.specs.Outcome.{Outcome, ok, refused}
 use Rattle.spec_tree.specs.Rows.{Table}
 use Rattle.node_rows.specs.rows.Check.{laid_in_domain}
 use Rattle.spec_sheet.specs.Call.{rows_after, roots_after}
-use Rattle.load.specs.declared.Loaded.{Loaded}
-use Rattle.load.specs.declared.Loaded.TheVariants as loaded
+use Rattle.load.specs.Loaded.{Loaded}
+use Rattle.load.specs.Loaded as loaded
 
 -- how many rows and roots, or 01's number and the record
 abbrev pub answered : Outcome Table → Loaded

@@ -1,58 +1,56 @@
 // The word that a record begins with: a kind's name, SelectOr or Root.
 ghost use Rattle.std.specs.Prelude.{◌≡◌, [], ◌<◌, get_or};
-ghost use Rattle.spec_tree.specs.Bytes.{eq_bytes};
 ghost use Rattle.spec_sheet.specs.Sheet.{words, find};
 ghost use Rattle.load.specs.recordwords.Answers.{word_answer};
 
-#[derive(Drop)]
-pub enum Word {
-    Kind(u64),
-    Unknown,
-}
-
-fn same_bytes(a: &[u8], b: &[u8]) -> bool
-    ensures { result ≡ eq_bytes a.now b.now }
-{
-    if a.len() != b.len() {
-        return false;
-    }
-    let mut i = 0;
-    while i < a.len() {
-        if a[i] != b[i] {
-            return false;
-        }
-        i += 1;
-    }
-    true
-}
-
-// Where each record word starts in the row of all words, and the end of the last.
-const STARTS: [usize; 31] = [
-    0, 3, 8, 11, 14, 17, 20, 23, 26, 29, 32, 35, 39, 43, 47, 52, 56, 60, 64, 67, 69, 73, 78, 82,
-    85, 94, 99, 105, 111, 119, 123,
-];
-
-// Whether the bytes are the record word of kind k; Root's number comes after the kinds'.
-fn is_word(k: usize, s: &[u8]) -> bool
+// The record word of kind k; Root's number comes after the kinds'.
+#[tactic(auto, unfolding(spec_sheet::specs::Sheet::words, spec_sheet::specs::Sheet::record_words, spec_tree::specs::Kinds::kinds))]
+fn word(k: usize) -> &'static [u8]
     requires { k < 30 }
-    ensures { result ≡ eq_bytes (get_or words k []) s.now }
+    ensures { result.now ≡ get_or words k [] }
 {
-    let all =
-        *b"SymConstNegAddSubMulDivPowSinCosTanAsinAcosAtanAtan2SinhCoshTanhExpLnLog2Log10SqrtAbsHeavisideClampBranchSelectSelectOrRoot";
-    let at = STARTS[k];
-    let end = STARTS[k + 1];
-    same_bytes(&all[at..end], s)
+    match k {
+        0 => b"Sym",
+        1 => b"Const",
+        2 => b"Neg",
+        3 => b"Add",
+        4 => b"Sub",
+        5 => b"Mul",
+        6 => b"Div",
+        7 => b"Pow",
+        8 => b"Sin",
+        9 => b"Cos",
+        10 => b"Tan",
+        11 => b"Asin",
+        12 => b"Acos",
+        13 => b"Atan",
+        14 => b"Atan2",
+        15 => b"Sinh",
+        16 => b"Cosh",
+        17 => b"Tanh",
+        18 => b"Exp",
+        19 => b"Ln",
+        20 => b"Log2",
+        21 => b"Log10",
+        22 => b"Sqrt",
+        23 => b"Abs",
+        24 => b"Heaviside",
+        25 => b"Clamp",
+        26 => b"Branch",
+        27 => b"Select",
+        28 => b"SelectOr",
+        _ => b"Root",
+    }
 }
 
-pub fn record_word(s: &[u8]) -> Word
+// The kind that the bytes name, if it is one.
+pub fn record_word(s: &[u8]) -> Option<u64>
     ensures { result ≡ word_answer (find 0 s.now words) }
 {
-    let mut k: usize = 0;
-    while k < 30 {
-        if is_word(k, s) {
-            return Word::Kind(k as u64);
+    for k in 0..30 {
+        if word(k) == s {
+            return Some(k as u64);
         }
-        k += 1;
     }
-    Word::Unknown
+    None
 }

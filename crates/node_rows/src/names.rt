@@ -6,22 +6,17 @@ ghost use Rattle.spec_tree.specs.Symbol.{is_digit, is_letter, is_made, is_name};
 fn is_digit(b: u64) -> bool
     ensures { result ≡ is_digit b }
 {
-    match b {
-        48..=57 => true,
-        _ => false,
-    }
+    matches!(b, 48..=57)
 }
 
 fn is_letter(b: u64) -> bool
     ensures { result ≡ is_letter b }
 {
-    match b {
-        65..=90 => true,
-        95..=95 => true,
-        97..=122 => true,
-        _ => false,
-    }
+    matches!(b, 65..=90 | 95 | 97..=122)
 }
+
+// A name has at most so many bytes.
+const LONGEST: usize = 32;
 
 // The letters and digits among the bytes below 64, and among the 64 after those, a bit for each.
 const WORD_BYTES: [u64; 2] = [287948901175001088, 576460745995190270];
@@ -30,73 +25,39 @@ const WORD_BYTES: [u64; 2] = [287948901175001088, 576460745995190270];
 fn is_word_byte(b: u64) -> bool
     ensures { result ≡ (is_letter b || is_digit b) }
 {
-    if b > 127 {
-        return false;
-    }
-    let half = (b / 64) as usize;
-    (WORD_BYTES[half] >> (b % 64)) % 2 == 1
+    b < 128 && (WORD_BYTES[(b / 64) as usize] >> (b % 64)) % 2 == 1
 }
 
 fn all_digits(bytes: &[u64]) -> bool
     ensures { result ≡ every is_digit bytes.now }
 {
-    let mut i = 0;
-    while i < bytes.len() {
-        if !is_digit(bytes[i]) {
-            return false;
-        }
-        i += 1;
-    }
-    true
+    bytes.iter().all(|b| is_digit(*b))
 }
 
 fn all_word_bytes(bytes: &[u64]) -> bool
     ensures { result ≡ every (λ c. is_letter c || is_digit c) bytes.now }
 {
-    let mut i = 0;
-    while i < bytes.len() {
-        if !is_word_byte(bytes[i]) {
-            return false;
-        }
-        i += 1;
-    }
-    true
+    bytes.iter().all(|b| is_word_byte(*b))
 }
 
 // Whether a name is spelled like one that an answer makes.
+#[tactic(auto, using(crate::proofs::names::Leaves::made_by, crate::proofs::names::Leaves::rest))]
 fn is_made(name: &[u64]) -> bool
     ensures { result ≡ is_made name.now }
 {
-    if name.len() < 4 {
-        return false;
-    }
-    if name[0] != 95 {
-        return false;
-    }
-    if name[1] != 95 {
-        return false;
-    }
-    let c = name[2];
-    match c {
-        109 | 120 => all_digits(&name[3..]),
-        _ => false,
-    }
+    name.len() > 3
+        && name[0] == 95
+        && name[1] == 95
+        && matches!(name[2], 109 | 120)
+        && all_digits(&name[3..])
 }
 
+#[tactic(auto, using(crate::proofs::names::Leaves::name_by, crate::proofs::names::Leaves::rest))]
 pub fn is_name(name: &[u64]) -> bool
     ensures { result ≡ is_name name.now }
 {
-    if name.len() == 0 {
+    if name.is_empty() || name.len() > LONGEST || !is_letter(name[0]) {
         return false;
     }
-    if !is_letter(name[0]) {
-        return false;
-    }
-    if !all_word_bytes(&name[1..]) {
-        return false;
-    }
-    if name.len() > 32 {
-        return false;
-    }
-    !is_made(name)
+    all_word_bytes(&name[1..]) && !is_made(name)
 }

@@ -1,7 +1,8 @@
-// An answer's text from its rows: each binding by `Display` for `Intermediate`, then each result, a line feed after each. Every writer here, `write_answer` too, asks
-// that such a part stands at the place; whether one does `print` decides before it calls (13). A statement, a match's arms and an arm are written by functions that
-// call each other down the nesting, each further on in the words.
-ghost use Rattle.std.specs.Prelude.{◌≡◌, List, ◌++◌, ◌+◌, ◌<◌, ◌≤◌, length, drop};
+// An answer's text from its rows: each binding by `Display` for `Intermediate`, then each result, a line feed after
+// each. Every writer here, `write_answer` too, asks that such a part stands at the place; whether one does `print`
+// decides before it calls (13). A statement, a match's arms and an arm are written by functions that call each other
+// down the nesting, each further on in the words.
+ghost use Rattle.std.specs.Prelude.{◌≡◌, cond, [], List, ◌++◌, ◌+◌, ◌<◌, ◌≤◌, length, drop};
 ghost use Rattle.spec_tree.specs.Bytes.{bytes, decimal};
 ghost use Rattle.spec_tree.specs.Rows.{Row};
 ghost use Rattle.spec_tree.specs.Tokens.{number_in};
@@ -18,75 +19,89 @@ use fmt::writer::Pos;
 use words::layout::{BRANCH_ROW, KINDS, LET, NAME, RESULT, SELECT_OR_ROW};
 use words::tokens::tree_end;
 
-const LINE_FEED: u8 = 10;
+const LINE_FEED: u8 = b'\n';
+
+// Every writer takes the rows, the words, the slice, the place and `dry` side by side, as those of `fmt` do: a struct of
+// them would be taken apart again at each call of theirs.
 
 // What a match switches on, by the place of its key.
-#[derive(Clone, Copy)]
+#[derive(Clone, Copy, Debug, PartialEq, Eq)]
 pub enum Switch {
     Index(usize),
     Sign(usize),
 }
 
-#[derive(Drop)]
+// A statement as its rows tell it: a match's key stands inside the switch inside the binding (01, "Scoped fusion").
+#[derive(Clone, Copy, Debug, PartialEq, Eq)]
 pub enum Binding {
     // A name's code, and the place of its expression.
-    Let(u64, usize),
-    // The switch, the place of the first name, how many names and arms there are, and whether the last arm is the default.
-    Match(Switch, usize, usize, usize, bool),
+    Let {
+        code: u64,
+        value: usize,
+    },
+    // The place of the first name, how many names and arms there are, and whether the last arm is the default.
+    Match {
+        switch: Switch,
+        first: usize,
+        bound: usize,
+        count: usize,
+        defaulted: bool,
+    },
+}
+
+// How the arms of a match are written: how many there are, whether they are the sides of an `if`, and whether the last
+// is the default.
+#[derive(Clone, Copy, Debug, PartialEq, Eq)]
+struct Form {
+    count: usize,
+    bare: bool,
+    defaulted: bool,
 }
 
 // ---- what stands before, between and after parts
 
+// A text, where it is wanted.
+fn put_if(out: &mut [u8], dry: bool, to: usize, wanted: bool, text: &[u8]) -> usize
+    ensures { Writes dry out.old to (cond wanted text.now []) out.new result }
+{
+    if wanted {
+        fmt::emit::put_bytes(out, dry, to, text)
+    } else {
+        fmt::emit::place(out, to)
+    }
+}
+
 fn put_tuple_opening(out: &mut [u8], dry: bool, to: usize, n: usize) -> usize
     ensures { Writes dry out.old to (tuple_opening n) out.new result }
 {
-    if n == 1 {
-        return fmt::emit::place(out, to);
-    }
-    fmt::emit::put(out, dry, to, b'(')
+    put_if(out, dry, to, n != 1, b"(")
 }
 
 fn put_comma(out: &mut [u8], dry: bool, to: usize, i: usize) -> usize
     ensures { Writes dry out.old to (comma i) out.new result }
 {
-    if i == 0 {
-        return fmt::emit::place(out, to);
-    }
-    fmt::emit::put_bytes(out, dry, to, b", ")
+    put_if(out, dry, to, i != 0, b", ")
 }
 
 fn put_tuple_closing(out: &mut [u8], dry: bool, to: usize, n: usize) -> usize
     ensures { Writes dry out.old to (tuple_closing n) out.new result }
 {
-    if n == 1 {
-        return fmt::emit::place(out, to);
-    }
-    fmt::emit::put(out, dry, to, b')')
+    put_if(out, dry, to, n != 1, b")")
 }
 
 // An arm of n statements has braces, where it is not the side of an `if`, which has them anyway.
 fn put_brace_opening(out: &mut [u8], dry: bool, to: usize, bare: bool, n: usize) -> usize
     ensures { Writes dry out.old to (brace_opening bare n) out.new result }
 {
-    if n == 0 {
-        return fmt::emit::place(out, to);
-    }
-    if bare {
-        return fmt::emit::place(out, to);
-    }
-    fmt::emit::put_bytes(out, dry, to, b"{ ")
+    let braced = n != 0 && !bare;
+    put_if(out, dry, to, braced, b"{ ")
 }
 
 fn put_brace_closing(out: &mut [u8], dry: bool, to: usize, bare: bool, n: usize) -> usize
     ensures { Writes dry out.old to (brace_closing bare n) out.new result }
 {
-    if n == 0 {
-        return fmt::emit::place(out, to);
-    }
-    if bare {
-        return fmt::emit::place(out, to);
-    }
-    fmt::emit::put_bytes(out, dry, to, b" }")
+    let braced = n != 0 && !bare;
+    put_if(out, dry, to, braced, b" }")
 }
 
 fn put_side_opening(out: &mut [u8], dry: bool, to: usize, i: usize) -> usize
@@ -106,69 +121,39 @@ fn put_number(out: &mut [u8], dry: bool, to: usize, i: usize) -> usize
     fmt::emit::put_bytes(out, dry, e, b" => ")
 }
 
-// Arm i of `count`: its number, or an underscore for the default.
-fn put_arm_opening(
-    out: &mut [u8],
-    dry: bool,
-    to: usize,
-    bare: bool,
-    defaulted: bool,
-    count: usize,
-    i: usize,
-) -> usize
-    requires { i < count }
-    ensures { Writes dry out.old to (arm_opening bare defaulted count i) out.new result }
+// Arm i: its number, or an underscore for the default.
+fn put_arm_opening(out: &mut [u8], dry: bool, to: usize, form: Form, i: usize) -> usize
+    requires { i < form.count }
+    ensures { Writes dry out.old to (arm_opening form.bare form.defaulted form.count i) out.new result }
 {
-    if bare {
+    if form.bare {
         return put_side_opening(out, dry, to, i);
     }
-    if !defaulted {
-        return put_number(out, dry, to, i);
-    }
-    if i + 1 == count {
+    if form.defaulted && i + 1 == form.count {
         return fmt::emit::put_bytes(out, dry, to, b" _ => ");
     }
     put_number(out, dry, to, i)
 }
 
-fn put_arm_closing(
-    out: &mut [u8],
-    dry: bool,
-    to: usize,
-    bare: bool,
-    defaulted: bool,
-    count: usize,
-    i: usize,
-) -> usize
-    requires { i < count }
-    ensures { Writes dry out.old to (arm_closing bare defaulted count i) out.new result }
+fn put_arm_closing(out: &mut [u8], dry: bool, to: usize, form: Form, i: usize) -> usize
+    requires { i < form.count }
+    ensures { Writes dry out.old to (arm_closing form.bare form.defaulted form.count i) out.new result }
 {
-    if bare {
-        if i == 0 {
-            return fmt::emit::place(out, to);
-        }
-        return fmt::emit::put_bytes(out, dry, to, b" };");
+    if form.bare && i == 0 {
+        return fmt::emit::place(out, to);
     }
-    if !defaulted {
-        return fmt::emit::put(out, dry, to, b',');
-    }
-    if i + 1 == count {
+    if form.bare || form.defaulted && i + 1 == form.count {
         return fmt::emit::put_bytes(out, dry, to, b" };");
     }
     fmt::emit::put(out, dry, to, b',')
 }
 
 // A match without a default says so.
-fn put_arms_closing(out: &mut [u8], dry: bool, to: usize, bare: bool, defaulted: bool) -> usize
-    ensures { Writes dry out.old to (arms_closing bare defaulted) out.new result }
+fn put_arms_closing(out: &mut [u8], dry: bool, to: usize, form: Form) -> usize
+    ensures { Writes dry out.old to (arms_closing form.bare form.defaulted) out.new result }
 {
-    if bare {
-        return fmt::emit::place(out, to);
-    }
-    if defaulted {
-        return fmt::emit::place(out, to);
-    }
-    fmt::emit::put_bytes(out, dry, to, b" _ => panic };")
+    let open = !form.bare && !form.defaulted;
+    put_if(out, dry, to, open, b" _ => panic };")
 }
 
 // ---- expressions and names
@@ -195,13 +180,11 @@ fn values(
 {
     let mut next = at;
     let mut end = put_tuple_opening(out, dry, to, n);
-    let mut i = 0;
-    while i < n {
+    for i in 0..n {
         let start = put_comma(out, dry, end, i);
         let p = tree(rows, words, next + 1, out, dry, start);
         next = p.next;
         end = p.to;
-        i += 1;
     }
     let e = put_tuple_closing(out, dry, end, n);
     Pos { next, to: e }
@@ -221,11 +204,9 @@ fn names(
     ensures { NamesWritten (rows_in rows.now) words.now dry out.old to out.new result n at }
 {
     let mut end = put_tuple_opening(out, dry, to, n);
-    let mut i = 0;
-    while i < n {
+    for i in 0..n {
         let start = put_comma(out, dry, end, i);
         end = fmt::symbols::put_name(rows, out, dry, start, words[at + i] / KINDS);
-        i += 1;
     }
     put_tuple_closing(out, dry, end, n)
 }
@@ -237,14 +218,12 @@ fn names_end(words: &[u64], at: usize) -> usize
     requires { at ≤ length words.now }
     ensures { result ≡ at + names_ahead (drop at words.now) }
 {
-    let mut i = at;
-    while i < words.len() {
+    for i in at..words.len() {
         if words[i] % KINDS != NAME {
             return i;
         }
-        i += 1;
     }
-    i
+    words.len()
 }
 
 // The rows have a match's key before its names; the text has its names first.
@@ -256,30 +235,31 @@ fn read_binding(words: &[u64], at: usize) -> Binding
     let kind = w % KINDS;
     let key = at + 1;
     if kind == LET {
-        return Binding::Let(w / KINDS, key);
+        return Binding::Let {
+            code: w / KINDS,
+            value: key,
+        };
     }
+    let switch = if kind == BRANCH_ROW {
+        Switch::Sign(key)
+    } else {
+        Switch::Index(key)
+    };
     let first = tree_end(words, key);
     let bound = names_end(words, first) - first;
-    let count = (w / KINDS) as usize - 1 - bound;
-    if kind == BRANCH_ROW {
-        return Binding::Match(Switch::Sign(key), first, bound, count, false);
-    }
-    Binding::Match(
-        Switch::Index(key),
+    Binding::Match {
+        switch,
         first,
         bound,
-        count,
-        kind == SELECT_OR_ROW,
-    )
+        count: (w / KINDS) as usize - 1 - bound,
+        defaulted: kind == SELECT_OR_ROW,
+    }
 }
 
 fn is_sign(switch: Switch) -> bool
     ensures { result ≡ is_sign switch }
 {
-    match switch {
-        Switch::Index(_) => false,
-        Switch::Sign(_) => true,
-    }
+    matches!(switch, Switch::Sign(_))
 }
 
 // What stands before the expression of a let of the name with that code.
@@ -350,57 +330,51 @@ fn statement(rows: &[u64], words: &[u64], at: usize, out: &mut [u8], dry: bool, 
     requires { SomeStmt (rows_in rows.now) words.now at }
     ensures { StmtWritten (rows_in rows.now) words.now at dry out.old to out.new result.next result.to }
 {
-    let b = read_binding(words, at);
-    match b {
-        Binding::Let(code, value) => let_statement(rows, words, code, value, out, dry, to),
-        Binding::Match(switch, first, bound, count, defaulted) => {
-            let bare = is_sign(switch);
-            let e = head(rows, words, switch, first, bound, out, dry, to);
-            arms(
-                rows,
-                words,
-                first + bound,
-                bound,
+    match read_binding(words, at) {
+        Binding::Let { code, value } => let_statement(rows, words, code, value, out, dry, to),
+        Binding::Match {
+            switch,
+            first,
+            bound,
+            count,
+            defaulted,
+        } => {
+            let form = Form {
                 count,
-                bare,
+                bare: is_sign(switch),
                 defaulted,
-                out,
-                dry,
-                e,
-            )
+            };
+            let e = head(rows, words, switch, first, bound, out, dry, to);
+            arms(rows, words, first + bound, bound, form, out, dry, e)
         }
     }
 }
 
-// The arms of a match of `bound` names; `bare` where they are the sides of an `if`.
+// The arms of a match of `bound` names.
 #[cycle(arm_arms_statement)]
 fn arms(
     rows: &[u64],
     words: &[u64],
     at: usize,
     bound: usize,
-    count: usize,
-    bare: bool,
-    defaulted: bool,
+    form: Form,
     out: &mut [u8],
     dry: bool,
     to: usize,
 ) -> Pos
-    requires { SomeArms (rows_in rows.now) words.now bound count at }
+    requires { SomeArms (rows_in rows.now) words.now bound form.count at }
     ensures { ArmsWritten (rows_in rows.now) words.now at dry out.old to out.new result.next result.to
-        bare defaulted bound count }
+        form.bare form.defaulted bound form.count }
 {
     let mut next = at;
     let mut end = to;
-    let mut i = 0;
-    while i < count {
-        let start = put_arm_opening(out, dry, end, bare, defaulted, count, i);
-        let p = arm(rows, words, next, bound, bare, out, dry, start);
+    for i in 0..form.count {
+        let start = put_arm_opening(out, dry, end, form, i);
+        let p = arm(rows, words, next, bound, form.bare, out, dry, start);
         next = p.next;
-        end = put_arm_closing(out, dry, p.to, bare, defaulted, count, i);
-        i += 1;
+        end = put_arm_closing(out, dry, p.to, form, i);
     }
-    let e = put_arms_closing(out, dry, end, bare, defaulted);
+    let e = put_arms_closing(out, dry, end, form);
     Pos { next, to: e }
 }
 
@@ -422,12 +396,10 @@ fn arm(
     let count = (words[at] / KINDS) as usize - bound;
     let mut next = at + 1;
     let mut end = put_brace_opening(out, dry, to, bare, count);
-    let mut i = 0;
-    while i < count {
+    for _ in 0..count {
         let p = statement(rows, words, next, out, dry, end);
         next = p.next;
         end = fmt::emit::put(out, dry, p.to, b' ');
-        i += 1;
     }
     let v = values(rows, words, next, bound, out, dry, end);
     let e = put_brace_closing(out, dry, v.to, bare, count);
@@ -442,10 +414,7 @@ fn arm(
 fn statement_next(words: &[u64], at: usize) -> bool
     ensures { result ≡ statement_ahead (drop at words.now) }
 {
-    if at >= words.len() {
-        return false;
-    }
-    words[at] != RESULT
+    at < words.len() && words[at] != RESULT
 }
 
 fn bindings(rows: &[u64], words: &[u64], out: &mut [u8], dry: bool) -> Pos
@@ -454,6 +423,7 @@ fn bindings(rows: &[u64], words: &[u64], out: &mut [u8], dry: bool) -> Pos
 {
     let mut next = 0;
     let mut end = 0;
+    // A turn passes a whole statement.
     while statement_next(words, next) {
         let p = statement(rows, words, next, out, dry, end);
         next = p.next;
@@ -468,6 +438,7 @@ fn results(rows: &[u64], words: &[u64], at: usize, out: &mut [u8], dry: bool, to
 {
     let mut next = at;
     let mut end = to;
+    // A turn passes a whole tree.
     while next < words.len() {
         let p = tree(rows, words, next + 1, out, dry, end);
         next = p.next;
@@ -476,8 +447,9 @@ fn results(rows: &[u64], words: &[u64], at: usize, out: &mut [u8], dry: bool, to
     fmt::emit::place(out, end)
 }
 
-// The place after the answer's text, written from the start; where `dry` it is only measured. For callers that know that the words are an answer's rows: it asks that
-// (`requires`) and they prove it, so that the rows are not checked again for each of the two calls of `print`.
+// The place after the answer's text, written from the start; where `dry` it is only measured. For callers that know
+// that the words are an answer's rows: it asks that (`requires`) and they prove it, so that the rows are not checked
+// again for each of the two calls of `print`.
 pub fn write_answer(rows: &[u64], words: &[u64], out: &mut [u8], dry: bool) -> usize
     requires { SomeAnswer (rows_in rows.now) words.now }
     ensures { AnswerWritten (rows_in rows.now) words.now dry out.old 0 out.new result }

@@ -1,5 +1,6 @@
-// An answer's text line by line: the line of a let or of a result from its rows, and where the next begins. A flat answer can have more text than any array holds, and
-// each of its lines is short, so a program prints them one after another. And the line that a program prints for a refusal.
+// An answer's text line by line: the line of a let or of a result from its rows, and where the next begins. A flat
+// answer can have more text than any array holds, and each of its lines is short, so a program prints them one after
+// another. And the line that a program prints for a refusal.
 ghost use Rattle.std.specs.Prelude.{◌≡◌, true, false, ◌+◌, ◌<◌, length, get_or};
 ghost use Rattle.fmt.specs.emit.Writing.{Writes};
 ghost use Rattle.fmt.specs.shapes.Places.{Stands};
@@ -7,17 +8,16 @@ ghost use Rattle.print.specs.lines.Refusal.{refusal_text};
 ghost use Rattle.print.specs.lines.Line.{starts_line, line_of, line_answer, bytes_left, opening, closing, Wrote};
 
 use crate::answerwriter::let_opening;
-use fmt::checked::{Checked, tree_ok};
+use fmt::checked::tree_ok;
 use fmt::writer::{Pos, expression};
+use words::fault::Fault;
 use words::layout::{CLASSES, KINDS, LET, LET_CLASS, RESULT};
 
-#[derive(Drop)]
-pub enum Line {
-    // How many bytes the line has, and the place of the row after it.
-    Text(usize, usize),
-    // No let or result stands there, or no tree after it that can be written.
-    Broken,
-    NoRoom,
+// How many bytes the line has, and the place of the row after it.
+#[derive(Clone, Copy, Debug, PartialEq, Eq)]
+pub struct Line {
+    pub bytes: usize,
+    pub next: usize,
 }
 
 fn begins(answer: &[u64], at: usize) -> bool
@@ -27,13 +27,7 @@ fn begins(answer: &[u64], at: usize) -> bool
         return false;
     }
     let w = answer[at];
-    if w == RESULT {
-        return true;
-    }
-    if w % KINDS != LET {
-        return false;
-    }
-    w / KINDS % CLASSES == LET_CLASS
+    w == RESULT || w % KINDS == LET && w / KINDS % CLASSES == LET_CLASS
 }
 
 fn put_opening(rows: &[u64], out: &mut [u8], dry: bool, w: u64) -> usize
@@ -70,26 +64,31 @@ fn write_line(rows: &[u64], answer: &[u64], at: usize, out: &mut [u8], dry: bool
     }
 }
 
-// The line of the let or the result whose row stands at `at`. Where there is none, or `out` is too short for it, nothing is written.
-pub fn line_at(rows: &[u64], answer: &[u64], at: usize, out: &mut [u8]) -> Line
+// The line of the let or the result whose row stands at `at`. Broken: none stands there, or no tree after it that can
+// be written. Where there is none, or `out` is too short for it, nothing is written.
+pub fn line_at(rows: &[u64], answer: &[u64], at: usize, out: &mut [u8]) -> Result<Line, Fault>
     ensures { (result ≡ line_answer (line_of rows.now answer.now at) (length out.old))
         × (out.new ≡ bytes_left (line_of rows.now answer.now at) out.old) }
 {
     if !begins(answer, at) {
-        return Line::Broken;
+        return Err(Fault::Broken);
     }
-    let Checked::Ends(_) = tree_ok(rows, answer, at + 1) else {
-        return Line::Broken;
+    let Some(_) = tree_ok(rows, answer, at + 1) else {
+        return Err(Fault::Broken);
     };
     let measured = write_line(rows, answer, at, out, true);
     if measured.to > out.len() {
-        return Line::NoRoom;
+        return Err(Fault::NoRoom);
     }
     let written = write_line(rows, answer, at, out, false);
-    Line::Text(written.to, written.next)
+    Ok(Line {
+        bytes: written.to,
+        next: written.next,
+    })
 }
 
-// The line for a refusal, by 01's number and the record: as much of it as there is room for, and the place after it.
+// The line for a refusal, by 01's number and the record: as much of it as there is room for, and the place after it. Its
+// contract holds of every number, so it takes one and no `Refusal`.
 pub fn refusal_line(number: u64, record: u64, out: &mut [u8]) -> usize
     ensures { Writes false out.old 0 (refusal_text number «record») out.new result }
 {

@@ -1,15 +1,16 @@
-// The binding of one divisor's reciprocal as words (01, "Reciprocals"), made when it is needed: the words of `1 / d`, brought up to date with the reciprocals
-// bound after it. The divisors stand in the words from before the first was bound.
+// The binding of one divisor's reciprocal as words (01, "Reciprocals"), made when it is needed: the words of `1 / d`,
+// brought up to date with the reciprocals bound after it. The divisors stand in the words from before the first was
+// bound.
 ghost use Rattle.std.specs.Prelude.{◌≡◌, ◌++◌, ◌+◌, ◌-◌, ◌≤◌, ◌<◌, length, drop, T};
 ghost use Rattle.words.specs.words.Words.{Complete};
 ghost use Rattle.reciprocals.specs.divisors.Places.{Inside};
 ghost use Rattle.reciprocals.specs.reciprocal.Bindings.{all_there, one_over, no_division_words, is_plain, whole_reciprocal, BoundSo};
 
 use crate::divisors::count_equal;
-use crate::settle::{Settled, settle};
+use crate::settle::settle;
 use words::copying::copy;
 use words::layout::{DIV, KINDS, QUOTIENT};
-use words::tokens::{Run, end_of, tree_end};
+use words::tokens::{end_of, tree_end};
 
 // How many words `1 / d` is besides those of d.
 const BESIDES: usize = 2;
@@ -21,14 +22,9 @@ const ONE: u64 = 129;
 pub fn all_there(base: &[u64], places: &[u64]) -> bool
     ensures { result ≡ all_there base.now places.now }
 {
-    let mut k = 0;
-    while k < places.len() {
-        let Run::Ends(_) = end_of(base, places[k] as usize) else {
-            return false;
-        };
-        k += 1;
-    }
-    true
+    places
+        .iter()
+        .all(|place| end_of(base, *place as usize).is_some())
 }
 
 // Writes `1 / d` to the front of out, for the tree d between two places.
@@ -46,14 +42,7 @@ fn write_quotient(base: &[u64], place: usize, end: usize, work: &mut [u64])
 fn no_division(words: &[u64]) -> bool
     ensures { result ≡ no_division_words words.now }
 {
-    let mut i = 0;
-    while i < words.len() {
-        if words[i] % KINDS == DIV {
-            return false;
-        }
-        i += 1;
-    }
-    true
+    words.iter().all(|w| *w % KINDS != DIV)
 }
 
 // Whether `1 / d` stays as it is, for the tree d between two places: nearly always, since few divisors hold a division.
@@ -62,13 +51,11 @@ fn is_plain(base: &[u64], later: &[u64], place: usize, end: usize) -> bool
     requires place_lt_end { (place < end) × (end ≤ length base.now) }
     ensures { result ≡ is_plain base.now later.now place (end - place) }
 {
-    if !no_division(&base[place..end]) {
-        return false;
-    }
-    count_equal(base, later, place) == 0
+    no_division(&base[place..end]) && count_equal(base, later, place) == 0
 }
 
-// Writes the reciprocal of the divisor number j, which is bound under `__x(first + j)`, to the front of out; what is left after it there is free. That it can't be settled never comes up.
+// Writes the reciprocal of the divisor number j, which is bound under `__x(first + j)`, to the front of out; what is
+// left after it there is free. That it can't be settled never comes up.
 pub fn reciprocal(base: &[u64], places: &[u64], first: u64, j: usize, out: &mut [u64]) -> usize
     requires complete { Complete base.now × T (all_there base.now places.now) × (j < length places.now) }
     requires base_len_bound { (length base.now ≤ 1927) × (2 + length base.now ≤ length out.old) }
@@ -82,10 +69,5 @@ pub fn reciprocal(base: &[u64], places: &[u64], first: u64, j: usize, out: &mut 
     if is_plain(base, &places[j + 1..], place, end) {
         return n;
     }
-    let settled = settle(base, places, j + 1, first, out, n);
-    match settled {
-        Settled::Words(m) => m,
-        Settled::Broken => n,
-        Settled::NoRoom => n,
-    }
+    settle(base, places, j + 1, first, out, n).unwrap_or(n)
 }

@@ -1,4 +1,11 @@
 -- What is answered for the first tree, from what the callees answer. Assumes nothing.
+use Rattle.std.specs.Prelude.{Option as Maybe, Result}
+use Rattle.std.specs.Result.{IsErr}
+use Rattle.std.specs.Option.{IsSome, ok_or}
+use Rattle.replace.specs.declared.NotConstant.{NotConstant}
+use Rattle.replace.specs.declared.Decision.{Decision}
+use Rattle.std.specs.Prelude.{Some, None, Ok, Err}
+use Rattle.words.specs.declared.fault.Fault.{Fault}
 use Rattle.std.proofs.Common.{◌≡◌, ℕ, zero, suc, ◌+◌, ◌-◌, ◌*◌, ◌<◌, ◌≤◌, Bool, true, false, ◌&&◌, T, eqb, List, [], ◌∷◌, length, get_or, take, drop, sym, refl, ap, ◌∙◌, subst, arith, length-take-le, drop-cons, eq-eqb, ne_eqb}
 use mathlib.Core.Option.{some}
 use lib.Ieee as Ieee
@@ -13,27 +20,24 @@ use Rattle.spec_rewrite.proofs.Measure.{size_up}
 use Rattle.words.specs.words.Words.{tree_of, name_of, begins_with}
 use Rattle.words.proofs.words.Rewriting.{first_tree, one_long, begins_tree, one_long as some_words}
 use Rattle.replace.specs.coefficient.Answers.{constant_answer}
-use Rattle.replace.specs.declared.coefficient.Constant.TheVariants as constant
 use Rattle.replace.specs.factors.Places.{tree, at_places, Stands}
 use Rattle.replace.proofs.factors.WordRuns.{run_stands, stands_run}
 use Rattle.replace.proofs.factors.Flattening.{Taken as FlatFrom}
 use Rattle.replace.proofs.factors.Answering.{ends_there, answers_product}
 use Rattle.replace.proofs.factors.PlaceLaws.{Each, Inside}
 use Rattle.replace.specs.factors.Answers.{Flattening, flattened_by, flatten_answer}
-use Rattle.replace.specs.declared.factors.Flattened.TheVariants as flattened
 use Rattle.replace.specs.declared.factors.Product.{Product}
-use Rattle.replace.proofs.factors.Products.{ProductOf, product_of, never_refused}
+use Rattle.replace.proofs.factors.Products.{ProductOf, product_of, never_refused as flat_answered}
 use Rattle.replace.specs.closed.Closed.{by_factors, lone}
 use Rattle.replace.specs.matching.Matching.{names_after}
 use Rattle.replace.proofs.matching.Removing.{after_most}
 use Rattle.replace.specs.matching.Answers.{Takes}
 use Rattle.replace.specs.declared.matching.Taken.{Taken}
-use Rattle.replace.specs.declared.matching.Taken.TheVariants as taken
-use Rattle.replace.specs.replacing.Deciding.{Trees, Target, Plain, PassedAt, RefusedAt, Match, ProductFirst}
+use Rattle.replace.specs.replacing.Deciding.{Plain, PassedAt, RefusedAt, Match, ProductFirst}
 use Rattle.replace.proofs.replacing.Runs.{name_alone, name_tree}
 use Rattle.replace.proofs.replacing.Deciding.{ProductAt, product_at, none_there, refused_there, match_there}
 use Rattle.replace.proofs.replacing.Passing.{passed_at}
-use Rattle.replace.specs.Answers.{FlatFirst}
+use Rattle.replace.specs.Answers.{Decides, FlatFirst}
 
 -- ---- the target
 
@@ -60,7 +64,7 @@ unfolding tree_of
 first_is ws = tree_at numbered ws 0
 
 pub sought_by :
-    (part old new : List ℕ) (p : Product) → trees_in part ≡ some 1 → kind_of (get_or part 0 0) ≡ 5 → flattened.Of p ≡ (flatten_answer part 0 old).answer → new ≡ (flatten_answer part 0 old).places
+    (part old new : List ℕ) (p : Product) → trees_in part ≡ some 1 → kind_of (get_or part 0 0) ≡ 5 → Ok p ≡ (flatten_answer part 0 old).answer → new ≡ (flatten_answer part 0 old).places
     → (b : Bool) → b ≡ Ieee.eq p.coefficient one → b ≡ by_factors (tree_of part)
 unfolding by_factors
 sought_by part old new p e k a w b q =
@@ -134,15 +138,11 @@ module _ (part : List ℕ) (name : ℕ) (coefficient : Float) (count : ℕ) (pla
 
 module _ (ws old : List ℕ) (n : ℕ) (all : trees_in ws ≡ some n) (there : 0 < length ws) (room : length ws ≤ length old) where
   answered : (flatten_answer ws 0 old).answer ≡ (flattened_by false 0 (tree ws 0) old).answer
-  answered = ap (λ (f : Flattening). f.answer) (never_refused ws n 0 old all there room)
+  answered = ap (λ (f : Flattening). f.answer) (flat_answered ws n 0 old all there room)
 
-  pub never_broken : flattened.Broken ≡ (flatten_answer ws 0 old).answer → ⊥
+  pub never_refused : (f : Fault) → Err f ≡ (flatten_answer ws 0 old).answer → ⊥
   unfolding flattened_by
-  never_broken e = (let q = e ∙ answered in let z : ◌≡◌ {A = ℕ} 0 1 = cc in omega arith)
-
-  pub never_full : flattened.NoRoom ≡ (flatten_answer ws 0 old).answer → ⊥
-  unfolding flattened_by
-  never_full e = (let q = e ∙ answered in let z : ◌≡◌ {A = ℕ} 0 1 = cc in omega arith)
+  never_refused f e = (let q = e ∙ answered in let z : ◌≡◌ {A = ℕ} 0 1 = cc in omega arith)
 
 -- ---- a product
 
@@ -161,46 +161,63 @@ module _
   by : T (by_factors (tree_of part))
   by = subst T F.sought tt
 
-  module _ (new : List ℕ) (r : Taken) (e : Takes ws part name places count new r) where
-    pub taken_full : r ≡ taken.NoRoom → ⊥
-    unfolding run_at
-    taken_full q =
-        (let x = subst (Takes ws part name places count new) q e in
-        let a = x.0 in
-        let b = pr.few in
-        let c = (words_complete ws 1 (size (tree ws 0)) pr.there).0 in
-        omega arith)
+  room_twice : 2 * count ≤ length places
+  unfolding run_at
+  room_twice =
+      (let b = pr.few in
+      let c = (words_complete ws 1 (size (tree ws 0)) pr.there).0 in
+      omega arith)
 
-    module _ (all times : ℕ) (q : r ≡ taken.Out all times) where
-      abbrev ta : Takes ws part name places count new (taken.Out all times)
-      ta = subst (Takes ws part name places count new) q e
+  pub taken_there : (new : List ℕ) (o : Maybe Taken) → Takes ws part name places count new o → IsSome o
+  taken_there new (Some t) e = refl
+  taken_there new None e = absurd (let r = room_twice in let f = e.0 in omega arith)
 
-      pub all_there : all ≤ length new
-      all_there = ta.1.1
+  module _ (new : List ℕ) (r : Taken) (e : Takes ws part name places count new (Some r)) where
+    abbrev all : ℕ
+    all = r.left
 
-      pub taken_passed : times ≡ 0 → (long : ℕ) → run_at ws 0 ≡ some long → (n : ℕ) → Plain ws long n → PassedAt part name ws n
-      taken_passed z long x n s =
-          passed_at part name F.target by ws F.trees long x (none_there part name F.target ws F.trees pa by G.old places new p pr all times ta.1 z) n s
+    abbrev times : ℕ
+    times = r.times
 
-      one_more : (times ≡ 0 → ⊥) → times ≡ suc (times - 1)
-      one_more z = go times z
-        where
-          go : (k : ℕ) → (k ≡ 0 → ⊥) → k ≡ suc (k - 1)
-          go zero z = absurd (z refl)
-          go (suc k) z = omega arith
+    pub all_there : all ≤ length new
+    all_there = e.1.1
 
-      pub taken_refused : (times ≡ 0 → ⊥) → constant.Not ≡ constant_answer (constant_of coefficient) → RefusedAt part name ws
-      taken_refused z k = refused_there part name F.target ws F.trees pa by G.old places new p pr all times ta.1 (times - 1) (one_more z) k
+    pub taken_passed : times ≡ 0 → (long : ℕ) → run_at ws 0 ≡ some long → (n : ℕ) → Plain ws long n → PassedAt part name ws n
+    taken_passed z long x n s =
+        passed_at part name F.target by ws F.trees long x (none_there part name F.target ws F.trees pa by G.old places new p pr all times e.1 z) n s
 
-      pub taken_matched :
-          (times ≡ 0 → ⊥) → (code : ℕ) → constant.Is code ≡ constant_answer (constant_of coefficient) → (long : ℕ) → run_at ws 0 ≡ some long
-          → (copies : ℕ) → copies ≡ names_after (length ws) (take all new) → Match part name ws new (all - copies) copies code long
-      taken_matched z code k long x copies c =
-          let m = match_there part name F.target ws F.trees pa by G.old places new p pr all times ta.1 (times - 1) (one_more z) code k (all - copies) copies c refl in
-          subst (Match part name ws new (all - copies) copies code) (some_is (sym pr.there ∙ x)) m
+    one_more : (times ≡ 0 → ⊥) → times ≡ suc (times - 1)
+    one_more z = go times z
+      where
+        go : (k : ℕ) → (k ≡ 0 → ⊥) → k ≡ suc (k - 1)
+        go zero z = absurd (z refl)
+        go (suc k) z = omega arith
 
-      pub fewer_names : (copies : ℕ) → copies ≡ names_after (length ws) (take all new) → copies ≤ all
-      fewer_names copies c = (let a = after_most (length ws) (take all new) in let b = length-take-le all new all_there in omega arith)
+    pub taken_refused : (times ≡ 0 → ⊥) → None ≡ constant_answer (constant_of coefficient) → RefusedAt part name ws
+    taken_refused z k = refused_there part name F.target ws F.trees pa by G.old places new p pr all times e.1 (times - 1) (one_more z) k
+
+    pub taken_matched :
+        (times ≡ 0 → ⊥) → (code : ℕ) → Some code ≡ constant_answer (constant_of coefficient) → (long : ℕ) → run_at ws 0 ≡ some long
+        → (copies : ℕ) → copies ≡ names_after (length ws) (take all new) → Match part name ws new (all - copies) copies code long
+    taken_matched z code k long x copies c =
+        let m = match_there part name F.target ws F.trees pa by G.old places new p pr all times e.1 (times - 1) (one_more z) code k (all - copies) copies c refl in
+        subst (Match part name ws new (all - copies) copies code) (some_is (sym pr.there ∙ x)) m
+
+    pub fewer_names : (copies : ℕ) → copies ≡ names_after (length ws) (take all new) → copies ≤ all
+    fewer_names copies c = (let a = after_most (length ws) (take all new) in let b = length-take-le all new all_there in omega arith)
+
+-- what `ok_or` makes of the code
+pub code_some : (o : Maybe ℕ) (f : NotConstant) (r : Result ℕ NotConstant) (n : ℕ) → r ≡ ok_or o f → r ≡ Ok n → Some n ≡ o
+code_some None f r n e p = absurd (let z : ◌≡◌ {A = ℕ} 0 1 = cc in omega arith)
+code_some (Some m) f r n e p = cc
+
+pub code_none : (o : Maybe ℕ) (f : NotConstant) (r : Result ℕ NotConstant) (g : NotConstant) → r ≡ ok_or o f → r ≡ Err g → None ≡ o
+code_none None f r g e p = refl
+code_none (Some m) f r g e p = absurd (let z : ◌≡◌ {A = ℕ} 0 1 = cc in omega arith)
+
+pub decides_refused : (part : List ℕ) (name : ℕ) (ws places : List ℕ) (r : Result Decision NotConstant) → IsErr r → RefusedAt part name ws → Decides part name ws places r
+decides_refused part name ws places (Ok d) e w = absurd (let z : ◌≡◌ {A = Bool} false true = e in (let y : ◌≡◌ {A = ℕ} 0 1 = cc in omega arith))
+decides_refused part name ws places (Err f) e w = w
 
 -- ---- what the callees are asked
 
@@ -227,10 +244,5 @@ flat_known {ws} F old new c n room f =
     record { old = old; answer = x.0; written = x.1 }
 
 pub flat_first :
-    (ws old new : List ℕ) (p : Product) → flattened.Of p ≡ (flatten_answer ws 0 old).answer → new ≡ (flatten_answer ws 0 old).places → FlatFirst ws p.coefficient p.count new
+    (ws old new : List ℕ) (p : Product) → Ok p ≡ (flatten_answer ws 0 old).answer → new ≡ (flatten_answer ws 0 old).places → FlatFirst ws p.coefficient p.count new
 flat_first ws old new p a w = record { old = old; answer = a; written = w }
-
-pub first_product :
-    {ws part : List ℕ} {name : ℕ} → 0 < length ws → Trees ws → Target part name → false ≡ begins_with ws part → kind_of (get_or ws 0 0) ≡ 5 → true ≡ by_factors (tree_of part)
-    → ProductFirst ws part name
-first_product a b c d e f = record { some_word = a; trees = b; target = c; other = d; kind = e; sought = f }

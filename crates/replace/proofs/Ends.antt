@@ -1,5 +1,12 @@
 -- What `replace` answers and leaves, from what was tested and written. Assumes nothing.
-use Rattle.std.proofs.Common.{◌≡◌, ℕ, ◌+◌, ◌/◌, ◌<◌, ◌≤◌, Bool, true, false, ◌&&◌, ◌||◌, T, ltb, List, ◌++◌, length, take, drop, sym, refl, ap, ◌∙◌, subst, ap₂, arith, le-ltb, lt-ltb}
+use Rattle.std.specs.Prelude.{⊤, Result}
+use Rattle.words.specs.declared.fault.Fault.{Fault}
+use Rattle.replace.specs.declared.ReplaceError.TheVariants as replace_error
+use Rattle.replace.specs.declared.ReplaceError.{ReplaceError}
+use Rattle.replace.specs.declared.NotConstant.{NotConstant}
+use Rattle.std.specs.Prelude.{Ok, Err}
+use Rattle.words.specs.declared.fault.Fault.TheVariants as fault
+use Rattle.std.proofs.Common.{◌≡◌, ℕ, ◌/◌, ◌<◌, ◌≤◌, Bool, true, false, ◌&&◌, ◌||◌, T, ltb, List, ◌++◌, length, take, drop, sym, refl, ap, ◌∙◌, subst, ap₂, arith, le-ltb, lt-ltb}
 use mathlib.Core.Option.{some}
 use Rattle.spec_tree.specs.Bytes.{every}
 use Rattle.spec_tree.specs.Outcome.{Outcome}
@@ -7,19 +14,13 @@ use Rattle.spec_tree.specs.Tokens.{kind_of, trees_in}
 use Rattle.spec_rewrite.specs.Rewrite.{flatten_mul_factors}
 use Rattle.words.specs.words.Words.{tree_of, name_of, sound}
 use Rattle.words.specs.words.Answers.{request_answer}
-use Rattle.words.specs.declared.words.Request.{Request}
-use Rattle.words.specs.declared.words.Request.TheVariants as request
 use Rattle.words.proofs.words.Requests.{Sound, sound_has}
 use Rattle.replace.specs.closed.Closed.{by_factors, lone, endless}
 use Rattle.replace.specs.replacing.Replacing.{formed_word, replaceable}
-use Rattle.replace.specs.replacing.Deciding.{Trees, Target, rewritten_words, Wrote}
-use Rattle.replace.specs.Answers.{sought_as, Replacement, replaced_by, replacement, scratch_short, short_of_room, Leaves, Writes}
-use Rattle.replace.specs.declared.Replaced.{Replaced}
-use Rattle.replace.specs.declared.Replaced.TheVariants as replaced
+use Rattle.replace.specs.replacing.Deciding.{Trees, Target, rewritten_words}
+use Rattle.replace.specs.Answers.{by_fault, sought_as, Replacement, replaced_by, replacement, scratch_short, short_of_room, Leaves, Writes}
 use Rattle.replace.specs.declared.Sought.{Sought}
 use Rattle.replace.specs.declared.Sought.TheVariants as sought
-use Rattle.replace.specs.declared.Step.{Step}
-use Rattle.replace.specs.declared.Step.TheVariants as step
 
 -- ---- trees put back
 
@@ -34,17 +35,17 @@ module _ (ws part : List ℕ) (name : ℕ) (old : List ℕ) where
   abbrev o : Outcome (List ℕ)
   o = rewritten_words part name ws
 
-  pub wrote : (r : Step) (n : ℕ) (out : List ℕ) → r ≡ step.Wrote n → Writes o (length ws) old r out → Leaves (replaced_by o ws old) (replaced.Words n) out
+  pub wrote : (r : Result ℕ NotConstant) (n : ℕ) (out : List ℕ) → r ≡ Ok n → Writes o (length ws) old r out → Leaves (replaced_by o ws old) (Ok n) out
   unfolding replaced_by
   wrote r n out e w =
-      let v = subst (λ (q : Step). Writes o (length ws) old q out) e w in
+      let v = subst (λ (q : Result ℕ NotConstant). Writes o (length ws) old q out) e w in
       let x = ap (λ (q : Outcome (List ℕ)). replaced_by q ws old) v.is in
-      (ap replaced.Words v.count ∙ sym (ap (λ (q : Replacement). q.answer) x), v.words ∙ ap (λ (j : ℕ). v.new ++ drop j old) v.count ∙ sym (ap (λ (q : Replacement). q.out) x))
+      (ap Ok v.count ∙ sym (ap (λ (q : Replacement). q.answer) x), v.words ∙ ap (λ (j : ℕ). v.new ++ drop j old) v.count ∙ sym (ap (λ (q : Replacement). q.out) x))
 
-  pub refused_there : (r : Step) (mid out : List ℕ) → r ≡ step.Refused → Writes o (length ws) old r mid → out ≡ ws ++ drop (length ws) mid → Leaves (replaced_by o ws old) replaced.Refused out
+  pub refused_there : (r : Result ℕ NotConstant) (mid out : List ℕ) (f : NotConstant) → r ≡ Err f → Writes o (length ws) old r mid → out ≡ ws ++ drop (length ws) mid → Leaves (replaced_by o ws old) (Err replace_error.Refused) out
   unfolding replaced_by
-  refused_there r mid out e w b =
-      let v = subst (λ (q : Step). Writes o (length ws) old q mid) e w in
+  refused_there r mid out f e w b =
+      let v = subst (λ (q : Result ℕ NotConstant). Writes o (length ws) old q mid) e w in
       let x = ap (λ (q : Outcome (List ℕ)). replaced_by q ws old) v.is in
       (sym (ap (λ (q : Replacement). q.answer) x), b ∙ ap (λ (l : List ℕ). ws ++ l) v.rest ∙ sym (ap (λ (q : Replacement). q.out) x))
 
@@ -57,18 +58,18 @@ module _ (ws part : List ℕ) (name places : ℕ) (old : List ℕ) where
   abbrev over : Bool
   over = endless (tree_of part) (name_of name)
 
-  abbrev Ends : Replaced → List ℕ → Type 0
+  abbrev Ends : Result ℕ ReplaceError → List ℕ → Type 0
   Ends r out = Leaves (done_by (scratch_short ws part places) over) r out
 
-  full : scratch_short ws part places ≡ true → Ends replaced.NoRoom old
+  full : scratch_short ws part places ≡ true → Ends (Err replace_error.NoRoom) old
   unfolding replacement
   full e = (sym (ap (λ (b : Bool). (done_by b over).answer) e), sym (ap (λ (b : Bool). (done_by b over).out) e))
 
-  pub words_short : places / 2 < length ws → Ends replaced.NoRoom old
+  pub words_short : places / 2 < length ws → Ends (Err replace_error.NoRoom) old
   unfolding scratch_short
   words_short h = full (ap (λ (x : Bool). x || ltb places (length part)) (lt-ltb (places / 2) (length ws) h))
 
-  pub target_short : length ws ≤ places / 2 → places < length part → Ends replaced.NoRoom old
+  pub target_short : length ws ≤ places / 2 → places < length part → Ends (Err replace_error.NoRoom) old
   unfolding scratch_short
   target_short h k = full (ap₂ ◌||◌ (le-ltb (places / 2) (length ws) h) (lt-ltb places (length part) k))
 
@@ -77,11 +78,11 @@ module _ (ws part : List ℕ) (name places : ℕ) (old : List ℕ) where
     unfolding scratch_short
     enough = ap₂ ◌||◌ (le-ltb (places / 2) (length ws) h) (le-ltb places (length part) k)
 
-    pub answered : over ≡ false → (r : Replaced) (out : List ℕ) → Leaves (replaced_by (rewritten_words part name ws) ws old) r out → Ends r out
+    pub answered : over ≡ false → (r : Result ℕ ReplaceError) (out : List ℕ) → Leaves (replaced_by (rewritten_words part name ws) ws old) r out → Ends r out
     unfolding replacement
     answered e r out a = (a.0 ∙ sym (ap₂ (λ (b d : Bool). (done_by b d).answer) enough e), a.1 ∙ sym (ap₂ (λ (b d : Bool). (done_by b d).out) enough e))
 
-    pub never : over ≡ true → Ends replaced.Broken old
+    pub never : over ≡ true → Ends (Err replace_error.Broken) old
     unfolding replacement
     never e = (sym (ap₂ (λ (b d : Bool). (done_by b d).answer) enough e), sym (ap₂ (λ (b d : Bool). (done_by b d).out) enough e))
 
@@ -162,7 +163,7 @@ module _ (ws part : List ℕ) (name places : ℕ) (old : List ℕ) where
   abbrev short : Bool
   short = short_of_room ws part places (length old)
 
-  abbrev Ended : Replaced → List ℕ → Type 0
+  abbrev Ended : Result ℕ ReplaceError → List ℕ → Type 0
   Ended r out = Leaves (replacement (replaceable ws part name) short last q ws old) r out
 
   may : (s t : Bool) → t ≡ every formed_word ws → s ≡ sound ws part name → replaceable ws part name ≡ (t && s)
@@ -173,52 +174,56 @@ module _ (ws part : List ℕ) (name places : ℕ) (old : List ℕ) where
   and_false true = refl
   and_false false = refl
 
-  broken : replaceable ws part name ≡ false → Ended replaced.Broken old
+  broken : replaceable ws part name ≡ false → Ended (Err replace_error.Broken) old
   unfolding replacement
   broken e = (sym (ap (λ (b : Bool). (replacement b short last q ws old).answer) e), sym (ap (λ (b : Bool). (replacement b short last q ws old).out) e))
 
-  pub tests_fail : false ≡ every formed_word ws → Ended replaced.Broken old
+  pub tests_fail : false ≡ every formed_word ws → Ended (Err replace_error.Broken) old
   tests_fail e = broken (may (sound ws part name) false e refl)
 
-  requested : (s b : Bool) → sound ws part name ≡ s → ltb (length old) (length ws) ≡ b → (r : Request) → r ≡ request_answer (sound ws part name) (ltb (length old) (length ws)) → r ≡ request_answer s b
+  requested : (s b : Bool) → sound ws part name ≡ s → ltb (length old) (length ws) ≡ b → (r : Result ⊤ Fault) → r ≡ request_answer (sound ws part name) (ltb (length old) (length ws)) → r ≡ request_answer s b
   requested s b e f r g = g ∙ ap₂ request_answer e f
 
-  pub request_fails : request.Broken ≡ request_answer (sound ws part name) (ltb (length old) (length ws)) → Ended replaced.Broken old
+  pub request_fails : Err fault.Broken ≡ request_answer (sound ws part name) (ltb (length old) (length ws)) → Ended (Err replace_error.Broken) old
   unfolding request_answer
   request_fails e = go (sound ws part name) refl (ltb (length old) (length ws)) refl
     where
-      go : (s : Bool) → sound ws part name ≡ s → (b : Bool) → ltb (length old) (length ws) ≡ b → Ended replaced.Broken old
+      go : (s : Bool) → sound ws part name ≡ s → (b : Bool) → ltb (length old) (length ws) ≡ b → Ended (Err replace_error.Broken) old
       go false f b g = broken (may false (every formed_word ws) refl (sym f) ∙ and_false (every formed_word ws))
-      go true f true g = (let x = requested true true f g request.Broken e in let z : ◌≡◌ {A = ℕ} 0 1 = cc in absurd (omega arith))
-      go true f false g = (let x = requested true false f g request.Broken e in let z : ◌≡◌ {A = ℕ} 0 1 = cc in absurd (omega arith))
+      go true f true g = (let x = requested true true f g (Err fault.Broken) e in let z : ◌≡◌ {A = ℕ} 0 1 = cc in absurd (omega arith))
+      go true f false g = (let x = requested true false f g (Err fault.Broken) e in let z : ◌≡◌ {A = ℕ} 0 1 = cc in absurd (omega arith))
 
-  pub request_full : true ≡ every formed_word ws → request.NoRoom ≡ request_answer (sound ws part name) (ltb (length old) (length ws)) → Ended replaced.NoRoom old
+  pub request_full : true ≡ every formed_word ws → Err fault.NoRoom ≡ request_answer (sound ws part name) (ltb (length old) (length ws)) → Ended (Err replace_error.NoRoom) old
   unfolding request_answer replacement short_of_room
   request_full t e = go (sound ws part name) refl (ltb (length old) (length ws)) refl
     where
-      go : (s : Bool) → sound ws part name ≡ s → (b : Bool) → ltb (length old) (length ws) ≡ b → Ended replaced.NoRoom old
-      go false f b g = (let x = requested false b f g request.NoRoom e in let z : ◌≡◌ {A = ℕ} 0 1 = cc in absurd (omega arith))
-      go true f false g = (let x = requested true false f g request.NoRoom e in let z : ◌≡◌ {A = ℕ} 0 1 = cc in absurd (omega arith))
+      go : (s : Bool) → sound ws part name ≡ s → (b : Bool) → ltb (length old) (length ws) ≡ b → Ended (Err replace_error.NoRoom) old
+      go false f b g = (let x = requested false b f g (Err fault.NoRoom) e in let z : ◌≡◌ {A = ℕ} 0 1 = cc in absurd (omega arith))
+      go true f false g = (let x = requested true false f g (Err fault.NoRoom) e in let z : ◌≡◌ {A = ℕ} 0 1 = cc in absurd (omega arith))
       go true f true g =
           let m = may true true t (sym f) in (
             sym (ap₂ (λ (a b : Bool). (replacement a (b || scratch_short ws part places) last q ws old).answer) m g),
             sym (ap₂ (λ (a b : Bool). (replacement a (b || scratch_short ws part places) last q ws old).out) m g),
           )
 
-  module _ (t : true ≡ every formed_word ws) (e : request.Sound ≡ request_answer (sound ws part name) (ltb (length old) (length ws))) where
+  pub request_refused : true ≡ every formed_word ws → (f : Fault) → Err f ≡ request_answer (sound ws part name) (ltb (length old) (length ws)) → Ended (Err (by_fault f)) old
+  request_refused t fault.Broken e = request_fails e
+  request_refused t fault.NoRoom e = request_full t e
+
+  module _ (t : true ≡ every formed_word ws) (e : Ok tt ≡ request_answer (sound ws part name) (ltb (length old) (length ws))) where
     abbrev has : Sound ws part name (length old)
     has = sound_has ws part name (length old) e
 
     pub asked : Trees ws × (trees_in part ≡ some 1) × (kind_of name ≡ 0) × (length ws ≤ length old)
     asked = (record { count = has.trees; complete = has.words; formed = subst T t tt }, has.one, has.symbol, has.fits)
 
-    pub done : (r : Replaced) (out : List ℕ) → Leaves (replacement true (scratch_short ws part places) last q ws old) r out → Ended r out
+    pub done : (r : Result ℕ ReplaceError) (out : List ℕ) → Leaves (replacement true (scratch_short ws part places) last q ws old) r out → Ended r out
     unfolding request_answer short_of_room
     done r out a = go (sound ws part name) refl (ltb (length old) (length ws)) refl
       where
         go : (s : Bool) → sound ws part name ≡ s → (b : Bool) → ltb (length old) (length ws) ≡ b → Ended r out
-        go false f b g = (let x = requested false b f g request.Sound e in let z : ◌≡◌ {A = ℕ} 0 1 = cc in absurd (omega arith))
-        go true f true g = (let x = requested true true f g request.Sound e in let z : ◌≡◌ {A = ℕ} 0 1 = cc in absurd (omega arith))
+        go false f b g = (let x = requested false b f g (Ok tt) e in let z : ◌≡◌ {A = ℕ} 0 1 = cc in absurd (omega arith))
+        go true f true g = (let x = requested true true f g (Ok tt) e in let z : ◌≡◌ {A = ℕ} 0 1 = cc in absurd (omega arith))
         go true f false g =
             let m = may true true t (sym f) in (
               a.0 ∙ sym (ap₂ (λ (a b : Bool). (replacement a (b || scratch_short ws part places) last q ws old).answer) m g),

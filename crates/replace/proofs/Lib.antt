@@ -4,3 +4,4 @@ pub mod Rewriting
 pub mod Ends
 pub mod closed
 pub mod replacing
+pub mod Faults

@@ -1,22 +1,25 @@
 -- The two functions that call each other, turn by turn, with the slices that they lend. Assumes nothing.
-use Rattle.std.proofs.Common.{◌≡◌, ℕ, ◌+◌, ◌-◌, ◌*◌, ◌<◌, ◌≤◌, List, [], ◌∷◌, ◌++◌, length, get_or, take, drop, set, sym, refl, ap, ◌∙◌, subst, arith, length-append, length-drop, length-take-le, drop-drop, drop_at}
+use Rattle.std.specs.Result.{IsErr}
+use mathlib.Core.Bool.{Bool, true, false}
+use Rattle.std.specs.Prelude.{Ok, Err, Result}
+use Rattle.replace.specs.declared.NotConstant.{NotConstant}
+use Rattle.std.specs.Prelude.{Some}
+use Rattle.std.proofs.Common.{◌≡◌, ℕ, ◌+◌, ◌-◌, ◌*◌, ◌<◌, ◌≤◌, List, [], ◌∷◌, ◌++◌, length, get_or, take, drop, set, sym, refl, ap, ◌∙◌, subst, arith, length-append, length-drop, drop-drop, drop_at}
 use mathlib.Core.Option.{some}
 use borrow.Rule.Slice.PartMut.{put_mid}
 use Rattle.spec_tree.specs.Outcome.{Outcome}
 use Rattle.spec_tree.specs.Facts.{size}
 use Rattle.spec_tree.specs.Tokens.{words_of, run_at}
-use Rattle.words.specs.tokens.Answers.{end_answer}
-use Rattle.words.specs.declared.tokens.Run.TheVariants as run
+use Rattle.words.specs.tokens.Answers.{There, end_answer}
 use Rattle.words.proofs.words.Rewriting.{whole_there, one_long}
 use Rattle.replace.specs.factors.Places.{tree}
 use Rattle.replace.specs.replacing.Deciding.{Trees, Target, PassedAt, Within, rewritten_words, Match, product_out, Wrote, Left}
-use Rattle.replace.proofs.replacing.Scanning.{Scanned, trees_after, target_within, turn_equal, turn_stays, turn_passed, long_within, turn_matched, matched_few, turn_refused, here_refused}
+use Rattle.replace.proofs.replacing.Scanning.{Scanned, trees_after, turn_equal, turn_stays, turn_passed, long_within, turn_matched, turn_refused, here_refused}
 use Rattle.replace.proofs.replacing.Factoring.{Factored, here_within, here_smaller, here_scratch, here_room, here_inside, run_trees, run_long, factor_turns, factor_refused}
 use Rattle.replace.specs.Answers.{Decides, Writes}
 use Rattle.replace.specs.declared.Decision.{Decision}
+use Rattle.replace.specs.declared.Matched.{Matched}
 use Rattle.replace.specs.declared.Decision.TheVariants as decision
-use Rattle.replace.specs.declared.Step.{Step}
-use Rattle.replace.specs.declared.Step.TheVariants as step
 use Rattle.spec_tree.proofs.Lists.{rest_is}
 
 -- what is lent of a slice from a place on
@@ -30,11 +33,15 @@ some_run : (us : List ℕ) → Trees us → 0 < length us → (n : ℕ) × (word
 some_run [] h p = absurd (omega arith)
 some_run (w ∷ us) h p = whole_there w us h.count h.complete
 
-wrote_is : (o : _) (limit : ℕ) (old : List ℕ) (r : Step) (out : List ℕ) (n : ℕ) → r ≡ step.Wrote n → Writes o limit old r out → Wrote o old n out
-wrote_is o limit old r out n e w = subst (λ (q : Step). Writes o limit old q out) e w
+wrote_is : (o : _) (limit : ℕ) (old : List ℕ) (r : Result ℕ NotConstant) (out : List ℕ) (n : ℕ) → r ≡ Ok n → Writes o limit old r out → Wrote o old n out
+wrote_is o limit old r out n e w = subst (λ (q : Result ℕ NotConstant). Writes o limit old q out) e w
 
-left_is : (o : _) (limit : ℕ) (old : List ℕ) (r : Step) (out : List ℕ) → r ≡ step.Refused → Writes o limit old r out → Left o limit old out
-left_is o limit old r out e w = subst (λ (q : Step). Writes o limit old q out) e w
+left_is : (o : _) (limit : ℕ) (old : List ℕ) (r : Result ℕ NotConstant) (out : List ℕ) (f : NotConstant) → r ≡ Err f → Writes o limit old r out → Left o limit old out
+left_is o limit old r out f e w = subst (λ (q : Result ℕ NotConstant). Writes o limit old q out) e w
+
+pub writes_left : (o : Outcome (List ℕ)) (limit : ℕ) (old : List ℕ) (r : Result ℕ NotConstant) (out : List ℕ) → IsErr r → Left o limit old out → Writes o limit old r out
+writes_left o limit old (Ok n) out e l = absurd (let z : ◌≡◌ {A = Bool} false true = e in (let y : ◌≡◌ {A = ℕ} 0 1 = cc in omega arith))
+writes_left o limit old (Err f) out e l = l
 
 -- what was written after a head is written after it
 module _ (old out₀ head : List ℕ) (e : out₀ ≡ head ++ drop (length head) old) where
@@ -67,25 +74,19 @@ module _
   pub asked_some : 0 < length (from ws i)
   asked_some = omega (arith, from_long ws i)
 
-  module _ (new : List ℕ) (r : Decision) (d : Decides part name (from ws i) new r) where
+  module _ (new : List ℕ) (r : Result Decision NotConstant) (d : Decides part name (from ws i) new r) where
     there : Decides part name (drop i ws) new r
     there = subst (λ (us : List ℕ). Decides part name us new r) (rest_is ws i) d
 
-    pub equal_within : r ≡ decision.Equal → i + length part ≤ length ws
-    equal_within q = target_within part name ws old t h room s more (subst (Decides part name (drop i ws) new) q there)
-
-    pub by_equal : r ≡ decision.Equal → Scanned part name ws old (set out o name) (i + length part) (o + 1)
+    pub by_equal : r ≡ Ok decision.Equal → Scanned part name ws old (set out o name) (i + length part) (o + 1)
     by_equal q = turn_equal part name ws old t h room s more (subst (Decides part name (drop i ws) new) q there) (one_long part t.one)
 
-    pub by_stays : r ≡ decision.Stays → Scanned part name ws old (set out o (get_or ws i 0)) (i + 1) (o + 1)
+    pub by_stays : r ≡ Ok decision.Stays → Scanned part name ws old (set out o (get_or ws i 0)) (i + 1) (o + 1)
     by_stays q = turn_stays part name ws old t h room s more (get_or ws i 0) refl (subst (Decides part name (drop i ws) new) q there)
 
-    module _ (n : ℕ) (q : r ≡ decision.Passed n) where
+    module _ (n : ℕ) (q : r ≡ Ok (decision.Passed n)) where
       passed_there : PassedAt part name (drop i ws) n
       passed_there = subst (Decides part name (drop i ws) new) q there
-
-      pub some_passed : 1 ≤ n
-      some_passed = passed_there.some_word
 
       pub passed_fits : i + n ≤ length ws
       passed_fits = (let a = passed_there.within in let b = length-drop i ws in omega arith)
@@ -93,22 +94,30 @@ module _
       copied : take (i + n - i) (drop i ws) ≡ take n (drop i ws)
       copied = (let z : i + n - i ≡ n = omega arith in ap (λ (k : ℕ). take k (drop i ws)) z)
 
-      pub copied_fits : length (take (i + n - i) (drop i ws)) ≤ length (from out o)
-      copied_fits =
-          (let a = ap length copied ∙ length-take-le n (drop i ws) passed_there.within in let b = passed_fits in let c = from_long out o in omega (arith, s.fewer, s.long))
-
       pub by_passed :
           (x : List ℕ) → x ≡ take (i + n - i) (drop i ws) ++ drop (length (take (i + n - i) (drop i ws))) (from out o)
           → Scanned part name ws old (put_mid o (length out - o) out x) (i + n) (o + n)
       by_passed x e =
           turn_passed part name ws old t h room s more n passed_there x (e ∙ ap (λ (l : List ℕ). l ++ drop (length l) (from out o)) copied)
 
-    pub by_refused : r ≡ decision.Refused → Left (rewritten_words part name ws) (length ws) old out
-    by_refused q =
+    pub by_refused : (f : NotConstant) → r ≡ Err f → Left (rewritten_words part name ws) (length ws) old out
+    by_refused f q =
         let n = some_run (drop i ws) (trees_after ws i h) (omega (arith, length-drop i ws)) in
         here_refused part name ws old t h room s more (subst (Decides part name (drop i ws) new) q there) n.0 n.1
 
-    module _ (left copies code long : ℕ) (q : r ≡ decision.Matched left copies code long) where
+    module _ (m : Matched) (q : r ≡ Ok (decision.Matched m)) where
+      abbrev left : ℕ
+      left = m.left
+
+      abbrev copies : ℕ
+      copies = m.copies
+
+      abbrev code : ℕ
+      code = m.code
+
+      abbrev long : ℕ
+      long = m.long
+
       pub match_asked : Match part name (from ws i) new left copies code long
       match_asked = subst (Decides part name (from ws i) new) q d
 
@@ -124,21 +133,17 @@ module _
       pub lent_fits : long ≤ length (from out o)
       lent_fits = (let a = long_fits in let b = from_long out o in omega (arith, s.fewer, s.long))
 
-      module _ (x : List ℕ) (lx : length x ≡ length (from out o)) (r2 : Step) (w : Writes (product_out part name (from ws i)) long (from out o) r2 x) where
+      module _ (x : List ℕ) (lx : length x ≡ length (from out o)) (r2 : Result ℕ NotConstant) (w : Writes (product_out part name (from ws i)) long (from out o) r2 x) where
         w_there : Writes (product_out part name (drop i ws)) long (from out o) r2 x
         w_there = subst (λ (us : List ℕ). Writes (product_out part name us) long (from out o) r2 x) (rest_is ws i) w
 
-        pub by_product : (n : ℕ) → r2 ≡ step.Wrote n → Scanned part name ws old (put_mid o (length out - o) out x) (i + long) (o + n)
+        pub by_product : (n : ℕ) → r2 ≡ Ok n → Scanned part name ws old (put_mid o (length out - o) out x) (i + long) (o + n)
         by_product n e =
             turn_matched part name ws old t h room s more new left copies code long match_there n x (wrote_is (product_out part name (drop i ws)) long (from out o) r2 x n e w_there)
 
-        pub product_few : (n : ℕ) → r2 ≡ step.Wrote n → n ≤ long
-        product_few n e =
-            matched_few part name ws old t h room s more new left copies code long match_there n x (wrote_is (product_out part name (drop i ws)) long (from out o) r2 x n e w_there)
-
-        pub by_product_refused : r2 ≡ step.Refused → Left (rewritten_words part name ws) (length ws) old (put_mid o (length out - o) out x)
-        by_product_refused e =
-            turn_refused part name ws old t h room s more new left copies code long match_there x lx (left_is (product_out part name (drop i ws)) long (from out o) r2 x e w_there)
+        pub by_product_refused : (f : NotConstant) → r2 ≡ Err f → Left (rewritten_words part name ws) (length ws) old (put_mid o (length out - o) out x)
+        by_product_refused f e =
+            turn_refused part name ws old t h room s more new left copies code long match_there x lx (left_is (product_out part name (drop i ws)) long (from out o) r2 x f e w_there)
 
 -- ---- the factors left of a product
 
@@ -152,14 +157,13 @@ module _
   within : Within ws long at
   within = here_within part name t ws h places₀ left copies code long m old s more
 
-  pub never_broken : run.Broken ≡ end_answer at (run_at ws at) → ⊥
-  unfolding end_answer
-  never_broken e = (let x = e ∙ ap (end_answer at) within.run in let z : ◌≡◌ {A = ℕ} 0 1 = cc in omega arith)
+  pub there_is : There ws at
+  there_is = (size (tree ws at), within.run)
 
-  module _ (end : ℕ) (e : run.Ends end ≡ end_answer at (run_at ws at)) where
+  module _ (end : ℕ) (e : Some end ≡ end_answer at (run_at ws at)) where
     pub end_is : end ≡ at + size (tree ws at)
     unfolding end_answer
-    end_is = (let x : run.Ends end ≡ run.Ends (at + size (tree ws at)) = e ∙ ap (end_answer at) within.run in cc)
+    end_is = (let x : Some end ≡ Some (at + size (tree ws at)) = e ∙ ap (end_answer at) within.run in cc)
 
     long_is : end - at ≡ size (tree ws at)
     long_is = (let z = end_is in omega arith)
@@ -203,11 +207,11 @@ module _
     pub o_inside : o ≤ length out
     o_inside = here_inside part name t ws h places₀ left copies code long m old s more room
 
-    module _ (y z : List ℕ) (ly : length y ≡ length (from out o)) (lz : length z ≡ length (from places left)) (r : Step) (w : Writes (rewritten_words part name slice) (length slice) (from out o) r y) where
+    module _ (y z : List ℕ) (ly : length y ≡ length (from out o)) (lz : length z ≡ length (from places left)) (r : Result ℕ NotConstant) (w : Writes (rewritten_words part name slice) (length slice) (from out o) r y) where
       w_run : Writes (rewritten_words part name (take (size (tree ws at)) (drop at ws))) (length (take (size (tree ws at)) (drop at ws))) (from out o) r y
       w_run = subst (λ (us : List ℕ). Writes (rewritten_words part name us) (length us) (from out o) r y) slice_is w
 
-      pub few : (n : ℕ) → r ≡ step.Wrote n → o + n ≤ length out
+      pub few : (n : ℕ) → r ≡ Ok n → o + n ≤ length out
       few n q =
           (let a = wrote_is (rewritten_words part name slice) (length slice) (from out o) r y n q w in
           let b = ap length a.words ∙ length-append a.new (drop n (from out o)) in
@@ -217,13 +221,13 @@ module _
           omega arith)
 
       pub by_factor :
-          (n : ℕ) → r ≡ step.Wrote n
+          (n : ℕ) → r ≡ Ok n
           → Factored part name t ws h places₀ left copies code long m old (put_mid o (length out - o) out y) (put_mid left (length places - left) places z) (o + n) (j + 1)
       by_factor n q =
           factor_turns part name t ws h places₀ left copies code long m old s more room n y
           (wrote_is (rewritten_words part name (take (size (tree ws at)) (drop at ws))) (length (take (size (tree ws at)) (drop at ws))) (from out o) r y n q w_run) z (lz ∙ ap length (rest_is places left))
 
-      pub by_factor_refused : r ≡ step.Refused → Left (product_out part name ws) long old (put_mid o (length out - o) out y)
-      by_factor_refused q =
+      pub by_factor_refused : (f : NotConstant) → r ≡ Err f → Left (product_out part name ws) long old (put_mid o (length out - o) out y)
+      by_factor_refused f q =
           factor_refused part name t ws h places₀ left copies code long m old s more room y
-          (left_is (rewritten_words part name (take (size (tree ws at)) (drop at ws))) (length (take (size (tree ws at)) (drop at ws))) (from out o) r y q w_run)
+          (left_is (rewritten_words part name (take (size (tree ws at)) (drop at ws))) (length (take (size (tree ws at)) (drop at ws))) (from out o) r y f q w_run)

@@ -1,39 +1,15 @@
 -- Words written at a place: a word again and again, and what stands before the factors of a product. Assumes nothing.
-use Rattle.std.proofs.Common.{◌≡◌, ℕ, ◌+◌, ◌*◌, ◌<◌, ◌≤◌, Bool, true, false, eqb, List, [], ◌∷◌, ◌++◌, length, take, drop, set, sym, refl, ap, ◌∙◌, subst, ap₂, append_assoc, arith, length-append, length-set, take-append-drop, drop-set-lt, eq-eqb, ne_eqb}
-use Rattle.words.proofs.words.Scanning.{Put, put_one, put_more}
+use Rattle.std.proofs.Common.{◌≡◌, ℕ, zero, suc, replicate, ◌+◌, ◌*◌, ◌<◌, Bool, true, false, eqb, List, [], ◌∷◌, ◌++◌, length, take, drop, set, sym, refl, ap, ◌∙◌, ap₂, append_assoc, arith, length-append, drop-set-lt, eq-eqb, ne_eqb}
 use Rattle.replace.specs.replacing.Replacing.{repeated, coefficient_words, head_words}
-use Rattle.replace.proofs.replacing.Products.{repeated_long, repeated_more}
+use Rattle.replace.proofs.replacing.Products.{repeated_long}
 
 -- ---- a word again and again
 
-pub record Repeating (old : List ℕ) (w n at : ℕ) (out : List ℕ) (k : ℕ) : Type 0 where
-  pub most : k ≤ n
-  pub put : Put old at (repeated k w) out
-  pub long : length out ≡ length old
-
-pub repeat_starts : (old : List ℕ) (w n at : ℕ) → Repeating old w n at old 0
+-- a word n times, by the library's word
+pub repeated_is : (n w : ℕ) → replicate n w ≡ repeated n w
 unfolding repeated
-repeat_starts old w n at =
-    let z : at + 0 ≡ at = omega arith in
-    record { most = omega arith; put = sym (ap (λ (k : ℕ). take at old ++ drop k old) z ∙ take-append-drop at old); long = refl }
-
-pub repeat_turns : {old : List ℕ} {w n at : ℕ} {out : List ℕ} {k : ℕ} → at + n ≤ length old → Repeating old w n at out k → k < n → Repeating old w n at (set out (at + k) w) (k + 1)
-repeat_turns {old} {w} {n} {at} {out} {k} f r h =
-    let l = repeated_long k w in
-    let o = put_one out (at + k) w (omega (arith, r.long)) in
-    let e : at + k ≡ at + length (repeated k w) = omega arith in
-    record {
-      most = omega arith;
-      put = subst (λ (x : List ℕ). Put old at x (set out (at + k) w)) (repeated_more k w) (put_more old at (repeated k w) (w ∷ []) out (set out (at + k) w) (at + k) (omega arith) e r.put o);
-      long = length-set out (at + k) w ∙ r.long;
-    }
-
-pub repeat_ends :
-    {old : List ℕ} {w n at : ℕ} {out : List ℕ} {k : ℕ} → Repeating old w n at out k → n ≤ k → out ≡ take at old ++ (repeated n w ++ drop (at + n) old)
-repeat_ends {old} {w} {n} {at} {out} {k} r h =
-    let e : k ≡ n = omega (arith, r.most) in
-    let l = repeated_long n w in
-    subst (λ (j : ℕ). Put old at (repeated j w) out) e r.put ∙ ap (λ (j : ℕ). take at old ++ (repeated n w ++ drop (at + j) old)) l
+repeated_is zero w = refl
+repeated_is (suc n) w = ap (λ (l : List ℕ). w ∷ l) (repeated_is n w)
 
 -- ---- before the factors
 

@@ -1,31 +1,24 @@
-// `flatten_mul_factors` of the source over words (Tokens): a product's coefficient, multiplied as f64 in the source's order, and where its factors stand among
-// the words. A Mul and a Neg are passed through, a constant goes into the coefficient, and any other node is a factor.
+// `flatten_mul_factors` of the source over words (Tokens): a product's coefficient, multiplied as f64 in the source's
+// order, and where its factors stand among the words. A Mul and a Neg are passed through, a constant goes into the
+// coefficient, and any other node is a factor.
 ghost use Rattle.std.specs.Prelude.{◌≡◌, ◌+◌, ◌≤◌, false, map, length, slice_index};
 ghost use Rattle.spec_tree.specs.Facts.{total, size};
 ghost use Rattle.replace.specs.factors.Places.{tree, trees_from, Stands, passes_through, TreeFlat, EachFlat};
 ghost use Rattle.replace.specs.factors.Answers.{flatten_answer};
 
+use words::fault::Fault;
 use words::layout::{CONST, KINDS, MUL, NEG, SYM};
-use words::tokens::Run;
+use words::tokens::{end_of, operand_count, tree_end};
 
 // A product's coefficient and how many factors it has.
-#[derive(Drop)]
+#[derive(Clone, Copy, Debug, PartialEq)]
 pub struct Product {
     pub coefficient: f64,
     pub count: usize,
 }
 
-#[derive(Drop)]
-pub enum Flattened {
-    Of(Product),
-    // No tree starts there.
-    Broken,
-    // Fewer places than the tree has words.
-    NoRoom,
-}
-
 // A product, and the place after its words.
-#[derive(Drop)]
+#[derive(Clone, Copy, Debug, PartialEq)]
 pub struct Passed {
     pub product: Product,
     pub next: usize,
@@ -39,10 +32,11 @@ fn past(tokens: &[u64], at: usize) -> usize
     if tokens[at] % KINDS == SYM {
         return at + 1;
     }
-    words::tokens::tree_end(tokens, at)
+    tree_end(tokens, at)
 }
 
-// A tree that is neither a Mul nor a Neg: a constant is a coefficient with no factor, and any other is a factor itself, whose place is written at `used`.
+// A tree that is neither a Mul nor a Neg: a constant is a coefficient with no factor, and any other is a factor itself,
+// whose place is written at `used`.
 fn flatten_other(tokens: &[u64], at: usize, places: &mut [u64], used: usize) -> Passed
     requires stands { Stands tokens.now at 1 }
     requires at_in_bounds { used + size (tree tokens.now at) ≤ length places.old }
@@ -77,7 +71,7 @@ pub fn flatten_tree(tokens: &[u64], at: usize, places: &mut [u64], used: usize) 
     ensures { TreeFlat tokens.now at places.old used result.product.coefficient result.product.count result.next places.new }
 {
     let w = tokens[at];
-    let operands = words::tokens::operand_count(w) as usize;
+    let operands = operand_count(w) as usize;
     if w % KINDS == MUL {
         return flatten_each(tokens, at + 1, operands, places, used);
     }
@@ -114,13 +108,11 @@ fn flatten_each(tokens: &[u64], at: usize, count: usize, places: &mut [u64], use
     let mut coefficient = first.product.coefficient;
     let mut found = first.product.count;
     let mut next = first.next;
-    let mut left = count - 1;
-    while left > 0 {
+    for _ in 1..count {
         let p = flatten_tree(tokens, next, places, used + found);
         coefficient = coefficient * p.product.coefficient;
         found += p.product.count;
         next = p.next;
-        left -= 1;
     }
     Passed {
         product: Product {
@@ -131,17 +123,14 @@ fn flatten_each(tokens: &[u64], at: usize, count: usize, places: &mut [u64], use
     }
 }
 
-// The coefficient and the number of factors of the tree at `at`; where each factor stands is written in order from the front of `places`.
-pub fn flatten_mul_factors(tokens: &[u64], at: usize, places: &mut [u64]) -> Flattened
+// The coefficient and the number of factors of the tree at `at`; where each factor stands is written in order from the
+// front of `places`.
+pub fn flatten_mul_factors(tokens: &[u64], at: usize, places: &mut [u64]) -> Result<Product, Fault>
     ensures { (result ≡ (flatten_answer tokens.now at places.old).answer) × (places.new ≡ (flatten_answer tokens.now at places.old).places) }
 {
-    let Run::Ends(end) = words::tokens::end_of(tokens, at) else {
-        return Flattened::Broken;
-    };
+    let end = end_of(tokens, at).ok_or(Fault::Broken)?;
     if places.len() < end - at {
-        return Flattened::NoRoom;
+        return Err(Fault::NoRoom);
     }
-    let p = flatten_tree(tokens, at, places, 0);
-    let product = p.product;
-    Flattened::Of(product)
+    Ok(flatten_tree(tokens, at, places, 0).product)
 }

@@ -1,29 +1,20 @@
-// The factors of a product taken out of another's (01, "Rewriting": each target factor is found, the first equal remaining one is removed, the symbol joins the
-// end), again and again. A factor of the product is a place among its words, and the symbol a place past their end; the factors taken out are runs of other words.
-ghost use Rattle.std.specs.Prelude.{◌≡◌, ◌+◌, ◌-◌, ◌<◌, ◌≤◌, ◌⊎◌, ◌++◌, length, take, drop};
+// The factors of a product taken out of another's (01, "Rewriting": each target factor is found, the first equal
+// remaining one is removed, the symbol joins the end), again and again. A factor of the product is a place among its
+// words, and the symbol a place past their end; the factors taken out are runs of other words.
+ghost use Rattle.std.specs.Prelude.{◌≡◌, ◌+◌, ◌-◌, ◌*◌, ◌<◌, ◌≤◌, ◌++◌, length, take, drop};
 ghost use Rattle.words.specs.words.Words.{begins_with};
 ghost use Rattle.replace.specs.matching.Matching.{is_passed, factor_runs, run_end, words_at, remove_runs, names_after};
 ghost use Rattle.replace.specs.matching.Answers.{Seeks, Removes, Lacks, Takes};
 
 use words::layout::{CONST, KINDS, MUL, NEG};
-use words::tokens::{Run, end_of};
+use words::tokens::end_of;
 use words::words::starts_with;
 
-// What is left of some places.
-#[derive(Drop)]
-enum Removed {
-    // How many.
-    Left(usize),
-    // A factor was not there.
-    Missing,
-}
-
-#[derive(Drop)]
-pub enum Taken {
-    // How many places there are then, and how often all factors were there.
-    Out(usize, usize),
-    // Fewer than twice as many words as places.
-    NoRoom,
+// How many places are left in front after factors were taken out, and how often all of them were there.
+#[derive(Clone, Copy, Debug, PartialEq, Eq)]
+pub struct Taken {
+    pub left: usize,
+    pub times: usize,
 }
 
 // Whether a word of a product is passed through: a Mul, a Neg or a constant. Any other starts a factor.
@@ -31,13 +22,7 @@ pub fn is_passed(w: u64) -> bool
     ensures { result ≡ is_passed w }
 {
     let kind = w % KINDS;
-    if kind == MUL {
-        return true;
-    }
-    if kind == NEG {
-        return true;
-    }
-    kind == CONST
+    kind == MUL || kind == NEG || kind == CONST
 }
 
 // The place of the first factor from `from` on, or the end.
@@ -45,15 +30,12 @@ fn next_factor(part: &[u64], from: usize) -> usize
     requires { from ≤ length part.now }
     ensures { Seeks part.now from result }
 {
-    let mut q = from;
-    while q < part.len() {
-        if is_passed(part[q]) {
-            q += 1;
-        } else {
+    for q in from..part.len() {
+        if !is_passed(part[q]) {
             return q;
         }
     }
-    q
+    part.len()
 }
 
 // The place after the tree at a place, or the end where it lacks operands.
@@ -61,10 +43,7 @@ fn end_from(part: &[u64], at: usize) -> usize
     requires { at < length part.now }
     ensures { (result ≡ run_end part.now at) × (at < result) × (result ≤ length part.now) }
 {
-    let Run::Ends(end) = end_of(part, at) else {
-        return part.len();
-    };
-    end
+    end_of(part, at).unwrap_or(part.len())
 }
 
 // Whether the words from a place on begin with a run. A place past the end stands for the name.
@@ -73,10 +52,10 @@ fn stands_at(tokens: &[u64], name: u64, place: u64, run: &[u64]) -> bool
 {
     let from = place as usize;
     if from < tokens.len() {
-        return starts_with(&tokens[from..], run);
+        starts_with(&tokens[from..], run)
+    } else {
+        starts_with(&[name], run)
     }
-    let alone = [name; 1];
-    starts_with(&alone, run)
 }
 
 // Moves the places from j + 1 up to n down by one.
@@ -84,120 +63,108 @@ fn close_gap(places: &mut [u64], j: usize, n: usize)
     requires { (j < n) × (n ≤ length places.old) }
     ensures { (take (n - 1) places.new ≡ take j places.old ++ drop (j + 1) (take n places.old)) × (drop n places.new ≡ drop n places.old) }
 {
-    let mut k = j;
-    while k < n - 1 {
-        places[k] = places[k + 1];
-        k += 1;
-    }
+    places.copy_within(j + 1..n, j);
 }
 
-// Removes for each factor of `part`, in order, the first of the `count` places where an equal tree stands. The search is left where one is missing.
-fn remove_each(tokens: &[u64], part: &[u64], name: u64, places: &mut [u64], count: usize) -> Removed
+// Removes for each factor of `part`, in order, the first of the `count` places where an equal tree stands, and tells
+// how many are left. The search is left where one is missing.
+fn remove_each(
+    tokens: &[u64],
+    part: &[u64],
+    name: u64,
+    places: &mut [u64],
+    count: usize,
+) -> Option<usize>
     requires { count ≤ length places.old }
     ensures { Removes (remove_runs (words_at tokens.now name) (factor_runs part.now) (take count places.old)) places.new result × (drop count places.new ≡ drop count places.old) }
 {
     let mut left = count;
     let mut q = next_factor(part, 0);
-    'outer: loop {
+    // A loop, since each factor tells where the next is sought; it is left by its label where one is missing.
+    'factors: loop {
         if part.len() <= q {
-            return Removed::Left(left);
+            return Some(left);
         }
         let end = end_from(part, q);
-        let mut i = 0;
-        'inner: loop {
-            if left <= i {
-                break 'outer;
-            }
+        for i in 0..left {
             if stands_at(tokens, name, places[i], &part[q..end]) {
-                break 'inner;
+                close_gap(places, i, left);
+                left -= 1;
+                q = next_factor(part, end);
+                continue 'factors;
             }
-            i += 1;
         }
-        close_gap(places, i, left);
-        left -= 1;
-        q = next_factor(part, end);
+        break 'factors;
     }
-    Removed::Missing
+    None
 }
 
-// Whether a factor of `part` stands at none of the `count` places: then they aren't all there, and nothing need be removed to see it.
-fn lacks_factor(tokens: &[u64], part: &[u64], name: u64, places: &[u64], count: usize) -> bool
-    requires { count ≤ length places.now }
-    ensures { Lacks (remove_runs (words_at tokens.now name) (factor_runs part.now) (take count places.now)) result }
+// Whether a factor of `part` stands at none of some places: then they aren't all there, and nothing need be removed to
+// see it.
+fn lacks_factor(tokens: &[u64], part: &[u64], name: u64, places: &[u64]) -> bool
+    ensures { Lacks (remove_runs (words_at tokens.now name) (factor_runs part.now) places.now) result }
 {
     let mut q = next_factor(part, 0);
-    'outer: loop {
-        if part.len() <= q {
-            return false;
-        }
+    // A while, since each factor tells where the next is sought.
+    while q < part.len() {
         let end = end_from(part, q);
-        let mut k = 0;
-        'inner: loop {
-            if count <= k {
-                break 'outer;
-            }
-            if stands_at(tokens, name, places[k], &part[q..end]) {
-                break 'inner;
-            }
-            k += 1;
+        let run = &part[q..end];
+        if !places
+            .iter()
+            .any(|place| stands_at(tokens, name, *place, run))
+        {
+            return true;
         }
         q = next_factor(part, end);
     }
-    true
+    false
 }
 
-// Copies n places from one place to another.
-fn copy_places(places: &mut [u64], from: usize, to: usize, n: usize)
-    requires n_in_bounds { (from + n ≤ length places.old) × (to + n ≤ length places.old) }
-    requires fact { (from + n ≤ to) ⊎ (to + n ≤ from) }
-    ensures { (take n (drop to places.new) ≡ take n (drop from places.old)) × (take to places.new ≡ take to places.old) }
-{
-    let mut k = 0;
-    while k < n {
-        places[to + k] = places[from + k];
-        k += 1;
-    }
-}
-
-// Takes the factors of `part` out of the first `count` places as often as all of them are there, and puts the name's place at the end each time. The places are kept
-// behind themselves until then. Twice `count` times is enough: each time there is a factor less, or one that isn't the name.
-pub fn take_out(tokens: &[u64], part: &[u64], name: u64, places: &mut [u64], count: usize) -> Taken
+// Takes the factors of `part` out of the first `count` places as often as all of them are there, and puts the name's
+// place at the end each time. The places are kept behind themselves until then. Twice `count` times is enough: each
+// time there is a factor less, or one that isn't the name. None where fewer than twice as many places are lent.
+pub fn take_out(
+    tokens: &[u64],
+    part: &[u64],
+    name: u64,
+    places: &mut [u64],
+    count: usize,
+) -> Option<Taken>
     ensures { Takes tokens.now part.now name places.old count places.new result }
 {
     if places.len() / 2 < count {
-        return Taken::NoRoom;
-    }
-    if next_factor(part, 0) == part.len() {
-        return Taken::Out(count, 0);
+        return None;
     }
     let mut left = count;
-    let mut times: usize = 0;
-    while times < 2 * count {
-        if lacks_factor(tokens, part, name, places, left) {
-            return Taken::Out(left, times);
+    if next_factor(part, 0) == part.len() {
+        return Some(Taken { left, times: 0 });
+    }
+    for times in 0..2 * count {
+        if lacks_factor(tokens, part, name, &places[..left]) {
+            return Some(Taken { left, times });
         }
-        copy_places(places, 0, left, left);
-        let Removed::Left(n) = remove_each(tokens, part, name, places, left) else {
-            copy_places(places, left, 0, left);
-            return Taken::Out(left, times);
+        places.copy_within(..left, left);
+        let Some(n) = remove_each(tokens, part, name, places, left) else {
+            places.copy_within(left..2 * left, 0);
+            return Some(Taken { left, times });
         };
         places[n] = tokens.len() as u64;
         left = n + 1;
-        times += 1;
     }
-    Taken::Out(left, times)
+    Some(Taken {
+        left,
+        times: 2 * count,
+    })
 }
 
 // How many of the places at the end are the name's: those from `limit` on.
 pub fn names_at_end(limit: u64, places: &[u64]) -> usize
     ensures { result ≡ names_after limit places.now }
 {
-    let mut k = places.len();
-    while k > 0 {
-        if places[k - 1] < limit {
-            return places.len() - k;
+    for k in (0..places.len()).rev() {
+        if places[k] < limit {
+            return places.len() - 1 - k;
         }
-        k -= 1;
     }
     places.len()
 }

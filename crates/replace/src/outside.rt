@@ -1,5 +1,5 @@
-// `replace_outside_arms` of the source (01, "Scoped fusion"), on words of trees: each equal tree outside the arms of switches becomes a symbol, from one slice
-// to another.
+// `replace_outside_arms` of the source (01, "Scoped fusion"), on words of trees: each equal tree outside the arms of
+// switches becomes a symbol, from one slice to another.
 ghost use Rattle.std.specs.Prelude.{◌≡◌, ◌<◌, ◌≤◌, length};
 ghost use Rattle.std.proofs.Math.Option.{some};
 ghost use Rattle.spec_tree.specs.Tokens.{kind_of, trees_in};
@@ -9,16 +9,17 @@ ghost use Rattle.words.specs.words.Answers.{rewriting};
 ghost use Rattle.replace.specs.outside.Part.{part_of};
 
 use words::copying::copy;
+use words::fault::Fault;
 use words::layout::{BRANCH, KINDS};
-use words::tokens::{Run, end_of};
-use words::words::{Request, Rewritten, check, starts_with};
+use words::tokens::end_of;
+use words::words::{check, starts_with};
 
 // What stands first in some words.
-#[derive(Drop)]
+#[derive(Clone, Copy, Debug, PartialEq, Eq)]
 enum Part {
     Target,
     // A switch: the places after its first operand and after the whole.
-    Switch(usize, usize),
+    Switch { key_end: usize, end: usize },
     // Any other node.
     Node,
 }
@@ -33,22 +34,20 @@ fn first_part(tokens: &[u64], target: &[u64]) -> Part
         return Part::Target;
     }
     let w = tokens[0];
-    if w % KINDS < BRANCH {
+    if w % KINDS < BRANCH || w / KINDS < 1 {
         return Part::Node;
     }
-    if w / KINDS < 1 {
-        return Part::Node;
-    }
-    let Run::Ends(arms) = end_of(tokens, 1) else {
+    let Some(key_end) = end_of(tokens, 1) else {
         return Part::Node;
     };
-    let Run::Ends(end) = end_of(tokens, 0) else {
+    let Some(end) = end_of(tokens, 0) else {
         return Part::Node;
     };
-    Part::Switch(arms, end)
+    Part::Switch { key_end, end }
 }
 
-// Rewrites the words from the left and returns how many were written. The key of a switch is rewritten by a call of its own, and its arms are copied.
+// Rewrites the words from the left and returns how many were written. The key of a switch is rewritten by a call of its
+// own, and its arms are copied.
 fn rewrite(tokens: &[u64], target: &[u64], name: u64, out: &mut [u64]) -> usize
     requires complete { Complete tokens.now }
     requires target_value { (trees_in target.now ≡ some 1) × (kind_of name ≡ 0) }
@@ -57,18 +56,18 @@ fn rewrite(tokens: &[u64], target: &[u64], name: u64, out: &mut [u64]) -> usize
 {
     let mut i = 0;
     let mut o = 0;
+    // A while, since the target and a switch are passed over at once.
     while i < tokens.len() {
-        let part = first_part(&tokens[i..], target);
-        match part {
+        match first_part(&tokens[i..], target) {
             Part::Target => {
                 out[o] = name;
                 i += target.len();
                 o += 1;
             }
-            Part::Switch(arms, end) => {
+            Part::Switch { key_end, end } => {
                 out[o] = tokens[i];
                 let from = i + 1;
-                let to = i + arms;
+                let to = i + key_end;
                 let rest = o + 1;
                 let n = rewrite(&tokens[from..to], target, name, &mut out[rest..]);
                 let next = i + end;
@@ -88,17 +87,15 @@ fn rewrite(tokens: &[u64], target: &[u64], name: u64, out: &mut [u64]) -> usize
 }
 
 // Each tree equal to the target becomes the symbol, but for those in a switch's operands after the first.
-pub fn replace_outside_arms(tokens: &[u64], target: &[u64], name: u64, out: &mut [u64]) -> Rewritten
+pub fn replace_outside_arms(
+    tokens: &[u64],
+    target: &[u64],
+    name: u64,
+    out: &mut [u64],
+) -> Result<usize, Fault>
     ensures { (result ≡ (rewriting replace_outside_arms tokens.now target.now name out.old).answer)
         × (out.new ≡ (rewriting replace_outside_arms tokens.now target.now name out.old).out) }
 {
-    let request = check(tokens, target, name, out.len());
-    match request {
-        Request::Sound => {
-            let n = rewrite(tokens, target, name, out);
-            Rewritten::Words(n)
-        }
-        Request::Broken => Rewritten::Broken,
-        Request::NoRoom => Rewritten::NoRoom,
-    }
+    check(tokens, target, name, out.len())?;
+    Ok(rewrite(tokens, target, name, out))
 }

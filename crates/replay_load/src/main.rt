@@ -1,27 +1,26 @@
-// Prints what load gives for stored sheets. Standard input has a sheet on each line (compare/sheets/stored.rs says how it is laid out). Load is called on each, and
-// a line says what it returns, and a digest of all that it leaves in memory. The file `stdout` has what a reading of the paper in Rust gives for these sheets.
+// Prints what load gives for stored sheets. Standard input has a sheet on each line (compare/sheets/stored.rs says how
+// it is laid out). Load is called on each, and a line says what it returns, and a digest of all that it leaves in
+// memory. The file `stdout` has what a reading of the paper in Rust gives for these sheets.
 #![tactic(auto)]
 
 ghost use Rattle.std.specs.Prelude.{◌≤◌, length};
 
-use load::{Loaded, load};
+use load::{Refused, Table, load};
 use std::io::Stdout;
 use stdio::{read_front, write_all};
 
 // Bytes that mean something in the list.
-const LF: u8 = 10;
+const REMARK: u8 = b'#';
 
-const REMARK: u8 = 35;
+const PART: u8 = b'|';
 
-const PART: u8 = 124;
+const REPEATED: u8 = b'*';
 
-const REPEATED: u8 = 42;
+const LINE_END: u8 = b'/';
 
-const LINE_END: u8 = 47;
+const TURN: u8 = b'#';
 
-const TURN: u8 = 35;
-
-const ESCAPED: u8 = 92;
+const ESCAPED: u8 = b'\\';
 
 // Where the sheet of a line begins.
 const COLUMNS: usize = 10;
@@ -38,41 +37,18 @@ const HALF: u64 = 4294967296;
 
 // ---- bytes and numbers
 
-// Where b stands first from `at` on, or the end.
-fn find(s: &[u8], at: usize, b: u8) -> usize
-    requires { at ≤ length s.now }
-    ensures { (at ≤ result) × (result ≤ length s.now) }
-{
-    let mut i = at;
-    while i < s.len() {
-        if s[i] == b {
-            return i;
-        }
-        i += 1;
-    }
-    i
-}
-
 // A digit, also a hexadecimal one.
 fn digit(b: u8) -> u64 {
-    if b >= 97 {
-        return ((b - 87) % 16) as u64;
+    match b {
+        b'a'.. => u64::from((b - b'a' + 10) % 16),
+        b'0'.. => u64::from((b - b'0') % 16),
+        _ => 0,
     }
-    if b >= 48 {
-        return ((b - 48) % 16) as u64;
-    }
-    0
 }
 
 // Decimal digits, fewer than 16 of them.
 fn number(s: &[u8]) -> u64 {
-    let mut v = 0;
-    let mut i = 0;
-    while i < s.len() {
-        v = one_digit_more(v, digit(s[i]));
-        i += 1;
-    }
-    v
+    s.iter().fold(0, |v, b| one_digit_more(v, digit(*b)))
 }
 
 fn one_digit_more(v: u64, d: u64) -> u64 {
@@ -92,10 +68,8 @@ fn put(b: u8, out: &mut [u8], n: usize) -> usize {
 
 fn put_all(s: &[u8], out: &mut [u8], from: usize) -> usize {
     let mut n = from;
-    let mut i = 0;
-    while i < s.len() {
-        n = put(s[i], out, n);
-        i += 1;
+    for b in s {
+        n = put(*b, out, n);
     }
     n
 }
@@ -108,30 +82,21 @@ fn put_number(v: u64, out: &mut [u8], n: usize) -> usize {
 
 // The byte of the two digits after the sign.
 fn escaped(s: &[u8]) -> u8 {
-    if s.len() < 3 {
-        return 0;
+    match s {
+        [_, high, low, ..] => (16 * (digit(*high) % 16) + digit(*low) % 16) as u8,
+        _ => 0,
     }
-    let high = digit(s[1]) % 16;
-    let low = digit(s[2]) % 16;
-    (16 * high + low) as u8
 }
 
 // What the signs at the front of s stand for.
 fn put_sign(s: &[u8], turn: u64, out: &mut [u8], n: usize) -> usize {
-    if s.len() == 0 {
-        return n;
+    match s {
+        [] => n,
+        [LINE_END, ..] => put_all(b"\r\n", out, n),
+        [TURN, ..] => put_number(turn, out, n),
+        [ESCAPED, ..] => put(escaped(s), out, n),
+        [b, ..] => put(*b, out, n),
     }
-    let b = s[0];
-    if b == LINE_END {
-        return put_all(b"\r\n", out, n);
-    }
-    if b == TURN {
-        return put_number(turn, out, n);
-    }
-    if b == ESCAPED {
-        return put(escaped(s), out, n);
-    }
-    put(b, out, n)
 }
 
 fn sign_length(b: u8) -> usize
@@ -142,49 +107,40 @@ fn sign_length(b: u8) -> usize
 
 fn put_piece(s: &[u8], turn: u64, out: &mut [u8], from: usize) -> usize {
     let mut n = from;
-    let mut i = 0;
-    while i < s.len() {
-        n = put_sign(&s[i..], turn, out, n);
-        let step = sign_length(s[i]);
-        if s.len() - i < step {
+    let mut rest = s;
+    // No `for`: an escaped byte takes three of the list's.
+    while !rest.is_empty() {
+        n = put_sign(rest, turn, out, n);
+        let step = sign_length(rest[0]);
+        if rest.len() < step {
             return n;
         }
-        i += step;
+        rest = &rest[step..];
     }
     n
 }
 
 fn put_times(s: &[u8], times: u64, out: &mut [u8], from: usize) -> usize {
     let mut n = from;
-    let mut turn = 0;
-    while turn < times {
+    for turn in 0..times {
         n = put_piece(s, turn, out, n);
-        turn += 1;
     }
     n
 }
 
 // A piece, or `*NNNNN:` and a piece that comes so many times.
 fn put_part(s: &[u8], out: &mut [u8], n: usize) -> usize {
-    if s.len() < 7 {
-        return put_piece(s, 0, out, n);
+    if s.len() >= 7 && s[0] == REPEATED {
+        put_times(&s[7..], number(&s[1..6]), out, n)
+    } else {
+        put_piece(s, 0, out, n)
     }
-    if s[0] == REPEATED {
-        return put_times(&s[7..], number(&s[1..6]), out, n);
-    }
-    put_piece(s, 0, out, n)
 }
 
 fn put_sheet(s: &[u8], out: &mut [u8]) -> usize {
     let mut n = 0;
-    let mut at = 0;
-    while at < s.len() {
-        let end = find(s, at, PART);
-        n = put_part(&s[at..end], out, n);
-        if end == s.len() {
-            return n;
-        }
-        at = end + 1;
+    for part in s.split(|b| *b == PART) {
+        n = put_part(part, out, n);
     }
     n
 }
@@ -192,10 +148,8 @@ fn put_sheet(s: &[u8], out: &mut [u8]) -> usize {
 // ---- the call
 
 fn fill(words: &mut [u64]) {
-    let mut i = 0;
-    while i < words.len() {
-        words[i] = FILLED + (i % 65536) as u64;
-        i += 1;
+    for (i, w) in words.iter_mut().enumerate() {
+        *w = FILLED + (i % 65536) as u64;
     }
 }
 
@@ -205,34 +159,13 @@ fn step(d: u64, half: u64) -> u64 {
 
 // The digest goes on with both halves of each word.
 fn digest(from: u64, words: &[u64]) -> u64 {
-    let mut d = from;
-    let mut i = 0;
-    while i < words.len() {
-        let w = words[i];
-        d = step(step(d, w / HALF), w);
-        i += 1;
-    }
-    d
+    words.iter().fold(from, |d, w| step(step(d, *w / HALF), *w))
 }
 
-fn say_decimal(to: Stdout, n: u64) {
-    let mut digits = [0u8; 20];
-    let k = io::decimal(n, &mut digits);
-    write_all(&to, &digits[..k]);
-}
-
-fn say_number(to: Stdout, n: u64) {
-    say_decimal(to, n);
-    write_all(&to, b" ");
-}
-
-// 01's number or 0, the record or how many rows, how many roots, and the digest.
+// 01's number or 0, the record or how many rows, how many roots, and the digest. That a write failed has nobody to
+// tell.
 fn say_answer(to: Stdout, number: u64, count: u64, roots: u64, digest: u64) {
-    say_number(to, number);
-    say_number(to, count);
-    say_number(to, roots);
-    say_decimal(to, digest);
-    write_all(&to, b"\n");
+    let _ = println!(to; "{number} {count} {roots} {digest}");
 }
 
 fn say_sheet(to: Stdout, sheet: &[u8], rows: &mut [u64], roots: &mut [u64]) {
@@ -241,8 +174,8 @@ fn say_sheet(to: Stdout, sheet: &[u8], rows: &mut [u64], roots: &mut [u64]) {
     let loaded = load(sheet, rows, roots);
     let d = digest(digest(0, rows), roots);
     match loaded {
-        Loaded::Table(n, m) => say_answer(to, 0, n as u64, m as u64, d),
-        Loaded::Refused(number, record) => say_answer(to, number, record, 0, d),
+        Ok(Table { rows, roots }) => say_answer(to, 0, rows as u64, roots as u64, d),
+        Err(Refused { refusal, record }) => say_answer(to, u64::from(refusal), record, 0, d),
     }
 }
 
@@ -258,23 +191,9 @@ fn say_lent(
     roots: &mut [u64],
     places: usize,
 ) {
-    if n > sheet.len() {
-        return;
+    if n <= sheet.len() && words <= rows.len() && places <= roots.len() {
+        say_sheet(to, &sheet[..n], &mut rows[..words], &mut roots[..places]);
     }
-    if words > rows.len() {
-        return;
-    }
-    if places > roots.len() {
-        return;
-    }
-    say_sheet(to, &sheet[..n], &mut rows[..words], &mut roots[..places]);
-}
-
-fn is_remark(line: &[u8]) -> bool {
-    if line.len() == 0 {
-        return false;
-    }
-    line[0] == REMARK
 }
 
 fn say_remark(to: Stdout, line: &[u8]) {
@@ -284,7 +203,7 @@ fn say_remark(to: Stdout, line: &[u8]) {
 
 // A remark is printed as it is.
 fn say_line(to: Stdout, line: &[u8]) {
-    if is_remark(line) {
+    if line.starts_with(&[REMARK]) {
         say_remark(to, line);
         return;
     }
@@ -301,14 +220,8 @@ fn say_line(to: Stdout, line: &[u8]) {
 }
 
 fn replay(to: Stdout, list: &[u8]) {
-    let mut at = 0;
-    while at < list.len() {
-        let end = find(list, at, LF);
-        say_line(to, &list[at..end]);
-        if end == list.len() {
-            return;
-        }
-        at = end + 1;
+    for line in list.split(|b| *b == b'\n') {
+        say_line(to, line);
     }
 }
 

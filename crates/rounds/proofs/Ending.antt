@@ -2,13 +2,13 @@
 use Prim.Native.Nat.{ℕ, suc, ◌+◌, ◌-◌, ◌≤◌, ◌<◌}
 use native.Mathlib.Omega.{arith}
 use mathlib.Core.Path.{◌≡◌, refl, sym, ◌∙◌, ap, ap₂, subst}
-use mathlib.Core.Bool.{Bool, true}
-use mathlib.Core.Option.{none, some}
-use mathlib.Core.List.{List, ◌++◌}
+use mathlib.Core.Bool.{Bool}
+use mathlib.Core.Option.{some}
+use mathlib.Core.List.{List}
 use lib.ListN.{length, take, drop, length-append, length-drop}
 use lib.Seq.{take_at, drop_at, drop-drop, length-take-le}
 use lib.Dec.{T}
-use Rattle.spec_tree.specs.Outcome.{Refusal, Outcome, ok, refused}
+use Rattle.spec_tree.specs.Outcome.{Outcome, ok, refused}
 use Rattle.spec_tree.specs.Rows.{Row}
 use Rattle.spec_tree.specs.Facts.{all_operations}
 use Rattle.spec_tree.specs.Tokens.{name_in, read, numbered}
@@ -18,12 +18,15 @@ use Rattle.replace.specs.replacing.Deciding.{Wrote}
 use Rattle.rounds.specs.kept.Sound.{extractable}
 use Rattle.rounds.specs.Answers.{TurnedSo}
 use Rattle.rounds.specs.Rounds.{all_rounds, rounds_by, rounds_answer, Leaves, LeavesWords}
-use Rattle.rounds.specs.declared.Round.{Round}
-use Rattle.rounds.specs.declared.Round.TheVariants as round
+use Rattle.std.specs.Prelude.{Option, Some, None, Result, Ok, Err}
+use Rattle.replace.specs.declared.NotConstant.{NotConstant}
 use Rattle.rounds.specs.declared.Rounds.{Rounds}
-use Rattle.rounds.specs.declared.Rounds.TheVariants as rounds
 use Rattle.rounds.proofs.kept.Steps.{ready_of, ready_so}
 use Rattle.rounds.proofs.kept.Looping.{Going, going_most, going_first, going_done, going_refused, going_on, going_less}
+
+-- what an answer holds
+pub held : (q : Result (Option ℕ) NotConstant) (o p : Option ℕ) → q ≡ Ok o → o ≡ p → q ≡ Ok p
+held q o p e f = subst (λ (x : Option ℕ). q ≡ Ok x) f e
 
 module _ (rows : List Row) (old : List ℕ) (len : ℕ) (scoped : Bool) (first : ℕ) where
   abbrev ws : List ℕ
@@ -38,6 +41,9 @@ module _ (rows : List Row) (old : List ℕ) (len : ℕ) (scoped : Bool) (first :
   abbrev operations_in : List ℕ → ℕ
   operations_in vs = all_operations (read numbered vs)
 
+  abbrev done_with : ℕ → ℕ → Result Rounds NotConstant
+  done_with n m = Ok (record { words = n; made = m })
+
   -- ---- what the loop keeps
 
   pub record Loop (tokens : List ℕ) (words made : ℕ) : Type 0 where
@@ -46,7 +52,7 @@ module _ (rows : List Row) (old : List ℕ) (len : ℕ) (scoped : Bool) (first :
     pub rest : drop len tokens ≡ drop len old
     pub long : length tokens ≡ length old
 
-  abbrev pub Ends : Rounds → List ℕ → Type 0
+  abbrev pub Ends : Result Rounds NotConstant → List ℕ → Type 0
   Ends r out = (r ≡ rounds_answer rows old len scoped first) × LeavesWords rows old len scoped first out
 
   module _ (good : T (extractable rows first (take len old))) (within : len ≤ length old) (few : len ≤ 1927) where
@@ -70,29 +76,29 @@ module _ (rows : List Row) (old : List ℕ) (len : ℕ) (scoped : Bool) (first :
       pub ready : T (extractable rows (first + made) here) × (words ≤ length tokens) × (words ≤ 1927)
       ready = (ready_so rows (first + made) here l.going.ready, omega (arith, l.long, l.most, within), omega (arith, l.most, few))
 
-      ends_with : (o : Outcome (List ℕ)) → ending ≡ o → (r : Rounds) → r ≡ rounds_by o k → (out : List ℕ) → Leaves o len old out → Ends r out
+      ends_with : (o : Outcome (List ℕ)) → ending ≡ o → (r : Result Rounds NotConstant) → r ≡ rounds_by o k → (out : List ℕ) → Leaves o len old out → Ends r out
       unfolding rounds_answer
       ends_with o z r a out b = (a ∙ ap (λ (o : Outcome (List ℕ)). rounds_by o k) (sym z), subst (λ (o : Outcome (List ℕ)). Leaves o len old out) (sym z) b)
 
-      module _ (q : Round) (out : List ℕ) (t : TurnedSo rows tokens words scoped (first + made) q out) where
-        pub turn_last : q ≡ round.Last → Ends (rounds.Done words made) out
+      module _ (q : Result (Option ℕ) NotConstant) (out : List ℕ) (t : TurnedSo rows tokens words scoped (first + made) q out) where
+        pub turn_last : q ≡ Ok None → Ends (Ok (record { words = words; made = made })) out
         unfolding rounds_by all_rounds
         turn_last w =
-            let u = subst (λ (q : Round). TurnedSo rows tokens words scoped (first + made) q out) w t in
+            let u = subst (λ (q : Result (Option ℕ) NotConstant). TurnedSo rows tokens words scoped (first + made) q out) w t in
             let d = going_done rows scoped k first ws here made l.going u.0 in
-            ends_with (ok here) d.0 (rounds.Done words made) (ap₂ rounds.Done (sym here_long) d.1) out
+            ends_with (ok here) d.0 (Ok (record { words = words; made = made })) (ap₂ done_with (sym here_long) d.1) out
             (ap₂ (λ (n : ℕ) (x : List ℕ). take n x) here_long u.1, ap (drop len) u.1 ∙ l.rest)
 
-        pub turn_refused : q ≡ round.Refused → Ends rounds.Refused out
+        pub turn_refused : (e : NotConstant) → q ≡ Err e → Ends (Err e) out
         unfolding rounds_by all_rounds
-        turn_refused w =
-            let u = subst (λ (q : Round). TurnedSo rows tokens words scoped (first + made) q out) w t in
-            ends_with (refused u.2.0) (going_refused rows scoped k first ws here made l.going u.0 u.1 u.2.0 u.2.1) rounds.Refused refl out
+        turn_refused e w =
+            let u = subst (λ (q : Result (Option ℕ) NotConstant). TurnedSo rows tokens words scoped (first + made) q out) w t in
+            ends_with (refused u.2.0) (going_refused rows scoped k first ws here made l.going u.0 u.1 u.2.0 u.2.1) (Err e) refl out
             (ap (drop len) u.3 ∙ l.rest)
 
-        module _ (n : ℕ) (w : q ≡ round.Next n) where
+        module _ (n : ℕ) (w : q ≡ Ok (Some n)) where
           abbrev u : (p : ℕ) × (best_place here (name_in rows) scoped ≡ some p) × Wrote (extract_words (numbered_at here p) (first + made) here) tokens n out
-          u = subst (λ (q : Round). TurnedSo rows tokens words scoped (first + made) q out) w t
+          u = subst (λ (q : Result (Option ℕ) NotConstant). TurnedSo rows tokens words scoped (first + made) q out) w t
 
           abbrev vs : List ℕ
           vs = u.2.new

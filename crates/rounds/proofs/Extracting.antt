@@ -1,13 +1,14 @@
 -- One extraction from `best_place` and `replace_known` (01, "Extraction"). Assumes nothing.
+use Rattle.std.specs.Prelude.{Some, None, Ok, Err}
 use Prim.Native.Nat.{ℕ, ◌+◌, ◌-◌, ◌≤◌}
 use native.Mathlib.Omega.{arith}
 use native.Mathlib.Nat.{zero-add}
-use mathlib.Core.Path.{◌≡◌, sym, ◌∙◌, ap, ap₂, subst}
+use mathlib.Core.Path.{◌≡◌, sym, ◌∙◌, ap, subst}
 use mathlib.Core.Bool.{Bool}
 use mathlib.Core.Option.{none, some}
 use mathlib.Core.List.{List, ◌++◌}
 use lib.ListN.{length, take, drop, length-append, length-drop}
-use lib.Seq.{take_at, length-take-le}
+use lib.Seq.{take_at, drop-drop, length-take-le}
 use Rattle.spec_tree.specs.Outcome.{Refusal, Outcome, ok, refused, ◌>>=◌}
 use Rattle.spec_tree.specs.Facts.{size}
 use Rattle.spec_tree.specs.Rows.{Row}
@@ -15,24 +16,34 @@ use Rattle.spec_tree.specs.Tree.{Tree}
 use Rattle.spec_tree.specs.Tokens.{read, numbered, name_in, run_at}
 use Rattle.spec_tree.proofs.TokenLaws.{complete_length, words_complete}
 use Rattle.words.specs.tokens.Answers.{There, EndsAt, end_answer}
-use Rattle.words.specs.declared.tokens.Run.TheVariants as run
 use Rattle.words.specs.words.Words.{tree_of, name_of}
 use Rattle.words.proofs.words.Scanning.{Put, put_more}
 use Rattle.replace.specs.replacing.Replacing.{replaced_words}
 use Rattle.replace.specs.replacing.Deciding.{Trees, Target, Wrote}
 use Rattle.replace.specs.Answers.{Writes}
-use Rattle.replace.specs.declared.Step.{Step}
-use Rattle.replace.specs.declared.Step.TheVariants as step
 use Rattle.laws.specs.positions.Places.{numbered_at, best_place}
 use Rattle.laws.specs.positions.Rounds.{next_number, extract_words}
 use Rattle.rounds.specs.kept.Sound.{name_word}
 use Rattle.rounds.proofs.kept.Steps.{Ready, ready_of, inside, part_run, may_rewrite, may_replace, extracted_are, stepped}
 use Rattle.rounds.proofs.kept.Looping.{number_first}
 use Rattle.rounds.specs.Answers.{Finds, Chosen, Extracts, Turns, TurnedSo}
-use Rattle.rounds.specs.declared.choice.Best.{Best}
-use Rattle.rounds.specs.declared.choice.Best.TheVariants as best
-use Rattle.rounds.specs.declared.Round.{Round}
-use Rattle.rounds.specs.declared.Round.TheVariants as round
+use Rattle.std.specs.Prelude.{Option, Some, None, Result, Ok, Err}
+use Rattle.replace.specs.declared.NotConstant.{NotConstant}
+
+-- ---- a part copied into others
+
+-- into the k words from n on
+module _ (mid part : List ℕ) (n k : ℕ) (long : length part ≡ k) (fits : n + k ≤ length mid) where
+  many : n + k - n ≡ k
+  many = omega arith
+
+  pub copy_fits : length (take (n + k - n) (drop n mid)) ≡ length part
+  copy_fits = length-take-le (n + k - n) (drop n mid) (omega (arith, length-drop n mid)) ∙ (many ∙ sym long)
+
+  pub copied : (new : List ℕ) → new ≡ part → Put mid n part (take n mid ++ (new ++ drop (n + k - n) (drop n mid)))
+  copied new e =
+      ap (λ (l : List ℕ). take n mid ++ (l ++ drop (n + k - n) (drop n mid))) e
+      ∙ ap (λ (l : List ℕ). take n mid ++ (part ++ l)) (drop-drop (n + k - n) n mid ∙ ap (λ (m : ℕ). drop m mid) (let z : n + (n + k - n) ≡ n + length part = omega (arith, long) in z))
 
 -- ---- an extraction
 
@@ -55,7 +66,7 @@ module _ (rows : List Row) (ws : List ℕ) (scoped : Bool) (at name : ℕ) (h : 
   module _ (end : ℕ) (e : EndsAt ws at end) where
     long : end ≡ at + size target
     unfolding end_answer
-    long = let q : run.Ends end ≡ run.Ends (at + size target) = e ∙ ap (end_answer at) run_is in cc
+    long = let q : Some end ≡ Some (at + size target) = e ∙ ap (end_answer at) run_is in cc
 
     pub within : (at ≤ end) × (end ≤ length ws)
     unfolding run_at
@@ -91,24 +102,24 @@ module _ (rows : List Row) (ws : List ℕ) (scoped : Bool) (at name : ℕ) (h : 
         let r = ready in
         (may_rewrite rows scoped name ws r at h.best, subst (λ (p : List ℕ). Target p (name_word name)) part_same (may_replace rows scoped name ws r at h.best))
 
-    module _ (q : Step) (old mid : List ℕ) (fits : length ws ≤ length old) (a : Writes (replaced_words (tree_of part) (name_of (name_word name)) ws) (length ws) old q mid) where
+    module _ (q : Result ℕ NotConstant) (old mid : List ℕ) (fits : length ws ≤ length old) (a : Writes (replaced_words (tree_of part) (name_of (name_word name)) ws) (length ws) old q mid) where
       abbrev outcome : Outcome (List ℕ)
       outcome = replaced_words (tree_of part) (name_of (name_word name)) ws
 
-      wrote : (n : ℕ) → q ≡ step.Wrote n → Wrote outcome old n mid
-      wrote n w = subst (λ (q : Step). Writes outcome (length ws) old q mid) w a
+      wrote : (n : ℕ) → q ≡ Ok n → Wrote outcome old n mid
+      wrote n w = subst (λ (q : Result ℕ NotConstant). Writes outcome (length ws) old q mid) w a
 
-      pub room : (n : ℕ) → q ≡ step.Wrote n → n + (end - at) ≤ length ws
+      pub room : (n : ℕ) → q ≡ Ok n → n + (end - at) ≤ length ws
       room n w = let d = wrote n w in omega (arith, d.count, fewer d.new d.is, length-append d.new part, part_long)
 
       -- what the run is appended in
-      pub put_room : (n : ℕ) → q ≡ step.Wrote n → n + length part ≤ length mid
+      pub put_room : (n : ℕ) → q ≡ Ok n → n + length part ≤ length mid
       put_room n w =
           let d = wrote n w in
           let fit = room n w in
           omega (arith, ap length d.words, length-append d.new (drop n old), length-drop n old, d.count, fit, fits, part_long)
 
-      pub done : (n : ℕ) → q ≡ step.Wrote n → (out : List ℕ) → Put mid n part out → Extracts ws at name old (step.Wrote (n + (end - at))) out
+      pub done : (n : ℕ) → q ≡ Ok n → (out : List ℕ) → Put mid n part out → Extracts ws at name old (Ok (n + (end - at))) out
       done n w out two =
           let d = wrote n w in
           let fit = room n w in
@@ -118,50 +129,51 @@ module _ (rows : List Row) (ws : List ℕ) (scoped : Bool) (at name : ℕ) (h : 
           let all = put_more old 0 d.new part mid out n (omega (arith, d.count, fit, fits)) (d.count ∙ sym (zero-add (length d.new))) one two in
           (record { new = d.new ++ part; is = made_are d.new d.is; count = count; words = all ∙ ap (λ (k : ℕ). (d.new ++ part) ++ drop k old) (zero-add (length (d.new ++ part)) ∙ sym count) }, fit)
 
-      pub refuses : q ≡ step.Refused → (i : Refusal) × (extract_words target name ws ≡ refused i)
-      refuses w =
-          let d = subst (λ (q : Step). Writes outcome (length ws) old q mid) w a in
+      pub refuses : (e : NotConstant) → q ≡ Err e → (i : Refusal) × (extract_words target name ws ≡ refused i)
+      refuses e w =
+          let d = subst (λ (q : Result ℕ NotConstant). Writes outcome (length ws) old q mid) w a in
           (d.why, words_are ∙ ap (λ (o : Outcome (List ℕ)). o >>= λ l. ok (l ++ part)) d.is)
 
 -- ---- in the place of the words
 
-module _ (old : List ℕ) (len at name : ℕ) (within_old : len ≤ length old) (blank mid : List ℕ) (q : Step) (a : Extracts (take len old) at name blank q mid) where
+module _ (old : List ℕ) (len at name : ℕ) (within_old : len ≤ length old) (blank mid : List ℕ) (q : Result ℕ NotConstant) (a : Extracts (take len old) at name blank q mid) where
   abbrev ws : List ℕ
   ws = take len old
 
-  made : (n : ℕ) → q ≡ step.Wrote n → Wrote (extract_words (numbered_at ws at) name ws) blank n mid × (n ≤ length ws)
-  made n w = subst (λ (q : Step). Extracts ws at name blank q mid) w a
+  made : (n : ℕ) → q ≡ Ok n → Wrote (extract_words (numbered_at ws at) name ws) blank n mid × (n ≤ length ws)
+  made n w = subst (λ (q : Result ℕ NotConstant). Extracts ws at name blank q mid) w a
 
-  pub made_most : (n : ℕ) → q ≡ step.Wrote n → n ≤ len
+  pub made_most : (n : ℕ) → q ≡ Ok n → n ≤ len
   made_most n w = let m = (made n w).1 in omega (arith, m, length-take-le len old within_old)
 
-  front : (n : ℕ) (w : q ≡ step.Wrote n) → take n mid ≡ (made n w).0.new
+  front : (n : ℕ) (w : q ≡ Ok n) → take n mid ≡ (made n w).0.new
   front n w = let d = (made n w).0 in ap (take n) d.words ∙ take_at d.new (drop n blank) n (sym d.count)
 
-  pub made_long : (n : ℕ) → q ≡ step.Wrote n → n ≡ length (take n mid)
+  pub made_long : (n : ℕ) → q ≡ Ok n → n ≡ length (take n mid)
   made_long n w = (made n w).0.count ∙ ap length (sym (front n w))
 
-  pub turned : (n : ℕ) → q ≡ step.Wrote n → (out : List ℕ) → Put old 0 (take n mid) out → Turns old len at name (round.Next n) out
-  turned n w out p =
+  pub turned : (n : ℕ) → q ≡ Ok n → (new : List ℕ) → new ≡ take n mid → Turns old len at name (Ok n) (new ++ drop n old)
+  turned n w new p =
       let d = (made n w).0 in
-      record { new = d.new; is = d.is; count = d.count; words = p ∙ ap₂ (λ (l : List ℕ) (k : ℕ). l ++ drop k old) (front n w) (zero-add (length (take n mid)) ∙ sym (made_long n w)) }
+      record { new = d.new; is = d.is; count = d.count; words = ap (λ (l : List ℕ). l ++ drop n old) (p ∙ front n w) }
 
-  pub turn_refused : q ≡ step.Refused → (i : Refusal) × (extract_words (numbered_at ws at) name ws ≡ refused i)
-  turn_refused w = subst (λ (q : Step). Extracts ws at name blank q mid) w a
+  pub turn_refused : (e : NotConstant) → q ≡ Err e → (i : Refusal) × (extract_words (numbered_at ws at) name ws ≡ refused i)
+  turn_refused e w = subst (λ (q : Result ℕ NotConstant). Extracts ws at name blank q mid) w a
 
 -- ---- a round, from the best place
 
 module _ (rows : List Row) (old : List ℕ) (len : ℕ) (scoped : Bool) (name : ℕ) where
-  pub turned_at :
-      (p : ℕ) → best_place (take len old) (name_in rows) scoped ≡ some p → (r : Round) (out : List ℕ) → Turns old len p name r out
-      → TurnedSo rows old len scoped name r out
-  turned_at p b (round.Next n) out t = (p, b, t)
-  turned_at p b round.Last out t = absurd t
-  turned_at p b round.Refused out t = (p, b, t.0, t.1)
+  -- where a place was found, the round ends as the extraction does
+  module _ (p : ℕ) (b : best_place (take len old) (name_in rows) scoped ≡ some p) (r : Result ℕ NotConstant) (out : List ℕ) (t : Turns old len p name r out) where
+    pub turned_on : (n : ℕ) → r ≡ Ok n → TurnedSo rows old len scoped name (Ok (Some n)) out
+    turned_on n w = (p, b, subst (λ (r : Result ℕ NotConstant). Turns old len p name r out) w t)
 
-  module _ (q : Best) (f : Finds rows (take len old) scoped q) where
-    pub found_at : (p : ℕ) → q ≡ best.At p → best_place (take len old) (name_in rows) scoped ≡ some p
+    pub turned_down : (e : NotConstant) → r ≡ Err e → TurnedSo rows old len scoped name (Err e) out
+    turned_down e w = let u = subst (λ (r : Result ℕ NotConstant). Turns old len p name r out) w t in (p, b, u.0, u.1)
+
+  module _ (q : Option ℕ) (f : Finds rows (take len old) scoped q) where
+    pub found_at : (p : ℕ) → q ≡ Some p → best_place (take len old) (name_in rows) scoped ≡ some p
     found_at p w = subst (Finds rows (take len old) scoped) w f
 
-    pub found_none : q ≡ best.Nothing → best_place (take len old) (name_in rows) scoped ≡ none
+    pub found_none : q ≡ None → best_place (take len old) (name_in rows) scoped ≡ none
     found_none w = subst (Finds rows (take len old) scoped) w f

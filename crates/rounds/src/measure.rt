@@ -1,5 +1,6 @@
-// The facts of a tree among words, from those of its operands: size, cost, depth, and whether it has a symbol; and the key of the chain in which equal trees
-// are looked for, from its word and the classes of its operands. One walk over the operands finds all of it.
+// The facts of a tree among words, from those of its operands: size, cost, depth, and whether it has a symbol; and the
+// key of the chain in which equal trees are looked for, from its word and the classes of its operands. One walk over
+// the operands finds all of it.
 ghost use Rattle.std.specs.Prelude.{◌≡◌, ◌+◌, ◌*◌, ◌^◌, ◌<◌, max, length, get_or};
 ghost use Rattle.spec_tree.specs.Facts.{total, greatest};
 ghost use Rattle.spec_tree.specs.Tokens.{kind_of, takes};
@@ -10,14 +11,15 @@ ghost use Rattle.rounds.specs.value_numbers.Walks.{below, Walk};
 
 use words::layout::{KINDS, SELECT, SYM};
 
-// Each place has PER_PLACE words of facts, in this order; the size is the first.
-const PER_PLACE: usize = 4;
+// Each place has PER_PLACE words of facts, in this order; the size is the first. They are words of one slice, and no
+// structs, since a caller lends the slice, and since it serves for other words when the best place is found.
+pub const PER_PLACE: usize = 4;
 
-const COST: usize = 1;
+pub const COST: usize = 1;
 
-const DEPTH: usize = 2;
+pub const DEPTH: usize = 2;
 
-const SYMBOL: usize = 3;
+pub const SYMBOL: usize = 3;
 
 // Numbers in a key are taken below 2^20, so that no product is too large.
 const PART: u64 = 1048576;
@@ -25,7 +27,7 @@ const PART: u64 = 1048576;
 const FACTOR: u64 = 1021;
 
 // The facts of one tree; `symbol` is 1 where it has a symbol, and else 0. `key` is that of its chain.
-#[derive(Drop)]
+#[derive(Clone, Copy, Debug, PartialEq, Eq)]
 pub struct Facts {
     pub size: u64,
     pub cost: u64,
@@ -41,15 +43,9 @@ fn mix(key: u64, x: u64) -> u64
     key % PART * FACTOR + x % PART
 }
 
-// The larger of two numbers.
-fn larger(a: u64, b: u64) -> u64
-    ensures { result ≡ max a b }
-{
-    if a < b { b } else { a }
-}
-
-// What the `count` trees from `place` on have together: the sums of their sizes and costs, the greatest depth, and whether one has a symbol; and the key of the
-// word w with their classes. The size of each says where the next one starts.
+// What the `count` trees from `place` on have together: the sums of their sizes and costs, the greatest depth, and
+// whether one has a symbol; and the key of the word w with their classes. The size of each says where the next one
+// starts.
 fn walk(facts: &[u64], classes: &[u64], w: u64, place: usize, count: usize) -> Facts
     requires inside { Inside facts.now place count × Walk facts.now classes.now place count }
     requires count_bound { (total (column facts.now 0 place count) < 2 ^ 64) × (total (column facts.now 1 place count) < 2 ^ 64) }
@@ -61,17 +57,15 @@ fn walk(facts: &[u64], classes: &[u64], w: u64, place: usize, count: usize) -> F
     let mut symbol: u64 = 0;
     let mut key = w;
     let mut p = place;
-    let mut left = count;
-    while left > 0 {
+    for _ in 0..count {
         let row = PER_PLACE * p;
         let own = facts[row];
         key = mix(key, classes[p]);
         size += own;
         cost += facts[row + COST];
-        depth = larger(depth, facts[row + DEPTH]);
-        symbol = larger(symbol, facts[row + SYMBOL]);
+        depth = depth.max(facts[row + DEPTH]);
+        symbol = symbol.max(facts[row + SYMBOL]);
         p += own as usize;
-        left -= 1;
     }
     Facts {
         size,
@@ -82,7 +76,8 @@ fn walk(facts: &[u64], classes: &[u64], w: u64, place: usize, count: usize) -> F
     }
 }
 
-// The same for two trees, which most operations have: the second starts after the first.
+// The same for two trees, which most operations have: the second starts after the first. It stands beside `walk` for
+// speed, since it has no loop.
 fn both(facts: &[u64], classes: &[u64], w: u64, place: usize) -> Facts
     requires inside { Inside facts.now place 2 × Walk facts.now classes.now place 2 }
     requires place_bound { (total (column facts.now 0 place 2) < 2 ^ 64) × (total (column facts.now 1 place 2) < 2 ^ 64) }
@@ -96,8 +91,8 @@ fn both(facts: &[u64], classes: &[u64], w: u64, place: usize) -> Facts
     Facts {
         size: size + facts[other],
         cost: facts[row + COST] + facts[other + COST],
-        depth: larger(facts[row + DEPTH], facts[other + DEPTH]),
-        symbol: larger(facts[row + SYMBOL], facts[other + SYMBOL]),
+        depth: facts[row + DEPTH].max(facts[other + DEPTH]),
+        symbol: facts[row + SYMBOL].max(facts[other + SYMBOL]),
         key: mix(key, classes[second]),
     }
 }
@@ -109,9 +104,10 @@ fn of_operands(facts: &[u64], classes: &[u64], w: u64, place: usize, count: usiz
     ensures { Together facts.now classes.now w place count result.size result.cost result.depth result.symbol result.key }
 {
     if count == 2 {
-        return both(facts, classes, w, place);
+        both(facts, classes, w, place)
+    } else {
+        walk(facts, classes, w, place, count)
     }
-    walk(facts, classes, w, place, count)
 }
 
 // The greatest cost of the `count` trees from `place` on, 0 where there are none.
@@ -121,17 +117,16 @@ fn greatest_cost(facts: &[u64], place: usize, count: usize) -> u64
 {
     let mut most: u64 = 0;
     let mut p = place;
-    let mut left = count;
-    while left > 0 {
+    for _ in 0..count {
         let row = PER_PLACE * p;
-        most = larger(most, facts[row + COST]);
+        most = most.max(facts[row + COST]);
         p += facts[row] as usize;
-        left -= 1;
     }
     most
 }
 
-// What the operands of an operation cost, from the sum: of a Select the index and its dearest arm, of any other the sum.
+// What the operands of an operation cost, from the sum: of a Select the index and its dearest arm, of any other the
+// sum.
 fn operands_cost(facts: &[u64], kind: u64, place: usize, count: usize, sum: u64) -> u64
     requires { Inside facts.now place count × (sum ≡ total (column facts.now 1 place count)) }
     ensures { result ≡ operand_costs kind (column facts.now 1 place count) }
@@ -151,7 +146,7 @@ fn operands_cost(facts: &[u64], kind: u64, place: usize, count: usize, sum: u64)
 pub fn symbol_of(w: u64) -> u64
     ensures { result ≡ own_symbol w }
 {
-    if w % KINDS == SYM { 1 } else { 0 }
+    u64::from(w % KINDS == SYM)
 }
 
 // The facts of the operation at a place, from those of its operands, which come after it.

@@ -1,4 +1,5 @@
-// How often each tree stands outside arms (01, "Uses"), counted by its class. In the flat form all places are outside, and nothing is counted.
+// How often each tree stands outside arms (01, "Uses"), counted by its class. In the flat form all places are outside,
+// and nothing is counted.
 ghost use Rattle.std.specs.Prelude.{◌≡◌, ◌+◌, ◌≤◌, ◌<◌, length};
 ghost use Rattle.spec_tree.specs.Tokens.{flag};
 ghost use Rattle.rounds.specs.uses.Marks.{Complete, is_marked};
@@ -7,14 +8,6 @@ ghost use Rattle.rounds.specs.choice.Leading.{HasOutside};
 
 use crate::uses::mark_outside_arms;
 use crate::value_numbers::{OPERATION, SIDES, reset};
-
-// 1 for a place that is marked.
-fn marked(marks: &[u64], i: usize) -> u64
-    requires { i < length marks.now }
-    ensures { result ≡ flag (is_marked marks.now i) }
-{
-    if marks[i] == 0 { 0 } else { 1 }
-}
 
 // Counts a place by its class where it is a marked operation.
 fn count_place(tokens: &[u64], marks: &[u64], classes: &[u64], outside: &mut [u64], i: usize)
@@ -27,7 +20,7 @@ fn count_place(tokens: &[u64], marks: &[u64], classes: &[u64], outside: &mut [u6
         return;
     }
     let place = (class / SIDES) as usize;
-    outside[place] += marked(marks, i);
+    outside[place] += u64::from(marks[i] != 0);
 }
 
 // Counts the marked operations of each class.
@@ -36,9 +29,7 @@ fn tally(tokens: &[u64], marks: &[u64], classes: &[u64], outside: &mut [u64])
     requires counted { Counted tokens.now (is_marked marks.now) (length tokens.now) outside.old }
     ensures { Uses tokens.now (is_marked marks.now) classes.now outside.new }
 {
-    let mut i = tokens.len();
-    while i > 0 {
-        i -= 1;
+    for i in (0..tokens.len()).rev() {
         count_place(tokens, marks, classes, outside, i);
     }
 }

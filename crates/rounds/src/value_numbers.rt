@@ -1,6 +1,7 @@
-// `path_counts` and `count_subexprs` of the source (01, "Uses"): the facts of every place, the classes of equal trees among words of trees, and how often each tree is
-// there, in one pass and in time near the number of words. From the right, an operation looks for its tree among those that stand for their class, in a chain found by its word and the classes of its
-// operands. A leaf's class is its word, so it needs no search, and nobody asks how often it is there.
+// `path_counts` and `count_subexprs` of the source (01, "Uses"): the facts of every place, the classes of equal trees
+// among words of trees, and how often each tree is there, in one pass and in time near the number of words. From the
+// right, an operation looks for its tree among those that stand for their class, in a chain found by its word and the
+// classes of its operands. A leaf's class is its word, so it needs no search, and nobody asks how often it is there.
 ghost use Rattle.std.specs.Prelude.{◌≡◌, true, cond, ◌+◌, ◌*◌, ◌≤◌, ◌<◌, length, get_or, eqb};
 ghost use Rattle.spec_tree.specs.Bytes.{eq_bytes};
 ghost use Rattle.spec_tree.specs.Tokens.{kind_of, takes};
@@ -11,18 +12,9 @@ ghost use Rattle.rounds.specs.value_numbers.Walks.{below, Walk, Sized, Put, Leaf
 ghost use Rattle.rounds.specs.value_numbers.Tables.{Known, Links, Passing, Chase, Reset, Counted};
 ghost use Rattle.rounds.specs.value_numbers.Answers.{Passed, Tables};
 
-use crate::measure::{Facts, facts_at, symbol_of};
+use crate::measure::{COST, DEPTH, PER_PLACE, SYMBOL, facts_at, symbol_of};
 use words::layout::{CONST, KINDS};
 use words::tokens::operand_count;
-
-// Each place has PER_PLACE words of facts, of which the first is the size.
-const PER_PLACE: usize = 4;
-
-const COST: usize = 1;
-
-const DEPTH: usize = 2;
-
-const SYMBOL: usize = 3;
 
 // So many places have the few chains, so that most rounds needn't reset many.
 const FEW_WORDS: usize = 256;
@@ -36,7 +28,8 @@ const KEYS: u64 = 1073741824;
 
 const SHIFT: u64 = 64;
 
-// A leaf's word is 0 or 1 by SIDES, since its kind is; the class of an operation is SIDES times the place that stands for it, and OPERATION.
+// A leaf's word is 0 or 1 by SIDES, since its kind is; the class of an operation is SIDES times the place that stands
+// for it, and OPERATION.
 pub const SIDES: u64 = 4;
 
 pub const OPERATION: u64 = 2;
@@ -49,16 +42,12 @@ fn same_below(facts: &[u64], classes: &[u64], a: usize, b: usize, count: usize) 
 {
     let mut p = a;
     let mut q = b;
-    let mut left = count;
-    while left > 0 {
+    for _ in 0..count {
         if classes[p] != classes[q] {
             return false;
         }
-        let row = PER_PLACE * p;
-        p += facts[row] as usize;
-        let row = PER_PLACE * q;
-        q += facts[row] as usize;
-        left -= 1;
+        p += facts[PER_PLACE * p] as usize;
+        q += facts[PER_PLACE * q] as usize;
     }
     true
 }
@@ -69,10 +58,12 @@ fn chain_of(words: usize, key: u64) -> usize
 {
     let k = key % KEYS;
     let all = k + k / SHIFT;
+    // each divisor is a constant, since `all % chain_count(words)` would be a division
     if words <= FEW_WORDS {
-        return (all % FEW_CHAINS) as usize;
+        (all % FEW_CHAINS) as usize
+    } else {
+        (all % MANY_CHAINS) as usize
     }
-    (all % MANY_CHAINS) as usize
 }
 
 // How many chains there are.
@@ -80,9 +71,10 @@ fn chain_count(words: usize) -> usize
     ensures { result ≡ chains words }
 {
     if words <= FEW_WORDS {
-        return FEW_CHAINS as usize;
+        FEW_CHAINS as usize
+    } else {
+        MANY_CHAINS as usize
     }
-    MANY_CHAINS as usize
 }
 
 // Whether the trees at i and at p, a place past it, are equal.
@@ -94,11 +86,7 @@ fn same_node(tokens: &[u64], facts: &[u64], classes: &[u64], i: usize, p: usize)
     ensures { result ≡ eqb (class_at tokens.now i) (class_at tokens.now p) }
 {
     let w = tokens[i];
-    if tokens[p] != w {
-        return false;
-    }
-    let count = operand_count(w) as usize;
-    same_below(facts, classes, i + 1, p + 1, count)
+    tokens[p] == w && same_below(facts, classes, i + 1, p + 1, operand_count(w) as usize)
 }
 
 // The place that stands for an operation: one past it in its chain, or itself.
@@ -119,6 +107,7 @@ fn find(
     ensures { result ≡ last_at tokens.now i }
 {
     let mut p = start;
+    // A walk along a chain: the next place may be any past p.
     while p < tokens.len() {
         if same_node(tokens, facts, classes, i, p) {
             return p;
@@ -165,7 +154,8 @@ fn put_facts(tokens: &[u64], facts: &mut [u64], classes: &[u64], i: usize) -> us
     chain_of(tokens.len(), f.key)
 }
 
-// Finds the place that stands for an operation, writes its class, and puts it into its chain where it stands for itself.
+// Finds the place that stands for an operation, writes its class, and puts it into its chain where it stands for
+// itself.
 fn link(
     tokens: &[u64],
     facts: &[u64],
@@ -215,7 +205,8 @@ fn enter(
     uses[place] += 1;
 }
 
-// The pass from the right: the facts of every place, its class, and the operations of each class counted. Each node is entered once; how often is told.
+// The pass from the right: the facts of every place, its class, and the operations of each class counted. Each node is
+// entered once; how often is told.
 fn pass(
     tokens: &[u64],
     facts: &mut [u64],
@@ -230,9 +221,7 @@ fn pass(
     ensures { Passed tokens.now facts.old result facts.new classes.new uses.new }
 {
     let mut entered: usize = 0;
-    let mut i = tokens.len();
-    while i > 0 {
-        i -= 1;
+    for i in (0..tokens.len()).rev() {
         entered += 1;
         enter(tokens, facts, classes, next, heads, uses, i);
     }
@@ -244,15 +233,11 @@ pub fn reset(table: &mut [u64], n: usize, value: u64)
     requires { n ≤ length table.old }
     ensures { Reset table.old n value table.new }
 {
-    let mut i = 0;
-    while i < n {
-        table[i] = value;
-        i += 1;
-    }
+    table[..n].fill(value);
 }
 
-// In one pass, the facts of every place, its class, and how many places have the tree of each operation: the counts stand at the place of its class. How many nodes
-// were entered is told.
+// In one pass, the facts of every place, its class, and how many places have the tree of each operation: the counts
+// stand at the place of its class. How many nodes were entered is told.
 pub fn class_tables(
     tokens: &[u64],
     facts: &mut [u64],

@@ -1,4 +1,5 @@
 -- A group by where it ends: where it begins, its first member, its key with the members of later groups replaced, and its match's row. Assumes nothing.
+use Rattle.std.specs.Prelude.{Some, None}
 use Prim.Native.Nat.{ℕ, zero, suc, ◌+◌, ◌-◌, ◌*◌, ◌/◌, ◌%◌, ◌≤◌, ◌<◌}
 use native.Mathlib.Omega.{arith}
 use mathlib.Core.Path.{◌≡◌, refl, sym, ◌∙◌, ap, subst}
@@ -12,7 +13,6 @@ use Rattle.spec_tree.specs.Facts.{size}
 use Rattle.spec_tree.specs.Tokens.{tokens, numbered, run_at, trees_in}
 use Rattle.spec_tree.proofs.TokenLaws.{complete_end, complete_length, complete_within, operation_takes}
 use Rattle.words.specs.tokens.Answers.{end_answer}
-use Rattle.words.specs.declared.tokens.Run.TheVariants as run
 use Rattle.words.specs.words.Words.{number, Complete}
 use Rattle.laws.specs.positions.Places.{numbered_at}
 use Rattle.laws.proofs.positions.DivisorPlaces.{enough}
@@ -126,17 +126,17 @@ module _ {held members ends numbers : List ℕ} (G : Grouped held members ends n
     k_stands : run_at held k ≡ some (size (numbered_at held k))
     k_stands = subst (λ (i : ℕ). run_at held i ≡ some (size (numbered_at held i))) (sym k_is) (key_stands held q G.complete switching.0 switch_so)
 
-    pub key_not_broken : run.Broken ≡ end_answer (get_or members b 0 + 1) (run_at held (get_or members b 0 + 1)) → ⊥
+    pub key_not_broken : None ≡ end_answer (get_or members b 0 + 1) (run_at held (get_or members b 0 + 1)) → ⊥
     unfolding end_answer
     key_not_broken x =
-        let p : run.Broken ≡ run.Ends (k + size (numbered_at held k)) = x ∙ ap (end_answer k) k_stands in
+        let p : None ≡ Some (k + size (numbered_at held k)) = x ∙ ap (end_answer k) k_stands in
         let z : ◌≡◌ {A = ℕ} 0 1 = cc in
         absurd (omega arith)
 
-    pub key_stop : (s : ℕ) → run.Ends s ≡ end_answer (get_or members b 0 + 1) (run_at held (get_or members b 0 + 1)) → s ≡ get_or members b 0 + 1 + size (numbered_at held (get_or members b 0 + 1))
+    pub key_stop : (s : ℕ) → Some s ≡ end_answer (get_or members b 0 + 1) (run_at held (get_or members b 0 + 1)) → s ≡ get_or members b 0 + 1 + size (numbered_at held (get_or members b 0 + 1))
     unfolding end_answer
     key_stop s x =
-        let p : run.Ends s ≡ run.Ends (k + size (numbered_at held k)) = x ∙ ap (end_answer k) k_stands in
+        let p : Some s ≡ Some (k + size (numbered_at held k)) = x ∙ ap (end_answer k) k_stands in
         let c : s ≡ k + size (numbered_at held k) = cc in
         c
 

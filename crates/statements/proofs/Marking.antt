@@ -11,7 +11,8 @@ use Rattle.words.specs.words.Words.{some_trees}
 use Rattle.spec_cse.specs.Order.{positions_taken}
 use Rattle.laws.proofs.cse.OrderLaws.{taken_ok, all_get_d, all_turned}
 use Rattle.topo_sort.specs.Needs.{table_of, room, all_or_ring, order_answer, order_written, Orders}
-use Rattle.topo_sort.specs.declared.Ordered.{Ordered}
+use Rattle.topo_sort.specs.declared.OrderError.{OrderError}
+use Rattle.std.specs.Prelude.{⊤, Result}
 use Rattle.laws.proofs.positions.Extraction.{Every}
 use Rattle.laws.specs.switches.Switches.{switch_at}
 use Rattle.laws.proofs.switches.Collected.{Switching}
@@ -191,7 +192,7 @@ module _ {ws : List ℕ} {k first : ℕ} {places held starts members ends number
         ap₂ (λ (a : List ℕ) (n : ℕ). a ++ drop n taken) (sym e) l
 
     pub ordered_so :
-        (zeros : List ℕ) → zeros ≡ replicate (32 * count) 0 → bits ≡ needs_table ws k first places numbers count zeros → (r : Ordered) (new_waiting new_stack new : List ℕ)
+        (zeros : List ℕ) → zeros ≡ replicate (32 * count) 0 → bits ≡ needs_table ws k first places numbers count zeros → (r : Result ⊤ OrderError) (new_waiting new_stack new : List ℕ)
         → Orders bits count waiting stack taken r new_waiting new_stack new
         → (r ≡ order_told (stmts_order ws k first places numbers) (stmts_count ws k first places numbers))
         × (new ≡ stmts_order ws k first places numbers ++ drop (length (stmts_order ws k first places numbers)) taken)

@@ -1,4 +1,5 @@
 -- A tree is taken from words that hold it, or made as a reciprocal, and then has its members replaced: each time its run stands in front. Assumes nothing.
+use Rattle.std.specs.Prelude.{Some, None, Ok, Result, IsOk}
 use Prim.Native.Nat.{ℕ, suc, ◌+◌, ◌-◌, ◌≤◌, ◌<◌}
 use native.Mathlib.Omega.{arith}
 use mathlib.Core.Path.{◌≡◌, refl, sym, ◌∙◌, ap, subst}
@@ -6,6 +7,7 @@ use mathlib.Core.Bool.{Bool, true}
 use mathlib.Core.Option.{Option, some}
 use mathlib.Core.List.{List, [], ◌∷◌, ◌++◌, append-nil}
 use borrow.Author.Tests.{le-leb}
+use borrow.Author.Rules.{rules}
 use lib.Dec.{T}
 use lib.ListN.{length, get_or, take, drop, length-take}
 use lib.Seq.{get_or-take, length-take-le}
@@ -14,7 +16,6 @@ use Rattle.spec_tree.specs.Facts.{size}
 use Rattle.spec_tree.specs.Tokens.{tokens, all_tokens, read, numbered, run_at, trees_in}
 use Rattle.spec_tree.proofs.TokenCode.{unnumbered, tokens_length}
 use Rattle.words.specs.tokens.Answers.{end_answer}
-use Rattle.words.specs.declared.tokens.Run.TheVariants as run
 use Rattle.words.specs.words.Words.{some_trees, Complete}
 use Rattle.reciprocals.proofs.bindings.Parts.{AllThere}
 use Rattle.reciprocals.specs.reciprocal.Bindings.{all_there as all_places_there, whole_reciprocal, BoundSo}
@@ -29,8 +30,7 @@ use Rattle.fusion.specs.Words.{fused_words, steps_at}
 use Rattle.fusion.proofs.Switchless.{OfSwitches}
 use Rattle.fusion.proofs.Words.{fused_words_are, fused_words_same}
 use Rattle.fusion.specs.fuse.Answers.{Fusing, fusing_by, all_there, all_small, room_for, fusing}
-use Rattle.fusion.specs.declared.fuse.Fused.{Fused}
-use Rattle.fusion.specs.declared.fuse.Fused.TheVariants as fused
+use Rattle.words.specs.declared.fault.Fault.{Fault}
 use Rattle.fusion.specs.place.Overlay.{overlay}
 use Rattle.fusion.proofs.tables.Laws.{overlay_front}
 use Rattle.fusion.specs.place.Whole.{tree_run}
@@ -70,17 +70,17 @@ module _ (held starts : List ℕ) (i : ℕ) (complete : Complete held) (are : st
   pub run_within : get_or starts i 0 + length (run_number held i) ≤ length held
   run_within = omega (arith, ends_within held i within, long_is, start_is)
 
-  pub never_broken : run.Broken ≡ end_answer (get_or starts i 0) (run_at held (get_or starts i 0)) → ⊥
+  pub never_broken : None ≡ end_answer (get_or starts i 0) (run_at held (get_or starts i 0)) → ⊥
   unfolding end_answer
   never_broken e =
-      let q : run.Broken ≡ run.Ends (get_or starts i 0 + length (run_number held i)) = e ∙ ap (end_answer (get_or starts i 0)) run_there_is in
+      let q : None ≡ Some (get_or starts i 0 + length (run_number held i)) = e ∙ ap (end_answer (get_or starts i 0)) run_there_is in
       let z : ◌≡◌ {A = ℕ} 0 1 = cc in
       omega arith
 
-  pub stop_is : (end : ℕ) → run.Ends end ≡ end_answer (get_or starts i 0) (run_at held (get_or starts i 0)) → end ≡ get_or starts i 0 + length (run_number held i)
+  pub stop_is : (end : ℕ) → Some end ≡ end_answer (get_or starts i 0) (run_at held (get_or starts i 0)) → end ≡ get_or starts i 0 + length (run_number held i)
   unfolding end_answer
   stop_is end e =
-      let q : run.Ends end ≡ run.Ends (get_or starts i 0 + length (run_number held i)) = e ∙ ap (end_answer (get_or starts i 0)) run_there_is in
+      let q : Some end ≡ Some (get_or starts i 0 + length (run_number held i)) = e ∙ ap (end_answer (get_or starts i 0)) run_there_is in
       cc
 
   module _ (end : ℕ) (e : end ≡ get_or starts i 0 + length (run_number held i)) where
@@ -138,7 +138,7 @@ module _ {held members numbers : List ℕ} (f : Fusable held members numbers) (o
   unfolding fused_by
   became = fused_words_are held members numbers (take len old) c.0 c.1 f.there f.numbered
 
-  fusing_so : fusing held members numbers old len ≡ record { answer = fused.Words (length new); out = new ++ drop (length new) old }
+  fusing_so : fusing held members numbers old len ≡ record { answer = Ok (length new); out = new ++ drop (length new) old }
   unfolding fusing fusing_by
   fusing_so =
       ap (λ (b : Bool). fusing_by b (room_for len (take (length members) numbers)) (fused_words held members numbers (take len old)) old) found
@@ -146,10 +146,10 @@ module _ {held members numbers : List ℕ} (f : Fusable held members numbers) (o
       ∙ ap (λ (o : Option (List ℕ)). fusing_by true true o old) became)
 
   pub fused_stands :
-      (n : ℕ) (out : List ℕ) → fused.Words n ≡ (fusing held members numbers old len).answer → out ≡ (fusing held members numbers old len).out
+      (n : ℕ) (out : List ℕ) → Ok n ≡ (fusing held members numbers old len).answer → out ≡ (fusing held members numbers old len).out
       → Stands (fused_by held members numbers (take len old)) out n
   fused_stands n out e g =
-      let q : fused.Words n ≡ fused.Words (length new) = e ∙ ap (λ (b : Fusing). b.answer) fusing_so in
+      let q : Ok n ≡ Ok (length new) = e ∙ ap (λ (b : Fusing). b.answer) fusing_so in
       let p : n ≡ length new = cc in
       in_front new old out n p (g ∙ (ap (λ (b : Fusing). b.out) fusing_so ∙ ap (λ (x : ℕ). new ++ drop x old) (sym p)))
 
@@ -158,10 +158,10 @@ module _ {held members numbers : List ℕ} (f : Fusable held members numbers) (o
       let same = unfused f (take len old) c.0 c.1 none in
       record { many = omega (arith, ap length same, length-take-le len old lent); words = sym same; inside = lent }
 
-  pub fused_always : (b : Fused) → b ≡ (fusing held members numbers old len).answer → (b ≡ fused.Broken → ⊥) × (b ≡ fused.NoRoom → ⊥)
+  pub fused_always : (b : Result ℕ Fault) → b ≡ (fusing held members numbers old len).answer → IsOk b
   fused_always b e =
-      let q : b ≡ fused.Words (length new) = e ∙ ap (λ (b : Fusing). b.answer) fusing_so in
-      ((λ x. let z : ◌≡◌ {A = ℕ} 0 1 = cc in omega arith), (λ x. let z : ◌≡◌ {A = ℕ} 0 1 = cc in omega arith))
+      let q : b ≡ Ok (length new) = e ∙ ap (λ (b : Fusing). b.answer) fusing_so in
+      subst (λ (x : Result ℕ Fault). IsOk x) (sym q) (search rules)
 
 -- ---- the tree of a number
 
@@ -197,11 +197,6 @@ module _ {ws : List ℕ} {k first : ℕ} {places held starts members ends number
   -- ---- written over a table
 
   module _ (i : ℕ) (at : ℕ) (old out : List ℕ) where
-    pub tree_put :
-        (tree : List ℕ) (n : ℕ) → Stands (tree_run ws k first places numbers i) tree n → out ≡ overlay at (take n tree) old
-        → (at + n ≡ at + length (tree_run ws k first places numbers i)) × (out ≡ overlay at (tree_run ws k first places numbers i) old)
-    tree_put tree n s f = (omega (arith, s.many), f ∙ ap (λ (l : List ℕ). overlay at l old) s.words)
-
     module _ (h : i < length starts) where
       plain_run : no_switch_words (run_number held i) ≡ true → run_number held i ≡ tree_run ws k first places numbers i
       plain_run none =

@@ -152,10 +152,6 @@ module _ {held members ends numbers : List ℕ} (G : Grouped held members ends n
   names_count : length (names_run held gs numbers g) ≡ get_or ends g 0 - b
   names_count = sym (ap length names_are) ∙ (rows_long part ∙ part_count)
 
-  pub head_long : length (head_run held (place_groups held) numbers g) ≡ suc (length (key_run held (place_groups held) numbers g) + (get_or ends g 0 - b))
-  unfolding head_run
-  head_long = omega (arith, length-append (key_run held gs numbers g) (names_run held gs numbers g), names_count)
-
   pub head_written :
       (at w : ℕ) (old t1 t2 t3 tree : List ℕ) (n : ℕ) → w ≡ match_head held (place_groups held) numbers g → Stands (key_run held (place_groups held) numbers g) tree n
       → t1 ≡ overlay at (w ∷ []) old → t2 ≡ overlay (at + 1) (take n tree) t1

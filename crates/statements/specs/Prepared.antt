@@ -1,6 +1,6 @@
 -- What the parts of a scope are given once its arms are done, and what they give (01, "Scoped fusion", "Order"): what it holds, where its results and lets stand
 -- there, the members of its groups and their numbers; the words of one tree; and the order of its statements. Assumes nothing.
-use Rattle.std.specs.Prelude.{ℕ, zero, suc, ◌≤◌, ◌<◌, ◌≡◌, List, [], ◌∷◌, ◌++◌, map, length, get_or, take, T, eqb}
+use Rattle.std.specs.Prelude.{ℕ, zero, suc, ◌≤◌, ◌<◌, ◌≡◌, List, [], ◌∷◌, ◌++◌, map, length, get_or, take, T, eqb, ⊤, Result}
 use Rattle.std.proofs.Math.Option.{some}
 use Rattle.spec_tree.specs.Tree.{Op, nil}
 use Rattle.spec_tree.specs.Facts.{size}
@@ -11,7 +11,7 @@ use Rattle.reciprocals.proofs.bindings.Parts.{settled_reciprocals, AllThere}
 use Rattle.reciprocals.specs.reciprocal.Bindings.{all_there}
 use Rattle.topo_sort.specs.treelist.Starts.{starts_of}
 use Rattle.topo_sort.specs.Needs.{all_or_ring}
-use Rattle.topo_sort.specs.declared.Ordered.{Ordered}
+use Rattle.topo_sort.specs.declared.OrderError.{OrderError}
 use Rattle.fusion.specs.Settled.{fused_tree}
 use Rattle.fusion.specs.Words.{steps_at}
 use Rattle.fusion.proofs.Switchless.{OfSwitches}
@@ -95,7 +95,7 @@ begin_of ends (suc g) = get_or ends g 0
 -- ---- statements
 
 -- whether all are taken, or how many
-unfoldable pub order_told : List ℕ → ℕ → Ordered
+unfoldable pub order_told : List ℕ → ℕ → Result ⊤ OrderError
 order_told taken count = all_or_ring (eqb (length taken) count) (length taken)
 
 -- what the match of a group reads: its key and all arms of its members

@@ -1,8 +1,6 @@
 -- What was moved is no more than what was lent. Assumes nothing.
-use Rattle.std.specs.Prelude.{ℕ, ◌≤◌}
-use Rattle.stdio.specs.declared.Moved.{Moved}
-use Rattle.stdio.specs.declared.Moved.TheVariants as moved
+use Rattle.std.specs.Prelude.{ℕ, ◌≤◌, Result, Ok, Err}
 
-abbrev pub Within : Moved → ℕ → Type 0
-Within (moved.Bytes n) lent = n ≤ lent
-Within moved.Failed lent = Unit {0}
+abbrev pub Within : {E : Type 0} → Result ℕ E → ℕ → Type 0
+Within (Ok n) lent = n ≤ lent
+Within (Err e) lent = Unit {0}

@@ -6,14 +6,7 @@
 ghost use Rattle.std.specs.Prelude.{◌≤◌, length};
 ghost use Rattle.stdio.specs.Within.{Within};
 
-use std::io::{Error, ErrorKind, Print, Read, Stderr, Stdin, Stdout};
-
-#[derive(Drop)]
-pub enum Moved {
-    // How many bytes came or went.
-    Bytes(usize),
-    Failed,
-}
+use std::io::{Error, ErrorKind, Print, Read, Result, Stderr, Stdin, Stdout};
 
 // A call that a signal interrupted has moved nothing, and is made again.
 fn interrupted(e: &Error) -> bool {
@@ -21,37 +14,30 @@ fn interrupted(e: &Error) -> bool {
 }
 
 // One read. A proved loop has to end, so its turns are counted, and are as many as no run uses up.
-fn read_some(input: Stdin, buffer: &mut [u8]) -> Moved
+fn read_some(input: Stdin, buffer: &mut [u8]) -> Result<usize>
     ensures { Within result (length buffer.old) }
 {
     for _ in 0..u64::MAX {
         match (&input).read(buffer) {
-            Ok(n) => return Moved::Bytes(n),
-            Err(e) => {
-                if !interrupted(&e) {
-                    return Moved::Failed;
-                }
-            }
+            Err(e) if interrupted(&e) => {}
+            moved => return moved,
         }
     }
-    Moved::Failed
+    Err(Error::from(ErrorKind::Interrupted))
 }
 
-// One write, likewise.
-fn write_some<P: Print>(to: &P, bytes: &[u8]) -> Moved
+// One write, likewise. The two stay apart: one function over a closure is no plainer, since it would have to be told what
+// the closure lends, and that it lends as much in each turn.
+fn write_some<P: Print>(to: &P, bytes: &[u8]) -> Result<usize>
     ensures { Within result (length bytes.now) }
 {
     for _ in 0..u64::MAX {
         match to.write_some(bytes) {
-            Ok(n) => return Moved::Bytes(n),
-            Err(e) => {
-                if !interrupted(&e) {
-                    return Moved::Failed;
-                }
-            }
+            Err(e) if interrupted(&e) => {}
+            moved => return moved,
         }
     }
-    Moved::Failed
+    Err(Error::from(ErrorKind::Interrupted))
 }
 
 // Reads until the input ends, all that is lent is full, or a read fails, and tells how many bytes had come by then.
@@ -59,6 +45,7 @@ pub fn read_front(input: Stdin, buffer: &mut [u8]) -> usize
     ensures { result ≤ length buffer.new }
 {
     let mut done = 0;
+    // No `for`: each turn reads as many bytes as have come.
     while done < buffer.len() {
         match (&input).read(&mut buffer[done..]) {
             Ok(0) => return done,
@@ -70,27 +57,28 @@ pub fn read_front(input: Stdin, buffer: &mut [u8]) -> usize
 }
 
 // Reads until the input ends or all that is lent is full.
-fn read_all(input: Stdin, buffer: &mut [u8]) -> Moved
+fn read_all(input: Stdin, buffer: &mut [u8]) -> Result<usize>
     ensures { Within result (length buffer.new) }
 {
     let mut done = 0;
+    // No `for`: each turn reads as many bytes as have come.
     while done < buffer.len() {
-        let Moved::Bytes(more) = read_some(input, &mut buffer[done..]) else {
-            return Moved::Failed;
-        };
+        let more = read_some(input, &mut buffer[done..])?;
         if more == 0 {
-            return Moved::Bytes(done);
+            return Ok(done);
         }
         done += more;
     }
-    Moved::Bytes(done)
+    Ok(done)
 }
 
-// Writes all, or stops at the first write that fails or takes nothing.
+// Writes all, or stops at the first write that fails or takes nothing, and tells whether all was written: what the error
+// was, no caller asks.
 pub fn write_all<P: Print>(to: &P, bytes: &[u8]) -> bool {
     let mut done = 0;
+    // No `for`: each turn writes as many bytes as are taken.
     while done < bytes.len() {
-        let Moved::Bytes(put) = write_some(to, &bytes[done..]) else {
+        let Ok(put) = write_some(to, &bytes[done..]) else {
             return false;
         };
         if put == 0 {
@@ -109,11 +97,11 @@ fn complain(errors: Stderr, program: &[u8], what: &[u8]) {
 
 // Standard input to its end, or so much of it as fits. Where a read fails, a line on standard error tells of it, and the
 // bytes that came before count for nothing.
-pub fn read_sheet(input: Stdin, errors: Stderr, program: &[u8], sheet: &mut [u8]) -> Moved
+pub fn read_sheet(input: Stdin, errors: Stderr, program: &[u8], sheet: &mut [u8]) -> Result<usize>
     ensures { Within result (length sheet.new) }
 {
     let read = read_all(input, sheet);
-    if let Moved::Failed = read {
+    if read.is_err() {
         complain(errors, program, b": the sheet could not be read\n");
     }
     read

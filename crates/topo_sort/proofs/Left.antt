@@ -1,9 +1,11 @@
 -- How many needs of a statement aren't met: none are left where all it needs is taken, and one less where it needs the one just taken. Assumes nothing.
-use Prim.Native.Nat.{ℕ, zero, suc, ◌+◌, ◌-◌, ◌≤◌, ◌<◌}
+use Rattle.std.specs.List.{filter, range_with_len}
+use Prim.Native.Nat.{ℕ, zero, suc, ◌+◌, ◌≤◌, ◌<◌}
 use mathlib.Core.Path.{◌≡◌, refl, sym, ◌∙◌, ap, subst}
-use mathlib.Core.Bool.{Bool, true, false, ◌&&◌}
+use mathlib.Core.Bool.{Bool, true, false, ◌&&◌, cond}
 use mathlib.Core.List.{List, [], ◌∷◌}
 use native.Mathlib.Omega.{arith}
+use native.Mathlib.Numerals.{add-one}
 use borrow.Author.Tests.{eqb-true, eqb-false, eq-eqb, ne_eqb}
 use lib.Dec.{T, eqb, eqb-suc-zero, eqb-suc-suc}
 use lib.ListN.{length, get_or}
@@ -109,11 +111,15 @@ columns_step needs j i n = go (yes needs j i)
     go true = refl
     go false = refl
 
-pub columns_next : (needs : List ℕ) (j i count : ℕ) → i < count → columns needs j i (count - i) ≡ joined (yes needs j i) i (columns needs j (i + 1) (count - (i + 1)))
-columns_next needs j i count h =
-    let e : count - i ≡ suc (count - (i + 1)) = omega arith in
-    let f : suc i ≡ i + 1 = omega arith in
-    rw e (rw (columns_step needs j i (count - (i + 1))) (ap (λ (k : ℕ). joined (yes needs j i) i (columns needs j k (count - (i + 1)))) f))
+-- the needs are those places of the row that are yes
+pub columns_filtered : (needs : List ℕ) (j i n : ℕ) → length (filter (yes needs j) (range_with_len i n)) ≡ length (columns needs j i n)
+unfolding columns
+columns_filtered needs j i zero = refl
+columns_filtered needs j i (suc n) = rw (columns_step needs j i n, add-one i) (go (yes needs j i) _ _ (columns_filtered needs j (suc i) n))
+  where
+    go : (b : Bool) (l m : List ℕ) → length l ≡ length m → length (cond b (i ∷ l) l) ≡ length (joined b i m)
+    go true l m h = ap suc h
+    go false l m h = h
 
 member_joined : (b : Bool) (i j : ℕ) (l : List ℕ) → (j ≡ i → ⊥) → member i (joined b j l) ≡ member i l
 member_joined true i j l n = member_other i j l n

@@ -6,7 +6,7 @@ use mathlib.Core.Bool.{Bool, true, false, ◌&&◌}
 use mathlib.Core.List.{List, [], ◌∷◌, ◌++◌, reverse, reverse-reverse}
 use native.Mathlib.Omega.{arith}
 use native.Mathlib.Numerals.{add-one}
-use borrow.Author.Tests.{eqb-true, eqb-false, eq-eqb, ne_eqb}
+use borrow.Author.Tests.{eqb-true, eqb-false}
 use lib.Dec.{eqb, eqb-suc-zero}
 use lib.ListN.{length, get_or, take, drop, set, length-set, take-append-drop}
 use lib.Seq.{get_or-set_same, get_or-set_other, drop-set-lt, drop-drop, set-get_or}
@@ -15,7 +15,7 @@ use Rattle.spec_cse.specs.Order.{member, free_from, joining, push, positions_tak
 use Rattle.topo_sort.specs.Needs.{columns, rows_from, table_of}
 use Rattle.topo_sort.specs.Turns.{stack_of, joined, lower, joins, Pushed, Begun, Met, Counted, Lowered, Taken}
 use Rattle.topo_sort.proofs.Stacks.{stack_length, stack_grows, stack_top, stack_empty, pushed_top, push_length, push_joined}
-use Rattle.topo_sort.proofs.Left.{left, left_none, left_lower, left_some, columns_next, columns_distinct, row_member, table_length, joins_are}
+use Rattle.topo_sort.proofs.Left.{left, left_none, left_lower, left_some, columns_distinct, row_member, table_length, joins_are}
 use Rattle.topo_sort.proofs.Going.{Going, going_starts, going_room, going_turns, going_fresh, going_ends}
 use Rattle.spec_tree.proofs.Logic.{not_true}
 
@@ -23,24 +23,6 @@ use Rattle.spec_tree.proofs.Logic.{not_true}
 
 joined_long : (b : Bool) (j : ℕ) (l : List ℕ) → b ≡ true → length (joined b j l) ≡ suc (length l)
 joined_long b j l e = rw e refl
-
-joined_as_long : (b : Bool) (j : ℕ) (l : List ℕ) → b ≡ false → length (joined b j l) ≡ length l
-joined_as_long b j l e = rw e refl
-
-pub counting_starts : (needs : List ℕ) (j count : ℕ) → 0 + length (columns needs j 0 (count - 0)) ≡ length (columns needs j 0 count)
-counting_starts needs j count = rw (let e : count - 0 ≡ count = omega arith in e) (omega arith)
-
-pub needs_more : (needs : List ℕ) (j i count : ℕ) → i < count → yes needs j i ≡ true → length (columns needs j i (count - i)) ≡ suc (length (columns needs j (i + 1) (count - (i + 1))))
-needs_more needs j i count h e = ap length (columns_next needs j i count h) ∙ joined_long (yes needs j i) i (columns needs j (i + 1) (count - (i + 1))) e
-
-pub needs_same : (needs : List ℕ) (j i count : ℕ) → i < count → yes needs j i ≡ false → length (columns needs j i (count - i)) ≡ length (columns needs j (i + 1) (count - (i + 1)))
-needs_same needs j i count h e = ap length (columns_next needs j i count h) ∙ joined_as_long (yes needs j i) i (columns needs j (i + 1) (count - (i + 1))) e
-
-pub needs_counted : (needs : List ℕ) (j i count n : ℕ) → count ≤ i → n + length (columns needs j i (count - i)) ≡ length (columns needs j 0 count) → n ≡ length (columns needs j 0 count)
-unfolding columns
-needs_counted needs j i count n h e =
-    let q : n + length (columns needs j i 0) ≡ length (columns needs j 0 count) = subst (λ (m : ℕ). n + length (columns needs j i m) ≡ length (columns needs j 0 count)) (let z : count - i ≡ 0 = omega arith in z) e in
-    omega (arith, q)
 
 -- ---- one word after another
 
@@ -147,19 +129,6 @@ pub record Joining (needs : List ℕ) (count i : ℕ) (old_waiting old_stack : L
   pub waiting_long : length waiting ≡ length old_waiting
   pub stack_long : length stack ≡ length old_stack
 
-pub joining_starts :
-    (needs : List ℕ) (count i : ℕ) (waiting stack : List ℕ) (top : ℕ) → top ≤ length stack → Joining needs count i waiting stack top waiting stack top 0
-joining_starts needs count i waiting stack top h =
-    record {
-      turns = rw (let e : count - 0 ≡ count = omega arith in e) refl;
-      lowered = λ k l. absurd (omega arith);
-      later = λ k l. refl;
-      inside = h;
-      in_count = omega arith;
-      waiting_long = refl;
-      stack_long = refl;
-    }
-
 module _ (needs : List ℕ) (count i : ℕ) (old_waiting old_stack : List ℕ) (top : ℕ) (waiting stack : List ℕ) (t j : ℕ)
     (s : Joining needs count i old_waiting old_stack top waiting stack t j) (wide : count ≤ length old_waiting)
     (room : top + length (joins needs i old_waiting 0 count) ≤ length old_stack) where
@@ -225,26 +194,6 @@ not_met needed j waiting stack top e h =
       waits = rw e (sym (set-get_or waiting j 0));
       pushes = rw e (record { pushed = refl; inside = h; long = refl });
     }
-
-one_left : (w : ℕ) → 1 ≤ w → eqb (w - 1) 0 ≡ eqb w 1
-one_left w h = go (eqb w 1) refl
-  where
-    go : (b : Bool) → eqb w 1 ≡ b → eqb (w - 1) 0 ≡ b
-    go true e = let q = eqb-true w 1 e in eq-eqb (w - 1) 0 (omega arith)
-    go false e = let q : w ≢ 1 = eqb-false w 1 e in ne_eqb (w - 1) 0 (λ z. q (omega arith))
-
-pub is_met :
-    (needed : Bool) (j : ℕ) (waiting stack : List ℕ) (top : ℕ) (new_stack : List ℕ) (new_top : ℕ) → needed ≡ true → 1 ≤ get_or waiting j 0
-    → Pushed (eqb (get_or waiting j 0 - 1) 0) j stack top new_stack new_top
-    → Met needed j waiting stack top (set waiting j (get_or waiting j 0 - 1)) new_stack new_top
-is_met needed j waiting stack top new_stack new_top e h p =
-    record {
-      waits = rw e refl;
-      pushes = rw e (subst (λ (b : Bool). Pushed b j stack top new_stack new_top) (one_left (get_or waiting j 0) h) p);
-    }
-
-pub met_room : (needed : Bool) (w top n : ℕ) → needed ≡ true → 1 ≤ w → ((needed && eqb w 1) ≡ true → top < n) → w - 1 ≡ 0 → top < n
-met_room needed w top n e h f z = f (rw (e, eq-eqb w 1 (let q : w ≡ 1 = omega arith in q)) refl)
 
 -- ---- all that are taken
 

@@ -5,7 +5,7 @@ use mathlib.Core.Bool.{Bool, true, false}
 use mathlib.Core.List.{List, [], ◌∷◌, reverse, reverse-append}
 use native.Mathlib.Omega.{arith}
 use native.Mathlib.Numerals.{add-one}
-use borrow.Author.Tests.{eq-eqb, ne_eqb}
+use borrow.Author.Tests.{eq-eqb}
 use lib.Dec.{eqb}
 use lib.ListN.{length, get_or, take, set, length-set, length-reverse}
 use lib.Seq.{take-suc, take-suc-set, length-take-le}
@@ -31,9 +31,6 @@ unfolding stack_of
 stack_empty words = refl
 
 -- ---- a position that joins, or not
-
-pub not_pushed : (left j : ℕ) (words : List ℕ) (top : ℕ) → 0 < left → top ≤ length words → Pushed (eqb left 0) j words top words top
-not_pushed left j words top h t = record { pushed = rw (ne_eqb left 0 (λ e. omega arith)) refl; inside = t; long = refl }
 
 pub is_pushed : (left j : ℕ) (words : List ℕ) (top : ℕ) → left ≡ 0 → top < length words → Pushed (eqb left 0) j words top (set words top j) (top + 1)
 is_pushed left j words top e h =

@@ -1,16 +1,18 @@
 -- What the order answers and leaves, where there is room and where there isn't. Assumes nothing.
+use Rattle.std.specs.Prelude.{⊤, Result, Err}
 use Prim.Native.Nat.{ℕ, ◌*◌, ◌≤◌}
 use mathlib.Core.Path.{◌≡◌, refl, sym, ◌∙◌, ap, subst}
 use mathlib.Core.Bool.{Bool, true, false, ◌&&◌}
 use mathlib.Core.List.{List, ◌++◌, reverse}
-use borrow.Author.Tests.{le-leb, eq-eqb, ne_eqb}
-use lib.Dec.{T, leb, leb→le}
+use borrow.Author.Tests.{le-leb}
+use lib.Dec.{T, eqb, leb, leb→le}
 use lib.ListN.{length, drop}
 use Rattle.spec_tree.proofs.Logic.{and_left, and_right}
 use Rattle.spec_cse.specs.Order.{positions_taken}
-use Rattle.topo_sort.specs.Needs.{table_of, room, order_answer, order_written, Orders}
+use Rattle.topo_sort.specs.Needs.{table_of, room, all_or_ring, order_answer, order_written, Orders}
 use Rattle.topo_sort.specs.Turns.{Taken}
-use Rattle.topo_sort.specs.declared.Ordered.TheVariants as ordered
+use Rattle.topo_sort.specs.declared.OrderError.{OrderError}
+use Rattle.topo_sort.specs.declared.OrderError.TheVariants as order_error
 
 module _ (needs : List ℕ) (count : ℕ) (waiting stack taken : List ℕ) where
   -- what is lent is long enough
@@ -38,11 +40,11 @@ module _ (needs : List ℕ) (count : ℕ) (waiting stack taken : List ℕ) where
         long = leb→le count (length taken) (and_right (leb count (length stack)) (leb count (length taken)) w);
       }
 
-  pub no_room : (Enough → ⊥) → Orders needs count waiting stack taken ordered.Broken waiting stack taken
+  pub no_room : (Enough → ⊥) → Orders needs count waiting stack taken (Err order_error.Broken) waiting stack taken
   unfolding order_answer order_written
   no_room f = go (room needs count waiting stack taken) refl
     where
-      go : (b : Bool) → room needs count waiting stack taken ≡ b → Orders needs count waiting stack taken ordered.Broken waiting stack taken
+      go : (b : Bool) → room needs count waiting stack taken ≡ b → Orders needs count waiting stack taken (Err order_error.Broken) waiting stack taken
       go true e = absurd (f (is_enough (subst T (sym e) tt)))
       go false e = record { answer_is = rw e refl; taken_is = rw e refl; work_is = λ f. (refl, refl) }
 
@@ -60,16 +62,6 @@ module _ (needs : List ℕ) (count : ℕ) (waiting stack taken : List ℕ) where
     work : room needs count waiting stack taken ≡ false → (new_waiting ≡ waiting) × (new_stack ≡ stack)
     work e = absurd (subst T (sym (there_is h) ∙ e) tt)
 
-    pub all_taken : n ≡ count → Orders needs count waiting stack taken ordered.All new_waiting new_stack new
+    pub ordered : (r : Result ⊤ OrderError) → r ≡ all_or_ring (eqb n count) n → Orders needs count waiting stack taken r new_waiting new_stack new
     unfolding order_answer
-    all_taken e =
-        record { answer_is = rw (there_is h, eq-eqb (length (positions_taken (table_of needs count))) count (sym t.many ∙ e)) refl; taken_is = written; work_is = work }
-
-    pub some_taken : (n ≡ count → ⊥) → Orders needs count waiting stack taken (ordered.Ring n) new_waiting new_stack new
-    unfolding order_answer
-    some_taken f =
-        record {
-          answer_is = rw (there_is h, ne_eqb (length (positions_taken (table_of needs count))) count (λ e. f (t.many ∙ e))) (ap (λ (k : ℕ). ordered.Ring k) t.many);
-          taken_is = written;
-          work_is = work;
-        }
+    ordered r e = record { answer_is = rw (there_is h) (e ∙ ap (λ (k : ℕ). all_or_ring (eqb k count) k) t.many); taken_is = written; work_is = work }

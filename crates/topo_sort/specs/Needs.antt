@@ -1,9 +1,9 @@
 -- What needs what, read from a table of bits, and what the order of the statements answers and leaves (01, "Order"). Assumes nothing.
-use Rattle.std.specs.Prelude.{ℕ, zero, suc, ◌*◌, ◌≡◌, Bool, true, false, ◌&&◌, List, [], ◌∷◌, ◌++◌, reverse, eqb, leb, length, drop}
+use Rattle.std.specs.Prelude.{⊤, ℕ, zero, suc, ◌*◌, ◌≡◌, Bool, true, false, ◌&&◌, List, [], ◌∷◌, ◌++◌, reverse, eqb, leb, length, drop, Result, Ok, Err}
 use Rattle.words.specs.bits.Bits.{yes}
 use Rattle.spec_cse.specs.Order.{positions_taken}
-use Rattle.topo_sort.specs.declared.Ordered.{Ordered}
-use Rattle.topo_sort.specs.declared.Ordered.TheVariants as ordered
+use Rattle.topo_sort.specs.declared.OrderError.{OrderError}
+use Rattle.topo_sort.specs.declared.OrderError.TheVariants as order_error
 
 -- the places of row j that are yes among the n from i on, ascending
 unfoldable pub columns : List ℕ → ℕ → ℕ → ℕ → List ℕ
@@ -27,14 +27,14 @@ unfoldable pub room : List ℕ → ℕ → List ℕ → List ℕ → List ℕ �
 room needs count waiting stack taken =
     leb count 2048 && (leb (32 * count) (length needs) && (leb count (length waiting) && (leb count (length stack) && leb count (length taken))))
 
-abbrev pub all_or_ring : Bool → ℕ → Ordered
-all_or_ring true n = ordered.All
-all_or_ring false n = ordered.Ring n
+abbrev pub all_or_ring : Bool → ℕ → Result ⊤ OrderError
+all_or_ring true n = Ok tt
+all_or_ring false n = Err (order_error.Ring n)
 
 -- from the positions taken, the latest first: whether these are all, or how many
-unfoldable pub order_answer : Bool → ℕ → List ℕ → Ordered
+unfoldable pub order_answer : Bool → ℕ → List ℕ → Result ⊤ OrderError
 order_answer true count order = all_or_ring (eqb (length order) count) (length order)
-order_answer false count order = ordered.Broken
+order_answer false count order = Err order_error.Broken
 
 -- the positions at the front, in the order in which they are taken, and the words after them as before
 unfoldable pub order_written : Bool → List ℕ → List ℕ → List ℕ
@@ -42,7 +42,7 @@ order_written true order taken = reverse order ++ drop (length order) taken
 order_written false order taken = taken
 
 -- the answer and what is left in what is lent; the work area is free where there is room, and as before where there isn't
-pub record Orders (needs : List ℕ) (count : ℕ) (waiting stack taken : List ℕ) (answer : Ordered) (new_waiting new_stack new_taken : List ℕ) : Type 0 where
+pub record Orders (needs : List ℕ) (count : ℕ) (waiting stack taken : List ℕ) (answer : Result ⊤ OrderError) (new_waiting new_stack new_taken : List ℕ) : Type 0 where
   pub answer_is : answer ≡ order_answer (room needs count waiting stack taken) count (positions_taken (table_of needs count))
   pub taken_is : new_taken ≡ order_written (room needs count waiting stack taken) (positions_taken (table_of needs count)) taken
   pub work_is : room needs count waiting stack taken ≡ false → (new_waiting ≡ waiting) × (new_stack ≡ stack)

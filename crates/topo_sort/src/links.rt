@@ -1,12 +1,13 @@
-// The order of statements without a table of bits (01, "Order"): the statements that need one are a list of links, ascending, since the statements are read from
-// the last to the first and each new link is put in front. A link is a statement and MOST times the number of the next link; numbers are from 1 on, and 0 is none.
-ghost use Rattle.std.specs.Prelude.{◌≡◌, true, List, ℕ, ◌+◌, ◌≤◌, ◌<◌, eqb, length, get_or};
+// The order of statements without a table of bits (01, "Order"): the statements that need one are a list of links,
+// ascending, since the statements are read from the last to the first and each new link is put in front. A link is a
+// statement and MOST times the number of the next link; numbers are from 1 on, and 0 is none.
+ghost use Rattle.std.specs.Prelude.{◌≡◌, List, ℕ, ◌+◌, ◌≤◌, ◌<◌, IfSome, length, get_or};
 ghost use Rattle.spec_cse.specs.Order.{positions_taken};
-ghost use Rattle.topo_sort.specs.Needs.{columns, table_of};
-ghost use Rattle.topo_sort.specs.Turns.{Met, Counted, Lowered, Room, Taken};
+ghost use Rattle.topo_sort.specs.Needs.{table_of};
+ghost use Rattle.topo_sort.specs.Turns.{Lowered, Room, Taken};
 ghost use Rattle.topo_sort.specs.links.Links.{first_is, Linkable, Added, Named, Names, Lent, StmtLinked, Joinable, SomeJoinable, Linked, SomeLinked, OrdersLinked};
 
-use crate::{Ordered, push_free};
+use crate::{OrderError, all_taken, meet_need, start};
 use words::layout::{LET_NAME, NEXT_NAME};
 
 // More than the number of any statement.
@@ -17,10 +18,7 @@ fn begins_with(links: &[u64], h: u64, j: usize) -> bool
     requires { h ≤ length links.now }
     ensures { result ≡ first_is links.now h j }
 {
-    if h == 0 {
-        return false;
-    }
-    links[h as usize - 1] % MOST == j as u64
+    h > 0 && links[h as usize - 1] % MOST == j as u64
 }
 
 // Statement j needs statement i: a link to it, unless there is one already.
@@ -60,15 +58,14 @@ fn link_needs(words: &[u64], j: usize, heads: &mut [u64], links: &mut [u64], n: 
     ensures { Names words.now j n heads.old links.old result heads.new links.new }
 {
     let mut m = n;
-    let mut k = 0;
-    while k < words.len() {
-        m = link_need(words[k], j, heads, links, m);
-        k += 1;
+    for w in words {
+        m = link_need(*w, j, heads, links, m);
     }
     m
 }
 
-// The links of statement j, which reads some words, after the first n, and how many statements it needs. More than there is room for where its words are as many.
+// The links of statement j, which reads some words, after the first n, and how many statements it needs; how many links
+// there are then. None where there may not be room for as many links as words.
 pub fn link_stmt(
     words: &[u64],
     j: usize,
@@ -76,47 +73,21 @@ pub fn link_stmt(
     links: &mut [u64],
     waiting: &mut [u64],
     n: usize,
-) -> usize
+) -> Option<usize>
     requires { Lent (length heads.old) n heads.old links.old waiting.old × (j < length heads.old) }
-    ensures { result ≤ length links.old → StmtLinked words.now (length heads.old) j heads.old links.old waiting.old result
-        heads.new links.new waiting.new }
+    ensures { IfSome result (λ m. StmtLinked words.now (length heads.old) j heads.old links.old waiting.old m
+        heads.new links.new waiting.new) }
 {
     if words.len() > links.len() - n {
-        return links.len() + 1;
+        return None;
     }
     let m = link_needs(words, j, heads, links, n);
     waiting[j] = (m - n) as u64;
-    m
+    Some(m)
 }
 
-// The stack at first: the statements free of others, ascending.
-fn start_linked(count: usize, waiting: &[u64], stack: &mut [u64]) -> usize
-    requires { (count ≤ length waiting.now) × (count ≤ length stack.old) }
-    ensures { (needs : List ℕ) → ((k : ℕ) → k < count → get_or waiting.now k 0 ≡ length (columns needs k 0 count))
-        → Counted needs count waiting.now stack.new result }
-{
-    let mut top = 0;
-    let mut j = 0;
-    while j < count {
-        top = push_free(waiting[j], j, stack, top);
-        j += 1;
-    }
-    top
-}
-
-// One of statement j's needs is met; with none left it joins the stack.
-fn meet_linked(j: usize, waiting: &mut [u64], stack: &mut [u64], top: usize) -> usize
-    requires j_in_bounds { (j < length waiting.old) × (top ≤ length stack.old) }
-    requires bound { 1 ≤ get_or waiting.old j 0 }
-    requires top_in_bounds { eqb (get_or waiting.old j 0) 1 ≡ true → top < length stack.old }
-    ensures { Met true j waiting.old stack.old top waiting.new stack.new result }
-{
-    let left = waiting[j] - 1;
-    waiting[j] = left;
-    push_free(left, j, stack, top)
-}
-
-// A statement was taken: those that need it are linked from `head` on, and where it was the last that they need they join the stack.
+// A statement was taken: those that need it are linked from `head` on, and where it was the last that they need they
+// join the stack.
 fn join_linked(
     links: &[u64],
     head: u64,
@@ -130,15 +101,17 @@ fn join_linked(
 {
     let mut t = top;
     let mut h = head;
+    // A while, since each link tells the next.
     while h > 0 {
         let link = links[h as usize - 1];
-        t = meet_linked((link % MOST) as usize, waiting, stack, t);
+        t = meet_need((link % MOST) as usize, waiting, stack, t);
         h = link / MOST;
     }
     t
 }
 
-// Takes the top until the stack is empty. The answer is how many were taken.
+// Takes the top until the stack is empty. The answer is how many were taken. Beside `take_all`, since the links are those
+// of every table that says the same: one function of both would have to be handed a table that isn't there.
 fn take_linked(
     heads: &[u64],
     links: &[u64],
@@ -152,8 +125,9 @@ fn take_linked(
     ensures { (needs : List ℕ) → Linked needs count heads.now links.now waiting.old
         → Taken (positions_taken (table_of needs count)) taken.old taken.new result }
 {
-    let mut top = start_linked(count, waiting, stack);
+    let mut top = start(count, waiting, stack);
     let mut n = 0;
+    // A while, since the stack grows by the dependents that join it.
     while top > 0 {
         let i = stack[top - 1];
         taken[n] = i;
@@ -163,7 +137,8 @@ fn take_linked(
     n
 }
 
-// The positions in the order in which they are taken, at the front of `taken`. What is lent in `waiting` and `stack` is for the work.
+// The positions in the order in which they are taken, at the front of `taken`. What is lent in `waiting` and `stack` is
+// for the work.
 pub fn order_linked(
     heads: &[u64],
     links: &[u64],
@@ -171,16 +146,12 @@ pub fn order_linked(
     waiting: &mut [u64],
     stack: &mut [u64],
     taken: &mut [u64],
-) -> Ordered
+) -> Result<(), OrderError>
     requires room { Room count waiting.old stack.old taken.old × (count ≤ length heads.now) }
     requires some_linked { SomeLinked count heads.now links.now waiting.old }
     ensures { (needs : List ℕ) → Linked needs count heads.now links.now waiting.old
         → OrdersLinked needs count taken.old result taken.new }
 {
     let n = take_linked(heads, links, count, waiting, stack, taken);
-    if n == count {
-        Ordered::All
-    } else {
-        Ordered::Ring(n)
-    }
+    all_taken(count, n)
 }

@@ -1,4 +1,5 @@
-// Which bindings a tree reads, put into a table of bits (01, "Order"): row j, column i is yes where statement j reads `__xi`.
+// Which bindings a tree reads, put into a table of bits (01, "Order"): row j, column i is yes where statement j reads
+// `__xi`.
 ghost use Rattle.std.specs.Prelude.{◌≡◌, length};
 ghost use Rattle.topo_sort.specs.reads.Marks.{place_inside, with_need, all_inside, with_needs};
 
@@ -15,19 +16,16 @@ fn mark_need(w: u64, row: usize, table: &mut [u64]) -> bool
     set(table, row, (w / NEXT_NAME) as usize)
 }
 
-// Makes the place of each `__xN` among the words yes in one row. Whether all these places are in the table: those that aren't change nothing.
+// Makes the place of each `__xN` among the words yes in one row. Whether all these places are in the table: those that
+// aren't change nothing.
 pub fn mark_needs(tokens: &[u64], row: usize, table: &mut [u64]) -> bool
     ensures { (result ≡ all_inside tokens.now row (length table.old))
         × (table.new ≡ with_needs tokens.now row table.old) }
 {
     let mut all = true;
-    let mut i = 0;
-    while i < tokens.len() {
-        if mark_need(tokens[i], row, table) {
-            i += 1;
-        } else {
+    for w in tokens {
+        if !mark_need(*w, row, table) {
             all = false;
-            i += 1;
         }
     }
     all

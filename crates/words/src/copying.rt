@@ -6,11 +6,7 @@ pub fn copy(s: &[u64], out: &mut [u64])
     requires { length s.now ≤ length out.old }
     ensures { out.new ≡ s.now ++ drop (length s.now) out.old }
 {
-    let mut i = 0;
-    while i < s.len() {
-        out[i] = s[i];
-        i += 1;
-    }
+    out[..s.len()].copy_from_slice(s);
 }
 
 // Copies words to a place of others.
@@ -18,9 +14,5 @@ pub fn put(words: &[u64], at: usize, out: &mut [u64])
     requires { at + length words.now ≤ length out.old }
     ensures { out.new ≡ take at out.old ++ (words.now ++ drop (at + length words.now) out.old) }
 {
-    let mut k = 0;
-    while k < words.len() {
-        out[at + k] = words[k];
-        k += 1;
-    }
+    out[at..at + words.len()].copy_from_slice(words);
 }

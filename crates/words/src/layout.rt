@@ -1,5 +1,7 @@
-// The layout of a word. Trees stand as words in the order of reading, one for each node (spec_tree/specs/Tokens); an answer's rows are laid out alike, with kinds
-// of their own (spec_cse/specs/AnswerRows). All code names kinds and takes words apart by these numbers.
+// The layout of a word. Trees stand as words in the order of reading, one for each node (spec_tree/specs/Tokens); an
+// answer's rows are laid out alike, with kinds of their own (spec_cse/specs/AnswerRows). All code names kinds and takes
+// words apart by these numbers. They are numbers, and no enum, since 01 counts operands by a match over kind numbers, a
+// word that is lent may hold any number where its kind stands, and sizes of kinds are compared ("from Branch on").
 
 // A word is kind + KINDS * below. Below a symbol or a constant is its code, below an operation the number of its operands.
 pub const KINDS: u64 = 64;

@@ -4,6 +4,7 @@
 
 pub mod bits;
 pub mod copying;
+pub mod fault;
 pub mod layout;
 pub mod tokens;
 pub mod words;

@@ -1,7 +1,6 @@
 -- `capi::cse_replace_outside_arms` meets its contract. Assumes nothing.
 use Rattle.capi.specs.Rewrites.{rewritten_number, rewritten_answer}
 use Rattle.capi.proofs.Ends.{no_room, is_called}
-use borrow.Author.Rules.{rules}
 use Rattle.capi.proofs.cse_replace_outside_arms.Goals as goal
 
 pub returns-then-answer-lt1 : goal.returns-then-answer-lt1

@@ -1,9 +1,7 @@
 -- `capi::text_no_deeper` meets its contract. Assumes nothing.
 use mathlib.Core.Path.{sym, ◌∙◌}
-use borrow.Author.Tests.{not-true, not-false}
 use Rattle.spec_cse.specs.AnswerRows.{no_deeper}
 use Rattle.capi.proofs.DepthEnds.{text_deeper, text_no_deeper}
-use borrow.Author.Rules.{rules}
 use Rattle.capi.proofs.text_no_deeper.Goals as goal
 
 pub returns-then-not-no_deeper : goal.returns-then-not-no_deeper

@@ -3,7 +3,6 @@ use mathlib.Core.Path.{sym, ◌∙◌}
 use lib.ListN.{length}
 use Rattle.cse_flat.proofs.Ends.{is_eight, is_rest}
 use Rattle.cse_flat.proofs.refined.Finishing.{enough_words, enough_bytes, front_long}
-use borrow.Author.Rules.{rules}
 use Rattle.cse_flat.proofs.cse.Goals as goal
 
 pub returns-then-is_short : goal.returns-then-is_short

@@ -1,12 +1,11 @@
 -- The bindings linked from the last to the first, and the order that the links give. Assumes nothing.
 use Prim.Native.Nat.{ℕ, zero, suc, ◌+◌, ◌-◌, ◌*◌, ◌≤◌, ◌<◌}
 use native.Mathlib.Omega.{arith}
-use mathlib.Core.Path.{◌≡◌, refl, sym, ◌∙◌, ap, subst}
-use mathlib.Core.Bool.{true, false}
+use mathlib.Core.Path.{◌≡◌, refl, ◌∙◌, ap, subst}
 use mathlib.Core.List.{List, [], ◌∷◌}
 use lib.ListN.{length, get_or, take, replicate, get_or-replicate}
-use Rattle.topo_sort.specs.Needs.{order_answer, order_written}
-use Rattle.topo_sort.specs.declared.Ordered.{Ordered}
+use Rattle.std.specs.Prelude.{Result, ⊤}
+use Rattle.topo_sort.specs.declared.OrderError.{OrderError}
 use Rattle.topo_sort.specs.links.Links.{Chain, needing, Linking, Says, Lent, StmtLinked, Linked, OrdersLinked}
 use Rattle.topo_sort.proofs.links.Making.{linking_begins}
 use Rattle.rounds.specs.value_numbers.Tables.{Reset}
@@ -15,18 +14,9 @@ use Rattle.reciprocals.specs.final.Ready.{binding_run, final_order, InOrder}
 use Rattle.reciprocals.proofs.final.Marking.{marked_yes}
 use Rattle.cse_flat.specs.ending.Needs.{needs_of}
 
-pub false_true : false ≡ true → ⊥
-false_true e = let z : ◌≡◌ {A = ℕ} 0 1 = cc in omega arith
-
 pub binding_is : (k : ℕ) (places ws : List ℕ) (j : ℕ) → final_run k places ws (k + j) ≡ binding_run k places ws j
 unfolding binding_run
 binding_is k places ws j = refl
-
-pub same_stmt :
-    (a b : List ℕ) (count j : ℕ) (heads links waiting : List ℕ) (m : ℕ) (new_heads new_links new_waiting : List ℕ) → a ≡ b → StmtLinked a count j heads links waiting m new_heads new_links new_waiting
-    → StmtLinked b count j heads links waiting m new_heads new_links new_waiting
-same_stmt a b count j heads links waiting m new_heads new_links new_waiting e =
-    subst (λ (l : List ℕ). StmtLinked l count j heads links waiting m new_heads new_links new_waiting) e
 
 module _ (k : ℕ) (places ws : List ℕ) (count : ℕ) where
   -- so far
@@ -76,14 +66,14 @@ module _ (k : ℕ) (places ws : List ℕ) (count : ℕ) where
       }
 
   pub in_order :
-      (taken new : List ℕ) (r : Ordered) → OrdersLinked (needs_of k places ws count) count taken r new → length new ≡ length taken → count ≤ length taken
+      (taken new : List ℕ) (r : Result ⊤ OrderError) → OrdersLinked (needs_of k places ws count) count taken r new → length new ≡ length taken → count ≤ length taken
       → InOrder (final_order k places ws count) count taken new r
   unfolding needs_of final_order
   in_order taken new r o l h = record { answer_is = o.answer_is; taken_is = o.taken_is; inside = omega (arith, l) }
 
 -- as many by another name
 pub same_order :
-    (k : ℕ) (places ws : List ℕ) (a b : ℕ) (taken new : List ℕ) (r : Ordered) → a ≡ b → InOrder (final_order k places ws a) a taken new r → InOrder (final_order k places ws b) b taken new r
+    (k : ℕ) (places ws : List ℕ) (a b : ℕ) (taken new : List ℕ) (r : Result ⊤ OrderError) → a ≡ b → InOrder (final_order k places ws a) a taken new r → InOrder (final_order k places ws b) b taken new r
 same_order k places ws a b taken new r = subst (λ (n : ℕ). InOrder (final_order k places ws n) n taken new r)
 
 -- a table of which the first n words were cleared begins with as many zeros

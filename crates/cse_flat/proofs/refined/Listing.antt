@@ -1,12 +1,10 @@
 -- What the rounds and the list of divisors to bind come to, by what each answers (01, "Extraction", "Reciprocals"). Assumes nothing.
 use Prim.Native.Nat.{ℕ, ◌≤◌}
 use native.Mathlib.Omega.{arith}
-use types.Run
-use denote.Enum.Declared
+use Rattle.std.specs.Prelude.{Result, Ok, Err}
 use mathlib.Core.Path.{◌≡◌, refl, subst}
-use mathlib.Core.Logic.{inl, inr}
 use mathlib.Core.Bool.{Bool}
-use mathlib.Core.List.{List, [], ◌∷◌}
+use mathlib.Core.List.{List}
 use lib.ListN.{length, take}
 use lib.Seq.{length-take-le}
 use lib.Dec.{T}
@@ -21,8 +19,7 @@ use Rattle.rounds.specs.kept.Sound.{extractable}
 use Rattle.rounds.proofs.kept.Steps.{ready_of}
 use Rattle.rounds.specs.Rounds.{all_rounds, rounds_answer, LeavesWords}
 use Rattle.rounds.specs.declared.Rounds.{Rounds}
-use Rattle.rounds.specs.declared.Rounds.TheVariants as rounds
-use Rattle.rounds.specs.contracts.Rounds as rounds_enum
+use Rattle.replace.specs.declared.NotConstant.{NotConstant}
 use Rattle.cse_flat.proofs.refined.Rounding.{Rounded, rounded}
 use Rattle.cse_flat.proofs.refined.Leaving.{Left, rounds_leave, left_trees, left_complete, left_words, left_short}
 use Rattle.cse_flat.specs.refined.Parts.{RoundsListed, RoundsRefused}
@@ -46,25 +43,27 @@ module _ (rows : List Row) (old : List ℕ) (len : ℕ) (scoped : Bool) (first t
   pub given_so : T (extractable rows first ws) × T (symbols_pass (is_number rows) ws) → (len ≤ 1927) × (len ≤ length old) × (first ≤ 549755813888) → 131072 ≤ text → Given
   given_so (g, p) (f, t, l) b = record { good = g; pass = p; few = f; there = t; low = l; bytes = b }
 
-  module _ (g : Given) (r : Rounds) (out : List ℕ) (given : (r ≡ rounds_answer rows old len scoped first) × LeavesWords rows old len scoped first out) where
+  module _ (g : Given) (r : Result Rounds NotConstant) (out : List ℕ) (given : (r ≡ rounds_answer rows old len scoped first) × LeavesWords rows old len scoped first out) where
     after_rounds : Rounded rows scoped first ws r out
     after_rounds = rounded rows old len scoped first r out given
 
     -- ---- rounds that are not done are refused
 
-    not_done : (q : Rounds) → Rounded rows scoped first ws q out → Run.OneOf (1 ∷ []) (Declared.tag_of rounds_enum.the_type q) → RoundsRefused rows scoped first ws
-    not_done (rounds.Done n m) h e = absurd (omega arith)
-    not_done rounds.Refused h e = h
+    pub rounds_refused : (e : NotConstant) → r ≡ Err e → RoundsRefused rows scoped first ws
+    rounds_refused e f = subst (λ (q : Result Rounds NotConstant). Rounded rows scoped first ws q out) f after_rounds
 
-    pub rounds_refused : Run.OneOf (1 ∷ []) (Declared.tag_of rounds_enum.the_type r) → RoundsRefused rows scoped first ws
-    rounds_refused k = not_done r after_rounds k
+    module _ (all : Rounds) (is_done : r ≡ Ok all) where
+      abbrev n : ℕ
+      n = all.words
 
-    module _ (n m : ℕ) (is_done : r ≡ rounds.Done n m) where
+      abbrev m : ℕ
+      m = all.made
+
       abbrev pub vs : List ℕ
       vs = take n out
 
-      done : Rounded rows scoped first ws (rounds.Done n m) out
-      done = subst (λ (q : Rounds). Rounded rows scoped first ws q out) is_done after_rounds
+      done : Rounded rows scoped first ws (Ok all) out
+      done = subst (λ (q : Result Rounds NotConstant). Rounded rows scoped first ws q out) is_done after_rounds
 
       pub vs_long : n ≡ length vs
       vs_long = done.1

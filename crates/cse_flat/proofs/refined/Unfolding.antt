@@ -12,9 +12,8 @@ use Rattle.spec_tree.specs.Rows.{trees, trees_from}
 use Rattle.spec_tree.specs.Layout.{table_of, laid_out, table_or_9}
 use Rattle.spec_tree.specs.Tokens.{number_in, all_tokens}
 use Rattle.laws.proofs.positions.RowNames.{tree_words}
-use Rattle.node_rows.specs.unfolded.Unfold.{unfolded, Answers}
-use Rattle.node_rows.specs.declared.unfolded.Unfolded.{Unfolded}
-use Rattle.node_rows.specs.declared.unfolded.Unfolded.TheVariants as unfolding_answer
+use Rattle.node_rows.specs.unfolded.Unfold.{unfolded, Answers, Unfolded}
+use Rattle.node_rows.specs.unfolded.Unfold as unfolding_answer
 use Rattle.spec_tree.proofs.DomainPasses.{length_at}
 
 pub roots_are : (rows roots : List ℕ) → length (trees (table_of rows roots)) ≡ length roots
@@ -67,6 +66,10 @@ module _ (rows roots : List ℕ) where
         go : (b : Bool) → laid_out rows roots ≡ b → laid_out rows roots ≡ false
         go true f = let g = here true f in absurd (let z = sym e ∙ g.0 in let y : ◌≡◌ {A = ℕ} 0 1 = cc in omega arith)
         go false f = f
+
+    -- by 9
+    pub unfold_number : (q : ℕ) → a ≡ unfolding_answer.Refused q → q ≡ 9
+    unfold_number q e = let z = sym e ∙ (here false (unfold_refused q e)).0 in cc
 
   -- the words that it gives are those of the list's trees
   pub unfolded_words : (ws : List ℕ) → unfolded rows roots ≡ ok ws → T (laid_out rows roots) × (ws ≡ start)

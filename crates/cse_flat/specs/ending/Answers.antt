@@ -1,30 +1,27 @@
 -- What the end of flat extraction answers, and what it leaves in the table, by cases. Assumes nothing.
-use Rattle.std.specs.Prelude.{ℕ, ◌+◌, ◌≤◌, ◌≡◌, Bool, true, false, ◌&&◌, List, ◌++◌, length, drop, leb}
+use Rattle.std.specs.Prelude.{ℕ, ◌+◌, ◌≤◌, ◌≡◌, Bool, false, ◌&&◌, List, ◌++◌, length, drop, leb, Result, Ok, Err}
 use Rattle.std.proofs.Math.Option.{Option, none, some}
+use Rattle.refusal.specs.declared.Refusal.{Refusal}
+use Rattle.refusal.specs.Numbers.{number_of}
 use Rattle.spec_tree.specs.Outcome.{Outcome, ok, refused}
 use Rattle.spec_tree.specs.Tokens.{read, numbered, trees_in}
 use Rattle.spec_cse.specs.Call.{Extracted}
 use Rattle.reciprocals.specs.reciprocal.Bindings.{all_there}
-use Rattle.reciprocals.specs.final.Final.{final_rows}
-use Rattle.cse_flat.specs.declared.ending.Finished.{Finished}
-use Rattle.cse_flat.specs.declared.ending.Finished.TheVariants as finished
 
--- what it answers, and the table after it
+-- a refusal by its number
+abbrev pub by_number : Result ℕ Refusal → Result ℕ ℕ
+by_number (Ok n) = Ok n
+by_number (Err r) = Err (number_of r)
+
+-- what it answers, how many rows or the number of the refusal, and the table after it
 pub record Finishing : Type 0 where
-  pub answer : Finished
+  pub answer : Result ℕ ℕ
   pub table : List ℕ
 
 -- the answer's rows in front of what stood after as many, or, refused, nothing written
 unfoldable pub finish_outcome : Outcome Extracted → List ℕ → Finishing
-finish_outcome (ok x) old = record { answer = finished.Rows (length x.words); table = x.words ++ drop (length x.words) old }
-finish_outcome (refused i) old = record { answer = finished.Refused i.number; table = old }
-
--- by whether the trees are there, and whether there is room for them
-unfoldable pub finish_by : Bool → Bool → Outcome Extracted → List ℕ → Finishing
-unfolding finish_outcome
-finish_by false room o old = record { answer = finished.Broken; table = old }
-finish_by true false o old = record { answer = finished.NoRoom; table = old }
-finish_by true true o old = finish_outcome o old
+finish_outcome (ok x) old = record { answer = Ok (length x.words); table = x.words ++ drop (length x.words) old }
+finish_outcome (refused i) old = record { answer = Err i.number; table = old }
 
 -- at least k trees
 unfoldable pub at_least : ℕ → Option ℕ → Bool
@@ -40,11 +37,6 @@ trees_there ws k places = at_least k (trees_in ws) && all_there ws places
 unfoldable pub room_for : List ℕ → ℕ → List ℕ → Bool
 unfolding read
 room_for ws k places = leb (length ws) 1024 && leb (length (drop k (read numbered ws)) + length places) 1024
-
--- the whole of it, from the words, how many of their trees are results, the places of the divisors to bind and the table lent
-unfoldable pub finishing : List ℕ → ℕ → List ℕ → List ℕ → Finishing
-unfolding finish_by trees_there room_for final_rows
-finishing ws k places old = finish_by (trees_there ws k places) (room_for ws k places) (final_rows (length old) k places ws) old
 
 -- how many words are lent to the end: for the settled trees and where they begin, for one tree, for the bindings in order and what they wait for, and for links or
 -- a table of bits

@@ -6,7 +6,6 @@ use Rattle.cse_flat.proofs.refined.Finishing.{enough_words, enough_bytes}
 use Rattle.cse_scoped.proofs.Ends.{is_eight, is_rest}
 use Rattle.cse_scoped.proofs.Rows.{rows_within}
 use Rattle.scope_laws.proofs.call.Scoped.{scoped_call}
-use borrow.Author.Rules.{rules}
 use Rattle.cse_scoped.proofs.cse_scoped.Goals as goal
 
 pub returns-then-is_short : goal.returns-then-is_short

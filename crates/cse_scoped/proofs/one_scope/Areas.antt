@@ -11,11 +11,9 @@ use Rattle.laws.specs.switches.Switches.{arm_count, switch_places}
 use Rattle.statements.specs.Prepared.{Prepared, Readied}
 use Rattle.cse_scoped.specs.one_scope.Answers.{CopiedSo}
 use Rattle.cse_scoped.specs.one_scope.Frame.{Lent, Holds, IsGroup, Numbered, grouped_scope, GroupingSo, FoundSo}
-use Rattle.cse_scoped.specs.declared.one_scope.Copied.{Copied}
-use Rattle.cse_scoped.specs.declared.one_scope.Copied.TheVariants as copied
-use Rattle.cse_scoped.specs.declared.one_scope.Scoped.{Scoped}
+use Rattle.std.specs.Prelude.{Option as Maybe, Some, None}
+use Rattle.cse_scoped.specs.one_scope.Scoped.{Scoped}
 use Rattle.cse_scoped.specs.declared.one_scope.Found.{Found}
-use Rattle.cse_scoped.specs.declared.one_scope.Found.TheVariants as found
 use Rattle.cse_scoped.proofs.one_scope.Ending.{ScopeDone}
 use Rattle.spec_tree.proofs.Lists.{rest_is, rest_back}
 
@@ -36,12 +34,12 @@ rest_length u w w' e = length-drop u w' ∙ ap (λ (n : ℕ). n - u) e
 
 -- ---- an arm's words in front of the rest
 
-module _ (cs : List ℕ) (r : Copied) (rest : List ℕ) (given : CopiedSo cs r rest) where
-  pub copied_words : (n : ℕ) → r ≡ copied.Words n → (take n rest ≡ cs) × (n ≤ length rest) × (n ≤ 1927)
-  copied_words n e = subst (λ (q : Copied). CopiedSo cs q rest) e given
+module _ (cs : List ℕ) (r : Maybe ℕ) (rest : List ℕ) (given : CopiedSo cs r rest) where
+  pub copied_words : (n : ℕ) → r ≡ Some n → (take n rest ≡ cs) × (n ≤ length rest) × (n ≤ 1927)
+  copied_words n e = subst (λ (q : Maybe ℕ). CopiedSo cs q rest) e given
 
-  pub copied_none : r ≡ copied.TooMany → length cs ≤ 1927 → length rest < length cs
-  copied_none e = subst (λ (q : Copied). CopiedSo cs q rest) e given
+  pub copied_none : r ≡ None → length cs ≤ 1927 → length rest < length cs
+  copied_none e = subst (λ (q : Maybe ℕ). CopiedSo cs q rest) e given
 
 pub rest_front : (w : List ℕ) (u n : ℕ) (cs : List ℕ) → take n (drop u w) ≡ cs → take n (take (length w - u) (drop u w)) ≡ cs
 rest_front w u n cs e = ap (take n) (rest_is w u) ∙ e
@@ -83,9 +81,9 @@ module _ (u : ℕ) (w w' : List ℕ) (e : take u w' ≡ take u w) where
 
 -- ---- the groups that were found
 
-module _ (held : List ℕ) (r : Found) (members ends : List ℕ) (given : FoundSo held r members ends) where
-  pub found_groups : (m g : ℕ) → r ≡ found.Groups m g → GroupingSo held m g members ends
-  found_groups m g e = subst (λ (q : Found). FoundSo held q members ends) e given
+module _ (held : List ℕ) (r : Maybe Found) (members ends : List ℕ) (given : FoundSo held r members ends) where
+  pub found_groups : (f : Found) → r ≡ Some f → GroupingSo held f.members f.groups members ends
+  found_groups f e = subst (λ (q : Maybe Found). FoundSo held q members ends) e given
 
-  pub found_none : r ≡ found.TooMany → 3640 < length (switch_places held)
-  found_none e = subst (λ (q : Found). FoundSo held q members ends) e given
+  pub found_none : r ≡ None → 3640 < length (switch_places held)
+  found_none e = subst (λ (q : Maybe Found). FoundSo held q members ends) e given

@@ -13,11 +13,11 @@ use Rattle.spec_cse.specs.AnswerRows.{arm_row}
 use Rattle.laws.specs.switches.Columns.{column_words}
 use Rattle.fusion.specs.place.Overlay.{overlay}
 use Rattle.fusion.specs.place.Whole.{Told, ArmsTold, arms_told}
-use Rattle.cse_scoped.specs.one_scope.Answers.{scope_answer, Laid, ScopeLaid, told_rows, arm_told, arms_answer, ArmsWrote, refusal_number}
-use Rattle.cse_scoped.specs.declared.one_scope.Scoped.{Scoped}
-use Rattle.cse_scoped.specs.declared.one_scope.Scoped.TheVariants as scoped
-use Rattle.cse_scoped.specs.declared.one_scope.Armed.{Armed}
-use Rattle.cse_scoped.specs.declared.one_scope.Armed.TheVariants as armed
+use Rattle.cse_scoped.specs.one_scope.Answers.{scope_answer, Laid, ScopeLaid, told_rows, arm_told, arms_answer, ArmsWrote}
+use Rattle.cse_scoped.specs.one_scope.Scoped.{Scoped}
+use Rattle.cse_scoped.specs.one_scope.Scoped as scoped
+use Rattle.cse_scoped.specs.one_scope.Armed.{Armed}
+use Rattle.cse_scoped.specs.one_scope.Armed as armed
 use Rattle.cse_scoped.proofs.one_scope.Laying.{laid_none, laid_append, laid_row}
 use Rattle.spec_tree.proofs.Outcomes.{got}
 
@@ -156,12 +156,11 @@ module _ (scope : ℕ → List ℕ → Outcome Told) (hs g : List ℕ) (next at 
     pub arms_go_on : (place after more : ℕ) → r ≡ armed.Rows place after more → ArmsSo (n + 1) place after (extracted + more) new
     arms_go_on place after more e = subst (λ (k : ℕ). ArmsSo k place after (extracted + more) new) (omega arith) (subst MoreBy e more_by)
 
-    pub arms_end_refused : (count : ℕ) → n < count → (q : ℕ) → r ≡ armed.Refused q → (z : ℕ) → z ≡ refusal_number r → ArmDone (arms_told scope hs g next count) at old (armed.Refused z) new
-    unfolding refusal_number
-    arms_end_refused count h q e z f =
+    pub arms_end_refused : (count : ℕ) → n < count → (q : ℕ) → r ≡ armed.Refused q → ArmDone (arms_told scope hs g next count) at old (armed.Refused q) new
+    arms_end_refused count h q e =
         let m = subst MoreBy e more_by in
         let s : arms_told scope hs g next count ≡ refused m.0 = subst (λ (k : ℕ). arms_told scope hs g next k ≡ refused m.0) (omega arith) (arms_stopped scope hs g next (suc n) (count - suc n) m.0 m.1) in
-        subst (λ (k : ℕ). ArmDone (arms_told scope hs g next count) at old (armed.Refused k) new) (m.2 ∙ sym (f ∙ ap refusal_number e)) (done_refused (arms_told scope hs g next count) m.0 s at old new)
+        subst (λ (k : ℕ). ArmDone (arms_told scope hs g next count) at old (armed.Refused k) new) m.2 (done_refused (arms_told scope hs g next count) m.0 s at old new)
 
   pub arms_all : (n end number extracted : ℕ) (table : List ℕ) → ArmsSo n end number extracted table → (count : ℕ) → n ≡ count → ArmDone (arms_told scope hs g next count) at old (armed.Rows end number extracted) table
   arms_all n end number extracted table so count e =

@@ -1,5 +1,5 @@
 -- What an arm asks of its scope and what the arms of a group ask of each arm is given, and their sums are words (01, "Scoped fusion"). Assumes nothing.
-use Prim.Native.Nat.{ℕ, zero, suc, ◌+◌, ◌-◌, ◌*◌, ◌≤◌, ◌<◌}
+use Prim.Native.Nat.{ℕ, zero, suc, ◌+◌, ◌*◌, ◌≤◌, ◌<◌}
 use native.Mathlib.Omega.{arith}
 use mathlib.Core.Path.{◌≡◌, refl, sym, ◌∙◌, subst}
 use mathlib.Core.List.{List}
@@ -14,10 +14,10 @@ use Rattle.laws.specs.switches.Columns.{column_words}
 use Rattle.fusion.specs.place.Whole.{Told, ArmsTold, arms_told, group_told, scope_told}
 use Rattle.cse_scoped.specs.one_scope.Answers.{ArmsWrote, scope_answer, ScopeLaid, told_rows, inner, arm_told, arms_answer}
 use Rattle.cse_scoped.specs.one_scope.Frame.{most_rows, Lent, Holds, IsGroup, ArmFits, ArmsFit}
-use Rattle.cse_scoped.specs.declared.one_scope.Scoped.{Scoped}
-use Rattle.cse_scoped.specs.declared.one_scope.Scoped.TheVariants as scoped
-use Rattle.cse_scoped.specs.declared.one_scope.Armed.{Armed}
-use Rattle.cse_scoped.specs.declared.one_scope.Armed.TheVariants as armed
+use Rattle.cse_scoped.specs.one_scope.Scoped.{Scoped}
+use Rattle.cse_scoped.specs.one_scope.Scoped as scoped
+use Rattle.cse_scoped.specs.one_scope.Armed.{Armed}
+use Rattle.cse_scoped.specs.one_scope.Armed as armed
 use Rattle.cse_scoped.proofs.one_scope.ArmLaws.{ArmDone, done_refused, arm_refused, arm_of, ArmsSo, arms_back}
 use Rattle.cse_scoped.proofs.one_scope.Sound.{told_small, column_good, column_passes, arms_few, holds_later}
 use Rattle.spec_tree.proofs.Outcomes.{got}

@@ -33,13 +33,12 @@ use Rattle.scope_laws.proofs.sound.Bounds.{WalkBound, walk_bound, numbers_small,
 use Rattle.scope_laws.proofs.sound.Columns.{members_count, groups_count}
 use Rattle.scope_laws.proofs.sound.Counting.{places_there, held_extractable, held_passes, held_trees, first_lets, trees_few, lets_few, held_trees_few}
 use Rattle.statements.specs.Prepared.{Prepared}
-use Rattle.cse_scoped.specs.one_scope.Answers.{walk_answer, KeptSo, WalkWrote, walk_refusal, HoldingSo}
-use Rattle.cse_scoped.specs.one_scope.Frame.{Holds, Ready, groups_told, grouped_scope, Numbered, Left, left_scope, GroupingSo, SwitchRoom, Room}
-use Rattle.cse_scoped.specs.declared.one_scope.Scoped.TheVariants as scoped
-use Rattle.cse_scoped.specs.declared.one_scope.Holding.{Holding}
-use Rattle.cse_scoped.specs.declared.one_scope.Holding.TheVariants as holding
-use Rattle.cse_scoped.specs.declared.one_scope.Walked.{Walked}
-use Rattle.cse_scoped.specs.declared.one_scope.Walked.TheVariants as walked_enum
+use Rattle.cse_scoped.specs.one_scope.Answers.{walk_answer, KeptSo, WalkWrote, HoldingSo}
+use Rattle.cse_scoped.specs.one_scope.Frame.{Holds, Ready, groups_told, grouped_scope, Numbered, Left, left_scope, GroupingSo, Room}
+use Rattle.cse_scoped.specs.one_scope.Scoped as scoped
+use Rattle.std.specs.Prelude.{Option as Maybe, Some, None}
+use Rattle.cse_scoped.specs.one_scope.Walked.{Walked}
+use Rattle.cse_scoped.specs.one_scope.Walked as walked_enum
 use Rattle.cse_scoped.proofs.one_scope.Sound.{words_ok}
 use Rattle.reciprocals.proofs.bindings.Parts.{AllThere, settle_tree, settled_reciprocals}
 use Rattle.laws.specs.positions.Places.{divisors_to_bind, numbered_at}
@@ -106,13 +105,13 @@ module _ (rows : List Row) (fuel left row : ℕ) (ws : List ℕ) (k first : ℕ)
         let s = ap (λ (n : ℕ). groups_told rows fuel left n held) rd.last in
         subst By (sym (given.0 ∙ ap walk_answer s)) (by_outcome (groups_told rows fuel left from held) refl (subst (λ (o : Outcome Walk). WalkWrote o numbers stops kept) s given.1))
 
-    pub walk_refused : (q : ℕ) → w ≡ walked_enum.Refused q → (z : ℕ) → z ≡ walk_refusal w → (at : ℕ) (old : List ℕ) → ScopeDone (grouped_scope rows fuel left row ws k first places) at old (scoped.Refused z) old
-    unfolding grouped_scope walk_refusal
-    walk_refused q e z f at old =
+    pub walk_refused : (q : ℕ) → w ≡ walked_enum.Refused q → (at : ℕ) (old : List ℕ) → ScopeDone (grouped_scope rows fuel left row ws k first places) at old (scoped.Refused q) old
+    unfolding grouped_scope
+    walk_refused q e at old =
         let m = subst By e by_answer in
         let s : grouped_scope rows fuel left row ws k first places ≡ refused m.0 =
         ap (λ (y : List ℕ). groups_told rows fuel left from y >>= λ l. ordered_scope row ws k first places l) (sym rd.held_is) ∙ ap (λ (o : Outcome Walk). o >>= λ l. ordered_scope row ws k first places l) m.1 in
-        subst (λ (n : ℕ). ScopeDone (grouped_scope rows fuel left row ws k first places) at old (scoped.Refused n) old) (m.2 ∙ sym (f ∙ ap walk_refusal e)) (scope_refused (grouped_scope rows fuel left row ws k first places) m.0 s at old)
+        subst (λ (n : ℕ). ScopeDone (grouped_scope rows fuel left row ws k first places) at old (scoped.Refused n) old) m.2 (scope_refused (grouped_scope rows fuel left row ws k first places) m.0 s at old)
 
     module _ (after extracted : ℕ) (e : w ≡ walked_enum.Done after extracted) where
       d : WalkDone after extracted
@@ -398,19 +397,19 @@ module _ (rows : List Row) (fuel left row : ℕ) (ws : List ℕ) (k first : ℕ)
   pub words_whole : T (some_trees (trees_in ws))
   words_whole = whole_so rows (next_number k first (read numbered ws)) ws l.good
 
-  module _ (r : Holding) (held : List ℕ) (given : HoldingSo (words_held ws (first + (trees - k)) places) r held) where
+  module _ (r : Maybe ℕ) (held : List ℕ) (given : HoldingSo (words_held ws (first + (trees - k)) places) r held) where
     words_are : words_held ws (first + (trees - k)) places ≡ held_words ws k first places
     unfolding held_words
     words_are = ap (λ (n : ℕ). words_held ws n places) number_is
 
-    pub too_many : r ≡ holding.TooMany → length held ≡ left → (at : ℕ) (table : List ℕ) → ScopeDone (left_scope rows fuel left row ws k first places) at table (scoped.Refused 23) table
+    pub too_many : r ≡ None → length held ≡ left → (at : ℕ) (table : List ℕ) → ScopeDone (left_scope rows fuel left row ws k first places) at table (scoped.Refused 23) table
     too_many e long at table =
-        let g = subst (λ (q : Holding). HoldingSo (words_held ws (first + (trees - k)) places) q held) e given in
+        let g = subst (λ (q : Maybe ℕ). HoldingSo (words_held ws (first + (trees - k)) places) q held) e given in
         scope_refused (left_scope rows fuel left row ws k first places) (by 23) (held_many_refused rows fuel left row ws k first places (omega (arith, g, ap length words_are, long))) at table
 
-    module _ (n : ℕ) (e : r ≡ holding.Words n) where
-      so : HoldingSo (words_held ws (first + (trees - k)) places) (holding.Words n) held
-      so = subst (λ (q : Holding). HoldingSo (words_held ws (first + (trees - k)) places) q held) e given
+    module _ (n : ℕ) (e : r ≡ Some n) where
+      so : HoldingSo (words_held ws (first + (trees - k)) places) (Some n) held
+      so = subst (λ (q : Maybe ℕ). HoldingSo (words_held ws (first + (trees - k)) places) q held) e given
 
       pub held_in : n ≤ length held
       held_in = so.1

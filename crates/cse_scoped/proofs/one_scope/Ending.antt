@@ -13,10 +13,11 @@ use Rattle.spec_tree.specs.Rows.{Row}
 use Rattle.spec_tree.specs.Tokens.{read, numbered}
 use Rattle.spec_tree.proofs.TokenLaws.{complete_length}
 use Rattle.spec_cse.specs.Order.{positions_taken}
-use Rattle.laws.proofs.cse.OrderLaws.{All, taken_ok, all_get_d, all_turned}
+use Rattle.laws.proofs.cse.OrderLaws.{taken_ok, all_get_d, all_turned}
 use Rattle.topo_sort.specs.Needs.{table_of, all_or_ring}
-use Rattle.topo_sort.specs.declared.Ordered.{Ordered}
-use Rattle.topo_sort.specs.declared.Ordered.TheVariants as ordered
+use Rattle.std.specs.Prelude.{Result, Ok, Err, ⊤}
+use Rattle.topo_sort.specs.declared.OrderError.{OrderError}
+use Rattle.topo_sort.specs.declared.OrderError.TheVariants as order_error
 use Rattle.fusion.specs.place.Overlay.{overlay}
 use Rattle.fusion.specs.place.Parts.{place_groups, reciprocals_first}
 use Rattle.fusion.specs.place.Whole.{Told, Walk, stmts_count, stmts_order, needs_table, stmts_runs, values_runs, ordered_scope}
@@ -28,8 +29,8 @@ use Rattle.statements.specs.Prepared.{Prepared, order_told}
 use Rattle.statements.proofs.Held.{first_number, lets_are, count_is}
 use Rattle.cse_scoped.specs.one_scope.Answers.{scope_answer, Laid, ScopeLaid, told_rows}
 use Rattle.cse_scoped.specs.one_scope.Frame.{most_rows, Holds, Positions, groups_told, grouped_scope, Numbered, scope_arms}
-use Rattle.cse_scoped.specs.declared.one_scope.Scoped.{Scoped}
-use Rattle.cse_scoped.specs.declared.one_scope.Scoped.TheVariants as scoped
+use Rattle.cse_scoped.specs.one_scope.Scoped.{Scoped}
+use Rattle.cse_scoped.specs.one_scope.Scoped as scoped
 use Rattle.cse_scoped.proofs.one_scope.Statements.{arms_are, by_test, by_no_test}
 use Rattle.topo_sort.proofs.Left.{table_length}
 use Rattle.fusion.proofs.groups.Groups.{ends_length}
@@ -121,11 +122,11 @@ module _ (rows : List Row) (fuel left : ℕ) (ws : List ℕ) (k first : ℕ) (pl
   made_here : length (read numbered ws) - k ≡ length starts - k
   made_here = ap (λ (j : ℕ). j - k) (complete_length numbered ws (length starts) p.complete)
 
-  module _ (r : Ordered) (taken taken' : List ℕ) (given : (r ≡ order_told order count) × (taken' ≡ order ++ drop (length order) taken)) (at : ℕ) (old : List ℕ) where
-    abbrev By : Ordered → Type 0
-    By ordered.All = eqb (length order) count ≡ true
-    By (ordered.Ring n) = eqb (length order) count ≡ false
-    By ordered.Broken = ⊥
+  module _ (r : Result ⊤ OrderError) (taken taken' : List ℕ) (given : (r ≡ order_told order count) × (taken' ≡ order ++ drop (length order) taken)) (at : ℕ) (old : List ℕ) where
+    abbrev By : Result ⊤ OrderError → Type 0
+    By (Ok u) = eqb (length order) count ≡ true
+    By (Err (order_error.Ring n)) = eqb (length order) count ≡ false
+    By (Err order_error.Broken) = ⊥
 
     by_test_is : (b : Bool) → eqb (length order) count ≡ b → By (all_or_ring b (length order))
     by_test_is true e = e
@@ -135,13 +136,15 @@ module _ (rows : List Row) (fuel left : ℕ) (ws : List ℕ) (k first : ℕ) (pl
     unfolding order_told
     by_answer = subst By (sym given.0) (by_test_is (eqb (length order) count) refl)
 
-    pub ring_done : (n : ℕ) → r ≡ ordered.Ring n → ScopeDone outcome at old (scoped.Refused 11) old
-    ring_done n e = scope_refused outcome (by 11) (outcome_ring (subst By e by_answer)) at old
+    is_ring : (e : OrderError) → By (Err e) → eqb (length order) count ≡ false
+    is_ring (order_error.Ring n) b = b
+    is_ring order_error.Broken b = absurd b
 
-    pub never_broken : r ≡ ordered.Broken → ⊥
-    never_broken e = subst By e by_answer
+    -- there is no order: it is never broken
+    pub ring_done : (e : OrderError) → r ≡ Err e → ScopeDone outcome at old (scoped.Refused 11) old
+    ring_done e f = scope_refused outcome (by 11) (outcome_ring (is_ring e (subst By f by_answer))) at old
 
-    module _ (all : r ≡ ordered.All) where
+    module _ (all : r ≡ Ok tt) where
       is_all : eqb (length order) count ≡ true
       is_all = subst By all by_answer
 

@@ -1,15 +1,13 @@
 -- What the steps that a scope asks of other crates answer where they can be done (01, "Scoped fusion"). Assumes nothing.
 use Prim.Native.Nat.{ℕ, zero, suc, ◌+◌, ◌-◌, ◌≤◌, ◌<◌}
 use native.Mathlib.Omega.{arith}
-use types.Run
-use denote.Enum.Declared
 use mathlib.Core.Path.{◌≡◌, refl, sym, ◌∙◌, ap, ap₂, subst}
-use mathlib.Core.Logic.{inl, inr}
 use mathlib.Core.Bool.{Bool, true, false, ◌&&◌}
 use mathlib.Core.Option.{Option, none, some}
 use mathlib.Core.List.{List, [], ◌∷◌, ◌++◌}
 use lib.ListN.{length, get_or, take, drop, set, length-append, length-drop}
 use lib.Seq.{take_at, drop_at, length-take-le}
+use Rattle.std.proofs.lemmas.List.{take-append-le}
 use lib.Dec.{T, leb, ltb, lt→ltb, leb→le}
 use borrow.Author.Tests.{le-leb, leb-true, leb-false}
 use Rattle.spec_tree.specs.Kinds.{is_switch}
@@ -24,32 +22,26 @@ use Rattle.laws.specs.switches.Columns.{column_words}
 use Rattle.laws.proofs.switches.Turned.{Armed}
 use Rattle.laws.proofs.switches.GroupColumns.{every_at}
 use Rattle.words.specs.tokens.Answers.{count_answer}
-use Rattle.words.specs.declared.tokens.Trees.{Trees}
-use Rattle.words.specs.declared.tokens.Trees.TheVariants as trees
+use Rattle.words.specs.declared.fault.Fault.{Fault}
+use Rattle.words.specs.declared.fault.Fault.TheVariants as fault
 use Rattle.fusion.specs.Words.{numbers_from}
 use Rattle.fusion.proofs.Members.{numbers_count}
 use Rattle.fusion.specs.switches.Listing.{Listed}
 use Rattle.fusion.specs.groups.Answers.{groups_at, all_stand, GroupsWritten}
 use Rattle.fusion.proofs.groups.Told.{are_place_groups, places_stand}
 use Rattle.fusion.specs.place.Overlay.{overlay}
-use Rattle.fusion.proofs.tables.Laws.{overlay_none, overlay_word, overlay_append, overlay_fits}
+use Rattle.fusion.proofs.tables.Laws.{overlay_none, overlay_word, overlay_append}
 use Rattle.statements.specs.Prepared.{begin_of}
 use Rattle.fusion.specs.groups.Copying.{armed_at, all_armed, Copying, copying_by, column_there, copying}
-use Rattle.fusion.specs.declared.groups.Column.{Column}
-use Rattle.fusion.specs.declared.groups.Column.TheVariants as column_enum
-use Rattle.fusion.specs.contracts.groups.Column as column_type
 use Rattle.statements.specs.holding.Holding.{whole_there, room_to_hold, Holding as HeldSo, holding_by, holding}
-use Rattle.statements.specs.declared.holding.Held.{Held}
+use Rattle.statements.specs.declared.holding.HoldError.{HoldError}
 use Rattle.statements.proofs.holding.Front.{held_front, held_length}
-use Rattle.statements.specs.declared.holding.Held.TheVariants as held_enum
+use Rattle.statements.specs.declared.holding.HoldError.TheVariants as hold_error
 use Rattle.fusion.specs.place.Parts.{place_groups, joined_groups, ends_from, words_held}
 use Rattle.scope_laws.proofs.sound.Columns.{Fused, group_fused, members_count}
 use Rattle.cse_scoped.specs.one_scope.Answers.{HoldingSo, CopiedSo, SwitchesSo}
 use Rattle.cse_scoped.specs.one_scope.Frame.{IsGroup, GroupingSo}
-use Rattle.cse_scoped.specs.declared.one_scope.Copied.TheVariants as copied_enum
-use Rattle.cse_scoped.specs.declared.one_scope.Holding.TheVariants as holding_enum
-use Rattle.cse_scoped.specs.declared.one_scope.Switches.{Switches}
-use Rattle.cse_scoped.specs.declared.one_scope.Switches.TheVariants as switches_enum
+use Rattle.std.specs.Prelude.{Option as Maybe, Some, None, Result, Ok, Err}
 use Rattle.fusion.proofs.groups.Groups.{ends_length}
 
 pub complete_so : (ws : List ℕ) → T (some_trees (trees_in ws)) → Complete ws
@@ -85,11 +77,11 @@ module _ (held group : List ℕ) (complete : T (some_trees (trees_in held))) (g 
   unfolding copying
   copied_by = ap (λ (b : Bool). copying_by b (leb (length words) (length input)) words input) there
 
-  module _ (r : Column) (out : List ℕ) (given : (r ≡ (copying held group a input).answer) × (out ≡ (copying held group a input).out)) where
-    abbrev By : Column → Type 0
-    By (column_enum.Words n) = (take n out ≡ words) × ((n ≡ length words) × ((n ≤ length out) × (n ≤ 1927)))
-    By column_enum.Broken = ⊥
-    By column_enum.NoRoom = room < length words
+  module _ (r : Result ℕ Fault) (out : List ℕ) (given : (r ≡ (copying held group a input).answer) × (out ≡ (copying held group a input).out)) where
+    abbrev By : Result ℕ Fault → Type 0
+    By (Ok n) = (take n out ≡ words) × ((n ≡ length words) × ((n ≤ length out) × (n ≤ 1927)))
+    By (Err fault.Broken) = ⊥
+    By (Err fault.NoRoom) = room < length words
 
     by_room : (b : Bool) → leb (length words) (length input) ≡ b → out ≡ (copying_by true b words input).out → By (copying_by true b words input).answer
     unfolding copying_by
@@ -102,38 +94,64 @@ module _ (held group : List ℕ) (complete : T (some_trees (trees_in held))) (g 
     by_answer : By r
     by_answer = subst By (sym (given.0 ∙ ap (λ (x : Copying). x.answer) copied_by)) (by_room (leb (length words) (length input)) refl (given.1 ∙ ap (λ (x : Copying). x.out) copied_by))
 
-    words_so : (n : ℕ) → r ≡ column_enum.Words n → By (column_enum.Words n)
+    pub words_so : (n : ℕ) → r ≡ Ok n → By (Ok n)
     words_so n e = subst By e by_answer
 
-    pub column_in : (n : ℕ) → r ≡ column_enum.Words n → n ≤ length out
-    column_in n e = (words_so n e).1.1.0
+    pub column_never_broken : r ≡ Err fault.Broken → ⊥
+    column_never_broken e = subst By e by_answer
 
-    not_words : (q : Column) → By q → Run.OneOf (1 ∷ 2 ∷ []) (Declared.tag_of column_type.the_type q) → room < length words
-    not_words (column_enum.Words n) h (inl e) = absurd (omega arith)
-    not_words (column_enum.Words n) h (inr e) = absurd (omega arith)
-    not_words column_enum.Broken h e = absurd h
-    not_words column_enum.NoRoom h e = h
+    pub column_over : r ≡ Err fault.NoRoom → room < length words
+    column_over e = subst By e by_answer
 
-    -- longer than can be worked on
-    pub column_too_long : 1927 ≤ room → (rest : List ℕ) → Run.OneOf (1 ∷ 2 ∷ []) (Declared.tag_of column_type.the_type r) → CopiedSo words copied_enum.TooMany rest
-    column_too_long long rest k few = absurd (let m = not_words r by_answer k in omega (arith, m, few, long))
+-- ---- a column copied behind what is held
 
-    -- longer than what is left
-    pub column_over : (n h : ℕ) (work : List ℕ) → r ≡ column_enum.Words n → length work - h < n → CopiedSo words copied_enum.TooMany (drop h work)
-    column_over n h work e over few = omega (arith, over, (words_so n e).1.0, length-drop h work)
+module _ (work group : List ℕ) (h a room : ℕ) (inside : h ≤ length work) (g : IsGroup (take h work) group) (l : a < arm_count (take h work) (get_or group 0 0)) (complete : T (some_trees (trees_in (take h work))))
+    (short : room ≤ 1927) (fits : room ≤ length work - h) (full : (n : ℕ) → n ≤ 1927 → room < n → length work - h < n) (r : Result ℕ Fault) (out : List ℕ) where
+  abbrev there_words : List ℕ
+  there_words = column_words (take h work) group a
 
-    -- put after what is held
-    pub column_put : (n h : ℕ) (work work' : List ℕ) → r ≡ column_enum.Words n → h ≤ length work → n ≤ length work - h → work' ≡ overlay h (take n out) work
-        → CopiedSo words (copied_enum.Words n) (drop h work') × (take h work' ≡ take h work)
-    column_put n h work work' e inside fits w =
-        let s = words_so n e in
-        let p : work' ≡ take h work ++ (words ++ drop (h + length words) work) =
-        w ∙ (ap (λ (l : List ℕ). overlay h l work) s.0 ∙ overlay_fits h words work (omega (arith, s.1.0))) in
-        let k : length (take h work) ≡ h = length-take-le h work inside in
-        let d : drop h work' ≡ words ++ drop (h + length words) work = ap (drop h) p ∙ drop_at (take h work) (words ++ drop (h + length words) work) h k in (
-          (ap (take n) d ∙ take_at words (drop (h + length words) work) n (sym s.1.0), omega (arith, s.1.0, ap length d, length-append words (drop (h + length words) work)), s.1.1.1),
-          ap (take h) p ∙ take_at (take h work) (words ++ drop (h + length words) work) h k,
-        )
+  abbrev Copied : List ℕ → List ℕ → Type 0
+  Copied front back = (r ≡ (copying front group a (take room back)).answer) × (out ≡ (copying front group a (take room back)).out)
+
+  abbrev whole_area : List ℕ → List ℕ → List ℕ
+  whole_area front back = front ++ (out ++ drop room back)
+
+  abbrev CopiedIn : Maybe ℕ → List ℕ → List ℕ → Type 0
+  CopiedIn m front back = CopiedSo there_words m (drop h (whole_area front back)) × (take h (whole_area front back) ≡ take h work)
+
+  front_long : length (take h work) ≡ h
+  front_long = length-take-le h work inside
+
+  input_long : length (take room (drop h work)) ≡ room
+  input_long = length-take-le room (drop h work) (omega (arith, length-drop h work, fits))
+
+  -- for what stands in front and behind it by their names
+  by_parts : (m : Maybe ℕ) → (Copied (take h work) (drop h work) → CopiedIn m (take h work) (drop h work)) → (front back : List ℕ) → front ≡ take h work → back ≡ drop h work → Copied front back → CopiedIn m front back
+  by_parts m f front back e0 e1 =
+      subst (λ (z : List ℕ). Copied z back → CopiedIn m z back) (sym e0) (subst (λ (z : List ℕ). Copied (take h work) z → CopiedIn m (take h work) z) (sym e1) f)
+
+  pub copied_there : (n : ℕ) → r ≡ Ok n → (front back : List ℕ) → front ≡ take h work → back ≡ drop h work → Copied front back → CopiedIn (Some n) front back
+  copied_there n e = by_parts (Some n) (λ given.
+      let s = words_so (take h work) group complete g a l (take room (drop h work)) room input_long short r out given n e in
+      let rest = drop room (drop h work) in
+      let d = drop_at (take h work) (out ++ rest) h front_long in (
+        (ap (take n) d ∙ take-append-le n out rest s.1.1.0 ∙ s.0, omega (arith, ap length d, length-append out rest, s.1.1.0), s.1.1.1),
+        take_at (take h work) (out ++ rest) h front_long,
+      ))
+
+  pub copied_over : r ≡ Err fault.NoRoom → length out ≡ room → (front back : List ℕ) → front ≡ take h work → back ≡ drop h work → Copied front back → CopiedIn None front back
+  copied_over e same = by_parts None (λ given.
+      let over = column_over (take h work) group complete g a l (take room (drop h work)) room input_long short r out given e in
+      let rest = drop room (drop h work) in
+      let d = drop_at (take h work) (out ++ rest) h front_long in (
+        λ few. (let most = full (length there_words) few over in omega (arith, most, same, fits, ap length d, length-append out rest, length-drop room (drop h work), length-drop h work)),
+        take_at (take h work) (out ++ rest) h front_long,
+      ))
+
+  pub never_broken : r ≡ Err fault.Broken → (front back : List ℕ) → front ≡ take h work → back ≡ drop h work → Copied front back → ⊥
+  never_broken e front back e0 e1 =
+      subst (λ (z : List ℕ). Copied z back → ⊥) (sym e0) (subst (λ (z : List ℕ). Copied (take h work) z → ⊥) (sym e1)
+      (λ given. column_never_broken (take h work) group complete g a l (take room (drop h work)) room input_long short r out given e))
 
 -- ---- what is held
 
@@ -153,12 +171,12 @@ module _ (ws places : List ℕ) (number : ℕ) (old : List ℕ) (complete : T (s
   unfolding holding
   held_by = ap₂ (λ (a b : Bool). holding_by a b (leb (length hs) (length old)) ws hs old) whole roomy
 
-  module _ (r : Held) (out : List ℕ) (given : (r ≡ (holding ws places number old).answer) × (out ≡ (holding ws places number old).out)) where
-    abbrev HeldBy : Held → Type 0
-    HeldBy (held_enum.Words n) = HoldingSo hs (holding_enum.Words n) out
-    HeldBy held_enum.TooMany = HoldingSo hs holding_enum.TooMany out
-    HeldBy held_enum.Broken = ⊥
-    HeldBy held_enum.NoRoom = ⊥
+  module _ (r : Result ℕ HoldError) (out : List ℕ) (given : (r ≡ (holding ws places number old).answer) × (out ≡ (holding ws places number old).out)) where
+    abbrev HeldBy : Result ℕ HoldError → Type 0
+    HeldBy (Ok n) = HoldingSo hs (Some n) out
+    HeldBy (Err hold_error.TooMany) = HoldingSo hs None out
+    HeldBy (Err hold_error.Broken) = ⊥
+    HeldBy (Err hold_error.NoRoom) = ⊥
 
     by_few : (b : Bool) → leb (length hs) (length old) ≡ b → out ≡ (holding_by true true b ws hs old).out → HeldBy (holding_by true true b ws hs old).answer
     unfolding holding_by
@@ -168,16 +186,16 @@ module _ (ws places : List ℕ) (number : ℕ) (old : List ℕ) (complete : T (s
     held_answer : HeldBy r
     held_answer = subst HeldBy (sym (given.0 ∙ ap (λ (x : HeldSo). x.answer) held_by)) (by_few (leb (length hs) (length old)) refl (given.1 ∙ ap (λ (x : HeldSo). x.out) held_by))
 
-    pub held_words_are : (n : ℕ) → r ≡ held_enum.Words n → HoldingSo hs (holding_enum.Words n) out
+    pub held_words_are : (n : ℕ) → r ≡ Ok n → HoldingSo hs (Some n) out
     held_words_are n e = subst HeldBy e held_answer
 
-    pub held_too_many : r ≡ held_enum.TooMany → HoldingSo hs holding_enum.TooMany out
+    pub held_too_many : r ≡ Err hold_error.TooMany → HoldingSo hs None out
     held_too_many e = subst HeldBy e held_answer
 
-    pub held_never_broken : r ≡ held_enum.Broken → ⊥
+    pub held_never_broken : r ≡ Err hold_error.Broken → ⊥
     held_never_broken e = subst HeldBy e held_answer
 
-    pub held_never_full : r ≡ held_enum.NoRoom → ⊥
+    pub held_never_full : r ≡ Err hold_error.NoRoom → ⊥
     held_never_full e = subst HeldBy e held_answer
 
 -- ---- groups
@@ -185,12 +203,12 @@ module _ (ws places : List ℕ) (number : ℕ) (old : List ℕ) (complete : T (s
 pub listed_in : {new old : List ℕ} {n : ℕ} {out : List ℕ} → Listed new old n out → n ≤ length out
 listed_in {new} {old} {n} {out} l = omega (arith, l.count, ap length l.places, length-append new (drop (length new) old))
 
-module _ (held places : List ℕ) (r : Switches) (so : SwitchesSo held r places) where
-  pub switches_there : (n : ℕ) → r ≡ switches_enum.Count n → (take n places ≡ switch_places held) × (n ≤ length places)
-  switches_there n e = subst (λ (q : Switches). SwitchesSo held q places) e so
+module _ (held places : List ℕ) (r : Maybe ℕ) (so : SwitchesSo held r places) where
+  pub switches_there : (n : ℕ) → r ≡ Some n → (take n places ≡ switch_places held) × (n ≤ length places)
+  switches_there n e = subst (λ (q : Maybe ℕ). SwitchesSo held q places) e so
 
-  pub switches_over : r ≡ switches_enum.TooMany → length places < length (switch_places held)
-  switches_over e = subst (λ (q : Switches). SwitchesSo held q places) e so
+  pub switches_over : r ≡ None → length places < length (switch_places held)
+  switches_over e = subst (λ (q : Maybe ℕ). SwitchesSo held q places) e so
 
 pub stand_so : (held places : List ℕ) → places ≡ switch_places held → T (all_stand held places)
 stand_so held places e = subst (λ (z : List ℕ). T (all_stand held z)) (sym e) (places_stand held)
@@ -215,10 +233,10 @@ grouping_so held places t e {members} {ends} {n} {members'} {ends'} w =
 
 -- ---- trees
 
-module _ (ws : List ℕ) (r : Trees) (given : r ≡ count_answer (trees_in ws)) where
-  abbrev CountBy : Trees → Type 0
-  CountBy (trees.Count n) = trees_in ws ≡ some n
-  CountBy trees.Broken = trees_in ws ≡ none
+module _ (ws : List ℕ) (r : Maybe ℕ) (given : r ≡ count_answer (trees_in ws)) where
+  abbrev CountBy : Maybe ℕ → Type 0
+  CountBy (Some n) = trees_in ws ≡ some n
+  CountBy None = trees_in ws ≡ none
 
   count_by : (o : Option ℕ) → trees_in ws ≡ o → CountBy (count_answer o)
   unfolding count_answer
@@ -228,10 +246,10 @@ module _ (ws : List ℕ) (r : Trees) (given : r ≡ count_answer (trees_in ws)) 
   counted_so : CountBy r
   counted_so = subst CountBy (sym given) (count_by (trees_in ws) refl)
 
-  pub counted : (n : ℕ) → r ≡ trees.Count n → trees_in ws ≡ some n
+  pub counted : (n : ℕ) → r ≡ Some n → trees_in ws ≡ some n
   counted n e = subst CountBy e counted_so
 
-pub uncounted : (ws : List ℕ) → T (some_trees (trees_in ws)) → (r : Trees) → r ≡ count_answer (trees_in ws) → r ≡ trees.Broken → ⊥
+pub uncounted : (ws : List ℕ) → T (some_trees (trees_in ws)) → (r : Maybe ℕ) → r ≡ count_answer (trees_in ws) → r ≡ None → ⊥
 unfolding some_trees
 uncounted ws t r given e = subst (λ (o : Option ℕ). T (some_trees o)) (subst (CountBy ws r given) e (counted_so ws r given)) t
 

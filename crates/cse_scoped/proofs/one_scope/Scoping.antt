@@ -24,12 +24,11 @@ use Rattle.laws.specs.switches.Columns.{column_words}
 use Rattle.cse_scoped.specs.one_scope.Answers.{inner, arm_told, CopiedSo}
 use Rattle.cse_flat.specs.Answers.{Lists}
 use Rattle.cse_scoped.specs.one_scope.Frame.{Left, left_scope}
-use Rattle.cse_scoped.specs.declared.one_scope.Scoped.TheVariants as scoped
-use Rattle.cse_scoped.specs.declared.one_scope.Armed.TheVariants as armed
-use Rattle.cse_scoped.specs.declared.one_scope.Copied.{Copied}
-use Rattle.cse_scoped.specs.declared.one_scope.Copied.TheVariants as copied
+use Rattle.cse_scoped.specs.one_scope.Scoped as scoped
+use Rattle.cse_scoped.specs.one_scope.Armed as armed
+use Rattle.std.specs.Prelude.{Option as Maybe, None, Result, Ok, Err}
 use Rattle.cse_flat.specs.declared.Listed.{Listed}
-use Rattle.cse_flat.specs.declared.Listed.TheVariants as listed
+use Rattle.replace.specs.declared.NotConstant.{NotConstant}
 use Rattle.cse_scoped.proofs.one_scope.Areas.{copied_none}
 use Rattle.cse_scoped.proofs.one_scope.ArmLaws.{ArmDone, done_refused, arm_refused}
 use Rattle.cse_scoped.proofs.one_scope.Statements.{by_test, by_no_test}
@@ -78,17 +77,23 @@ module _ (rows : List Row) (left row next : ℕ) (ws : List ℕ) (at : ℕ) (old
           ∙ tested (fuel - 1)
           (ap₂ (λ (a b : Bool). a && b) (le-leb (length ws) left there) (ap₂ (λ (a b : Bool). a && b) (le-leb (length ws) 1927 few) (le-leb next most_number low)))
 
-      module _ (r : Listed) (tokens places : List ℕ) (given : Lists rows true next ws r tokens places) where
-        pub ten : r ≡ listed.Refused → ScopeDone (scope_told rows fuel left row next ws) at old (scoped.Refused 10) old
-        ten e =
-            let g = subst (λ (q : Listed). Lists rows true next ws q tokens places) e given in
+      module _ (r : Result Listed NotConstant) (tokens places : List ℕ) (given : Lists rows true next ws r tokens places) where
+        pub ten : (n : NotConstant) → r ≡ Err n → ScopeDone (scope_told rows fuel left row next ws) at old (scoped.Refused 10) old
+        ten n e =
+            let g = subst (λ (q : Result Listed NotConstant). Lists rows true next ws q tokens places) e given in
             let i : g.0 ≡ by 10 = rounds_ten rows true next ws sound pass g.0 g.1 in
             scope_refused (scope_told rows fuel left row next ws) (by 10)
             (from_rounds ∙ ap (λ (o : Outcome (List ℕ)). o >>= λ vs. left_scope rows (fuel - 1) left row vs (length (read numbered ws)) next (divisors_to_bind vs (name_in rows) true)) (g.1 ∙ ap refused i)) at old
 
-        module _ (n m d : ℕ) (e : r ≡ listed.Words n m d) where
-          so : Lists rows true next ws (listed.Words n m d) tokens places
-          so = subst (λ (q : Listed). Lists rows true next ws q tokens places) e given
+        module _ (all : Listed) (e : r ≡ Ok all) where
+          abbrev n : ℕ
+          n = all.words
+
+          abbrev d : ℕ
+          d = all.divisors
+
+          so : Lists rows true next ws (Ok all) tokens places
+          so = subst (λ (q : Result Listed NotConstant). Lists rows true next ws q tokens places) e given
 
           pub words_in : n ≤ length tokens
           words_in = so.3
@@ -132,8 +137,8 @@ module _ (rows : List Row) (left row next : ℕ) (ws : List ℕ) where
       go true e = ap (λ (b : Bool). b && (leb (length ws) 1927 && leb next most_number)) (lt-leb (length ws) left (h (leb-true (length ws) 1927 e)))
       go false e = ap (λ (b : Bool). leb (length ws) left && (b && leb next most_number)) e ∙ and_false (leb (length ws) left)
 
-pub arm_too_many : (rows : List Row) (fuel left next : ℕ) (held group : List ℕ) (a : ℕ) → fuel ≡ suc (fuel - 1) → (r : Copied) (rest : List ℕ) → CopiedSo (column_words held group a) r rest
-    → r ≡ copied.TooMany → length rest ≡ left → (at : ℕ) (old : List ℕ) → ArmDone (arm_told (inner rows fuel left) held group next a) at old (armed.Refused 23) old
+pub arm_too_many : (rows : List Row) (fuel left next : ℕ) (held group : List ℕ) (a : ℕ) → fuel ≡ suc (fuel - 1) → (r : Maybe ℕ) (rest : List ℕ) → CopiedSo (column_words held group a) r rest
+    → r ≡ None → length rest ≡ left → (at : ℕ) (old : List ℕ) → ArmDone (arm_told (inner rows fuel left) held group next a) at old (armed.Refused 23) old
 arm_too_many rows fuel left next held group a more r rest given e long at old =
     done_refused (arm_told (inner rows fuel left) held group next a) (by 23)
     (arm_refused (inner rows fuel left) held group next a (by 23)

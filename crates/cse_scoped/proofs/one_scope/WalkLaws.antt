@@ -15,10 +15,10 @@ use Rattle.fusion.specs.place.Overlay.{overlay}
 use Rattle.fusion.specs.place.Parts.{joined_groups, ends_from, group_at, group_start}
 use Rattle.fusion.specs.place.Whole.{Told, ArmsTold, Walk, group_told, walked}
 use Rattle.fusion.proofs.tables.Laws.{overlay_fits, overlay_word}
-use Rattle.cse_scoped.specs.one_scope.Answers.{Laid, arms_answer, ArmsWrote, walk_answer, KeptSo, WalkWrote, refusal_number}
-use Rattle.cse_scoped.specs.declared.one_scope.Armed.{Armed}
-use Rattle.cse_scoped.specs.declared.one_scope.Armed.TheVariants as armed
-use Rattle.cse_scoped.specs.declared.one_scope.Walked.TheVariants as walked_enum
+use Rattle.cse_scoped.specs.one_scope.Answers.{Laid, arms_answer, ArmsWrote, walk_answer, KeptSo, WalkWrote}
+use Rattle.cse_scoped.specs.one_scope.Armed.{Armed}
+use Rattle.cse_scoped.specs.one_scope.Armed as armed
+use Rattle.cse_scoped.specs.one_scope.Walked as walked_enum
 use Rattle.cse_scoped.proofs.one_scope.Laying.{front_less}
 use Rattle.cse_scoped.proofs.one_scope.ArmLaws.{never_ok, Or, first, second, lt_or_eq}
 use Rattle.scope_laws.proofs.sound.Bounds.{start_next}
@@ -212,14 +212,13 @@ module _ (scope : ℕ → List ℕ → Outcome Told) (hs : List ℕ) (gs : List 
       pub walk_goes_on : (place after more : ℕ) → r ≡ armed.Rows place after more → StepBy (armed.Rows place after more)
       walk_goes_on place after more e = subst StepBy e step_by
 
-      pub walk_ends_refused : (count : ℕ) → n < count → (q : ℕ) → r ≡ armed.Refused q → (z : ℕ) → z ≡ refusal_number r → (numbers' stops' last : List ℕ)
-          → (walked_enum.Refused z ≡ walk_answer (walked scope hs gs next count)) × WalkWrote (walked scope hs gs next count) numbers' stops' last
-      unfolding refusal_number walk_answer
-      walk_ends_refused count h q e z f numbers' stops' last =
+      pub walk_ends_refused : (count : ℕ) → n < count → (q : ℕ) → r ≡ armed.Refused q → (numbers' stops' last : List ℕ)
+          → (walked_enum.Refused q ≡ walk_answer (walked scope hs gs next count)) × WalkWrote (walked scope hs gs next count) numbers' stops' last
+      unfolding walk_answer
+      walk_ends_refused count h q e numbers' stops' last =
           let m = subst StepBy e step_by in
           let s : walked scope hs gs next count ≡ refused m.0 = subst (λ (k : ℕ). walked scope hs gs next k ≡ refused m.0) (omega arith) (walked_stopped next (suc n) (count - suc n) m.0 m.1) in
-          let y : z ≡ m.0.number = f ∙ (ap refusal_number e ∙ sym m.2) in
-          subst (λ (o : Outcome Walk). (walked_enum.Refused z ≡ walk_answer o) × WalkWrote o numbers' stops' last) (sym s) (ap (λ (k : ℕ). walked_enum.Refused k) y, tt)
+          subst (λ (o : Outcome Walk). (walked_enum.Refused q ≡ walk_answer o) × WalkWrote o numbers' stops' last) (sym s) (ap (λ (k : ℕ). walked_enum.Refused k) (sym m.2), tt)
 
     pub walk_all : (n number extracted start to : ℕ) (numbers stops kept : List ℕ) → WalkSo n number extracted start to numbers stops kept → (count : ℕ) → n ≡ count
         → (walked_enum.Done number extracted ≡ walk_answer (walked scope hs gs next count)) × WalkWrote (walked scope hs gs next count) numbers stops kept

@@ -14,7 +14,7 @@ use Rattle.scope_laws.proofs.sound.Sums.{sum_each}
 use Rattle.scope_laws.proofs.sound.Bounds.{per_match, WalkBound, walk_bound}
 use Rattle.cse_scoped.specs.one_scope.Answers.{inner, arms_answer, ArmsWrote}
 use Rattle.cse_scoped.specs.one_scope.Frame.{Holds, IsGroup, Members}
-use Rattle.cse_scoped.specs.declared.one_scope.Armed.{Armed}
+use Rattle.cse_scoped.specs.one_scope.Armed.{Armed}
 use Rattle.statements.proofs.Groups.{end_is, group_long, group_inside, group_part}
 use Rattle.cse_scoped.proofs.one_scope.Sound.{words_ok, holds_later}
 use Rattle.cse_scoped.proofs.one_scope.WalkLaws.{WalkSo}

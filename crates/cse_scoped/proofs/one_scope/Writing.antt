@@ -13,8 +13,8 @@ use Rattle.fusion.specs.place.Whole.{ArmsTold, arms_told, group_told}
 use Rattle.cse_scoped.specs.one_scope.Answers.{inner, Laid, arms_answer, ArmsWrote, words_of}
 use Rattle.cse_scoped.specs.one_scope.Frame.{most_rows, Holds, IsGroup, ArmsFit, group_again, GroupSized}
 use Rattle.statements.specs.Prepared.{Grouped, begin_of, head_run}
-use Rattle.cse_scoped.specs.declared.one_scope.Armed.{Armed}
-use Rattle.cse_scoped.specs.declared.one_scope.Armed.TheVariants as armed
+use Rattle.cse_scoped.specs.one_scope.Armed.{Armed}
+use Rattle.cse_scoped.specs.one_scope.Armed as armed
 use Rattle.cse_scoped.proofs.one_scope.Laying.{laid_exact, laid_append, laid_past, laid_as}
 use Rattle.cse_scoped.proofs.one_scope.ArmLaws.{arms_within}
 use Rattle.statements.proofs.Groups.{end_is, begin_is, group_long, group_inside, group_part}

@@ -1,5 +1,7 @@
 -- What a scope, an arm, the arms of a match and the groups of a scope answer, and what they leave in the table, by cases (01, "Scoped fusion"). Assumes nothing.
-use Rattle.std.specs.Prelude.{ℕ, ◌+◌, ◌≤◌, ◌<◌, ◌≡◌, List, [], ◌∷◌, length, take}
+use Rattle.std.specs.Prelude.{ℕ, ◌+◌, ◌≤◌, ◌<◌, ◌≡◌, List, [], ◌∷◌, length, take, Option, Some, None, Result, Ok, Err}
+use Rattle.refusal.specs.declared.Refusal.{Refusal}
+use Rattle.refusal.specs.Numbers.{number_of}
 use Rattle.spec_tree.specs.Outcome.{Outcome, ok, refused, ◌>>=◌}
 use Rattle.spec_tree.specs.Rows.{Row}
 use Rattle.spec_tree.specs.Tokens.{word}
@@ -9,18 +11,15 @@ use Rattle.laws.specs.switches.Columns.{column_words}
 use Rattle.fusion.specs.place.Overlay.{overlay}
 use Rattle.fusion.specs.place.Parts.{joined_groups, ends_from}
 use Rattle.fusion.specs.place.Whole.{Told, ArmsTold, Walk, scope_told}
-use Rattle.cse_scoped.specs.declared.one_scope.Scoped.{Scoped}
-use Rattle.cse_scoped.specs.declared.one_scope.Scoped.TheVariants as scoped
-use Rattle.cse_scoped.specs.declared.one_scope.Armed.{Armed}
-use Rattle.cse_scoped.specs.declared.one_scope.Armed.TheVariants as armed
-use Rattle.cse_scoped.specs.declared.one_scope.Walked.{Walked}
-use Rattle.cse_scoped.specs.declared.one_scope.Walked.TheVariants as walked
-use Rattle.cse_scoped.specs.declared.one_scope.Holding.{Holding}
-use Rattle.cse_scoped.specs.declared.one_scope.Holding.TheVariants as holding
-use Rattle.cse_scoped.specs.declared.one_scope.Copied.{Copied}
-use Rattle.cse_scoped.specs.declared.one_scope.Copied.TheVariants as copied
-use Rattle.cse_scoped.specs.declared.one_scope.Switches.{Switches}
-use Rattle.cse_scoped.specs.declared.one_scope.Switches.TheVariants as switches
+use Rattle.cse_scoped.specs.one_scope.Scoped.{Scoped}
+use Rattle.cse_scoped.specs.one_scope.Scoped as scoped
+use Rattle.cse_scoped.specs.one_scope.Armed.{Armed}
+use Rattle.cse_scoped.specs.one_scope.Armed as armed
+use Rattle.cse_scoped.specs.one_scope.Walked.{Walked}
+use Rattle.cse_scoped.specs.one_scope.Walked as walked
+use Rattle.cse_scoped.specs.declared.one_scope.ScopeRows.{ScopeRows}
+use Rattle.cse_scoped.specs.declared.one_scope.ArmRows.{ArmRows}
+use Rattle.cse_scoped.specs.declared.one_scope.GroupsWalked.{GroupsWalked}
 
 -- ---- a scope
 
@@ -28,6 +27,11 @@ use Rattle.cse_scoped.specs.declared.one_scope.Switches.TheVariants as switches
 unfoldable pub scope_answer : Outcome Told → ℕ → Scoped
 scope_answer (ok t) at = scoped.Told (at + length t.words) t.steps t.next t.extracted
 scope_answer (refused i) at = scoped.Refused i.number
+
+-- what the code answers, so told
+abbrev pub scope_named : Result ScopeRows Refusal → Scoped
+scope_named (Ok r) = scoped.Told r.end r.statements r.next r.extracted
+scope_named (Err r) = scoped.Refused (number_of r)
 
 -- Words laid over a table from a place on. What stands before them is as it was, and where all of them have room they stand there. Where they haven't, what is left from
 -- that place on is free: nobody reads a table that its rows don't fit.
@@ -64,6 +68,10 @@ unfoldable pub arms_answer : Outcome ArmsTold → ℕ → Armed
 arms_answer (ok t) at = armed.Rows (at + length t.words) t.next t.extracted
 arms_answer (refused i) at = armed.Refused i.number
 
+abbrev pub arms_named : Result ArmRows Refusal → Armed
+arms_named (Ok r) = armed.Rows r.end r.next r.extracted
+arms_named (Err r) = armed.Refused (number_of r)
+
 -- the rows laid over the table; where arms are refused the table is free
 abbrev pub ArmsWrote : Outcome ArmsTold → ℕ → List ℕ → List ℕ → Type 0
 ArmsWrote (ok t) at old new = Laid at t.words old new
@@ -75,6 +83,10 @@ ArmsWrote (refused i) at old new = Unit {0}
 unfoldable pub walk_answer : Outcome Walk → Walked
 walk_answer (ok l) = walked.Done l.next l.extracted
 walk_answer (refused i) = walked.Refused i.number
+
+abbrev pub walk_named : Result GroupsWalked Refusal → Walked
+walk_named (Ok r) = walked.Done r.next r.extracted
+walk_named (Err r) = walked.Refused (number_of r)
 
 -- the rows of the first groups' arms stand in front, of as many groups as have room
 abbrev pub KeptSo : List (List ℕ) → List ℕ → Type 0
@@ -99,25 +111,16 @@ words_of (ok t) = t.words
 words_of (refused i) = []
 
 -- an arm's words stand in front of what is left, or are more than that, or than can be worked on
-abbrev pub CopiedSo : List ℕ → Copied → List ℕ → Type 0
-CopiedSo cs (copied.Words n) rest = (take n rest ≡ cs) × (n ≤ length rest) × (n ≤ 1927)
-CopiedSo cs copied.TooMany rest = length cs ≤ 1927 → length rest < length cs
+abbrev pub CopiedSo : List ℕ → Option ℕ → List ℕ → Type 0
+CopiedSo cs (Some n) rest = (take n rest ≡ cs) × (n ≤ length rest) × (n ≤ 1927)
+CopiedSo cs None rest = length cs ≤ 1927 → length rest < length cs
 
 -- the switches of words stand in front, or are more than there are places
-abbrev pub SwitchesSo : List ℕ → Switches → List ℕ → Type 0
-SwitchesSo held (switches.Count n) places = (take n places ≡ switch_places held) × (n ≤ length places)
-SwitchesSo held switches.TooMany places = length places < length (switch_places held)
+abbrev pub SwitchesSo : List ℕ → Option ℕ → List ℕ → Type 0
+SwitchesSo held (Some n) places = (take n places ≡ switch_places held) × (n ≤ length places)
+SwitchesSo held None places = length places < length (switch_places held)
 
 -- what a scope holds in front, or more than are lent
-abbrev pub HoldingSo : List ℕ → Holding → List ℕ → Type 0
-HoldingSo hs (holding.Words n) held = (take n held ≡ hs) × (n ≤ length held)
-HoldingSo hs holding.TooMany held = length held < length hs
-
-unfoldable pub walk_refusal : Walked → ℕ
-walk_refusal (walked.Done next extracted) = 0
-walk_refusal (walked.Refused n) = n
-
--- the refusal's number, 0 where there is none
-unfoldable pub refusal_number : Armed → ℕ
-refusal_number (armed.Rows end next extracted) = 0
-refusal_number (armed.Refused n) = n
+abbrev pub HoldingSo : List ℕ → Option ℕ → List ℕ → Type 0
+HoldingSo hs (Some n) held = (take n held ≡ hs) × (n ≤ length held)
+HoldingSo hs None held = length held < length hs

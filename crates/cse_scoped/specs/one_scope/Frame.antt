@@ -1,6 +1,6 @@
 -- What the parts of a scope are given (01, "Scoped fusion"): the room lent, words whose columns may be scopes, a scope's words with its groups, and its members
 -- numbered. Assumes nothing.
-use Rattle.std.specs.Prelude.{ℕ, suc, ◌+◌, ◌-◌, ◌≤◌, ◌<◌, ◌≡◌, List, true, length, get_or, take, drop, T}
+use Rattle.std.specs.Prelude.{ℕ, suc, ◌+◌, ◌-◌, ◌≤◌, ◌<◌, ◌≡◌, List, true, length, get_or, take, drop, T, Option, Some, None}
 use Rattle.std.proofs.Math.Option.{some}
 use Rattle.spec_tree.specs.Outcome.{Outcome, ok, ◌>>=◌}
 use Rattle.spec_tree.specs.Rows.{Row}
@@ -18,7 +18,6 @@ use Rattle.spec_cse.specs.Scope.{most_number}
 use Rattle.fusion.specs.place.Whole.{Told, ArmsTold, Walk, arms_told, group_told, walked, ordered_scope, fused_scope, stmts_count}
 use Rattle.cse_scoped.specs.one_scope.Answers.{told_rows, inner, arms_of, KeptSo}
 use Rattle.cse_scoped.specs.declared.one_scope.Found.{Found}
-use Rattle.cse_scoped.specs.declared.one_scope.Found.TheVariants as found
 
 -- the most rows: sums of them are words
 abbrev pub most_rows : ℕ
@@ -153,6 +152,6 @@ pub record GroupingSo (held : List ℕ) (m g : ℕ) (members ends : List ℕ) : 
   pub ends_in : g ≤ length ends
 
 -- and that there are more switches than can be listed
-abbrev pub FoundSo : List ℕ → Found → List ℕ → List ℕ → Type 0
-FoundSo held (found.Groups m g) members ends = GroupingSo held m g members ends
-FoundSo held found.TooMany members ends = 3640 < length (switch_places held)
+abbrev pub FoundSo : List ℕ → Option Found → List ℕ → List ℕ → Type 0
+FoundSo held (Some f) members ends = GroupingSo held f.members f.groups members ends
+FoundSo held None members ends = 3640 < length (switch_places held)

@@ -12,7 +12,7 @@ use Rattle.spec_program.specs.Calls.{by_calls}
 use Rattle.spec_program.specs.Program.{reply, csescoped}
 use Rattle.csescoped.specs.sheet.ScopedSheet.{rows_text, sheet_text, said_of, Says, Scoped}
 use Rattle.csescoped.specs.sheet.Prints.{prints}
-use Rattle.csescoped.specs.declared.sheet.Said.{Said}
+use Rattle.csescoped.specs.sheet.Said.{Said}
 
 -- 1,024 rows of 35 words, 64 places, the work area's length, 131,072 answer rows and 524,288 bytes
 pub program_text : (sheet : List ℕ) → sheet_text 35840 64 65536 131072 131072 524288 sheet ≡ by_calls true 131072 524288 sheet

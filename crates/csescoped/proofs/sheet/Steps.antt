@@ -21,15 +21,15 @@ use Rattle.spec_cse.specs.Call.{Extracted, work_words, work_bytes, extract_call,
 use Rattle.laws.proofs.cse.Refusals.{refused_by_10_11_or_23}
 use Rattle.spec_program.specs.Print.{print_call, buffer_after}
 use Rattle.cse_flat.specs.Answers.{extraction_answer}
-use Rattle.cse_flat.specs.declared.Extraction.TheVariants as extraction
-use Rattle.load.specs.declared.Loaded.{Loaded}
-use Rattle.load.specs.declared.Loaded.TheVariants as loaded
+use Rattle.cse_flat.specs.Extraction as extraction
+use Rattle.load.specs.Loaded.{Loaded}
+use Rattle.load.specs.Loaded as loaded
 use Rattle.load.specs.Loads.{answered, Loads}
 use Rattle.print.specs.Printing.{printed}
-use Rattle.print.specs.declared.Printed.TheVariants as printer
+use Rattle.print.specs.Printing as printer
 use Rattle.csescoped.specs.sheet.ScopedSheet.{rows_text, sheet_text, sheet_rows, said_of, Says, Scoped}
-use Rattle.csescoped.specs.declared.sheet.Said.{Said}
-use Rattle.csescoped.specs.declared.sheet.Said.TheVariants as said
+use Rattle.csescoped.specs.sheet.Said.{Said}
+use Rattle.csescoped.specs.sheet.Said as said
 use Rattle.spec_tree.proofs.Lists.{front}
 use Rattle.spec_sheet.proofs.Loadable.{loaded_domain}
 

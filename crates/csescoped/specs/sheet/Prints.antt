@@ -2,8 +2,8 @@
 use Rattle.std.specs.Prelude.{ℕ, List, take}
 use Rattle.spec_tree.specs.Outcome.{refused}
 use Rattle.spec_program.specs.Program.{reply}
-use Rattle.csescoped.specs.declared.sheet.Said.{Said}
-use Rattle.csescoped.specs.declared.sheet.Said.TheVariants as said
+use Rattle.csescoped.specs.sheet.Said.{Said}
+use Rattle.csescoped.specs.sheet.Said as said
 
 abbrev pub prints : Said → List ℕ → List ℕ
 prints (said.Bytes n) out = take n out

@@ -6,8 +6,8 @@ use Rattle.spec_tree.specs.Layout.{table_words}
 use Rattle.spec_sheet.specs.Call.{load_call, rows_after, roots_after}
 use Rattle.spec_cse.specs.Call.{Extracted, extract_call, table_after}
 use Rattle.spec_program.specs.Print.{print_call, buffer_after}
-use Rattle.csescoped.specs.declared.sheet.Said.{Said}
-use Rattle.csescoped.specs.declared.sheet.Said.TheVariants as said
+use Rattle.csescoped.specs.sheet.Said.{Said}
+use Rattle.csescoped.specs.sheet.Said as said
 
 -- extract on node rows and roots, and print: by the lengths of the work area, how many answer rows and how many bytes are lent
 unfoldable pub rows_text : ℕ → ℕ → ℕ → ℕ → List ℕ → List ℕ → Outcome (List ℕ)

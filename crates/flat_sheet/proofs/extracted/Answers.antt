@@ -1,21 +1,16 @@
 -- `flat_sheet::extracted` meets its contract. Assumes nothing.
-use mathlib.Core.Path.{sym, ◌∙◌}
-use mathlib.Core.Bool.{false}
-use lib.ListN.{length, take}
-use lib.Seq.{length-take-le}
+use Rattle.std.proofs.Common.{sym, ◌∙◌, ap, length, false, rules}
 use Rattle.spec_cse.specs.Call.{extract_call}
+use Rattle.cse_flat.specs.Answers.{told}
 use Rattle.flat_sheet.proofs.Steps.{took_refused, took_rows}
-use borrow.Author.Rules.{rules}
 use Rattle.flat_sheet.proofs.extracted.Goals as goal
 
-pub slice_bounds-cse-end : goal.slice_bounds-cse-end
-slice_bounds-cse-end c = sym (length-take-le c.args.end c.args.rows.now c.requires.0)
+pub returns-in_err-extracted : goal.returns-in_err-extracted
+returns-in_err-extracted c = let a = c.args in
+    let e = took_refused (length a.rows.now) (extract_call false (length a.work.now) (length a.text.now) a.rows.now a.roots.now (length a.table.now)) _ (sym (ap told c.in_err-extracted.was) ∙ c.cse.ensures.0) in
+    let t = c.cse.ensures.1 in
+    search rules
 
-pub slice_bounds-cse-end-2 : goal.slice_bounds-cse-end-2
-slice_bounds-cse-end-2 c = sym (length-take-le c.args.count c.args.roots.now c.requires.1)
-
-pub returns-in-Refused : goal.returns-in-Refused
-returns-in-Refused c = (took_refused c.args.end (extract_call false (length c.args.work.now) (length c.args.text.now) (take c.args.end c.args.rows.now) (take c.args.count c.args.roots.now) (length c.args.table.now)) _ (sym c.in-Refused.is ∙ c.cse-extraction.ensures.0), c.cse-extraction.ensures.1)
-
-pub returns-in-Rows : goal.returns-in-Rows
-returns-in-Rows c = (took_rows c.args.end (extract_call false (length c.args.work.now) (length c.args.text.now) (take c.args.end c.args.rows.now) (take c.args.count c.args.roots.now) (length c.args.table.now)) _ _ (sym c.in-Rows.is ∙ c.cse-extraction.ensures.0), c.cse-extraction.ensures.1)
+pub returns : goal.returns
+returns c = let a = c.args in
+    (took_rows (length a.rows.now) (extract_call false (length a.work.now) (length a.text.now) a.rows.now a.roots.now (length a.table.now)) _ _ (sym (ap told c.in_ok-extracted.was) ∙ c.cse.ensures.0), c.cse.ensures.1)

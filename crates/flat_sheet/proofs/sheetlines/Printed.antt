@@ -39,8 +39,8 @@ use Rattle.print.specs.lines.Line.{lines_from, FewLets, Few}
 use Rattle.print.specs.lines.Refusal.{refusal_text}
 use Rattle.print.proofs.lines.Flat.{flat_lines}
 use Rattle.flat_sheet.specs.FlatSheet.{extracted_from, from_extract, Flattened}
-use Rattle.flat_sheet.specs.declared.Flat.{Flat}
-use Rattle.flat_sheet.specs.declared.Flat.TheVariants as flat
+use Rattle.flat_sheet.specs.Flat.{Flat}
+use Rattle.flat_sheet.specs.Flat as flat
 use Rattle.flat_sheet.specs.sheetlines.Says.{Says}
 
 -- ---- the definition, by cases

@@ -5,8 +5,8 @@ use Rattle.std.proofs.Math.Option.{some}
 use Rattle.spec_program.specs.Program.{csesheet}
 use Rattle.print.specs.lines.Line.{lines_from}
 use Rattle.print.specs.lines.Refusal.{refusal_text}
-use Rattle.flat_sheet.specs.declared.Flat.{Flat}
-use Rattle.flat_sheet.specs.declared.Flat.TheVariants as flat
+use Rattle.flat_sheet.specs.Flat.{Flat}
+use Rattle.flat_sheet.specs.Flat as flat
 
 abbrev pub Says : List ℕ → Flat → List ℕ → List ℕ → Type 0
 Says sheet (flat.Rows n k) rows table = (lent fuel : ℕ) → 34857 ≤ lent → k ≤ fuel → lines_from lent fuel (take n rows) (take k table) 0 ≡ some (csesheet sheet)

@@ -15,9 +15,9 @@ use Rattle.spec_tree.specs.Passes.{all_of, symbol_ok, of_paper, operands_ok, tre
 use Rattle.spec_tree.specs.Tokens.{kind_of, below_of, takes, constant_at, name_by, name_in, read, trees_in, words_of, run_at}
 use Rattle.spec_tree.proofs.TokenLaws.{Word, a_symbol, a_constant, an_operation, word_is, leaf_takes, operation_takes, symbol_tree, constant_tree, operation_tree, fold_operation, made, read_cons, complete_tail, complete_length, complete_read, words_complete, words_tail, tree_at}
 use Rattle.fmt.specs.checked.Check.{tree_in, word_ok, checked_answer}
-use Rattle.fmt.specs.declared.checked.Checked.TheVariants as checked
+use Rattle.std.specs.Prelude.{Some, None}
+use Rattle.std.specs.Bool.{then_some}
 use Rattle.words.specs.tokens.Answers.{end_answer}
-use Rattle.words.specs.declared.tokens.Run.TheVariants as run
 use Rattle.words.proofs.tokens.Comparing.{run_ends, run_after}
 use Rattle.spec_tree.proofs.Logic.{and_assoc}
 
@@ -144,15 +144,15 @@ ends_inside [] n e = absurd (omega (arith, (words_complete [] 1 n e).0, nothing 
 ends_inside (w ∷ us) n e = (omega (arith, words_tail w us 0 n e), (words_complete (w ∷ us) 1 n e).0)
 
 module _ (rows : List Row) (ws : List ℕ) (at : ℕ) where
-  pub no_run : run.Broken ≡ end_answer at (run_at ws at) → checked.Broken ≡ checked_answer at (run_at ws at) (tree_ok (tree_in rows ws at))
+  pub no_run : None ≡ end_answer at (run_at ws at) → None ≡ checked_answer at (run_at ws at) (tree_ok (tree_in rows ws at))
   unfolding end_answer checked_answer
   no_run e = go (run_at ws at) e
     where
-      go : (o : Option ℕ) → run.Broken ≡ end_answer at o → checked.Broken ≡ checked_answer at o (tree_ok (tree_in rows ws at))
+      go : (o : Option ℕ) → None ≡ end_answer at o → None ≡ checked_answer at o (tree_ok (tree_in rows ws at))
       go none e = refl
       go (some n) e = absurd (let z : ◌≡◌ {A = ℕ} 0 1 = cc in omega arith)
 
-  module _ (end : ℕ) (e : run.Ends end ≡ end_answer at (run_at ws at)) where
+  module _ (end : ℕ) (e : Some end ≡ end_answer at (run_at ws at)) where
     pub run_inside : (at ≤ end) × (end ≤ length ws)
     unfolding run_at
     run_inside =
@@ -165,10 +165,16 @@ module _ (rows : List Row) (ws : List ℕ) (at : ℕ) where
         let n = run_ends ws at end e in
         rw n (ap (checked_answer at (some (end - at))) (q ∙ sym (run_tested rows ws at (end - at) n)))
 
-    pub passes : true ≡ every (word_ok rows) (take (end - at) (drop at ws)) → checked.Ends end ≡ checked_answer at (run_at ws at) (tree_ok (tree_in rows ws at))
+    passes : true ≡ every (word_ok rows) (take (end - at) (drop at ws)) → Some end ≡ checked_answer at (run_at ws at) (tree_ok (tree_in rows ws at))
     unfolding checked_answer
-    passes q = let d : end ≡ at + (end - at) = omega (arith, run_inside) in ap checked.Ends d ∙ run_answer true q
+    passes q = let d : end ≡ at + (end - at) = omega (arith, run_inside) in ap Some d ∙ run_answer true q
 
-    pub fails : false ≡ every (word_ok rows) (take (end - at) (drop at ws)) → checked.Broken ≡ checked_answer at (run_at ws at) (tree_ok (tree_in rows ws at))
+    fails : false ≡ every (word_ok rows) (take (end - at) (drop at ws)) → None ≡ checked_answer at (run_at ws at) (tree_ok (tree_in rows ws at))
     unfolding checked_answer
     fails q = run_answer false q
+
+    pub answered :
+        (r : Bool) → r ≡ every (word_ok rows) (take (end - at) (drop at ws))
+        → then_some r end ≡ checked_answer at (run_at ws at) (tree_ok (tree_in rows ws at))
+    answered true q = passes q
+    answered false q = fails q

@@ -1,79 +1,19 @@
--- The tests of one word in the code's order: the name in a row, a constant by its code, and an operation's count of operands. Assumes nothing.
-use Prim.Native.Nat.{ℕ, zero, suc, ◌+◌, ◌*◌, ◌/◌, ◌%◌, ◌^◌, ◌≤◌, ◌<◌, min}
+-- The tests of one word in the code's order: a symbol by its class, a constant by its code, and an operation's count of operands. Assumes nothing.
+use Prim.Native.Nat.{ℕ, zero, suc, ◌/◌, ◌%◌, ◌^◌, ◌≤◌, ◌<◌}
 use native.Mathlib.Omega.{arith}
-use mathlib.Core.Path.{◌≡◌, refl, sym, ◌∙◌, ap}
-use mathlib.Core.Bool.{Bool, true, false, cond}
-use mathlib.Core.List.{List, []}
+use mathlib.Core.Path.{◌≡◌, refl, sym, ap, ap₂}
+use mathlib.Core.Bool.{Bool, true, false, cond, ◌&&◌}
+use mathlib.Core.List.{List}
 use borrow.Author.Tests.{eqb-true, eqb-false, leb-true, leb-false, ltb-true, le-leb, lt-leb, lt-ltb, le-ltb}
 use lib.IntN.{pos, negsuc}
 use lib.Dec.{eqb, leb, ltb}
-use lib.ListN.{length, get_or, take, drop, get_or-eq_default}
-use lib.Seq.{get_or-take, get_or-drop, drop-drop}
+use lib.ListN.{length, get_or-eq_default}
 use Rattle.spec_tree.specs.Symbol.{is_name}
-use Rattle.spec_tree.specs.Rows.{Row, row_const}
-use Rattle.spec_tree.specs.Layout.{row_by, row_of, rows_of}
 use Rattle.spec_tree.specs.Kinds.{Kind, kinds, kind_at, arity_ok, Neg, Select, SelectOr}
 use Rattle.spec_tree.specs.Passes.{of_paper, symbol_ok, operands_ok}
-use Rattle.spec_tree.specs.Tokens.{constant_at, name_of_row, name_in, name_by}
+use Rattle.spec_tree.specs.Tokens.{constant_at, name_by}
 use Rattle.spec_tree.proofs.KindLaws.{kinds_long}
 use Rattle.node_rows.specs.kinds.Numbers.{kind_number}
-use Rattle.fmt.specs.checked.Check.{rows_in}
-use Rattle.spec_tree.proofs.LayoutLaws.{rows_long, row_part}
-
--- ---- the name in a row
-
-abbrev row_at : List ℕ → ℕ → List ℕ
-row_at ws i = take 35 (drop (i * 35) ws)
-
-rows_entry : (n : ℕ) (ws : List ℕ) (i : ℕ) (d : Row) → i < n → get_or (rows_of n ws) i d ≡ row_of (row_at ws i)
-unfolding rows_of
-rows_entry zero ws i d h = absurd (omega arith)
-rows_entry (suc n) ws zero d h = refl
-rows_entry (suc n) ws (suc i) d h =
-    let e : 35 + i * 35 ≡ suc i * 35 = omega arith in
-    rows_entry n (drop 35 ws) i d (omega arith) ∙ ap (λ (l : List ℕ). row_of (take 35 l)) (drop-drop (i * 35) 35 ws ∙ ap (λ (m : ℕ). drop m ws) e)
-
-nameless : (k : ℕ) (fields : List ℕ) → 0 < k → name_of_row (row_by k fields) ≡ []
-unfolding name_of_row row_by
-nameless zero fields h = absurd (omega arith)
-nameless (suc zero) fields h = refl
-nameless (suc (suc k)) fields h = refl
-
-no_name : is_name [] ≡ false
-unfolding is_name
-no_name = refl
-
-module _ (ws : List ℕ) (i : ℕ) where
-  pub past_rows : length ws / 35 ≤ i → false ≡ is_name (name_in (rows_in ws) i)
-  unfolding name_in name_of_row
-  past_rows h =
-      let l = rows_long (length ws / 35) ws in
-      sym (ap (λ (r : Row). is_name (name_of_row r)) (get_or-eq_default (rows_in ws) (row_const (pos 0)) {n = i} (omega arith)) ∙ no_name)
-
-  module _ (h : i < length ws / 35) where
-    word_of_row : (k : ℕ) → k < 35 → get_or (row_at ws i) k 0 ≡ get_or ws (i * 35 + k) 0
-    word_of_row k l = rw (get_or-take, get_or-drop)
-
-    name_is : name_in (rows_in ws) i ≡ name_of_row (row_by (get_or ws (i * 35) 0 + get_or ws (i * 35 + 1) 0) (take (min (get_or ws (i * 35 + 2) 0) 32) (drop (i * 35 + 3) ws)))
-    unfolding name_in row_of
-    name_is =
-        let e : i * 35 + 0 ≡ i * 35 = omega arith in
-        let f = drop-drop 3 (i * 35) ws in
-        rw (rows_entry (length ws / 35) ws i (row_const (pos 0)) h, word_of_row 0 (omega arith), word_of_row 1 (omega arith), word_of_row 2 (omega arith), e, row_part (get_or ws (i * 35 + 2) 0) (drop (i * 35) ws), f)
-
-    pub other_kind : (get_or ws (i * 35) 0 ≡ 0 → ⊥) → false ≡ is_name (name_in (rows_in ws) i)
-    other_kind n =
-        sym (ap is_name (name_is ∙ nameless (get_or ws (i * 35) 0 + get_or ws (i * 35 + 1) 0) _ (omega (arith, n))) ∙ no_name)
-
-    pub with_default : (get_or ws (i * 35 + 1) 0 ≡ 0 → ⊥) → false ≡ is_name (name_in (rows_in ws) i)
-    with_default n =
-        sym (ap is_name (name_is ∙ nameless (get_or ws (i * 35) 0 + get_or ws (i * 35 + 1) 0) _ (omega (arith, n))) ∙ no_name)
-
-    pub its_name :
-        get_or ws (i * 35) 0 ≡ 0 → get_or ws (i * 35 + 1) 0 ≡ 0 → (c : ℕ) → c ≡ min (get_or ws (i * 35 + 2) 0) 32
-        → is_name (take c (drop (i * 35 + 3) ws)) ≡ is_name (name_in (rows_in ws) i)
-    unfolding name_of_row row_by
-    its_name k d c e = ap is_name (sym (name_is ∙ rw (k, d, ← e)))
 
 -- ---- a symbol by its class
 
@@ -111,9 +51,6 @@ constant_small code = go (eqb (code % 2) 0) refl (leb code 1999999999999998) ref
 
 -- ---- operands
 
-pub counts_or : (f m k : ℕ) → k ≡ SelectOr → f ≡ (kind_at (kind_number Select true)).fewest → m ≡ (kind_at (kind_number Select true)).most → (f ≡ (kind_at k).fewest) × (m ≡ (kind_at k).most)
-counts_or f m k e p q = (p ∙ ap (λ (j : ℕ). (kind_at j).fewest) (sym e), q ∙ ap (λ (j : ℕ). (kind_at j).most) (sym e))
-
 -- past the table every kind has the counts that fit nothing
 past : (k : ℕ) → SelectOr < k → ((kind_at 29).fewest ≡ (kind_at k).fewest) × ((kind_at 29).most ≡ (kind_at k).most)
 unfolding kind_at
@@ -131,19 +68,17 @@ number_is k n = go (eqb k Select) refl (ltb Select k) refl
     go false e true f = let h = ltb-true Select k f in past k (omega (arith, n))
     go false e false f = (refl, refl)
 
-pub counts_plain : (f m k : ℕ) → (k ≡ SelectOr → ⊥) → f ≡ (kind_at (kind_number k false)).fewest → m ≡ (kind_at (kind_number k false)).most → (f ≡ (kind_at k).fewest) × (m ≡ (kind_at k).most)
-counts_plain f m k n p q = (p ∙ (number_is k n).0, q ∙ (number_is k n).1)
-
 module _ (k n : ℕ) where
   pub leaf_count : k < Neg → false ≡ operands_ok k n
   unfolding operands_ok
   leaf_count h = rw (lt-leb Neg k h)
 
-  module _ (f m : ℕ) (h : Neg ≤ k) (p : f ≡ (kind_at k).fewest) (q : m ≡ (kind_at k).most) where
-    pub too_few : n < f → false ≡ operands_ok k n
-    unfolding operands_ok arity_ok
-    too_few g = rw (le-leb Neg k h, ← p, lt-leb f n g)
+  pub default_count : k ≡ SelectOr → arity_ok (kind_number Select true) n ≡ operands_ok k n
+  unfolding operands_ok
+  default_count e = rw e
 
-    pub enough : f ≤ n → leb n m ≡ operands_ok k n
-    unfolding operands_ok arity_ok
-    enough g = rw (le-leb Neg k h, ← p, ← q, le-leb f n g)
+  pub plain_count : Neg ≤ k → (k ≡ SelectOr → ⊥) → arity_ok (kind_number k false) n ≡ operands_ok k n
+  unfolding operands_ok arity_ok
+  plain_count h m =
+      let c = number_is k m in
+      rw (le-leb Neg k h) (ap₂ (λ (f g : ℕ). leb f n && leb n g) c.0 c.1)

@@ -1,11 +1,11 @@
--- Texts written one after another are one text, the empty text is written by doing nothing, and what one byte leaves. Assumes nothing.
+-- Texts written one after another are one text and the empty text is written by doing nothing. Assumes nothing.
 use Prim.Native.Nat.{ℕ, suc, ◌+◌, ◌≤◌, ◌<◌, min}
 use mathlib.Core.Path.{◌≡◌, refl, sym, ap, ◌∙◌, subst}
 use mathlib.Core.Bool.{Bool, true, false, not}
 use mathlib.Core.List.{List, [], ◌∷◌, ◌++◌}
 use native.Mathlib.Omega.{arith}
 use lib.Dec.{T, ltb, ltb→lt, nltb→le}
-use lib.ListN.{length, set, length-append}
+use lib.ListN.{length, length-append}
 use lib.Seq.{sets, length-sets, set_out}
 use Rattle.fmt.specs.emit.Writing.{Writes, bytes_after}
 use Rattle.spec_tree.proofs.Lists.{sets_append}
@@ -55,19 +55,3 @@ writes_none {dry} {old} {to} h = record { ends = omega (arith, h); leaves = go d
 -- the same text by another name
 pub writes_as : {dry : Bool} {old : List ℕ} {to : ℕ} {new : List ℕ} {e : ℕ} (v w : List ℕ) → v ≡ w → Writes dry old to v new e → Writes dry old to w new e
 writes_as {dry} {old} {to} {new} {e} v w p h = subst (λ (z : List ℕ). Writes dry old to z new e) p h
-
--- ---- one byte
-
-module _ {dry : Bool} {old : List ℕ} {to b : ℕ} where
-  pub byte_past : length old ≤ to → Writes dry old to (b ∷ []) old (length old + 1)
-  byte_past h = record { ends = omega arith; leaves = go dry }
-    where
-      go : (d : Bool) → old ≡ bytes_after d old to (b ∷ [])
-      go true = refl
-      go false = sym (set_out old to b h)
-
-  pub byte_dry : to < length old → dry ≡ true → Writes dry old to (b ∷ []) old (to + 1)
-  byte_dry h e = record { ends = omega arith; leaves = rw e }
-
-  pub byte_here : to < length old → dry ≡ false → Writes dry old to (b ∷ []) (set old to b) (to + 1)
-  byte_here h e = record { ends = omega arith; leaves = rw e }

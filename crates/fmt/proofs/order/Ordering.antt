@@ -4,7 +4,7 @@ use native.Mathlib.Omega.{arith}
 use mathlib.Core.Path.{◌≡◌, sym, ◌∙◌, ap, ap₂}
 use mathlib.Core.Bool.{Bool, false}
 use mathlib.Core.List.{List, ◌++◌, append_assoc}
-use lib.ListN.{length, take, drop}
+use lib.ListN.{length, take, drop, length-append}
 use lib.Seq.{sets-eq, length-sets, take_at, drop_at}
 use Rattle.spec_tree.specs.text.Text.{display, before}
 use Rattle.fmt.specs.emit.Writing.{Writes}
@@ -34,14 +34,12 @@ module _ {a b old mid new : List ℕ} {middle end : ℕ} (k : Writes false old 0
       let f : new ≡ take middle mid ++ b ++ drop (middle + length b) mid = l.leaves ∙ sets-eq b mid middle (omega (arith, mid_long, first_ends, fit)) in
       (drop (middle + length b) mid, f ∙ (ap (λ (x : List ℕ). x ++ b ++ drop (middle + length b) mid) t ∙ append_assoc a b (drop (middle + length b) mid)))
 
-  pub compared : (r : Bool) → r ≡ before (take middle new) (take (end - middle) (drop middle new)) → r ≡ before a b
+  pub compared : (r : Bool) → r ≡ before (take middle (take end new)) (drop middle (take end new)) → r ≡ before a b
   compared r e =
       let s = both_there.0 in
-      let f = both_there.1 in
-      e
-      ∙ ap₂ before (ap (take middle) f ∙ take_at a (b ++ s) middle (sym first_ends))
-      (ap (λ (x : List ℕ). take (end - middle) (drop middle x)) f
-      ∙ (ap (take (end - middle)) (drop_at a (b ++ s) middle (sym first_ends)) ∙ take_at b s (end - middle) (sym second_long)))
+      let n : length (a ++ b) ≡ end = omega (arith, length-append a b, first_ends, second_long, parts.0) in
+      let both : take end new ≡ a ++ b = ap (take end) (both_there.1 ∙ sym (append_assoc a b s)) ∙ take_at (a ++ b) s end n in
+      e ∙ ap₂ before (ap (take middle) both ∙ take_at a b middle (sym first_ends)) (ap (drop middle) both ∙ drop_at a b middle (sym first_ends))
 
 -- the same of the texts at two places
 module _ (rows ws : List ℕ) (i j : ℕ) where

@@ -12,14 +12,13 @@ use lib.ListN.{length, get_or, take, drop, length-take, length-drop, get_or-eq_d
 use lib.Seq.{take-add, drop_at, drop-drop, get_or-take, get_or-drop}
 use Rattle.spec_tree.specs.Bytes.{digits, decimal}
 use Rattle.spec_tree.specs.Rows.{row_const}
-use Rattle.spec_tree.specs.Layout.{row_width, row_by, row_of, rows_of}
+use Rattle.spec_tree.specs.Layout.{row_by, row_of, rows_of}
 use Rattle.spec_tree.specs.Tokens.{name_of_row, name_in, name_by}
 use Rattle.spec_tree.proofs.TokenLaws.{map_append}
 use Rattle.spec_tree.specs.text.Text.{name_text}
 use Rattle.fmt.specs.emit.Writing.{Writes, low_bytes}
 use Rattle.fmt.specs.symbols.Symbols.{row_name, symbol_text}
-use Rattle.fmt.proofs.emit.WriteLaws.{writes_none, writes_then, writes_as}
-use Rattle.fmt.proofs.emit.TextLaws.{low_none}
+use Rattle.fmt.proofs.emit.WriteLaws.{writes_then}
 use Rattle.spec_tree.proofs.LayoutLaws.{rows_long}
 use Rattle.node_rows.specs.unfolded.Unfold.{words_at}
 use Rattle.node_rows.proofs.unfolded.RowLaws.{rows_of_at}
@@ -54,14 +53,14 @@ own_name zero s h = refl
 own_name (suc k) s h = absurd (omega arith)
 
 module _ (ws : List ℕ) (n : ℕ) where
-  name_past : length ws / 35 ≤ n → row_name ws n ≡ []
+  pub name_past : length ws / 35 ≤ n → row_name ws n ≡ []
   unfolding row_name name_in name_of_row
   name_past h = ap name_of_row (get_or-eq_default (rows_of (length ws / 35) ws) (row_const (pos 0)) (let l = rows_long (length ws / 35) ws in omega arith))
 
-  abbrev number : ℕ
+  abbrev pub number : ℕ
   number = get_or ws (n * 35) 0 + get_or ws (n * 35 + 1) 0
 
-  abbrev fields : List ℕ
+  abbrev pub fields : List ℕ
   fields = take (min (get_or ws (n * 35 + 2) 0) 32) (drop (n * 35 + 3) ws)
 
   name_is : n < length ws / 35 → row_name ws n ≡ name_of_row (row_by number fields)
@@ -78,6 +77,17 @@ module _ (ws : List ℕ) (n : ℕ) where
 
       word : (i : ℕ) → i < 35 → get_or (words_at ws n) i 0 ≡ get_or ws (n * 35 + i) 0
       word i h = get_or-take 35 (drop (n * 35) ws) i 0 h ∙ get_or-drop (n * 35) ws i 0
+
+  -- what `row_name` answers
+  pub no_name : n < length ws / 35 → 0 < number → row_name ws n ≡ []
+  no_name h k = name_is h ∙ other_name number fields k
+
+  pub name_held :
+      n < length ws / 35 → number ≡ 0 → (count : ℕ) → count ≡ min (get_or ws (n * 35 + 2) 0) 32
+      → take (n * 35 + 3 + count - (n * 35 + 3)) (drop (n * 35 + 3) ws) ≡ row_name ws n
+  name_held h k count c =
+      let e : n * 35 + 3 + count - (n * 35 + 3) ≡ min (get_or ws (n * 35 + 2) 0) 32 = omega arith in
+      ap (λ (i : ℕ). take i (drop (n * 35 + 3) ws)) e ∙ sym (name_is h ∙ own_name number fields k)
 
 -- ---- bytes
 
@@ -103,25 +113,7 @@ pub low_decimal : (n : ℕ) → low_bytes (decimal n) ≡ decimal n
 unfolding decimal
 low_decimal n = low_digits n n (omega arith)
 
--- ---- what put_row_name and put_name leave
-
-module _ {dry : Bool} {old : List ℕ} {to : ℕ} (ws : List ℕ) (n : ℕ) where
-  empty : (e : ℕ) → row_name ws n ≡ [] → e ≡ min to (length old + 1) → Writes dry old to (low_bytes (row_name ws n)) old e
-  empty e p h = writes_as [] (low_bytes (row_name ws n)) (sym (ap low_bytes p ∙ low_none)) (writes_none h)
-
-  pub past_written : (e : ℕ) → length ws / 35 ≤ n → e ≡ min to (length old + 1) → Writes dry old to (low_bytes (row_name ws n)) old e
-  past_written e h p = empty e (name_past ws n h) p
-
-  pub other_written : (e : ℕ) → n < length ws / 35 → 0 < number ws n → e ≡ min to (length old + 1) → Writes dry old to (low_bytes (row_name ws n)) old e
-  other_written e h k p = empty e (name_is ws n h ∙ other_name (number ws n) (fields ws n) k) p
-
-  pub row_written :
-      {new : List ℕ} {e : ℕ} (count : ℕ) → n < length ws / 35 → number ws n ≡ 0 → count ≡ min (get_or ws (n * 35 + 2) 0) 32
-      → Writes dry old to (low_bytes (take (n * 35 + 3 + count - (n * 35 + 3)) (drop (n * 35 + 3) ws))) new e → Writes dry old to (low_bytes (row_name ws n)) new e
-  row_written count h k c p =
-      let e : n * 35 + 3 + count - (n * 35 + 3) ≡ min (get_or ws (n * 35 + 2) 0) 32 = omega arith in
-      writes_as (low_bytes (take (n * 35 + 3 + count - (n * 35 + 3)) (drop (n * 35 + 3) ws))) (low_bytes (row_name ws n))
-      (ap low_bytes (ap (λ (i : ℕ). take i (drop (n * 35 + 3) ws)) e ∙ sym (name_is ws n h ∙ own_name (number ws n) (fields ws n) k))) p
+-- ---- what put_name leaves
 
 -- a class is 0, 1 or 2
 pub made_text : (ws : List ℕ) (code : ℕ) → code % 3 ≡ 1 → symbol_text ws code ≡ 95 ∷ (95 ∷ (120 ∷ decimal (code / 3)))

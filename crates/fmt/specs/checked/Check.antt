@@ -1,14 +1,13 @@
 -- The tree at a place of some words, its symbols named by node rows, and whether it is one that print takes (01, "Turned down", 13). The words of such a
 -- tree are tested one by one; RunLaws shows that together the tests are `tree-ok`. Assumes nothing.
-use Rattle.std.specs.Prelude.{ℕ, ◌+◌, ◌/◌, ◌%◌, Bool, true, false, cond, List, length, get_or, eqb}
-use Rattle.std.proofs.Math.Option.{Option, none, some}
+use Rattle.std.specs.Prelude.{ℕ, ◌+◌, ◌/◌, ◌%◌, Bool, true, false, cond, List, length, get_or, eqb, Option, Some, None}
+use Rattle.std.proofs.Math.Option as maybe
+use Rattle.std.proofs.Math.Option.{none, some}
 use Rattle.spec_tree.specs.Tree.{Tree, Op, nil}
 use Rattle.spec_tree.specs.Rows.{Row}
 use Rattle.spec_tree.specs.Layout.{row_width, rows_of}
 use Rattle.spec_tree.specs.Passes.{of_paper, symbol_ok, operands_ok}
 use Rattle.spec_tree.specs.Tokens.{kind_of, below_of, constant_at, name_by, name_in, trees_at}
-use Rattle.fmt.specs.declared.checked.Checked.{Checked}
-use Rattle.fmt.specs.declared.checked.Checked.TheVariants.{Ends, Broken}
 
 -- the node rows that some words are
 abbrev pub rows_in : List ℕ → List Row
@@ -19,10 +18,10 @@ abbrev pub tree_in : List Row → List ℕ → ℕ → Tree
 tree_in rows ws at = get_or (trees_at (name_in rows) ws) at (Op 0 nil)
 
 -- the place after a tree that is there and passes, from the number of its words
-unfoldable pub checked_answer : ℕ → Option ℕ → Bool → Checked
-checked_answer at none ok = Broken
-checked_answer at (some n) true = Ends (at + n)
-checked_answer at (some n) false = Broken
+unfoldable pub checked_answer : ℕ → maybe.Option ℕ → Bool → Option ℕ
+checked_answer at none ok = None
+checked_answer at (some n) true = Some (at + n)
+checked_answer at (some n) false = None
 
 -- ---- the test of a word, in the code's order
 

@@ -1,10 +1,10 @@
 -- Where an arm of a switch begins and ends, and the arms of some switches one after another: measured, and written. Assumes nothing.
+use Rattle.std.specs.Prelude.{Some, None}
 use Prim.Native.Nat.{ℕ, suc, ◌+◌, ◌-◌, ◌≤◌, ◌<◌}
 use native.Mathlib.Omega.{arith}
 use borrow.Author.Tests.{le-leb, lt-leb}
 use mathlib.Core.Path.{◌≡◌, refl, sym, ◌∙◌, ap, subst}
 use mathlib.Core.Bool.{true, false}
-use mathlib.Core.Option.{none}
 use mathlib.Core.List.{List, [], ◌++◌}
 use lib.ListN.{length, get_or, take, drop, length-append, drop_of_length-le}
 use lib.Seq.{drop-cons}
@@ -12,7 +12,6 @@ use lib.Dec.{leb}
 use Rattle.spec_tree.specs.Facts.{size}
 use Rattle.spec_tree.specs.Tokens.{run_at}
 use Rattle.words.specs.tokens.Answers.{end_answer}
-use Rattle.words.specs.declared.tokens.Run.TheVariants as run
 use Rattle.words.proofs.tokens.Complete.{end_is}
 use Rattle.words.specs.words.Words.{Complete}
 use Rattle.laws.specs.positions.Places.{numbered_at, second_at}
@@ -37,22 +36,19 @@ WrittenSo ws qs arm old out n k =
     (n + length (column_words ws (drop k qs) arm) ≡ length (column_words ws qs arm))
     × ((length out ≡ length old) × (overlay n (column_words ws (drop k qs) arm) out ≡ overlay 0 (column_words ws qs arm) old))
 
-pub measure_starts : (ws qs : List ℕ) (arm room : ℕ) → MeasuredSo ws qs arm room room 0
-measure_starts ws qs arm room = (omega arith, refl)
-
 module _ (ws : List ℕ) (complete : Complete ws) where
   -- ---- where a tree ends
 
-  ends_so : (at : ℕ) → at < length ws → end_answer at (run_at ws at) ≡ run.Ends (at + size (numbered_at ws at))
+  ends_so : (at : ℕ) → at < length ws → end_answer at (run_at ws at) ≡ Some (at + size (numbered_at ws at))
   unfolding numbered_at
   ends_so at h = end_is ws complete.0 complete.1 at h
 
-  pub tree_end : (at end : ℕ) → at < length ws → run.Ends end ≡ end_answer at (run_at ws at) → end ≡ at + size (numbered_at ws at)
-  tree_end at end h e = let q : run.Ends end ≡ run.Ends (at + size (numbered_at ws at)) = e ∙ ends_so at h in cc
+  pub tree_end : (at end : ℕ) → at < length ws → Some end ≡ end_answer at (run_at ws at) → end ≡ at + size (numbered_at ws at)
+  tree_end at end h e = let q : Some end ≡ Some (at + size (numbered_at ws at)) = e ∙ ends_so at h in cc
 
-  pub tree_there : (at : ℕ) → at < length ws → run.Broken ≡ end_answer at (run_at ws at) → ⊥
+  pub tree_there : (at : ℕ) → at < length ws → None ≡ end_answer at (run_at ws at) → ⊥
   tree_there at h e =
-      let q : run.Broken ≡ run.Ends (at + size (numbered_at ws at)) = e ∙ ends_so at h in
+      let q : None ≡ Some (at + size (numbered_at ws at)) = e ∙ ends_so at h in
       let z : ◌≡◌ {A = ℕ} 0 1 = cc in
       absurd (omega arith)
 
@@ -161,9 +157,6 @@ module _ (ws : List ℕ) (complete : Complete ws) where
 
     -- ---- written: what is still to be written, over what is
 
-    pub written_starts : (old : List ℕ) → WrittenSo ws qs arm old old 0 0
-    written_starts old = (omega arith, (refl, refl))
-
     pub written_turns :
         (old out new : List ℕ) (n k : ℕ) (more : k < length qs) (from to : ℕ) (f : from ≡ arm_place ws (get_or qs k 0) arm) (t : to ≡ from + size (numbered_at ws from))
         → WrittenSo ws qs arm old out n k → new ≡ overlay n (take (to - from) (drop from ws)) out → WrittenSo ws qs arm old new (n + (to - from)) (k + 1)
@@ -178,12 +171,6 @@ module _ (ws : List ℕ) (complete : Complete ws) where
                 ∙ (sym (overlay_append n run (rest (k + 1)) out) ∙ (ap (λ (r : List ℕ). overlay n r out) (sym (rest_next k more from to f t)) ∙ s.1.1))),
           ),
         )
-
-    -- no more than all
-    pub written_small :
-        (old out : List ℕ) (n k : ℕ) (more : k < length qs) (from to : ℕ) (f : from ≡ arm_place ws (get_or qs k 0) arm) (t : to ≡ from + size (numbered_at ws from))
-        → WrittenSo ws qs arm old out n k → n + (to - from) ≤ length (column_words ws qs arm)
-    written_small old out n k more from to f t s = let l = rest_long k more from to f t in omega (arith, s.0, l)
 
     pub written_ends :
         (old out : List ℕ) (n k : ℕ) → length (column_words ws qs arm) ≤ length old → length qs ≤ k → WrittenSo ws qs arm old out n k

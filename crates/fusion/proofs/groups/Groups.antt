@@ -118,10 +118,6 @@ module _ (ws ps : List ℕ) where
         group_room room = omega (arith, ap length (rest_is members at), length-drop at members, members_long room, group_few, room)
 
         module _ {r : ℕ} {x : List ℕ} (f : Front (member_places ws ps i) (take (length members - at) (drop at members)) r x) where
-          -- where the group ends
-          pub end_few : at + r ≤ length ps
-          end_few = omega (arith, group_few, f.count)
-
           pub turn_one :
               length ps ≤ length ends₀ → State members₀ ends₀ (put_mid at (length members - at) members x) (set ends count (at + r)) (count + 1) (at + r) (i + 1)
           turn_one room =

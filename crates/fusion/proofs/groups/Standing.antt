@@ -1,12 +1,11 @@
 -- Whether a switch is at each of some places, place by place. Assumes nothing.
-use Prim.Native.Nat.{ℕ, zero, suc, ◌+◌, ◌≤◌, ◌<◌}
+use Prim.Native.Nat.{ℕ, zero, suc, ◌≤◌, ◌<◌}
 use native.Mathlib.Omega.{arith}
-use mathlib.Core.Path.{◌≡◌, refl, sym, ◌∙◌, ap}
-use mathlib.Core.Bool.{Bool, true, false, ◌&&◌}
+use mathlib.Core.Path.{◌≡◌, sym, ◌∙◌, ap}
+use mathlib.Core.Bool.{Bool, false, ◌&&◌}
 use mathlib.Core.List.{List, [], ◌∷◌}
 use borrow.Author.Tests.{lt-ltb, le-ltb}
-use lib.ListN.{length, get_or, drop, drop_of_length-le}
-use lib.Seq.{drop-cons}
+use lib.ListN.{length, get_or}
 use lib.Dec.{T, ltb, ltb→lt}
 use Rattle.spec_tree.specs.Bytes.{every}
 use Rattle.spec_tree.proofs.Logic.{and_left, and_right}
@@ -46,29 +45,3 @@ module _ (ws ps : List ℕ) where
   pub each_stands : T (all_stand ws ps) → (i : ℕ) → i < length ps → T (switch_stands ws (get_or ps i 0))
   unfolding all_stand
   each_stands t i h = each_passes (switch_stands ws) ps i t h
-
-  -- the first k are switches
-  pub record Standing (k : ℕ) : Type 0 where
-    pub within : k ≤ length ps
-    pub rest : all_stand ws ps ≡ all_stand ws (drop k ps)
-
-  pub standing_starts : Standing 0
-  standing_starts = record { within = omega arith; rest = refl }
-
-  module _ {k : ℕ} (s : Standing k) (h : k < length ps) where
-    here : (b : Bool) → switch_stands ws (get_or ps k 0) ≡ b → all_stand ws ps ≡ (b && all_stand ws (drop (suc k) ps))
-    unfolding all_stand every
-    here b e = s.rest ∙ ap (all_stand ws) (drop-cons ps k 0 h) ∙ ap (λ (c : Bool). c && all_stand ws (drop (suc k) ps)) e
-
-    pub one_missing : false ≡ switch_stands ws (get_or ps k 0) → false ≡ all_stand ws ps
-    one_missing e = sym (here false (sym e))
-
-    pub standing_turns : true ≡ switch_stands ws (get_or ps k 0) → Standing (k + 1)
-    standing_turns e = let i : suc k ≡ k + 1 = omega arith in record { within = omega arith; rest = here true (sym e) ∙ ap (λ (j : ℕ). all_stand ws (drop j ps)) i }
-
-  none_left : (k : ℕ) → length ps ≤ k → all_stand ws (drop k ps) ≡ true
-  unfolding all_stand every
-  none_left k h = ap (all_stand ws) (drop_of_length-le ps h)
-
-  pub standing_ends : {k : ℕ} → Standing k → length ps ≤ k → true ≡ all_stand ws ps
-  standing_ends {k} s h = sym (s.rest ∙ none_left k h)

@@ -18,7 +18,8 @@ use Rattle.laws.specs.switches.Groups.{firsts_within, group_numbers, member_plac
 use Rattle.laws.proofs.switches.Collected.{Switching, places_switch}
 use Rattle.fusion.specs.place.Parts.{place_groups, joined_groups, ends_from}
 use Rattle.fusion.specs.groups.Answers.{groups_at, switch_stands, all_stand, GroupsWritten, GroupsTold, groups_by, room_for, groups_answer}
-use Rattle.fusion.specs.declared.groups.Grouping.TheVariants as grouping
+use Rattle.std.specs.Prelude.{Ok, Err}
+use Rattle.words.specs.declared.fault.Fault.TheVariants as fault
 use Rattle.fusion.proofs.groups.Fewer.{members_fewer, groups_fewer}
 
 -- ---- the switches outside arms
@@ -58,7 +59,7 @@ module _ (ws ps members ends : List ℕ) (complete : Complete ws) (stand : T (al
   answer_is :
       groups_answer ws ps members ends
       ≡ record {
-        answer = grouping.Count (length (groups_at ws ps));
+        answer = Ok (length (groups_at ws ps));
         members = joined_groups (groups_at ws ps) ++ drop (length (joined_groups (groups_at ws ps))) members;
         ends = ends_from 0 (groups_at ws ps) ++ drop (length (ends_from 0 (groups_at ws ps))) ends;
       }
@@ -71,22 +72,22 @@ module _ (ws ps members ends : List ℕ) (complete : Complete ws) (stand : T (al
       ∙ ap (λ (b : Bool). groups_by true b gs members ends) there)
 
   pub groups_all :
-      (n : ℕ) (members_left ends_left : List ℕ) → grouping.Count n ≡ (groups_answer ws ps members ends).answer
+      (n : ℕ) (members_left ends_left : List ℕ) → Ok n ≡ (groups_answer ws ps members ends).answer
       → members_left ≡ (groups_answer ws ps members ends).members → ends_left ≡ (groups_answer ws ps members ends).ends
       → GroupsWritten (groups_at ws ps) members ends n members_left ends_left
   groups_all n members_left ends_left e f d =
-      let q : grouping.Count n ≡ grouping.Count (length (groups_at ws ps)) = e ∙ ap (λ (x : GroupsTold). x.answer) answer_is in
+      let q : Ok n ≡ Ok (length (groups_at ws ps)) = e ∙ ap (λ (x : GroupsTold). x.answer) answer_is in
       let c : n ≡ length (groups_at ws ps) = cc in
       record { count = c; members_are = f ∙ ap (λ (x : GroupsTold). x.members) answer_is; ends_are = d ∙ ap (λ (x : GroupsTold). x.ends) answer_is }
 
-  pub not_broken : grouping.Broken ≡ (groups_answer ws ps members ends).answer → ⊥
+  pub not_broken : (Err fault.Broken) ≡ (groups_answer ws ps members ends).answer → ⊥
   not_broken e =
-      let q : grouping.Broken ≡ grouping.Count (length (groups_at ws ps)) = e ∙ ap (λ (x : GroupsTold). x.answer) answer_is in
+      let q : (Err fault.Broken) ≡ Ok (length (groups_at ws ps)) = e ∙ ap (λ (x : GroupsTold). x.answer) answer_is in
       let z : ◌≡◌ {A = ℕ} 0 1 = cc in
       omega arith
 
-  pub not_full : grouping.NoRoom ≡ (groups_answer ws ps members ends).answer → ⊥
+  pub not_full : (Err fault.NoRoom) ≡ (groups_answer ws ps members ends).answer → ⊥
   not_full e =
-      let q : grouping.NoRoom ≡ grouping.Count (length (groups_at ws ps)) = e ∙ ap (λ (x : GroupsTold). x.answer) answer_is in
+      let q : (Err fault.NoRoom) ≡ Ok (length (groups_at ws ps)) = e ∙ ap (λ (x : GroupsTold). x.answer) answer_is in
       let z : ◌≡◌ {A = ℕ} 0 1 = cc in
       omega arith

@@ -1,18 +1,18 @@
 -- The places that are switches', and the words of their arms one switch after another. Assumes nothing.
+use Rattle.std.specs.Prelude.{Some, None}
 use Prim.Native.Nat.{ℕ, zero, suc, ◌+◌, ◌-◌, ◌≤◌, ◌<◌}
 use native.Mathlib.Omega.{arith}
 use mathlib.Core.Path.{◌≡◌, refl, sym, ◌∙◌, ap, subst}
 use mathlib.Core.Bool.{Bool, true, false, ◌&&◌, cond}
 use mathlib.Core.Option.{Option, none, some}
 use mathlib.Core.List.{List, [], ◌∷◌, ◌++◌}
-use borrow.Author.Tests.{lt-ltb, le-ltb, le-leb, lt-leb, ltb-true}
-use lib.Dec.{T, leb, ltb}
+use borrow.Author.Tests.{ltb-true}
+use lib.Dec.{T, ltb}
 use lib.ListN.{length, get_or, take, drop, drop_of_length-le}
 use Rattle.spec_tree.specs.Facts.{size}
-use Rattle.spec_tree.specs.Tokens.{kind_of, below_of, numbered, run_at, trees_in}
-use Rattle.spec_tree.proofs.TokenLaws.{operation_takes, run_size}
+use Rattle.spec_tree.specs.Tokens.{numbered, run_at, trees_in}
+use Rattle.spec_tree.proofs.TokenLaws.{run_size}
 use Rattle.words.specs.tokens.Answers.{end_answer}
-use Rattle.words.specs.declared.tokens.Run.TheVariants as run
 use Rattle.words.specs.words.Words.{some_trees, Complete}
 use Rattle.laws.specs.positions.Places.{numbered_at, second_at}
 use Rattle.laws.proofs.positions.DivisorPlaces.{enough}
@@ -20,6 +20,8 @@ use Rattle.laws.specs.switches.Switches.{switch_at, arm_count, arm_place}
 use Rattle.laws.proofs.switches.Parts.{has_key}
 use Rattle.laws.proofs.switches.Words.{place_within, past_sizes, ends_within, arms_after, arms_end}
 use Rattle.fusion.specs.place.Reads.{with_reads, arms_run, all_arms_run}
+use Rattle.spec_tree.specs.Bytes.{every}
+use Rattle.fusion.specs.groups.Answers.{switch_stands, all_stand}
 use Rattle.fusion.specs.scopeneeds.Marked.{switch_inside, all_switches, arms_there, arms_marked}
 use Rattle.fusion.proofs.scopeneeds.Marking.{reads_none, reads_append, reads_long}
 use Rattle.spec_tree.proofs.Lists.{place_is}
@@ -27,20 +29,6 @@ use Rattle.spec_tree.proofs.Lists.{place_is}
 -- ---- one place
 
 module _ (ws : List ℕ) (q : ℕ) where
-  pub place_outside : length ws ≤ q → false ≡ switch_inside ws q
-  unfolding switch_inside
-  place_outside h = rw (le-ltb q (length ws) h) refl
-
-  module _ (here : q < length ws) where
-    pub not_switch : kind_of (get_or ws q 0) < 26 → false ≡ switch_inside ws q
-    unfolding switch_inside switch_at
-    not_switch k = rw (lt-ltb q (length ws) here, lt-leb 26 (kind_of (get_or ws q 0)) k) refl
-
-    pub by_key : 26 ≤ kind_of (get_or ws q 0) → leb 1 (below_of (get_or ws q 0)) ≡ switch_inside ws q
-    unfolding switch_inside switch_at
-    by_key k =
-        sym (ap (leb 1) (operation_takes (get_or ws q 0) (omega (arith, k)))) ∙ rw (lt-ltb q (length ws) here, le-leb 26 (kind_of (get_or ws q 0)) k) refl
-
   pub inside_both : switch_inside ws q ≡ true → (q < length ws) × (switch_at ws q ≡ true)
   unfolding switch_inside
   inside_both e = go (ltb q (length ws)) (switch_at ws q) refl refl e
@@ -56,31 +44,11 @@ every_by : (ws : List ℕ) (q : ℕ) (l : List ℕ) (b : Bool) → switch_inside
 unfolding all_switches
 every_by ws q l b e = ap (λ (c : Bool). c && all_switches ws l) e
 
-every_none : (ws : List ℕ) → all_switches ws [] ≡ true
-unfolding all_switches
-every_none ws = refl
-
-module _ (ws group : List ℕ) where
-  pub record Checking (i : ℕ) : Type 0 where
-    pub within : i ≤ length group
-    pub same : all_switches ws (drop i group) ≡ all_switches ws group
-
-  pub check_starts : Checking 0
-  check_starts = record { within = omega arith; same = refl }
-
-  module _ {i : ℕ} (state : Checking i) where
-    module _ (here : i < length group) where
-      check_on : (b : Bool) → switch_inside ws (get_or group i 0) ≡ b → (b && all_switches ws (drop (i + 1) group)) ≡ all_switches ws group
-      check_on b e = sym (every_by ws (get_or group i 0) (drop (i + 1) group) b e) ∙ (sym (ap (all_switches ws) (place_is group i here)) ∙ state.same)
-
-      pub check_other : switch_inside ws (get_or group i 0) ≡ false → false ≡ all_switches ws group
-      check_other e = check_on false e
-
-      pub check_turn : switch_inside ws (get_or group i 0) ≡ true → Checking (i + 1)
-      check_turn e = record { within = omega arith; same = check_on true e }
-
-    pub check_ends : length group ≤ i → true ≡ all_switches ws group
-    check_ends h = sym (every_none ws) ∙ (sym (ap (all_switches ws) (drop_of_length-le group h)) ∙ state.same)
+-- the test that groups are made by is the same
+pub stand_switches : (ws l : List ℕ) → all_stand ws l ≡ all_switches ws l
+unfolding all_stand every switch_stands all_switches switch_inside
+stand_switches ws [] = refl
+stand_switches ws (q ∷ l) = ap (λ (b : Bool). switch_stands ws q && b) (stand_switches ws l)
 
 and_first : (a b : Bool) → (a && b) ≡ true → (a ≡ true) × (b ≡ true)
 and_first true b e = (refl, e)
@@ -112,32 +80,32 @@ module _ (ws : List ℕ) (q : ℕ) (complete : Complete ws) (here : q < length w
   unfolding numbered_at
   whole_stands = run_size numbered ws complete.0 q complete.1 here
 
-  pub key_not_broken : run.Broken ≡ end_answer (q + 1) (run_at ws (q + 1)) → ⊥
+  pub key_not_broken : None ≡ end_answer (q + 1) (run_at ws (q + 1)) → ⊥
   unfolding end_answer
   key_not_broken e =
-      let p : run.Broken ≡ run.Ends (q + 1 + size (numbered_at ws (q + 1))) = e ∙ ap (end_answer (q + 1)) key_stands in
+      let p : None ≡ Some (q + 1 + size (numbered_at ws (q + 1))) = e ∙ ap (end_answer (q + 1)) key_stands in
       let z : ◌≡◌ {A = ℕ} 0 1 = cc in
       absurd (omega arith)
 
-  pub whole_not_broken : run.Broken ≡ end_answer q (run_at ws q) → ⊥
+  pub whole_not_broken : None ≡ end_answer q (run_at ws q) → ⊥
   unfolding end_answer
   whole_not_broken e =
-      let p : run.Broken ≡ run.Ends (q + size (numbered_at ws q)) = e ∙ ap (end_answer q) whole_stands in
+      let p : None ≡ Some (q + size (numbered_at ws q)) = e ∙ ap (end_answer q) whole_stands in
       let z : ◌≡◌ {A = ℕ} 0 1 = cc in
       absurd (omega arith)
 
-  pub arms_begin : (a : ℕ) → run.Ends a ≡ end_answer (q + 1) (run_at ws (q + 1)) → a ≡ second_at ws q
+  pub arms_begin : (a : ℕ) → Some a ≡ end_answer (q + 1) (run_at ws (q + 1)) → a ≡ second_at ws q
   unfolding end_answer second_at
   arms_begin a e =
-      let p : run.Ends a ≡ run.Ends (q + 1 + size (numbered_at ws (q + 1))) = e ∙ ap (end_answer (q + 1)) key_stands in
+      let p : Some a ≡ Some (q + 1 + size (numbered_at ws (q + 1))) = e ∙ ap (end_answer (q + 1)) key_stands in
       let c : a ≡ q + 1 + size (numbered_at ws (q + 1)) = cc in
       let i : q + 1 ≡ suc q = omega arith in
       c ∙ ap (λ (x : ℕ). x + size (numbered_at ws x)) i
 
-  pub arms_stop : (e : ℕ) → run.Ends e ≡ end_answer q (run_at ws q) → e ≡ q + size (numbered_at ws q)
+  pub arms_stop : (e : ℕ) → Some e ≡ end_answer q (run_at ws q) → e ≡ q + size (numbered_at ws q)
   unfolding end_answer
   arms_stop e h =
-      let p : run.Ends e ≡ run.Ends (q + size (numbered_at ws q)) = h ∙ ap (end_answer q) whole_stands in
+      let p : Some e ≡ Some (q + size (numbered_at ws q)) = h ∙ ap (end_answer q) whole_stands in
       let c : e ≡ q + size (numbered_at ws q) = cc in
       c
 
@@ -172,9 +140,6 @@ module _ (first lets : ℕ) (numbers ends : List ℕ) (ws : List ℕ) where
       pub within : i ≤ length group
       pub long : length table ≡ length old
       pub marked : reads (all_arms_run ws (drop i group)) row table ≡ reads (all_arms_run ws group) row old
-
-    pub arm_starts : Arming old 0
-    arm_starts = record { within = omega arith; long = refl; marked = refl }
 
     module _ {table : List ℕ} {i : ℕ} (state : Arming table i) where
       pub arm_turn : i < length group → (new : List ℕ) → new ≡ reads (arms_run ws (get_or group i 0)) row table → Arming new (i + 1)

@@ -108,9 +108,6 @@ module _ (first lets : ℕ) (numbers ends : List ℕ) where
       pub long : length table ≡ length old
       pub marked : with_reads first lets numbers ends (drop i ws) row table ≡ with_reads first lets numbers ends ws row old
 
-    pub read_starts : Reading old 0
-    read_starts = record { within = omega arith; long = refl; marked = refl }
-
     module _ {table : List ℕ} {i : ℕ} (state : Reading table i) where
       pub read_turn : i < length ws → (new : List ℕ) → new ≡ with_read first lets numbers ends (get_or ws i 0) row table → Reading new (i + 1)
       read_turn here new e =

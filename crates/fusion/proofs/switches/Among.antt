@@ -1,37 +1,32 @@
 -- Whether one of some places has a tree, place by place. Assumes nothing.
+use Rattle.std.specs.Prelude.{Option, Some, IsSome}
 use Prim.Native.Nat.{ℕ, zero, suc, ◌+◌, ◌≤◌, ◌<◌}
 use native.Mathlib.Omega.{arith}
-use mathlib.Core.Path.{◌≡◌, refl, sym, ◌∙◌, ap}
+use mathlib.Core.Path.{◌≡◌, refl, sym, ◌∙◌, ap, subst}
 use mathlib.Core.Bool.{Bool, true, false}
-use mathlib.Core.Option.{some}
 use mathlib.Core.List.{List, [], ◌∷◌}
 use lib.ListN.{length, get_or, drop, drop_of_length-le}
 use lib.Seq.{drop-cons}
 use Rattle.spec_tree.specs.Tree.{eq_tree}
 use Rattle.spec_tree.specs.Tokens.{same_at}
 use Rattle.words.specs.tokens.Answers.{same_answer}
-use Rattle.words.specs.declared.tokens.Equality.TheVariants as equality
 use Rattle.words.proofs.tokens.Complete.{same_is}
 use Rattle.words.specs.words.Words.{Complete}
 use Rattle.laws.specs.positions.Places.{numbered_at, among_places}
 use Rattle.fusion.specs.switches.Listing.{Inside}
-use Rattle.reciprocals.proofs.divisors.Counting.{told_equal, told_different, never_broken}
 
 -- ---- whether two trees are equal
 
 module _ (ws : List ℕ) (complete : Complete ws) (i j : ℕ) (hi : i < length ws) (hj : j < length ws) where
-  is : same_answer (same_at ws i j) ≡ same_answer (some (eq_tree (numbered_at ws i) (numbered_at ws j)))
-  unfolding numbered_at
-  is = same_is ws complete.0 complete.1 i j hi hj
+  told : same_answer (same_at ws i j) ≡ Some (eq_tree (numbered_at ws i) (numbered_at ws j))
+  unfolding numbered_at same_answer
+  told = same_is ws complete.0 complete.1 i j hi hj
 
-  pub are_equal : equality.Equal ≡ same_answer (same_at ws i j) → true ≡ eq_tree (numbered_at ws i) (numbered_at ws j)
-  are_equal e = told_equal (eq_tree (numbered_at ws i) (numbered_at ws j)) (e ∙ is)
+  pub same_there : (q : Option Bool) → q ≡ same_answer (same_at ws i j) → IsSome q
+  same_there q e = subst (λ (o : Option Bool). IsSome o) (sym (e ∙ told)) refl
 
-  pub are_different : equality.Different ≡ same_answer (same_at ws i j) → false ≡ eq_tree (numbered_at ws i) (numbered_at ws j)
-  are_different e = told_different (eq_tree (numbered_at ws i) (numbered_at ws j)) (e ∙ is)
-
-  pub are_there : equality.Broken ≡ same_answer (same_at ws i j) → ⊥
-  are_there e = never_broken (eq_tree (numbered_at ws i) (numbered_at ws j)) (e ∙ is)
+  pub trees_same : (q : Option Bool) (r : Bool) → q ≡ same_answer (same_at ws i j) → q ≡ Some r → r ≡ eq_tree (numbered_at ws i) (numbered_at ws j)
+  trees_same q r e f = let h : Some r ≡ Some (eq_tree (numbered_at ws i) (numbered_at ws j)) = sym f ∙ (e ∙ told) in cc
 
 -- ---- one by one
 

@@ -3,21 +3,25 @@ use Prim.Native.Nat.{ℕ, ◌+◌, ◌≤◌, ◌<◌}
 use native.Mathlib.Omega.{arith}
 use mathlib.Core.Path.{◌≡◌, refl, sym, ◌∙◌, ap}
 use mathlib.Core.Bool.{Bool, true, false}
-use mathlib.Core.Option.{none}
+use mathlib.Core.Option as maybe
+use mathlib.Core.Option.{none, some}
 use mathlib.Core.List.{List, ◌++◌}
-use borrow.Author.Tests.{le-ltb, le-leb, lt-leb}
+use borrow.Author.Tests.{le-ltb, le-leb, lt-leb, ltb-true, ltb-false}
 use lib.ListN.{length, get_or, drop, length-append, get_or-append}
-use lib.Dec.{leb}
+use lib.Dec.{leb, ltb}
 use Rattle.spec_tree.specs.Tokens.{trees_in, flag}
 use Rattle.words.specs.words.Words.{some_trees, Complete}
 use Rattle.laws.specs.positions.Places.{outside_at}
 use Rattle.rounds.specs.uses.Marks.{is_marked, marks_of}
-use Rattle.rounds.specs.uses.Answers.{mark_answer}
+use Rattle.words.specs.declared.fault.Fault.{Fault}
+use Rattle.words.specs.declared.fault.Fault.TheVariants as fault
+use Rattle.rounds.specs.uses.Answers.{marked_by, mark_answer}
 use Rattle.rounds.proofs.uses.Marking.{marks_length, mark_at}
 use Rattle.laws.specs.switches.Switches.{switch_places}
 use Rattle.fusion.specs.switches.Listing.{Outsides, Listing, put_front, listing_by, listing}
-use Rattle.fusion.specs.declared.switches.SwitchList.{SwitchList}
-use Rattle.fusion.specs.declared.switches.SwitchList.TheVariants as switch_list
+use Rattle.std.specs.Prelude.{Result, Ok, Err, ⊤}
+use Rattle.fusion.specs.declared.switches.SwitchError.{SwitchError}
+use Rattle.fusion.specs.declared.switches.SwitchError.TheVariants as switch_error
 use Rattle.fusion.proofs.switches.Listed.{Puts}
 use Rattle.rounds.proofs.choice.Giving.{flag_back}
 
@@ -42,10 +46,34 @@ module _ (ws old new : List ℕ) (h : length ws ≤ length old) (c : Complete ws
             ∙ flag_back (test j);
       }
 
+-- ---- whether the marks are long enough, by what `mark_outside` answers
+
+module _ (ws old : List ℕ) (c : Complete ws) (r : Result ⊤ Fault) (e : r ≡ (mark_answer ws true old).answer) where
+  pub marks_refused : (f : Fault) → r ≡ Err f → (f ≡ fault.NoRoom) × (length old < length ws)
+  unfolding mark_answer marked_by
+  marks_refused f g = go (ltb (length old) (length ws)) (trees_in ws) refl c.1 (sym g ∙ e)
+    where
+      go :
+          (b : Bool) (o : maybe.Option ℕ) → ltb (length old) (length ws) ≡ b → o ≡ some c.0
+          → Err f ≡ (marked_by b o (marks_of (outside_at ws true) 0 (length ws)) (length ws) old).answer → (f ≡ fault.NoRoom) × (length old < length ws)
+      go true o q p h = (cc, ltb-true (length old) (length ws) q)
+      go false none q p h = absurd (let k : none ≡ some c.0 = p in cc)
+      go false (some m) q p h = absurd (let k : ◌≡◌ {A = Result ⊤ Fault} (Err f) (Ok tt) = h in cc)
+
+  pub marks_accepted : (x : ⊤) → r ≡ Ok x → length ws ≤ length old
+  unfolding mark_answer marked_by
+  marks_accepted x g = go (ltb (length old) (length ws)) (trees_in ws) refl (sym g ∙ e)
+    where
+      go :
+          (b : Bool) (o : maybe.Option ℕ) → ltb (length old) (length ws) ≡ b
+          → Ok x ≡ (marked_by b o (marks_of (outside_at ws true) 0 (length ws)) (length ws) old).answer → length ws ≤ length old
+      go true o q h = absurd (let k : ◌≡◌ {A = Result ⊤ Fault} (Ok x) (Err fault.NoRoom) = h in cc)
+      go false o q h = ltb-false (length old) (length ws) q
+
 -- ---- answers
 
 module _ (ws : List ℕ) (marks : ℕ) (old : List ℕ) where
-  abbrev pub Answers : SwitchList → List ℕ → Type 0
+  abbrev pub Answers : Result ℕ SwitchError → List ℕ → Type 0
   Answers r out = (r ≡ (listing ws marks old).answer) × (out ≡ (listing ws marks old).out)
 
   pub listing_is : (a b : Bool) → some_trees (trees_in ws) ≡ a → leb (length ws) marks ≡ b → listing ws marks old ≡ listing_by a b (switch_places ws) old
@@ -56,18 +84,18 @@ module _ (ws : List ℕ) (marks : ℕ) (old : List ℕ) where
   answers_by : (x : Listing) → listing ws marks old ≡ x → Answers x.answer x.out
   answers_by x s = (sym (ap (λ (y : Listing). y.answer) s), sym (ap (λ (y : Listing). y.out) s))
 
-  pub broken : trees_in ws ≡ none → Answers switch_list.Broken old
+  pub broken : trees_in ws ≡ none → Answers (Err switch_error.Broken) old
   unfolding listing_by some_trees
-  broken e = answers_by (record { answer = switch_list.Broken; out = old }) (listing_is false (leb (length ws) marks) (ap some_trees e) refl)
+  broken e = answers_by (record { answer = (Err switch_error.Broken); out = old }) (listing_is false (leb (length ws) marks) (ap some_trees e) refl)
 
   module _ (complete : Complete ws) where
-    pub few_marks : marks < length ws → Answers switch_list.NoRoom old
+    pub few_marks : marks < length ws → Answers (Err switch_error.NoRoom) old
     unfolding listing_by some_trees
-    few_marks h = answers_by (record { answer = switch_list.NoRoom; out = old }) (listing_is true false (ap some_trees complete.1) (lt-leb (length ws) marks h))
+    few_marks h = answers_by (record { answer = (Err switch_error.NoRoom); out = old }) (listing_is true false (ap some_trees complete.1) (lt-leb (length ws) marks h))
 
     pub puts_are : length ws ≤ marks → listing ws marks old ≡ put_front (switch_places ws) old
     unfolding listing_by some_trees
     puts_are marked = listing_is true true (ap some_trees complete.1) (le-leb (length ws) marks marked)
 
-    pub listed : length ws ≤ marks → (r : SwitchList) (out : List ℕ) → Puts (switch_places ws) old r out → Answers r out
+    pub listed : length ws ≤ marks → (r : Result ℕ SwitchError) (out : List ℕ) → Puts (switch_places ws) old r out → Answers r out
     listed marked r out k = let s = puts_are marked in (k.0 ∙ sym (ap (λ (y : Listing). y.answer) s), k.1 ∙ sym (ap (λ (y : Listing). y.out) s))

@@ -14,8 +14,9 @@ use Rattle.rounds.specs.uses.Marks.{is_marked}
 use Rattle.laws.specs.switches.Switches.{switch_at, places_within, switch_places, new_switch}
 use Rattle.laws.proofs.switches.Stepping.{Outer, places_next, places_begin, places_end, places_few, places_outer}
 use Rattle.fusion.specs.switches.Listing.{switch_word, Inside, Outsides, Listing, put_by, put_front}
-use Rattle.fusion.specs.declared.switches.SwitchList.{SwitchList}
-use Rattle.fusion.specs.declared.switches.SwitchList.TheVariants as switch_list
+use Rattle.std.specs.Prelude.{Result, Ok, Err}
+use Rattle.fusion.specs.declared.switches.SwitchError.{SwitchError}
+use Rattle.fusion.specs.declared.switches.SwitchError.TheVariants as switch_error
 use Rattle.fusion.proofs.switches.Words.{word_at}
 use Rattle.spec_tree.proofs.Logic.{and_false}
 
@@ -53,15 +54,15 @@ all_inside ws n [] g h = tt
 all_inside ws n (p ∷ l) g h = ((let k = h.0.0 in omega arith), all_inside ws n l g h.1)
 
 -- what is answered, and the places lent after it
-abbrev pub Puts : List ℕ → List ℕ → SwitchList → List ℕ → Type 0
+abbrev pub Puts : List ℕ → List ℕ → Result ℕ SwitchError → List ℕ → Type 0
 Puts new old r out = (r ≡ (put_front new old).answer) × (out ≡ (put_front new old).out)
 
 module _ (new old : List ℕ) where
-  pub puts_all : length new ≤ length old → put_front new old ≡ record { answer = switch_list.Count (length new); out = new ++ drop (length new) old }
+  pub puts_all : length new ≤ length old → put_front new old ≡ record { answer = Ok (length new); out = new ++ drop (length new) old }
   unfolding put_front put_by
   puts_all h = ap (λ (b : Bool). put_by b new old) (le-leb (length new) (length old) h)
 
-  pub puts_first : length old < length new → put_front new old ≡ record { answer = switch_list.TooMany; out = take (length old) new }
+  pub puts_first : length old < length new → put_front new old ≡ record { answer = (Err switch_error.TooMany); out = take (length old) new }
   unfolding put_front put_by
   puts_first h = ap (λ (b : Bool). put_by b new old) (lt-leb (length new) (length old) h)
 
@@ -94,10 +95,6 @@ module _ (ws : List ℕ) where
 
     pub met_are : take n out ≡ places_within ws p
     met_are = ap (take n) state.places ∙ take_at (places_within ws p) (drop n old) n (sym state.count)
-
-    -- as many as are counted
-    pub met_long : n ≡ length (take n out)
-    met_long = state.count ∙ ap length (sym met_are)
 
     pub met_inside : Inside (length ws) (take n out)
     met_inside = subst (Inside (length ws)) (sym met_are) (all_inside ws p (places_within ws p) state.inside (places_outer ws p))
@@ -134,17 +131,17 @@ module _ (ws : List ℕ) where
                 ∙ ap (λ (k : ℕ). places_within ws (p + 1) ++ drop k old) i;
           }
 
-    pub list_ends : length ws ≤ p → Puts (switch_places ws) old (switch_list.Count n) out
+    pub list_ends : length ws ≤ p → Puts (switch_places ws) old (Ok n) out
     list_ends h =
         let i : p ≡ length ws = omega (arith, state.inside, h) in
         let w : places_within ws p ≡ switch_places ws = ap (places_within ws) i ∙ sym (places_end ws) in
         let c : n ≡ length (switch_places ws) = state.count ∙ ap length w in
         let d : length (switch_places ws) ≤ length old = omega (arith, c, state.lent) in
         let e : out ≡ switch_places ws ++ drop (length (switch_places ws)) old = state.places ∙ ap (λ (x : List ℕ). x ++ drop n old) w ∙ ap (λ (k : ℕ). switch_places ws ++ drop k old) c in
-        (ap (λ (k : ℕ). switch_list.Count k) c ∙ sym (ap (λ (x : Listing). x.answer) (puts_all (switch_places ws) old d)), e ∙ sym (ap (λ (x : Listing). x.out) (puts_all (switch_places ws) old d)))
+        (ap (λ (k : ℕ). Ok k) c ∙ sym (ap (λ (x : Listing). x.answer) (puts_all (switch_places ws) old d)), e ∙ sym (ap (λ (x : Listing). x.out) (puts_all (switch_places ws) old d)))
 
     -- another switch, and no place left: the places lent are the first of the switches
-    pub list_full : p < length ws → length old ≤ n → true ≡ new_switch ws (take n out) p → Puts (switch_places ws) old switch_list.TooMany out
+    pub list_full : p < length ws → length old ≤ n → true ≡ new_switch ws (take n out) p → Puts (switch_places ws) old (Err switch_error.TooMany) out
     list_full here full e =
         let l = places_within ws p in
         let rest = further (length ws - (p + 1)) (p + 1) (length ws) (omega (arith, here)) in

@@ -1,12 +1,13 @@
 -- How words are put one after another, and rows of names: what the loops keep, over plain lists. Assumes nothing.
-use Prim.Native.Nat.{ℕ, zero, suc, ◌+◌, ◌*◌, ◌-◌, ◌≤◌, ◌<◌}
+use Prim.Native.Nat.{ℕ, zero, suc, ◌+◌, ◌*◌, ◌-◌, ◌≤◌, ◌<◌, min}
 use native.Mathlib.Omega.{arith}
-use borrow.Author.Tests.{le-leb, lt-leb}
+use borrow.Author.Tests.{leb-true, leb-false}
 use mathlib.Core.Path.{◌≡◌, refl, sym, ◌∙◌, ap, subst}
 use mathlib.Core.Bool.{Bool, true, false, ◌&&◌}
-use mathlib.Core.List.{List, [], ◌∷◌}
+use mathlib.Core.List.{List, [], ◌∷◌, ◌++◌}
+use borrow.Rule.Slice.PartMut.{post_of}
 use lib.ListN.{length, get_or, take, drop, set, take-append-drop, drop_of_length-le}
-use lib.Seq.{length-take-le, take-suc, take-length, drop-cons}
+use lib.Seq.{take_all, drop-drop, length-take-le, take-suc, take-length}
 use lib.Dec.{T, leb, leb→le}
 use Rattle.fusion.specs.place.Overlay.{overlay}
 use Rattle.fusion.specs.place.Parts.{name_rows}
@@ -20,6 +21,27 @@ word_put at w old = sym (overlay_word at w old)
 
 pub word_past : (at w : ℕ) (old : List ℕ) → length old ≤ at → old ≡ overlay at (w ∷ []) old
 word_past at w old h = sym (overlay_past at (w ∷ []) old h)
+
+-- ---- words copied, as many as there is room for
+
+pub copied_over :
+    (ws old new : List ℕ) (at n : ℕ) → n ≡ min (length ws) (length old - at) → new ≡ take n ws → take at old ++ (new ++ post_of at (at + n - at) old) ≡ overlay at ws old
+unfolding overlay
+copied_over ws old new at n e f =
+    let k : at + n - at ≡ n = omega arith in
+    let p = go (leb (length ws) (length old - at)) refl in
+    ap (λ (j : ℕ). take at old ++ (new ++ drop j (drop at old))) k
+    ∙ (ap (λ (l : List ℕ). take at old ++ (l ++ drop n (drop at old))) (f ∙ p.0) ∙ ap (λ (l : List ℕ). take at old ++ (take (length old - at) ws ++ l)) p.1)
+  where
+    go : (b : Bool) → leb (length ws) (length old - at) ≡ b → (take n ws ≡ take (length old - at) ws) × (drop n (drop at old) ≡ drop (at + length ws) old)
+    go true q =
+        let h = leb-true (length ws) (length old - at) q in
+        let i : at + n ≡ at + length ws = omega (arith, h, e) in
+        (take_all n ws (omega (arith, h, e)) ∙ sym (take_all (length old - at) ws h), drop-drop n at old ∙ ap (λ (j : ℕ). drop j old) i)
+    go false q =
+        let h = leb-false (length ws) (length old - at) q in
+        let i : n ≡ length old - at = omega (arith, h, e) in
+        (ap (λ (j : ℕ). take j ws) i, drop-drop n at old ∙ (drop_of_length-le old {i = at + n} (omega (arith, i)) ∙ sym (drop_of_length-le old {i = at + length ws} (omega (arith, h)))))
 
 -- ---- one word after another
 
@@ -90,31 +112,15 @@ module _ (numbers old out : List ℕ) (at i : ℕ) (state : Put (rows_of_names n
   row_turns h k =
       rw (sym (rows_at numbers i h)) (put_turns (rows_of_names numbers) old out at i state (omega (arith, h, rows_long numbers)) k)
 
-  pub rows_end : length numbers ≤ i → out ≡ overlay at (rows_of_names numbers) old
-  rows_end h = put_ends (rows_of_names numbers) old out at i state (omega (arith, h, rows_long numbers))
+  -- all, or as many as there is room for
+  pub rows_put : i ≡ min (length numbers) (length old - at) → at ≤ length old → out ≡ overlay at (rows_of_names numbers) old
+  rows_put e h = go (leb (length numbers) i) refl
+    where
+      go : (b : Bool) → leb (length numbers) i ≡ b → out ≡ overlay at (rows_of_names numbers) old
+      go true q = put_ends (rows_of_names numbers) old out at i state (omega (arith, leb-true (length numbers) i q, rows_long numbers))
+      go false q = put_full (rows_of_names numbers) old out at i state (omega (arith, leb-false (length numbers) i q, e))
 
 -- ---- which numbers have one
-
--- what is still to be tested decides
-abbrev pub Decides : List ℕ → ℕ → Type 0
-Decides l i = names_fit (drop i l) ≡ names_fit l
-
-module _ (l : List ℕ) (i : ℕ) (more : i < length l) (state : Decides l i) where
-  next : leb (get_or l i 0) 549755813888 && names_fit (drop (suc i) l) ≡ names_fit l
-  unfolding names_fit
-  next = ap names_fit (sym (drop-cons l i 0 more)) ∙ state
-
-  pub too_large : 549755813888 < get_or l i 0 → false ≡ names_fit l
-  too_large h = ap (λ (b : Bool). b && names_fit (drop (suc i) l)) (sym (lt-leb (get_or l i 0) 549755813888 h)) ∙ next
-
-  pub fit_turns : get_or l i 0 ≤ 549755813888 → Decides l (i + 1)
-  fit_turns h =
-      let n : i + 1 ≡ suc i = omega arith in
-      ap (λ (j : ℕ). names_fit (drop j l)) n ∙ (ap (λ (b : Bool). b && names_fit (drop (suc i) l)) (sym (le-leb (get_or l i 0) 549755813888 h)) ∙ next)
-
-pub fit_ends : (l : List ℕ) (i : ℕ) → length l ≤ i → Decides l i → true ≡ names_fit l
-unfolding names_fit
-fit_ends l i h state = ap names_fit (sym (drop_of_length-le l {i = i} h)) ∙ state
 
 first_fits : (n : ℕ) (b : Bool) → leb n 549755813888 && b ≡ true → (n ≤ 549755813888) × (b ≡ true)
 first_fits n b e = go (leb n 549755813888) refl e
@@ -132,12 +138,12 @@ number_fits (n ∷ l) (suc i) e = number_fits l i (first_fits n (names_fit l) e)
 -- ---- the answers
 
 pub names_written :
-    (numbers old out : List ℕ) (at : ℕ) (r : Bool) → true ≡ r → r ≡ names_fit numbers → out ≡ overlay at (rows_of_names numbers) old
-    → (true ≡ names_fit numbers) × (out ≡ names_put (names_fit numbers) numbers at old)
+    (numbers old out : List ℕ) (at : ℕ) (r : Bool) → r ≡ names_fit numbers → r ≡ true → out ≡ overlay at (rows_of_names numbers) old
+    → (r ≡ names_fit numbers) × (out ≡ names_put (names_fit numbers) numbers at old)
 unfolding names_put
-names_written numbers old out at r t e o = (t ∙ e, o ∙ ap (λ (b : Bool). names_put b numbers at old) (t ∙ e))
+names_written numbers old out at r e t o = (e, o ∙ ap (λ (b : Bool). names_put b numbers at old) (sym t ∙ e))
 
 pub names_kept :
-    (numbers old : List ℕ) (at : ℕ) (r : Bool) → false ≡ r → r ≡ names_fit numbers → (false ≡ names_fit numbers) × (old ≡ names_put (names_fit numbers) numbers at old)
+    (numbers old : List ℕ) (at : ℕ) (r : Bool) → r ≡ names_fit numbers → r ≡ false → (r ≡ names_fit numbers) × (old ≡ names_put (names_fit numbers) numbers at old)
 unfolding names_put
-names_kept numbers old at r t e = (t ∙ e, ap (λ (b : Bool). names_put b numbers at old) (t ∙ e))
+names_kept numbers old at r e t = (e, ap (λ (b : Bool). names_put b numbers at old) (sym t ∙ e))

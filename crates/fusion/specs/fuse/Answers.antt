@@ -1,35 +1,34 @@
 -- What fusing answers and leaves, by cases. Assumes nothing.
-use Rattle.std.specs.Prelude.{ℕ, ◌≡◌, Bool, true, false, ◌&&◌, List, [], ◌∷◌, ◌++◌, length, take, drop, leb}
-use Rattle.std.proofs.Math.Option.{Option, none, some}
+use Rattle.std.specs.Prelude.{ℕ, ◌≡◌, Bool, true, false, ◌&&◌, List, [], ◌∷◌, ◌++◌, length, take, drop, leb, Result, Ok, Err, Option, Some, None}
+use Rattle.std.proofs.Math.Option as maybe
+use Rattle.std.proofs.Math.Option.{none, some}
 use Rattle.spec_tree.specs.Tokens.{trees_in}
 use Rattle.words.specs.words.Words.{some_trees}
 use Rattle.fusion.specs.Words.{fused_words}
-use Rattle.fusion.specs.declared.fuse.Stepped.{Stepped}
-use Rattle.fusion.specs.declared.fuse.Stepped.TheVariants as stepped
-use Rattle.fusion.specs.declared.fuse.Fused.{Fused}
-use Rattle.fusion.specs.declared.fuse.Fused.TheVariants as fused
+use Rattle.words.specs.declared.fault.Fault.{Fault}
+use Rattle.words.specs.declared.fault.Fault.TheVariants as fault
 
-unfoldable pub stepped_answer : Option (List ℕ) → Stepped
-stepped_answer none = stepped.Broken
-stepped_answer (some new) = stepped.Words (length new)
+unfoldable pub stepped_answer : maybe.Option (List ℕ) → Option ℕ
+stepped_answer none = None
+stepped_answer (some new) = Some (length new)
 
 -- the new words stand in front
-unfoldable pub Front : Option (List ℕ) → List ℕ → Type 0
+unfoldable pub Front : maybe.Option (List ℕ) → List ℕ → Type 0
 Front none out = Unit {0}
 Front (some new) out = take (length new) out ≡ new
 
 -- what fusing answers, and the words lent after it
 pub record Fusing : Type 0 where
-  pub answer : Fused
+  pub answer : Result ℕ Fault
   pub out : List ℕ
 
 -- by whether the trees and a number for each member are there, whether there is room for them, and what they become: the new words in front of what stood after as
 -- many, or nothing written
-unfoldable pub fusing_by : Bool → Bool → Option (List ℕ) → List ℕ → Fusing
-fusing_by false room new old = record { answer = fused.Broken; out = old }
-fusing_by true false new old = record { answer = fused.NoRoom; out = old }
-fusing_by true true none old = record { answer = fused.Broken; out = old }
-fusing_by true true (some new) old = record { answer = fused.Words (length new); out = new ++ drop (length new) old }
+unfoldable pub fusing_by : Bool → Bool → maybe.Option (List ℕ) → List ℕ → Fusing
+fusing_by false room new old = record { answer = Err fault.Broken; out = old }
+fusing_by true false new old = record { answer = Err fault.NoRoom; out = old }
+fusing_by true true none old = record { answer = Err fault.Broken; out = old }
+fusing_by true true (some new) old = record { answer = Ok (length new); out = new ++ drop (length new) old }
 
 -- the first words are there, none lacks an operand, and no member lacks a number
 unfoldable pub all_there : List ℕ → ℕ → ℕ → ℕ → Bool

@@ -1,13 +1,13 @@
 -- The groups of switches at some places, and what `group_switches` answers and leaves, by cases (01, "Scoped fusion"). Assumes nothing.
-use Rattle.std.specs.Prelude.{ℕ, ◌≡◌, Bool, true, false, ◌&&◌, List, ◌++◌, map, length, drop, leb, ltb}
+use Rattle.std.specs.Prelude.{ℕ, ◌≡◌, Bool, true, false, ◌&&◌, List, ◌++◌, map, length, drop, leb, ltb, Result, Ok, Err}
 use Rattle.spec_tree.specs.Bytes.{every}
 use Rattle.spec_tree.specs.Tokens.{trees_in}
 use Rattle.words.specs.words.Words.{some_trees}
 use Rattle.laws.specs.switches.Switches.{switch_at}
 use Rattle.laws.specs.switches.Groups.{group_numbers, member_places}
 use Rattle.fusion.specs.place.Parts.{joined_groups, ends_from}
-use Rattle.fusion.specs.declared.groups.Grouping.{Grouping}
-use Rattle.fusion.specs.declared.groups.Grouping.TheVariants as grouping
+use Rattle.words.specs.declared.fault.Fault.{Fault}
+use Rattle.words.specs.declared.fault.Fault.TheVariants as fault
 
 -- the groups of the switches at some places, each as the places of its members
 unfoldable pub groups_at : List ℕ → List ℕ → List (List ℕ)
@@ -36,18 +36,18 @@ pub record GroupsWritten (gs : List (List ℕ)) (members ends : List ℕ) (n : �
 
 -- the answer, and what is lent after it
 pub record GroupsTold : Type 0 where
-  pub answer : Grouping
+  pub answer : Result ℕ Fault
   pub members : List ℕ
   pub ends : List ℕ
 
 -- by whether the trees and the switches are there, and whether there is room: members and ends in front of what stood after as many, or nothing written
 unfoldable pub groups_by : Bool → Bool → List (List ℕ) → List ℕ → List ℕ → GroupsTold
 unfolding joined_groups ends_from
-groups_by false room gs members ends = record { answer = grouping.Broken; members = members; ends = ends }
-groups_by true false gs members ends = record { answer = grouping.NoRoom; members = members; ends = ends }
+groups_by false room gs members ends = record { answer = Err fault.Broken; members = members; ends = ends }
+groups_by true false gs members ends = record { answer = Err fault.NoRoom; members = members; ends = ends }
 groups_by true true gs members ends =
     record {
-      answer = grouping.Count (length gs);
+      answer = Ok (length gs);
       members = joined_groups gs ++ drop (length (joined_groups gs)) members;
       ends = ends_from 0 gs ++ drop (length (ends_from 0 gs)) ends;
     }

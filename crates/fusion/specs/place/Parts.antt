@@ -1,8 +1,8 @@
 -- One scope on words after its rounds (01, "Reciprocals", "Scoped fusion"): what it holds, the groups of its switches as places, and its final trees by number.
 -- Assumes nothing.
-use Rattle.std.specs.Prelude.{ℕ, zero, suc, ◌+◌, ◌*◌, ◌-◌, cond, List, [], ◌∷◌, ◌++◌, map, get_or, take, drop, ltb}
+use Rattle.std.specs.Prelude.{ℕ, suc, ◌+◌, ◌*◌, List, [], ◌∷◌, ◌++◌, map, get_or, take, drop}
 use Rattle.std.proofs.Math.ListN.{length}
-use Rattle.spec_tree.specs.Tree.{Tree, Op, nil}
+use Rattle.spec_tree.specs.Tree.{Tree}
 use Rattle.spec_tree.specs.Tokens.{word, tokens, all_tokens, read, numbered, kind_of}
 use Rattle.words.specs.words.Words.{number}
 use Rattle.spec_cse.specs.AnswerRows.{let_row, match_row, name_row}

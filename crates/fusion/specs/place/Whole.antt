@@ -1,7 +1,7 @@
 -- One scope on words, whole (01, "Scoped fusion", "Order"): its arms' scopes in order, its statements in the order of their needs, and its answer as rows.
 -- Assumes nothing.
 use Prim.Native.Nat.{ℕ, zero, suc, ◌+◌, ◌-◌, ◌*◌}
-use Rattle.std.specs.Prelude.{Bool, true, false, ◌&&◌, get_or, replicate, eqb, leb, ltb}
+use Rattle.std.specs.Prelude.{Bool, true, ◌&&◌, get_or, replicate, eqb, leb, ltb}
 use Rattle.std.proofs.Math.Bool.{cond}
 use mathlib.Core.List.{List, [], ◌∷◌, ◌++◌, reverse}
 use Rattle.std.proofs.Math.ListN.{length}
@@ -19,7 +19,7 @@ use Rattle.laws.specs.switches.Switches.{arm_count, switch_places}
 use Rattle.laws.specs.switches.Columns.{column_words}
 use Rattle.fusion.specs.Words.{numbers_from}
 use Rattle.reciprocals.specs.final.Entries.{runs}
-use Rattle.fusion.specs.place.Parts.{place_groups, joined_groups, ends_from, group_at, opener, reciprocals_first, lets_count, held_words, settled_trees, fused_run, key_run, match_run, let_run, value_run}
+use Rattle.fusion.specs.place.Parts.{place_groups, ends_from, group_at, reciprocals_first, lets_count, held_words, settled_trees, fused_run, key_run, match_run, let_run, value_run}
 use Rattle.fusion.specs.place.Reads.{with_reads, all_arms_run, marks_by}
 
 -- a scope's answer: the rows of its statements and of its values, how many statements there are, the next number, and how many bindings rounds made

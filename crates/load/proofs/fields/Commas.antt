@@ -1,44 +1,51 @@
 -- The first comma: a record splits there, or is one field. Assumes nothing.
-use Prim.Native.Nat.{ℕ, suc, ◌+◌, ◌≤◌, ◌<◌}
-use mathlib.Core.Path.{◌≡◌, refl, sym, ◌∙◌, ap}
-use mathlib.Core.Bool.{Bool, true, false}
+use Rattle.std.specs.Prelude as std
+use Rattle.std.specs.Prelude.{Some, None, position}
+use Rattle.std.specs.List.{position_or_len}
+use Prim.Native.Nat.{ℕ, suc, ◌+◌, ◌<◌}
+use mathlib.Core.Path.{◌≡◌, refl, sym, ◌∙◌, ap, ap₂}
+use mathlib.Core.Bool.{Bool, true, false, not, cond}
 use mathlib.Core.Option.{Option, none, some}
 use mathlib.Core.List.{List, [], ◌∷◌, ◌++◌, reverse, append-nil}
-use native.Mathlib.Numerals.{add-one}
 use native.Mathlib.Omega.{arith}
-use borrow.Author.Tests.{eq-eqb, ne_eqb}
-use lib.Dec.{eqb}
-use lib.ListN.{length, get_or, take, drop, drop_of_length-le}
-use lib.Seq.{drop-cons}
+use native.Mathlib.Nat.{zero-add, add-zero}
+use borrow.Author.Tests.{lt-ltb}
+use Rattle.std.proofs.lemmas.Bool.Decides.{nat_tests}
+use lib.Dec.{eqb, ltb}
+use lib.ListN.{length, take, drop}
 use Rattle.spec_sheet.specs.Sheet.{fields_from}
 use Rattle.load.specs.fields.Comma.{comma_from, comma_at}
 use Rattle.load.specs.fields.Answers.{split_answer}
-use Rattle.load.specs.declared.fields.Split.TheVariants as split
 use Rattle.spec_tree.proofs.Lists.{reverse_shift}
 
 -- ---- the search
 
-comma_here : (i b : ℕ) (l : List ℕ) → b ≡ 44 → comma_from i (b ∷ l) ≡ some i
-unfolding comma_from
-comma_here i b l e = rw (eq-eqb b 44 e, comma_from)
+abbrev pub comma : ℕ → Bool
+comma b = eqb b 44
 
-comma_later : (i b : ℕ) (l : List ℕ) → (b ≡ 44 → ⊥) → comma_from i (b ∷ l) ≡ comma_from (suc i) l
-unfolding comma_from
-comma_later i b l n = rw (ne_eqb b 44 n, comma_from)
+abbrev PlacedFrom : ℕ → List ℕ → std.Option ℕ
+PlacedFrom i s = cond (ltb (position_or_len comma s) (length s)) (Some (i + position_or_len comma s)) None
 
-pub comma_begin : (s : List ℕ) → comma_at s ≡ comma_from 0 (drop 0 s)
+less_next : (p n : ℕ) → ltb (1 + p) (suc n) ≡ ltb p n
+less_next p n = grind (arith, nat_tests)
+
+placed_from : (i : ℕ) (s : List ℕ) → PlacedFrom i s ≡ split_answer (comma_from i s)
+unfolding comma_from
+placed_from i [] = refl
+placed_from i (b ∷ s) = go (eqb b 44) (placed_from (suc i) s)
+  where
+    go : (t : Bool) → PlacedFrom (suc i) s ≡ split_answer (comma_from (suc i) s)
+        → cond (ltb (cond (not t) (1 + position_or_len comma s) 0) (suc (length s))) (Some (i + cond (not t) (1 + position_or_len comma s) 0)) None
+        ≡ split_answer (elim t [ true ↦ some i | false ↦ comma_from (suc i) s ])
+    go true e = rw (lt-ltb 0 (suc (length s)) (omega arith)) (ap Some (add-zero i))
+    go false e =
+        let next : i + (1 + position_or_len comma s) ≡ suc i + position_or_len comma s = omega arith in
+        ap₂ (λ (t : Bool) (n : ℕ). cond t (Some n) None) (less_next (position_or_len comma s) (length s)) next ∙ e
+
+-- what `position` gives
+pub comma_placed : (s : List ℕ) → position comma s ≡ split_answer (comma_at s)
 unfolding comma_at
-comma_begin s = refl
-
-module _ (s : List ℕ) (i : ℕ) (q : comma_at s ≡ comma_from i (drop i s)) where
-  pub comma_next : i < length s → (get_or s i 0 ≡ 44 → ⊥) → comma_at s ≡ comma_from (i + 1) (drop (i + 1) s)
-  comma_next h n = q ∙ rw (drop-cons s i 0 h, comma_later i (get_or s i 0) (drop (suc i) s) n, add-one i)
-
-  pub comma_found : i < length s → get_or s i 0 ≡ 44 → split.At i ≡ split_answer (comma_at s)
-  comma_found h e = rw (q, drop-cons s i 0 h, comma_here i (get_or s i 0) (drop (suc i) s) e)
-
-  pub comma_none : length s ≤ i → split.Nowhere ≡ split_answer (comma_at s)
-  comma_none h = rw (q, drop_of_length-le s {i = i} h) (unfold comma_from in refl)
+comma_placed s = ap (λ (n : ℕ). cond (ltb (position_or_len comma s) (length s)) (Some n) None) (sym (zero-add (position_or_len comma s))) ∙ placed_from 0 s
 
 -- ---- what it says of the fields
 
@@ -80,11 +87,11 @@ cuts got (b ∷ s) k = go (eqb b 44) (cut_later (fields_from (b ∷ got) s) got 
     go false h = h
 
 -- the answer Nowhere: one field
-pub fields_whole : (s : List ℕ) → split.Nowhere ≡ split_answer (comma_at s) → fields_from [] s ≡ s ∷ []
+pub fields_whole : (s : List ℕ) → None ≡ split_answer (comma_at s) → fields_from [] s ≡ s ∷ []
 unfolding comma_at
 fields_whole s e = go (comma_from 0 s) (cuts [] s 0) e
   where
-    go : (o : Option ℕ) → Cuts (fields_from [] s) [] s 0 o → split.Nowhere ≡ split_answer o → fields_from [] s ≡ s ∷ []
+    go : (o : Option ℕ) → Cuts (fields_from [] s) [] s 0 o → None ≡ split_answer o → fields_from [] s ≡ s ∷ []
     go none h e = h
     go (some i) h e = absurd (let z : ◌≡◌ {A = ℕ} 0 1 = cc in omega arith)
 
@@ -93,11 +100,11 @@ pub record Fields (s : List ℕ) (i : ℕ) : Type 0 where
   pub inside : i < length s
   pub parts : fields_from [] s ≡ take i s ∷ fields_from [] (drop (suc i) s)
 
-pub fields_cut : (s : List ℕ) (i : ℕ) → split.At i ≡ split_answer (comma_at s) → Fields s i
+pub fields_cut : (s : List ℕ) (i : ℕ) → Some i ≡ split_answer (comma_at s) → Fields s i
 unfolding comma_at
 fields_cut s i e = go (comma_from 0 s) (cuts [] s 0) e
   where
-    go : (o : Option ℕ) → Cuts (fields_from [] s) [] s 0 o → split.At i ≡ split_answer o → Fields s i
+    go : (o : Option ℕ) → Cuts (fields_from [] s) [] s 0 o → Some i ≡ split_answer o → Fields s i
     go none h e = absurd (let z : ◌≡◌ {A = ℕ} 0 1 = cc in omega arith)
     go (some j) h e =
         let k : j ≡ i = cc in

@@ -6,7 +6,7 @@ use mathlib.Core.Logic.{◌⊎◌, inl, inr, ⊎_elim}
 use mathlib.Core.List.{List, [], ◌∷◌, ◌++◌, reverse, reverse-cons, append-nil}
 use native.Mathlib.Numerals.{add-one}
 use native.Mathlib.Omega.{arith}
-use borrow.Author.Tests.{lt-ltb, le-ltb, ne_eqb, eq-eqb}
+use borrow.Author.Tests.{lt-ltb, le-ltb}
 use lib.Dec.{T, eqb, eqb→eq}
 use lib.ListN.{length, get_or, take, drop, length-drop, drop_of_length-le}
 use lib.Seq.{drop-cons, drop-drop, get_or-drop}
@@ -19,12 +19,6 @@ use Rattle.spec_tree.proofs.Lists.{reverse_shift}
 
 abbrev pub crlf : ℕ → ℕ → Bool
 crlf b c = eqb b 13 && eqb c 10
-
-pub not_cr : (b c : ℕ) → (b ≡ 13 → ⊥) → false ≡ crlf b c
-not_cr b c n = rw (ne_eqb b 13 n)
-
-pub after_cr : (b c : ℕ) → b ≡ 13 → eqb c 10 ≡ crlf b c
-after_cr b c e = rw (eq-eqb b 13 e)
 
 here : (i b c : ℕ) (l : List ℕ) → crlf b c ≡ true → end_from i (b ∷ (c ∷ l)) ≡ i
 unfolding end_from

@@ -1,29 +1,22 @@
 -- Numbers and constants as the code reads them: digit by digit, no further than a cap. Assumes nothing.
+use Rattle.std.specs.Prelude.{Some, None}
 use Prim.Native.Nat.{ℕ, zero, suc, ◌+◌, ◌-◌, ◌*◌, ◌^◌, ◌≤◌, ◌<◌, min}
-use mathlib.Core.Path.{◌≡◌, refl, sym, ◌∙◌, ap, subst}
-use mathlib.Core.Bool.{Bool, true, false, not, ◌&&◌, cond}
+use mathlib.Core.Path.{◌≡◌, refl, sym, ◌∙◌, ap}
+use mathlib.Core.Bool.{Bool, true, false, ◌&&◌, cond}
 use mathlib.Core.Option.{Option, none, some}
 use mathlib.Core.List.{List, [], ◌∷◌}
 use native.Mathlib.Numerals.{add-one}
 use native.Mathlib.Omega.{arith}
-use borrow.Author.Tests.{lt-ltb, le-ltb, eq-eqb, ne_eqb, not-false}
+use borrow.Author.Tests.{lt-ltb, le-ltb, eq-eqb, ne_eqb}
 use lib.IntN.{ℤ, pos}
-use lib.Dec.{T}
 use lib.ListN.{length, get_or, drop, drop_of_length-le}
 use lib.Seq.{drop-cons}
 use Rattle.spec_tree.specs.Bytes.{every}
 use Rattle.spec_tree.specs.Symbol.{is_digit}
 use Rattle.spec_sheet.specs.Sheet.{number_from, number, below_limit, minus, constant}
-use Rattle.spec_sheet.proofs.Numerals.{digit_range}
-use Rattle.load.specs.numerals.Values.{digits_number, capped_at, number_answer, constant_answer}
-use Rattle.load.specs.declared.numerals.Number.TheVariants as numbered
-use Rattle.load.specs.declared.numerals.Constant.TheVariants as signed
+use Rattle.load.specs.numerals.Values.{digits_number, capped_at, number_answer, constant_answer, signed}
 
 -- ---- digit by digit
-
--- what a passed test says of the byte
-pub in_range : (b : ℕ) (r : Bool) → r ≡ is_digit b → not r ≡ false → (48 ≤ b) × (b ≤ 57)
-in_range b r e h = digit_range b (subst T (sym (not-false r h) ∙ e) tt)
 
 module _ (cap : ℕ) where
   -- a number past the cap stays past it, whatever digits follow
@@ -41,11 +34,11 @@ module _ (cap : ℕ) where
     unfolding number_from
     value_end h l = sym (q ∙ rw (drop_of_length-le s {i = i} h) (omega arith))
 
-  pub digits_read : (s : List ℕ) (v : ℕ) → true ≡ every is_digit s → v ≡ min (number_from 0 s) cap → numbered.Value v ≡ number_answer (capped_at cap (digits_number s))
+  pub digits_read : (s : List ℕ) (v : ℕ) → true ≡ every is_digit s → v ≡ min (number_from 0 s) cap → Some v ≡ number_answer (capped_at cap (digits_number s))
   unfolding digits_number
-  digits_read s v e h = rw (← e) (ap numbered.Value h)
+  digits_read s v e h = rw (← e) (ap Some h)
 
-  pub digits_bad : (s : List ℕ) → false ≡ every is_digit s → numbered.Malformed ≡ number_answer (capped_at cap (digits_number s))
+  pub digits_bad : (s : List ℕ) → false ≡ every is_digit s → None ≡ number_answer (capped_at cap (digits_number s))
   unfolding digits_number
   digits_bad s e = rw (← e)
 
@@ -97,7 +90,7 @@ module _ (s : List ℕ) (p : length s ≡ 0 → ⊥) (q : length s ≡ 1 → ⊥
 
 -- ---- what an answer says of the number that was read
 
-pub answer_none : (cap : ℕ) (o : Option ℕ) → numbered.Malformed ≡ number_answer (capped_at cap o) → o ≡ none
+pub answer_none : (cap : ℕ) (o : Option ℕ) → None ≡ number_answer (capped_at cap o) → o ≡ none
 answer_none cap none e = refl
 answer_none cap (some n) e = cc
 
@@ -106,7 +99,7 @@ pub record Read (cap : ℕ) (o : Option ℕ) (n : ℕ) : Type 0 where
   pub is : o ≡ some value
   pub stopped : n ≡ min value cap
 
-pub answer_value : (cap : ℕ) (o : Option ℕ) (n : ℕ) → numbered.Value n ≡ number_answer (capped_at cap o) → Read cap o n
+pub answer_value : (cap : ℕ) (o : Option ℕ) (n : ℕ) → Some n ≡ number_answer (capped_at cap o) → Read cap o n
 answer_value cap none n e = absurd (let z : ◌≡◌ {A = ℕ} 0 1 = cc in omega arith)
 answer_value cap (some m) n e = record { value = m; is = refl; stopped = cc }
 
@@ -116,12 +109,12 @@ abbrev Limit : ℕ
 Limit = 10 ^ 15
 
 module _ (o : Option ℕ) where
-  pub read_none : numbered.Malformed ≡ number_answer (capped_at Limit o) → (g : ℕ → Option ℤ) → signed.Malformed ≡ constant_answer (below_limit g o)
+  pub read_none : None ≡ number_answer (capped_at Limit o) → (g : ℕ → Option ℤ) → None ≡ constant_answer (below_limit g o)
   unfolding below_limit
   read_none e g = rw (answer_none Limit o e)
 
-  module _ (n : ℕ) (e : numbered.Value n ≡ number_answer (capped_at Limit o)) where
-    pub read_past : Limit ≤ n → (g : ℕ → Option ℤ) → signed.Malformed ≡ constant_answer (below_limit g o)
+  module _ (n : ℕ) (e : Some n ≡ number_answer (capped_at Limit o)) where
+    pub read_past : Limit ≤ n → (g : ℕ → Option ℤ) → None ≡ constant_answer (below_limit g o)
     unfolding below_limit
     read_past h g =
         let r = answer_value Limit o n e in
@@ -131,19 +124,19 @@ module _ (o : Option ℕ) where
     read_below : n < Limit → o ≡ some n
     read_below h = let r = answer_value Limit o n e in r.is ∙ ap some (omega arith)
 
-    pub read_pos : n < Limit → signed.Value 0 n ≡ constant_answer (below_limit (λ m. some (pos m)) o)
+    pub read_pos : n < Limit → Some (signed 0 n) ≡ constant_answer (below_limit (λ m. some (pos m)) o)
     unfolding below_limit
     read_pos h = rw (read_below h, lt-ltb n Limit h)
 
-    pub read_minus : n < Limit → (n ≡ 0 → ⊥) → signed.Value 1 n ≡ constant_answer (below_limit minus o)
+    pub read_minus : n < Limit → (n ≡ 0 → ⊥) → Some (signed 1 n) ≡ constant_answer (below_limit minus o)
     unfolding below_limit minus
     read_minus h p = rw (read_below h) (go n h p)
       where
-        go : (n : ℕ) → n < Limit → (n ≡ 0 → ⊥) → signed.Value 1 n ≡ constant_answer (below_limit minus (some n))
+        go : (n : ℕ) → n < Limit → (n ≡ 0 → ⊥) → Some (signed 1 n) ≡ constant_answer (below_limit minus (some n))
         go zero h p = absurd (p refl)
         go (suc n) h p = rw (lt-ltb (suc n) Limit h)
 
-    pub read_minus_zero : n ≡ 0 → signed.Malformed ≡ constant_answer (below_limit minus o)
+    pub read_minus_zero : n ≡ 0 → None ≡ constant_answer (below_limit minus o)
     unfolding below_limit minus
     read_minus_zero z = rw (read_below (omega arith), z)
 

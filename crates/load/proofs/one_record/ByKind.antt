@@ -1,4 +1,6 @@
 -- What a record's fields give by its kind, in the order of the code's tests. Assumes nothing.
+use Rattle.std.specs.Prelude as std
+use Rattle.std.specs.Prelude.{Some, None}
 use Prim.Native.Nat.{ℕ, suc, ◌+◌, ◌-◌, ◌≤◌, ◌<◌}
 use mathlib.Core.Path.{◌≡◌, refl, sym, ◌∙◌, ap, subst}
 use mathlib.Core.Bool.{Bool, true, false, not, ◌&&◌, ◌||◌, cond}
@@ -19,14 +21,12 @@ use Rattle.spec_tree.specs.Rows.{Row, row_sym, row_const, row_op}
 use Rattle.spec_tree.specs.Layout.{row_kind, row_default, row_fields, row_words}
 use Rattle.spec_sheet.specs.Sheet.{Root, constant, numbers}
 use Rattle.load.specs.fields.Copy.{has_room, copied}
-use Rattle.load.specs.numerals.Values.{constant_answer}
-use Rattle.load.specs.declared.numerals.Constant.TheVariants as signed
+use Rattle.load.specs.declared.numerals.Constant.{Constant}
+use Rattle.load.specs.numerals.Values.{constant_answer, signed}
 use Rattle.node_rows.proofs.names.Leaves.{name_by}
 use Rattle.load.specs.one_record.Item.{Item, row_item, root_item, numbers_item, fields_item}
 use Rattle.load.specs.one_record.Reading.{Follows, Writes, capped_all}
-use Rattle.load.specs.declared.one_record.Read.TheVariants as read
-use Rattle.load.specs.declared.one_record.Fields.{Fields}
-use Rattle.load.specs.declared.one_record.Fields.TheVariants as fields
+use Rattle.load.specs.one_record.Reading as read
 use Rattle.load.proofs.one_record.Writing.{AllNumbers, all_numbers}
 use Rattle.load.proofs.one_record.Fronts.{lent_long, back_long, part_is, words_are, cap_below, cap_same, capped_long}
 
@@ -112,9 +112,6 @@ module _ (s : List ℕ) (rows : ℕ) (old cl : List ℕ) (clear : cl ≡ replica
     name_part : take ((length s + 3) - 3) (drop 3 row_now) ≡ s
     name_part = part_is old cl clear long x s (length s) few_bytes refl placed
 
-    pub symbol_fits : length s + 3 ≤ length row_now
-    symbol_fits = let f = few_bytes in omega (arith, row_same)
-
     module _ (b : Bool) (t : b ≡ is_name (take ((length s + 3) - 3) (drop 3 row_now))) where
       tested_name : is_name s ≡ b
       tested_name = sym (t ∙ ap is_name name_part)
@@ -132,21 +129,21 @@ module _ (s : List ℕ) (rows : ℕ) (old cl : List ℕ) (clear : cl ≡ replica
 -- ---- a constant
 
 module _ (s : List ℕ) (rows : ℕ) (old : List ℕ) where
-  pub constant_bad : signed.Malformed ≡ constant_answer (constant s) → Follows (fields_item 0 rows 0 1 (s ∷ [])) old (read.Refused 4) old
+  pub constant_bad : None ≡ constant_answer (constant s) → Follows (fields_item 0 rows 0 1 (s ∷ [])) old (read.Refused 4) old
   unfolding fields_item
   constant_bad e = go (constant s) e
     where
-      go : (o : Option ℤ) → signed.Malformed ≡ constant_answer o → Follows (elim o [ none ↦ refused (4 at_record 0) | some c ↦ row_item 0 rows 0 (row_const c) ]) old (read.Refused 4) old
+      go : (o : Option ℤ) → None ≡ constant_answer o → Follows (elim o [ none ↦ refused (4 at_record 0) | some c ↦ row_item 0 rows 0 (row_const c) ]) old (read.Refused 4) old
       go none e = (refl, refl)
       go (some (pos n)) e = absurd (let z : ◌≡◌ {A = ℕ} 0 1 = cc in omega arith)
       go (some (negsuc n)) e = absurd (let z : ◌≡◌ {A = ℕ} 0 1 = cc in omega arith)
 
-  module _ (g n : ℕ) (e : signed.Value g n ≡ constant_answer (constant s)) where
+  module _ (g n : ℕ) (e : Some (signed g n) ≡ constant_answer (constant s)) where
     pub constant_full : 1024 ≤ rows → Follows (fields_item 0 rows 0 1 (s ∷ [])) old (read.Refused 6) old
     unfolding fields_item
     constant_full h = go (constant s) e
       where
-        go : (o : Option ℤ) → signed.Value g n ≡ constant_answer o → Follows (elim o [ none ↦ refused (4 at_record 0) | some c ↦ row_item 0 rows 0 (row_const c) ]) old (read.Refused 6) old
+        go : (o : Option ℤ) → Some (signed g n) ≡ constant_answer o → Follows (elim o [ none ↦ refused (4 at_record 0) | some c ↦ row_item 0 rows 0 (row_const c) ]) old (read.Refused 6) old
         go none e = absurd (let z : ◌≡◌ {A = ℕ} 0 1 = cc in omega arith)
         go (some c) e = row_full rows 0 old old (row_const c) h refl
 
@@ -162,11 +159,14 @@ module _ (s : List ℕ) (rows : ℕ) (old : List ℕ) where
         with_size : (a b : ℕ) → g ≡ a → n ≡ b → set (set head 3 g) 4 n ≡ 1 ∷ (0 ∷ (2 ∷ (a ∷ (b ∷ (replicate 30 0 ++ drop 35 old)))))
         with_size a b u v = words ∙ ap (λ (x : ℕ). 1 ∷ (0 ∷ (2 ∷ (x ∷ (n ∷ (replicate 30 0 ++ drop 35 old)))))) u ∙ ap (λ (x : ℕ). 1 ∷ (0 ∷ (2 ∷ (a ∷ (x ∷ (replicate 30 0 ++ drop 35 old)))))) v
 
-        go : (o : Option ℤ) → signed.Value g n ≡ constant_answer o
+        same : (x : Constant) → Some (signed g n) ≡ Some x → signed g n ≡ x
+        same x e = cc
+
+        go : (o : Option ℤ) → Some (signed g n) ≡ constant_answer o
             → Follows (elim o [ none ↦ refused (4 at_record 0) | some c ↦ row_item 0 rows 0 (row_const c) ]) old read.Row (set (set head 3 g) 4 n)
         go none e = absurd (let z : ◌≡◌ {A = ℕ} 0 1 = cc in omega arith)
-        go (some (pos m)) e = row_follows rows 0 old (set (set head 3 g) 4 n) (row_const (pos m)) h (with_size 0 m (cc) (cc))
-        go (some (negsuc m)) e = row_follows rows 0 old (set (set head 3 g) 4 n) (row_const (negsuc m)) h (with_size 1 (suc m) (cc) (cc))
+        go (some (pos m)) e = row_follows rows 0 old (set (set head 3 g) 4 n) (row_const (pos m)) h (with_size 0 m (ap (λ (x : Constant). x.sign) (same (signed 0 m) e)) (ap (λ (x : Constant). x.size) (same (signed 0 m) e)))
+        go (some (negsuc m)) e = row_follows rows 0 old (set (set head 3 g) 4 n) (row_const (negsuc m)) h (with_size 1 (suc m) (ap (λ (x : Constant). x.sign) (same (signed 1 (suc m)) e)) (ap (λ (x : Constant). x.size) (same (signed 1 (suc m)) e)))
 
 -- ---- numbers
 
@@ -200,19 +200,19 @@ module _ (rows roots k : ℕ) (fs : List (List ℕ)) (large : 1 < k) where
       ap (λ (b : Bool). elim b as (λ _. Outcome Item) [ true ↦ cond (eqb k Root) (root_item 0 rows roots (get_or ns 0 0)) (row_item 0 rows roots (row_op k ns)) | false ↦ refused (5 at_record 0) ]) p
       ∙ ap (λ (c : Bool). elim b as (λ _. Outcome Item) [ true ↦ cond c (root_item 0 rows roots (get_or ns 0 0)) (row_item 0 rows roots (row_op k ns)) | false ↦ refused (5 at_record 0) ]) q
 
-  pub numbers_bad : (lent x old new : List ℕ) (r : Fields) → Writes (numbers fs) lent r x → r ≡ fields.Malformed → length new ≡ length old
+  pub numbers_bad : (lent x old new : List ℕ) (r : std.Option ℕ) → Writes (numbers fs) lent r x → r ≡ None → length new ≡ length old
       → Follows (fields_item 0 rows roots k fs) old (read.Refused 2) new
-  numbers_bad lent x old new r w e same = rw fields_by (go (numbers fs) (subst (λ (a : Fields). Writes (numbers fs) lent a x) e w))
+  numbers_bad lent x old new r w e same = rw fields_by (go (numbers fs) (subst (λ (a : std.Option ℕ). Writes (numbers fs) lent a x) e w))
     where
-      go : (q : Option (List ℕ)) → Writes q lent fields.Malformed x
+      go : (q : Option (List ℕ)) → Writes q lent None x
           → Follows (elim q [ none ↦ refused (2 at_record 0) | some ns ↦ numbers_item 0 rows roots k ns ]) old (read.Refused 2) new
       go none w = (refl, same)
       go (some ns) w = absurd (let f = w.0 in let z : ◌≡◌ {A = ℕ} 0 1 = cc in omega arith)
 
-  module _ (small : rows ≤ 1000000) (few : length fs ≤ 32) (old cl : List ℕ) (clear : cl ≡ replicate 35 0 ++ drop 35 old) (long : 35 ≤ length old) (x : List ℕ) (r : Fields) (n : ℕ)
-      (w : Writes (numbers fs) (take (length cl - 3) (drop 3 cl)) r x) (e : r ≡ fields.All n) (kept : length x ≡ length (take (length cl - 3) (drop 3 cl))) where
+  module _ (small : rows ≤ 1000000) (few : length fs ≤ 32) (old cl : List ℕ) (clear : cl ≡ replicate 35 0 ++ drop 35 old) (long : 35 ≤ length old) (x : List ℕ) (r : std.Option ℕ) (n : ℕ)
+      (w : Writes (numbers fs) (take (length cl - 3) (drop 3 cl)) r x) (e : r ≡ Some n) (kept : length x ≡ length (take (length cl - 3) (drop 3 cl))) where
     all : AllNumbers fs (take (length cl - 3) (drop 3 cl)) n x
-    all = all_numbers fs (take (length cl - 3) (drop 3 cl)) n x (subst (λ (a : Fields). Writes (numbers fs) (take (length cl - 3) (drop 3 cl)) a x) e w)
+    all = all_numbers fs (take (length cl - 3) (drop 3 cl)) n x (subst (λ (a : std.Option ℕ). Writes (numbers fs) (take (length cl - 3) (drop 3 cl)) a x) e w)
 
     abbrev now_is : List ℕ
     now_is = put_mid 3 (length cl - 3) cl x

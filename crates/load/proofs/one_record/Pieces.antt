@@ -4,11 +4,11 @@ use mathlib.Core.Path.{◌≡◌, refl, sym, ◌∙◌, ap, subst}
 use mathlib.Core.Bool.{Bool, true, false, ◌&&◌, ◌||◌, cond}
 use mathlib.Core.List.{List, [], ◌∷◌, ◌++◌, reverse}
 use native.Mathlib.Omega.{arith}
-use native.Mathlib.Numerals.{add-one}
 use borrow.Author.Tests.{eqb-true, leb-false, ltb-true, ltb-false, lt-leb, le-leb, eq-eqb, ne_eqb, lt-ltb, le-ltb}
+use Rattle.std.specs.List.{count_by}
+use Rattle.std.proofs.lemmas.List.Recursion.{is_count_by}
 use lib.Dec.{T, eqb, leb, ltb, leb→le, eqb→eq}
-use lib.ListN.{length, get_or, drop, set, replicate, length-replicate, drop_of_length-le}
-use lib.Seq.{drop-cons, set_at}
+use lib.ListN.{length, replicate}
 use Rattle.spec_tree.specs.Kinds.{Kind, kinds, kind_at, arity_ok, Select, SelectOr}
 use Rattle.spec_tree.proofs.Logic.{and_left, and_right}
 use Rattle.spec_tree.proofs.KindLaws.{kinds_long, arity_kind, arity_by}
@@ -17,20 +17,6 @@ use Rattle.node_rows.specs.kinds.Numbers.{kind_number}
 use Rattle.spec_sheet.specs.Sheet.{fields_from, Root, fields_ok}
 
 -- ---- counting
-
-abbrev count : List ℕ → ℕ
-count s = length (fields_from [] s)
-
-count_any : (got more s : List ℕ) → length (fields_from got s) ≡ length (fields_from more s)
-unfolding fields_from
-count_any got more [] = refl
-count_any got more (b ∷ l) = go (eqb b 44) (count_any (b ∷ got) (b ∷ more) l)
-  where
-    go : (t : Bool) → length (fields_from (b ∷ got) l) ≡ length (fields_from (b ∷ more) l)
-        → length {A = List ℕ} (elim t [ true ↦ reverse got ∷ fields_from [] l | false ↦ fields_from (b ∷ got) l ])
-        ≡ length {A = List ℕ} (elim t [ true ↦ reverse more ∷ fields_from [] l | false ↦ fields_from (b ∷ more) l ])
-    go true h = refl
-    go false h = h
 
 pub fields_some : (got s : List ℕ) → 1 ≤ length (fields_from got s)
 unfolding fields_from
@@ -41,40 +27,27 @@ fields_some got (b ∷ l) = go (eqb b 44) (fields_some (b ∷ got) l)
     go true h = omega arith
     go false h = h
 
-count_comma : (b : ℕ) (l : List ℕ) → b ≡ 44 → count (b ∷ l) ≡ suc (count l)
-unfolding fields_from
-count_comma b l e = rw (eq-eqb b 44 e, fields_from)
+abbrev comma : ℕ → Bool
+comma b = eqb b 44
 
-count_other : (b : ℕ) (l : List ℕ) → (b ≡ 44 → ⊥) → count (b ∷ l) ≡ count l
-unfolding fields_from
-count_other b l e = rw (ne_eqb b 44 e, fields_from) (count_any (b ∷ []) [] l)
+commas : List ℕ → ℕ
+commas [] = 0
+commas (b ∷ s) = cond (comma b) (1 + commas s) (commas s)
 
--- so many fields up to i
-pub record Counting (s : List ℕ) (n i : ℕ) : Type 0 where
-  pub inside : i ≤ length s
-  pub few : n ≤ i + 1
-  pub sum : count s + 1 ≡ n + count (drop i s)
+-- a field more than there are commas
+fields_more : (got s : List ℕ) → length (fields_from got s) ≡ 1 + commas s
+unfolding fields_from commas
+fields_more got [] = refl
+fields_more got (b ∷ s) = go (eqb b 44) (fields_more [] s) (fields_more (b ∷ got) s)
+  where
+    go : (t : Bool) → length (fields_from [] s) ≡ 1 + commas s → length (fields_from (b ∷ got) s) ≡ 1 + commas s
+        → length {A = List ℕ} (elim t [ true ↦ reverse got ∷ fields_from [] s | false ↦ fields_from (b ∷ got) s ]) ≡ 1 + cond t (1 + commas s) (commas s)
+    go true e f = omega arith
+    go false e f = omega arith
 
-module _ (s : List ℕ) where
-  pub counting_begin : Counting s 1 0
-  counting_begin = record { inside = omega arith; few = omega arith; sum = omega arith }
-
-  module _ (n i : ℕ) (h : Counting s n i) (l : i < length s) where
-    here : drop i s ≡ get_or s i 0 ∷ drop (i + 1) s
-    here = rw (drop-cons s i 0 l, add-one i)
-
-    pub counting_comma : get_or s i 0 ≡ 44 → Counting s (n + 1) (i + 1)
-    counting_comma e = record { inside = omega arith; few = omega (arith, h.few); sum = omega (arith, h.sum, ap count here ∙ count_comma (get_or s i 0) (drop (i + 1) s) e) }
-
-    pub counting_other : (get_or s i 0 ≡ 44 → ⊥) → Counting s n (i + 1)
-    counting_other e = record { inside = omega arith; few = omega (arith, h.few); sum = omega (arith, h.sum, ap count here ∙ count_other (get_or s i 0) (drop (i + 1) s) e) }
-
-  count_end : count [] ≡ 1
-  unfolding fields_from
-  count_end = refl
-
-  pub counting_end : (n i : ℕ) → Counting s n i → length s ≤ i → n ≡ count s
-  counting_end n i h l = omega (arith, h.sum, ap count (drop_of_length-le s {i = i} l), count_end)
+pub fields_counted : (s : List ℕ) → 1 + count_by (λ b. eqb b 44) s ≡ length (fields_from [] s)
+unfolding commas
+fields_counted s = sym (fields_more [] s ∙ ap (λ (n : ℕ). 1 + n) (is_count_by commas comma refl (λ b l. refl) s))
 
 -- ---- clearing
 
@@ -82,24 +55,7 @@ more_zeros : (i : ℕ) (l : List ℕ) → replicate i 0 ++ (0 ∷ l) ≡ replica
 more_zeros zero l = refl
 more_zeros (suc i) l = ap (λ (m : List ℕ). 0 ∷ m) (more_zeros i l)
 
--- zeros in front of what stood after them
-pub cleared_next : (old row : List ℕ) (i : ℕ) → i < length old → row ≡ replicate i 0 ++ drop i old → set row i 0 ≡ replicate (i + 1) 0 ++ drop (i + 1) old
-cleared_next old row i h e =
-    ap (λ (l : List ℕ). set l i 0) (e ∙ ap (λ (l : List ℕ). replicate i 0 ++ l) (drop-cons old i 0 h))
-    ∙ set_at (replicate i 0) (get_or old i 0) (drop (suc i) old) 0 i (length-replicate i 0)
-    ∙ more_zeros i (drop (suc i) old)
-    ∙ ap (λ (m : ℕ). replicate m 0 ++ drop m old) (sym (add-one i))
-
-pub cleared_end : (old row : List ℕ) (i : ℕ) → i ≤ 35 → 35 ≤ i → row ≡ replicate i 0 ++ drop i old → row ≡ replicate 35 0 ++ drop 35 old
-cleared_end old row i h l e = e ∙ ap (λ (m : ℕ). replicate m 0 ++ drop m old) (let q : i ≡ 35 = omega arith in q)
-
 -- ---- the first three words
-
-pub headed : (l : List ℕ) (a b c : ℕ) → 35 ≤ length l → set (set (set l 0 a) 1 b) 2 c ≡ a ∷ (b ∷ (c ∷ drop 3 l))
-headed [] a b c h = absurd (omega arith)
-headed (x ∷ []) a b c h = absurd (omega arith)
-headed (x ∷ (y ∷ [])) a b c h = absurd (omega arith)
-headed (x ∷ (y ∷ (z ∷ l))) a b c h = refl
 
 -- ---- counts of operands
 
@@ -176,3 +132,6 @@ right_count k n = go (eqb k Root) (leb k 1) (λ e. leb-false k 1 e)
     go true l f t = let e = eqb→eq n 1 t in (omega arith, omega arith)
     go false true f t = let e = eqb→eq n 1 t in (omega arith, omega arith)
     go false false f t = operands_few k n (f refl) t
+
+-- a count of fields by the kind
+pub ruleset right_counts = (ok_root, ok_leaf, ok_default, ok_operation)

@@ -1,4 +1,5 @@
 -- A record from its first test on: plain bytes, the first comma, the record word, the count of fields, and the fields by kind. Assumes nothing.
+use Rattle.std.specs.Prelude.{Some, None}
 use Prim.Native.Nat.{ℕ, ◌+◌, ◌-◌, ◌≤◌, ◌<◌}
 use mathlib.Core.Path.{◌≡◌, refl, sym, ◌∙◌, ap, subst}
 use mathlib.Core.Bool.{Bool, true, false}
@@ -15,13 +16,11 @@ use Rattle.spec_sheet.proofs.Splitting.{glued, Split, record_split}
 use Rattle.load.specs.fields.Comma.{comma_at}
 use Rattle.load.specs.fields.Answers.{split_answer}
 use Rattle.load.specs.recordwords.Answers.{word_answer}
-use Rattle.load.specs.declared.fields.Split.TheVariants as split
-use Rattle.load.specs.declared.recordwords.Word.TheVariants as word
 use Rattle.load.proofs.fields.Commas.{fields_whole, fields_cut}
 use Rattle.load.specs.one_record.Item.{Item, row_item, fields_item, split_item, record_item}
 use Rattle.load.specs.one_record.Reading.{Follows}
-use Rattle.load.specs.declared.one_record.Read.{Read}
-use Rattle.load.specs.declared.one_record.Read.TheVariants as read
+use Rattle.load.specs.one_record.Reading.{Read}
+use Rattle.load.specs.one_record.Reading as read
 use Rattle.load.proofs.one_record.Pieces.{ok_leaf, right_count}
 use Rattle.spec_tree.proofs.Lists.{rest_is}
 
@@ -90,10 +89,10 @@ module _ (rows roots : ℕ) (t : List ℕ) where
         go none = refl
         go (some k) = wrong k (fields_ok k 0) (right_count k 0)
 
-    pub no_comma : split.Nowhere ≡ split_answer (comma_at t) → record_item 0 rows roots t ≡ refused (2 at_record 0)
+    pub no_comma : None ≡ split_answer (comma_at t) → record_item 0 rows roots t ≡ refused (2 at_record 0)
     no_comma e = splits ∙ ap (split_item 0 rows roots) (fields_whole t e) ∙ lone t
 
-    module _ (i : ℕ) (e : split.At i ≡ split_answer (comma_at t)) where
+    module _ (i : ℕ) (e : Some i ≡ split_answer (comma_at t)) where
       pub comma_inside : i < length t
       comma_inside = (fields_cut t i e).inside
 
@@ -116,18 +115,18 @@ module _ (rows roots : ℕ) (t : List ℕ) where
           elim o as (λ _. Outcome Item) [ none ↦ refused (2 at_record 0) | some k ↦ elim (fields_ok k (length fs)) as (λ _. Outcome Item) [ true ↦ fields_item 0 rows roots k fs | false ↦ refused (2 at_record 0) ] ])
           f
 
-      known : (k : ℕ) (o : Option ℕ) → word.Kind k ≡ word_answer o → o ≡ some k
+      known : (k : ℕ) (o : Option ℕ) → Some k ≡ word_answer o → o ≡ some k
       known k none f = absurd (let z : ◌≡◌ {A = ℕ} 0 1 = cc in omega arith)
       known k (some m) f = cc
 
-      unknown : (o : Option ℕ) → word.Unknown ≡ word_answer o → o ≡ none
+      unknown : (o : Option ℕ) → None ≡ word_answer o → o ≡ none
       unknown none f = refl
       unknown (some m) f = absurd (let z : ◌≡◌ {A = ℕ} 0 1 = cc in omega arith)
 
-      pub no_word : word.Unknown ≡ word_answer (find 0 (take i t) words) → record_item 0 rows roots t ≡ refused (2 at_record 0)
+      pub no_word : None ≡ word_answer (find 0 (take i t) words) → record_item 0 rows roots t ≡ refused (2 at_record 0)
       no_word f = cut ∙ by_word (take i t) (fields_from [] rest) none (unknown (find 0 (take i t) words) f)
 
-      module _ (k : ℕ) (f : word.Kind k ≡ word_answer (find 0 (take i t) words)) where
+      module _ (k : ℕ) (f : Some k ≡ word_answer (find 0 (take i t) words)) where
         counted : (b : Bool) → fields_ok k (length (fields_from [] rest)) ≡ b
             → ◌≡◌ {A = Outcome Item} (record_item 0 rows roots t) (elim b [ true ↦ fields_item 0 rows roots k (fields_from [] rest) | false ↦ refused (2 at_record 0) ])
         counted b q =

@@ -15,9 +15,9 @@ use Rattle.load.specs.fields.End.{record_end}
 use Rattle.load.proofs.fields.Ends.{Record, records_cut}
 use Rattle.load.specs.one_record.Item.{Item, a_row, a_root, record_item, with_item}
 use Rattle.load.proofs.one_record.Items.{records_step}
-use Rattle.load.specs.declared.recordlist.Step.{Step}
-use Rattle.load.specs.declared.recordlist.Step.TheVariants as step
-use Rattle.load.specs.declared.recordlist.Records.TheVariants as records
+use Rattle.load.specs.recordlist.Step.{Step}
+use Rattle.load.specs.recordlist.Step as step
+use Rattle.load.specs.recordlist.Records as records
 use Rattle.load.specs.recordlist.Steps.{RowJoined, RootJoined, Stepped, Holds, empty, Outcomes, AllRead}
 use Rattle.load.proofs.recordlist.Limits.{placed, record_placed}
 
@@ -56,9 +56,6 @@ module _ (s : List ℕ) (at i n m : ℕ) (words list : List ℕ) (R : Reading s 
 
   abbrev rest : List (List ℕ)
   rest = records_from [] (drop (e + 2) s)
-
-  t : Table
-  t = R.so_far
 
   H : Holds R.so_far n m words list
   H = R.holds

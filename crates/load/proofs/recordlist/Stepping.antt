@@ -9,10 +9,10 @@ use lib.Seq.{take_at, length-take-le}
 use Rattle.spec_tree.specs.Outcome.{Outcome, ok, refused}
 use Rattle.spec_tree.specs.Layout.{row_words}
 use Rattle.load.specs.one_record.Item.{Item, a_row, a_root, record_item}
-use Rattle.load.specs.declared.one_record.Read.{Read}
-use Rattle.load.specs.declared.one_record.Read.TheVariants as read
+use Rattle.load.specs.one_record.Reading.{Read}
+use Rattle.load.specs.one_record.Reading as read
 use Rattle.load.specs.one_record.Reading.{Follows}
-use Rattle.load.specs.declared.recordlist.Step.TheVariants as step
+use Rattle.load.specs.recordlist.Step as step
 use Rattle.load.specs.recordlist.Steps.{Stepped}
 use Rattle.load.proofs.recordlist.Limits.{Limits, record_limit}
 use Rattle.spec_tree.proofs.Lists.{rest_back}
@@ -72,11 +72,3 @@ module _ (s : List ℕ) (n m : ℕ) (table list : List ℕ) (new : List ℕ) (an
         go (ok (a_row x)) l f = absurd (let z : ◌≡◌ {A = ℕ} 0 1 = cc in omega arith)
         go (ok (a_root j)) l f = record { counts = refl; inside = l; table = before_kept; list = ap (set list m) (sym (same_root j f.0)); long = after_long }
         go (refused r) l f = absurd (let z : ◌≡◌ {A = ℕ} 0 1 = cc in omega arith)
-
-    pub refused_end : (q : ℕ) → answer ≡ read.Refused q → Stepped n m (record_item 0 n m s) table list (step.Refused q) after list
-    refused_end q e = go (record_item 0 n m s) follows
-      where
-        go : (o : Outcome Item) → Follows o lent answer new → Stepped n m o table list (step.Refused q) after list
-        go (ok (a_row x)) f = absurd (let z : ◌≡◌ {A = ℕ} 0 1 = cc in omega arith)
-        go (ok (a_root j)) f = absurd (let z : ◌≡◌ {A = ℕ} 0 1 = cc in omega arith)
-        go (refused r) f = cc

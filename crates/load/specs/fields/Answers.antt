@@ -1,9 +1,8 @@
 -- The answer of `first_comma` by cases. Assumes nothing.
-use Rattle.std.specs.Prelude.{ℕ}
-use Rattle.std.proofs.Math.Option.{Option, none, some}
-use Rattle.load.specs.declared.fields.Split.{Split}
-use Rattle.load.specs.declared.fields.Split.TheVariants as split
+use Rattle.std.specs.Prelude.{ℕ, Option, Some, None}
+use Rattle.std.proofs.Math.Option as maybe
+use Rattle.std.proofs.Math.Option.{none, some}
 
-abbrev pub split_answer : Option ℕ → Split
-split_answer none = split.Nowhere
-split_answer (some i) = split.At i
+abbrev pub split_answer : maybe.Option ℕ → Option ℕ
+split_answer none = None
+split_answer (some i) = Some i

@@ -1,13 +1,11 @@
 -- Numbers that stop at a cap, and the answers of numerals by cases, each from a definition of load (01, "Sheet and printing"). Assumes nothing.
-use Rattle.std.specs.Prelude.{ℕ, suc, min, cond, List, ℤ, pos, negsuc}
+use Rattle.std.specs.Prelude.{ℕ, suc, min, cond, List, ℤ, pos, negsuc, Some, None}
+use Rattle.std.specs.Prelude as std
 use Rattle.std.proofs.Math.Option.{Option, none, some}
 use Rattle.spec_tree.specs.Bytes.{every}
 use Rattle.spec_tree.specs.Symbol.{is_digit}
 use Rattle.spec_sheet.specs.Sheet.{number_from}
-use Rattle.load.specs.declared.numerals.Number.{Number}
-use Rattle.load.specs.declared.numerals.Number.TheVariants as numbered
 use Rattle.load.specs.declared.numerals.Constant.{Constant}
-use Rattle.load.specs.declared.numerals.Constant.TheVariants as signed
 
 -- digits with leading zeros let in
 unfoldable pub digits_number : List ℕ → Option ℕ
@@ -22,12 +20,15 @@ capped_at cap (some n) = some (min n cap)
 abbrev pub capped : Option ℕ → Option ℕ
 capped = capped_at 1000000
 
-abbrev pub number_answer : Option ℕ → Number
-number_answer none = numbered.Malformed
-number_answer (some n) = numbered.Value n
+abbrev pub number_answer : Option ℕ → std.Option ℕ
+number_answer none = None
+number_answer (some n) = Some n
 
 -- sign and size
-abbrev pub constant_answer : Option ℤ → Constant
-constant_answer none = signed.Malformed
-constant_answer (some (pos n)) = signed.Value 0 n
-constant_answer (some (negsuc n)) = signed.Value 1 (suc n)
+abbrev pub signed : ℕ → ℕ → Constant
+signed g n = record { sign = g; size = n }
+
+abbrev pub constant_answer : Option ℤ → std.Option Constant
+constant_answer none = None
+constant_answer (some (pos n)) = Some (signed 0 n)
+constant_answer (some (negsuc n)) = Some (signed 1 (suc n))

@@ -5,10 +5,10 @@ use Rattle.spec_tree.specs.Rows.{Table}
 use Rattle.spec_tree.specs.Layout.{row_words, table_words}
 use Rattle.spec_sheet.specs.Sheet.{records_from, load_records}
 use Rattle.load.specs.one_record.Item.{Item, a_row, a_root}
-use Rattle.load.specs.declared.recordlist.Step.{Step}
-use Rattle.load.specs.declared.recordlist.Step.TheVariants as step
-use Rattle.load.specs.declared.recordlist.Records.{Records}
-use Rattle.load.specs.declared.recordlist.Records.TheVariants as records
+use Rattle.load.specs.recordlist.Step.{Step}
+use Rattle.load.specs.recordlist.Step as step
+use Rattle.load.specs.recordlist.Records.{Records}
+use Rattle.load.specs.recordlist.Records as records
 
 -- a row joins the table, a root the list
 pub record RowJoined (n m : ℕ) (words old_table old_list : List ℕ) (answer : Step) (new_table new_list : List ℕ) : Type 0 where

@@ -1,9 +1,8 @@
 -- The answer of `record_word` by cases. Assumes nothing.
-use Rattle.std.specs.Prelude.{ℕ}
-use Rattle.std.proofs.Math.Option.{Option, none, some}
-use Rattle.load.specs.declared.recordwords.Word.{Word}
-use Rattle.load.specs.declared.recordwords.Word.TheVariants as word
+use Rattle.std.specs.Prelude.{ℕ, Option, Some, None}
+use Rattle.std.proofs.Math.Option as maybe
+use Rattle.std.proofs.Math.Option.{none, some}
 
-abbrev pub word_answer : Option ℕ → Word
-word_answer none = word.Unknown
-word_answer (some k) = word.Kind k
+abbrev pub word_answer : maybe.Option ℕ → Option ℕ
+word_answer none = None
+word_answer (some k) = Some k

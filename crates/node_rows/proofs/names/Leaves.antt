@@ -1,18 +1,18 @@
 -- The tests of names and words in the order in which the code makes them. Assumes nothing.
 use Prim.Native.Nat.{ℕ, suc, ◌+◌, ◌-◌, ◌/◌, ◌%◌, ◌^◌, ◌≤◌, ◌<◌}
-use mathlib.Core.Path.{◌≡◌, refl, sym, ◌∙◌, subst}
+use mathlib.Core.Path.{◌≡◌, refl, sym, ap, ◌∙◌}
 use mathlib.Core.Bool.{Bool, true, false, not, ◌&&◌, ◌||◌}
-use mathlib.Core.Logic.{◌⊎◌, inl, inr, ⊎_elim}
 use mathlib.Core.List.{List, [], ◌∷◌}
 use native.Mathlib.Omega.{arith}
 use native.Mathlib.Numerals.{add-one}
-use borrow.Author.Tests.{le-leb, lt-leb, eq-eqb, ne_eqb}
+use borrow.Author.Tests.{le-leb, ne_eqb}
 use lib.Dec.{T, eqb, leb}
 use lib.ListN.{length, get_or, take, drop, length-drop, drop_of_length-le}
 use lib.Seq.{drop-cons, take_all}
+use Rattle.std.specs.List.{list_all}
 use Rattle.spec_tree.specs.Bytes.{every}
 use Rattle.spec_tree.specs.Symbol.{is_digit, is_letter, is_made, is_name}
-use Rattle.node_rows.proofs.kinds.Spans.{all, span}
+use Rattle.node_rows.proofs.kinds.Spans.{span}
 
 yes : (b : Bool) → T b → true ≡ b
 yes true t = refl
@@ -23,37 +23,6 @@ no true t = absurd t
 no false t = refl
 
 -- ---- letters and digits: computed over the spans that the ranges leave
-
-pub digit_low : (b : ℕ) → b < 48 → false ≡ is_digit b
-digit_low b h = rw (lt-leb 48 b h)
-
-pub digit_in : (b : ℕ) → 48 ≤ b → b < 58 → true ≡ is_digit b
-digit_in b h l = yes (is_digit b) (span is_digit 48 10 tt b h l)
-
-pub digit_high : (b : ℕ) → 58 ≤ b → false ≡ is_digit b
-digit_high b h = let g : 48 ≤ b = omega arith in let l : 57 < b = omega arith in rw (le-leb 48 b g, lt-leb b 57 l)
-
-pub letter_in : (lo n : ℕ) → T (all is_letter lo n) → (b : ℕ) → lo ≤ b → b < lo + n → true ≡ is_letter b
-letter_in lo n t b h l = yes (is_letter b) (span is_letter lo n t b h l)
-
-pub letter_out : (lo n : ℕ) → T (all (λ b. not (is_letter b)) lo n) → (b : ℕ) → lo ≤ b → b < lo + n → false ≡ is_letter b
-letter_out lo n t b h l = no (is_letter b) (span (λ b. not (is_letter b)) lo n t b h l)
-
-pub letter_between : (b : ℕ) → 91 ≤ b → b < 97 → (b ≡ 95 → ⊥) → false ≡ is_letter b
-letter_between b h l n = no (is_letter b) (other (not (is_letter b)) (eqb b 95) (ne_eqb b 95 n) (span (λ b. not (is_letter b) || eqb b 95) 91 6 tt b h l))
-  where
-    other : (p q : Bool) → q ≡ false → T (p || q) → T p
-    other true q e t = tt
-    other false q e t = subst T e t
-
-pub letter_high : (b : ℕ) → 123 ≤ b → false ≡ is_letter b
-letter_high b h =
-    let n : (b ≡ 95) → ⊥ = λ e. omega arith in
-    let p : 90 < b = omega arith in
-    let q : 122 < b = omega arith in
-    let r : 65 ≤ b = omega arith in
-    let s : 97 ≤ b = omega arith in
-    rw (le-leb 65 b r, lt-leb b 90 p, le-leb 97 b s, lt-leb b 122 q, ne_eqb b 95 n)
 
 -- the code's table of letters and digits, tested at every byte
 abbrev alike : Bool → Bool → Bool
@@ -85,6 +54,12 @@ module _ (P : ℕ → Bool) (l : List ℕ) where
   unfolding every
   every_end i h q = sym (q ∙ rw (drop_of_length-le l {i = i} h))
 
+-- `all` of a test of words
+pub every_is : (P : ℕ → Bool) (l : List ℕ) → list_all P l ≡ every P l
+unfolding every
+every_is P [] = refl
+every_is P (x ∷ l) = ap (λ (b : Bool). P x && b) (every_is P l)
+
 -- ---- names
 
 pub name_by :
@@ -105,12 +80,6 @@ made_by (a ∷ []) = refl
 made_by (a ∷ (b ∷ [])) = refl
 made_by (a ∷ (b ∷ (c ∷ []))) = refl
 made_by (a ∷ (b ∷ (c ∷ (d ∷ l)))) = let h : 4 ≤ suc (suc (suc (suc (length l)))) = omega arith in rw (le-leb 4 (suc (suc (suc (suc (length l))))) h)
-
-pub m_or_x : (c : ℕ) → (c ≡ 109) ⊎ (c ≡ 120) → (eqb c 120 || eqb c 109) ≡ true
-m_or_x c = ⊎_elim (λ e. rw (ne_eqb c 120 (λ q. omega arith), eq-eqb c 109 e)) (λ e. rw (eq-eqb c 120 e))
-
-pub not_m_or_x : (c : ℕ) → ((c ≡ 109) ⊎ (c ≡ 120) → ⊥) → (eqb c 120 || eqb c 109) ≡ false
-not_m_or_x c n = rw (ne_eqb c 120 (λ e. n (inr e)), ne_eqb c 109 (λ e. n (inl e)))
 
 -- ---- parts of a slice
 

@@ -1,10 +1,10 @@
 -- How many bytes a row's record has, by the row's words. Assumes nothing.
+use Rattle.spec_tree.proofs.Digits.{plain_bytes, zero_bytes, minus_bytes}
 use Prim.Native.Nat.{ℕ, zero, suc, ◌+◌, ◌-◌, ◌*◌, ◌/◌, ◌≤◌, ◌<◌}
 use mathlib.Core.Path.{◌≡◌, refl, ap, ◌∙◌}
 use mathlib.Core.Bool.{Bool, true, false}
 use mathlib.Core.List.{List, [], ◌∷◌, ◌++◌}
 use native.Mathlib.Omega.{arith}
-use native.Mathlib.Nat.{zero-add}
 use borrow.Author.Tests.{le-leb, lt-leb, leb-true, leb-false}
 use lib.Dec.{leb}
 use lib.ListN.{length, get_or, take, drop, length-append, length-take, length-drop}
@@ -75,11 +75,6 @@ pub rows_end : (n i : ℕ) (ws : List ℕ) → n ≤ i → terminated (row_recor
 unfolding rows_of row_records terminated
 rows_end n i ws h = ap (λ (m : ℕ). terminated (row_records (rows_of m (drop (35 * i) ws)))) (let e : n - i ≡ 0 = omega arith in e)
 
-pub rows_begin : (n : ℕ) (ws : List ℕ) → 0 + terminated (row_records (rows_of (n - 0) (drop (35 * 0) ws))) ≡ terminated (row_records (rows_of n ws))
-rows_begin n ws =
-    let e : n - 0 ≡ n = omega arith in
-    zero-add (terminated (row_records (rows_of (n - 0) ws))) ∙ ap (λ (m : ℕ). terminated (row_records (rows_of m ws))) e
-
 -- ---- the whole sheet
 
 pub no_record : (ws roots : List ℕ) → length ws < 35 → sheet_fits (table_of ws roots) ≡ false
@@ -103,3 +98,6 @@ whole_sheet ws roots a b h p q =
         go : (b : Bool) → leb m 65535 ≡ b → leb (m + 2) 65537 ≡ b
         go true e = let l = leb-true m 65535 e in le-leb (m + 2) 65537 (omega arith)
         go false e = let l = leb-false m 65535 e in lt-leb (m + 2) 65537 (omega arith)
+
+-- a constant's text by its sign and size
+pub ruleset constant_texts = (plain_bytes, zero_bytes, minus_bytes)

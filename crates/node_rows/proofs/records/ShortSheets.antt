@@ -2,9 +2,8 @@
 use Prim.Native.Nat.{ℕ, zero, suc, ◌+◌, ◌-◌, ◌*◌, ◌/◌, ◌≤◌, ◌<◌}
 use mathlib.Core.Path.{◌≡◌, refl, sym, ap, ap₂, ◌∙◌, subst}
 use mathlib.Core.Bool.{Bool, true, false}
-use mathlib.Core.List.{List, [], ◌∷◌, ◌++◌}
+use mathlib.Core.List.{List, [], ◌∷◌}
 use native.Mathlib.Omega.{arith}
-use native.Mathlib.Nat.{zero-add}
 use borrow.Author.Tests.{ltb-true, ltb-false, le-leb}
 use lib.IntN.{pos, negsuc}
 use lib.Dec.{T, ltb, leb, ltb→lt, leb→le}
@@ -28,11 +27,6 @@ use Rattle.node_rows.proofs.unfolded.RowLaws.{few_kinds}
 use Rattle.node_rows.proofs.records.RecordBytes.{whole_sheet}
 
 -- ---- the fields of all rows, counted one row after another
-
-pub fields_begin : (n : ℕ) (ws : List ℕ) → 0 + field_count (n - 0) (drop (35 * 0) ws) ≡ field_count n ws
-fields_begin n ws =
-    let e : n - 0 ≡ n = omega arith in
-    zero-add (field_count (n - 0) ws) ∙ ap (λ (m : ℕ). field_count m ws) e
 
 pub fields_from : (n : ℕ) (ws : List ℕ) (i : ℕ) → i < n → field_count (n - i) (drop (35 * i) ws) ≡ get_or ws (35 * i + 2) 0 + field_count (n - suc i) (drop (35 * suc i) ws)
 unfolding field_count

@@ -1,6 +1,6 @@
 -- The pass over the rows: those before i are tested, and the measures of their trees are kept. Assumes nothing.
 use Prim.Native.Nat.{ℕ, suc, ◌+◌, ◌-◌, ◌*◌, ◌≤◌, ◌<◌}
-use mathlib.Core.Path.{◌≡◌, refl, sym, ◌∙◌, ap, subst}
+use mathlib.Core.Path.{◌≡◌, sym, ◌∙◌, ap, subst}
 use mathlib.Core.Bool.{Bool, true, false, ◌&&◌}
 use mathlib.Core.Logic.{◌≢◌, ⊎_elim}
 use mathlib.Core.List.{List, [], ◌∷◌, ◌++◌}
@@ -44,17 +44,6 @@ pub record Filling (ws : List ℕ) (n : ℕ) (sizes levels : List ℕ) (i : ℕ)
   pub tests_left : rows_test 0 n ws ≡ rows_test i (n - i) (drop (i * 35) ws)
   pub trees_left : trees_from [] (rows_of n ws) ≡ trees_from ts (rows_of (n - i) (drop (i * 35) ws))
   pub measured : RowMeasures ts sizes levels
-
-pub filling_begin : (ws : List ℕ) (n : ℕ) (sizes levels : List ℕ) → Filling ws n sizes levels 0
-filling_begin ws n sizes levels =
-    record {
-      inside = omega arith;
-      ts = [];
-      long = refl;
-      tests_left = ap (λ (m : ℕ). rows_test 0 m ws) (let q : n ≡ n - 0 = omega arith in q);
-      trees_left = ap (λ (m : ℕ). trees_from [] (rows_of m ws)) (let q : n ≡ n - 0 = omega arith in q);
-      measured = record { size_is = λ j h. absurd (omega arith); level_is = λ j h. absurd (omega arith) };
-    }
 
 -- one row more among those that are left
 module _ (ws : List ℕ) (n i : ℕ) (h : i < n) where

@@ -53,9 +53,6 @@ pub record Summing (sizes numbers : List ℕ) (sum i : ℕ) : Type 0 where
   pub small : sum ≤ 1025
   pub left : capped_size (total (pick sizes numbers)) ≡ capped_size (sum + total (pick sizes (drop i numbers)))
 
-pub summing_begin : (sizes numbers : List ℕ) → Summing sizes numbers 0 0
-summing_begin sizes numbers = record { inside = omega arith; small = omega arith; left = omega arith }
-
 pub summing_next :
     {sizes numbers : List ℕ} {sum i : ℕ} → Summing sizes numbers sum i → i < length numbers → (next : ℕ)
     → next ≡ capped_size (sum + get_or sizes (get_or numbers i 0) 0) → Summing sizes numbers next (i + 1)
@@ -76,9 +73,6 @@ summing_end {sizes} {numbers} {sum} {i} s h =
 pub record Deepening (levels numbers : List ℕ) (level i : ℕ) : Type 0 where
   pub inside : i ≤ length numbers
   pub left : greatest (pick levels numbers) ≡ max level (greatest (pick levels (drop i numbers)))
-
-pub deepening_begin : (levels numbers : List ℕ) → Deepening levels numbers 0 0
-deepening_begin levels numbers = record { inside = omega arith; left = omega arith }
 
 pub deepening_next :
     {levels numbers : List ℕ} {level i : ℕ} → Deepening levels numbers level i → i < length numbers → (next : ℕ)

@@ -1,73 +1,53 @@
 -- The steps of `unfold_row` and `unfold_each`: a row's word and then its operands' trees; trees one after another. Assumes nothing.
-use Prim.Native.Nat.{ℕ, suc, ◌+◌, ◌-◌, ◌*◌, ◌≤◌, ◌<◌}
-use mathlib.Core.Path.{◌≡◌, refl, ap, ◌∙◌, subst}
+use Prim.Native.Nat.{ℕ, suc, ◌+◌, ◌≤◌, ◌<◌}
+use mathlib.Core.Path.{◌≡◌, sym, ap, ◌∙◌}
 use mathlib.Core.List.{List, [], ◌∷◌}
 use native.Mathlib.Omega.{arith}
-use lib.ListN.{length, get_or, take, drop, set, length-set}
-use lib.Seq.{take-length}
+use lib.ListN.{length, get_or, take, set}
 use lib.Dec.{T, ltb}
 use Rattle.spec_tree.specs.Bytes.{every}
-use Rattle.spec_tree.specs.Rows.{Row, row_sym, row_const, row_op}
 use Rattle.spec_tree.specs.Layout.{row_fields}
+use Rattle.spec_tree.specs.Tokens.{number_in}
 use Rattle.node_rows.specs.unfolded.Write.{Wrote}
-use Rattle.node_rows.specs.unfolded.Unfold.{row_count, row_at, operand_rows, run, runs, RowsLaid}
+use Rattle.node_rows.specs.unfolded.Unfold.{row_count, rows_in, row_at, row_number, operand_rows, run, runs, RowsLaid}
 use Rattle.node_rows.proofs.unfolded.RowLaws.{stands}
-use Rattle.node_rows.proofs.unfolded.RunLaws.{run_is, runs_none, runs_more, runs_room, bound, bound_of, operands_earlier}
+use Rattle.node_rows.proofs.unfolded.RunLaws.{row_word, run_is, runs_none, runs_more, runs_room, bound, bound_of, operands_earlier}
 use Rattle.spec_tree.proofs.Tests.{every_less}
-use Rattle.node_rows.proofs.unfolded.WordLaws.{head_is}
+use Rattle.node_rows.proofs.unfolded.WordLaws.{head_is, leaf_operands, operation_operands}
 use Rattle.node_rows.proofs.unfolded.WriteLaws.{wrote_long, wrote_none, wrote_set, wrote_then}
 
 -- ---- a row
 
-operands_few : (r : Row) → length (operand_rows r) ≤ length (row_fields r)
-unfolding operand_rows row_fields
-operands_few (row_sym s) = omega arith
-operands_few (row_const c) = omega arith
-operands_few (row_op k ns) = omega arith
+module _ {ws : List ℕ} (laid : RowsLaid ws) (r : ℕ) (inside : r < row_count ws) where
+  -- an operation, whose fields are lent
+  module _ (kind : 2 ≤ row_number (row_at ws r)) (lent : List ℕ) (fields : lent ≡ row_fields (row_at ws r)) where
+    lent_is : lent ≡ operand_rows (row_at ws r)
+    lent_is = fields ∙ sym (operation_operands (row_at ws r) kind)
 
-operands_first : (r : Row) (l : List ℕ) → take (length (row_fields r)) l ≡ row_fields r → take (length (operand_rows r)) l ≡ operand_rows r
-unfolding operand_rows row_fields
-operands_first (row_sym s) l e = refl
-operands_first (row_const c) l e = refl
-operands_first (row_op k ns) l e = e
+    pub lent_below : T (every (λ k. ltb k (row_count ws)) lent)
+    lent_below = rw lent_is (every_less r (row_count ws) (omega arith) (operand_rows (row_at ws r)) (operands_earlier laid r inside))
 
-module _ {ws : List ℕ} (laid : RowsLaid ws) (r : ℕ) (inside : r < row_count ws) (n : ℕ) (count : n ≡ length (operand_rows (row_at ws r))) where
-  -- where the operands stand
-  pub operands_end : r * 35 + 3 + n ≤ length ws
-  operands_end = let c = stands laid r inside in omega (arith, c.inside, c.most, operands_few (row_at ws r))
+    pub lent_bound : bound lent ≤ r
+    lent_bound = rw lent_is (bound_of r (operand_rows (row_at ws r)) (operands_earlier laid r inside))
 
-  -- the part of the words that is lent
-  abbrev pub lent : List ℕ
-  lent = take (r * 35 + 3 + n - (r * 35 + 3)) (drop (r * 35 + 3) ws)
+    run_lent : run ws r ≡ get_or (run ws r) 0 0 ∷ runs ws lent
+    run_lent = rw (lent_is, head_is laid r inside) (run_is laid r inside)
 
-  pub lent_is : lent ≡ operand_rows (row_at ws r)
-  lent_is =
-      let c = stands laid r inside in
-      let e : r * 35 + 3 + n - (r * 35 + 3) ≡ length (operand_rows (row_at ws r)) = omega (arith, count) in
-      rw e (operands_first (row_at ws r) (drop (r * 35 + 3) ws) c.fields)
+    pub row_room : length (run ws r) ≡ suc (length (runs ws lent))
+    row_room = ap length run_lent
 
-  pub lent_below : T (every (λ k. ltb k (row_count ws)) lent)
-  lent_below = rw lent_is (every_less r (row_count ws) (omega arith) (operand_rows (row_at ws r)) (operands_earlier laid r inside))
-
-  pub lent_bound : bound lent ≤ r
-  lent_bound = rw lent_is (bound_of r (operand_rows (row_at ws r)) (operands_earlier laid r inside))
-
-  run_lent : run ws r ≡ get_or (run ws r) 0 0 ∷ runs ws lent
-  run_lent = rw (lent_is, head_is laid r inside) (run_is laid r inside)
-
-  pub row_room : length (run ws r) ≡ suc (length (runs ws lent))
-  row_room = ap length run_lent
-
-  pub row_done :
-      (old new : List ℕ) (at w end : ℕ) → at < length old → w ≡ get_or (run ws r) 0 0 → Wrote (set old at w) (at + 1) (runs ws lent) end new
-      → Wrote old at (run ws r) end new
-  row_done old new at w end h e v = rw (run_lent, ← e) (wrote_then (wrote_set old at w h) v)
+    pub row_done :
+        (old new : List ℕ) (at w end : ℕ) → at < length old → w ≡ get_or (run ws r) 0 0 → Wrote (set old at w) (at + 1) (runs ws lent) end new
+        → Wrote old at (run ws r) end new
+    row_done old new at w end h e v = rw (run_lent, ← e) (wrote_then (wrote_set old at w h) v)
 
   -- a leaf
-  pub leaf_done : n ≡ 0 → (old : List ℕ) (at w : ℕ) → at < length old → w ≡ get_or (run ws r) 0 0 → Wrote old at (run ws r) (at + 1) (set old at w)
+  pub leaf_done : row_number (row_at ws r) < 2 → (old : List ℕ) (at w : ℕ) → at < length old → w ≡ get_or (run ws r) 0 0 → Wrote old at (run ws r) (at + 1) (set old at w)
   leaf_done z old at w h e =
-      let none : runs ws lent ≡ [] = ap (λ (m : ℕ). runs ws (take (r * 35 + 3 + m - (r * 35 + 3)) (drop (r * 35 + 3) ws))) z ∙ ap (λ (m : ℕ). runs ws (take m (drop (r * 35 + 3) ws))) (let q : r * 35 + 3 + 0 - (r * 35 + 3) ≡ 0 = omega arith in q) ∙ runs_none ws in
-      row_done old (set old at w) at w (at + 1) h e (rw none (wrote_none (set old at w) (at + 1) (rw length-set (omega arith))))
+      let c = stands laid r inside in
+      let none : operand_rows (row_at ws r) ≡ [] = leaf_operands r (row_at ws r) c.tested z in
+      let word : run ws r ≡ get_or (run ws r) 0 0 ∷ [] = rw (head_is laid r inside) (run_is laid r inside ∙ ap (λ (l : List ℕ). row_word (number_in (rows_in ws)) (row_at ws r) ∷ l) (ap (runs ws) none ∙ runs_none ws)) in
+      rw (word, ← e) (wrote_set old at w h)
 
 pub row_holds_word : {ws : List ℕ} → RowsLaid ws → (r : ℕ) → r < row_count ws → 0 < length (run ws r)
 row_holds_word laid r h = omega (arith, ap length (run_is laid r h))
@@ -83,6 +63,3 @@ module _ (ws ns : List ℕ) {old mid : List ℕ} {at to : ℕ} (i : ℕ) (v : Wr
 
   pub each_more : {new : List ℕ} {end : ℕ} → i < length ns → Wrote mid to (run ws (get_or ns i 0)) end new → Wrote old at (runs ws (take (i + 1) ns)) end new
   each_more h w = rw (runs_more ws ns i h) (wrote_then v w)
-
-  pub each_done : i ≡ length ns → Wrote old at (runs ws ns) to mid
-  each_done e = subst (λ (l : List ℕ). Wrote old at (runs ws l) to mid) (ap (λ (n : ℕ). take n ns) e ∙ take-length ns) v

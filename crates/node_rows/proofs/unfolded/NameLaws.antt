@@ -1,6 +1,6 @@
 -- The first row with a symbol's name. Assumes nothing.
-use Prim.Native.Nat.{ℕ, zero, suc, ◌+◌, ◌-◌, ◌*◌, ◌≤◌, ◌<◌}
-use mathlib.Core.Path.{◌≡◌, refl, sym, ap, ap₂, ◌∙◌, subst}
+use Prim.Native.Nat.{ℕ, zero, suc, ◌+◌, ◌-◌, ◌*◌, ◌<◌}
+use mathlib.Core.Path.{◌≡◌, refl, sym, ap, ◌∙◌, subst}
 use mathlib.Core.Bool.{Bool, true, false}
 use mathlib.Core.List.{List, [], ◌∷◌}
 use native.Mathlib.Omega.{arith}
@@ -22,10 +22,6 @@ use Rattle.spec_tree.proofs.LayoutLaws.{rows_long}
 true_is : (b : Bool) → T b → b ≡ true
 true_is true t = refl
 true_is false t = absurd t
-
-false_is : (b : Bool) → (T b → ⊥) → false ≡ b
-false_is true f = absurd (f tt)
-false_is false f = refl
 
 -- a row before the first with the name is passed over
 passed : (j : ℕ) (r : Row) (l : List Row) (s : List ℕ) → (r ≡ row_sym s → ⊥) → first_named j (r ∷ l) s ≡ first_named (suc j) l s
@@ -75,29 +71,11 @@ module _ {ws : List ℕ} {i r : ℕ} (c : Stands ws i) (d : Stands ws r) where
   abbrev name : ℕ → List ℕ
   name k = row_fields (row_at ws k)
 
-  pub counts_differ : (get_or ws (i * 35 + 2) 0 ≡ get_or ws (r * 35 + 2) 0 → ⊥) → false ≡ eq_bytes (name i) (name r)
-  counts_differ h = false_is (eq_bytes (name i) (name r)) (λ t. h (c.count ∙ ap length (eq_bytes_sound (name i) (name r) t) ∙ sym d.count))
-
-  pub same_by_name : row_number (row_at ws i) ≡ 0 → row_number (row_at ws r) ≡ 0 → eq_bytes (name i) (name r) ≡ true → row_at ws i ≡ row_at ws r
-  same_by_name y z e =
-      symbol_is i (row_at ws i) c.tested y ∙ ap row_sym (eq_bytes_sound (name i) (name r) (subst T (sym e) tt)) ∙ sym (symbol_is r (row_at ws r) d.tested z)
-
-  pub other_by_name : eq_bytes (name i) (name r) ≡ false → row_at ws i ≡ row_at ws r → ⊥
-  other_by_name e p = subst T (ap (λ (x : Row). eq_bytes (name i) (row_fields x)) p ∙ e) (eq_bytes_refl (name i))
+  pub same_by_name : row_number (row_at ws i) ≡ 0 → row_number (row_at ws r) ≡ 0 → name i ≡ name r → row_at ws i ≡ row_at ws r
+  same_by_name y z e = symbol_is i (row_at ws i) c.tested y ∙ ap row_sym e ∙ sym (symbol_is r (row_at ws r) d.tested z)
 
 -- the part of the words that is lent is the name
 pub name_lent : {ws : List ℕ} {i : ℕ} (c : Stands ws i) (n : ℕ) → n ≡ get_or ws (i * 35 + 2) 0 → take (i * 35 + 3 + n - (i * 35 + 3)) (drop (i * 35 + 3) ws) ≡ row_fields (row_at ws i)
 name_lent {ws} {i} c n h =
     let e : i * 35 + 3 + n - (i * 35 + 3) ≡ length (row_fields (row_at ws i)) = omega (arith, c.count) in
     rw e c.fields
-
-pub names_long :
-    {ws : List ℕ} {i r : ℕ} (c : Stands ws i) (d : Stands ws r) (n : ℕ) → n ≡ get_or ws (i * 35 + 2) 0 → n ≡ get_or ws (r * 35 + 2) 0
-    → length (take (i * 35 + 3 + n - (i * 35 + 3)) (drop (i * 35 + 3) ws)) ≡ length (take (r * 35 + 3 + n - (r * 35 + 3)) (drop (r * 35 + 3) ws))
-names_long c d n p q = ap length (name_lent c n p) ∙ (sym c.count ∙ (sym p ∙ (q ∙ (d.count ∙ sym (ap length (name_lent d n q))))))
-
-pub names_judged :
-    {ws : List ℕ} {i r : ℕ} (c : Stands ws i) (d : Stands ws r) (n : ℕ) (b : Bool) → n ≡ get_or ws (i * 35 + 2) 0 → n ≡ get_or ws (r * 35 + 2) 0
-    → b ≡ eq_bytes (take (i * 35 + 3 + n - (i * 35 + 3)) (drop (i * 35 + 3) ws)) (take (r * 35 + 3 + n - (r * 35 + 3)) (drop (r * 35 + 3) ws))
-    → b ≡ eq_bytes (row_fields (row_at ws i)) (row_fields (row_at ws r))
-names_judged c d n b p q e = e ∙ ap₂ eq_bytes (name_lent c n p) (name_lent d n q)

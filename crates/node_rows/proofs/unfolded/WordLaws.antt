@@ -1,21 +1,20 @@
 -- The word of a row's node, by the row's kind. Assumes nothing.
 use Prim.Native.Nat.{ℕ, zero, suc, ◌+◌, ◌-◌, ◌*◌, ◌^◌, ◌≤◌, ◌<◌}
-use mathlib.Core.Path.{◌≡◌, refl, sym, ap, ◌∙◌, subst}
-use mathlib.Core.Bool.{Bool, true, false, cond}
+use mathlib.Core.Path.{◌≡◌, refl, sym, ap, ◌∙◌}
+use mathlib.Core.Bool.{Bool, cond}
 use mathlib.Core.List.{List, []}
 use native.Mathlib.Omega.{arith}
 use native.Mathlib.Nat.{add-zero}
 use lib.IntN.{pos, negsuc}
 use lib.ListN.{length, get_or, drop}
-use lib.Seq.{get_or-take, get_or-drop, ext_get_or}
+use lib.Seq.{get_or-take, get_or-drop}
 use lib.Dec.{T, ltb, ltb→lt, eqb-suc-zero}
-use Rattle.spec_tree.specs.Bytes.{every, eq_bytes}
+use Rattle.spec_tree.specs.Bytes.{every}
 use Rattle.spec_tree.specs.Passes.{of_paper, operands_ok}
 use Rattle.spec_tree.specs.Rows.{Row, row_sym, row_const, row_op}
 use Rattle.spec_tree.specs.Layout.{row_fields, row_ok, signed}
 use Rattle.spec_tree.specs.Tokens.{constant_code, number_in}
-use Rattle.spec_tree.proofs.Logic.{and_left, false_is}
-use Rattle.spec_tree.proofs.TreeLaws.{eq_bytes_sound, eq_bytes_refl}
+use Rattle.spec_tree.proofs.Logic.{and_left}
 use Rattle.node_rows.specs.unfolded.Unfold.{row_count, rows_in, row_at, row_number, operand_rows, run, RowsLaid}
 use Rattle.node_rows.proofs.unfolded.RowLaws.{Stands, few_kinds}
 use Rattle.node_rows.proofs.unfolded.RunLaws.{row_word, run_is}
@@ -94,18 +93,6 @@ minus_code (suc s) (suc n) e h =
     let c : 2 * suc n - 1 ≡ 1 + 2 * n = omega arith in
     c ∙ sym (ap constant_code m)
 
--- ---- equal words
-
-true_is : (b : Bool) → T b → true ≡ b
-true_is true t = refl
-true_is false t = absurd t
-
-pub differ : (a b : List ℕ) (i : ℕ) → (get_or a i 0 ≡ get_or b i 0 → ⊥) → false ≡ eq_bytes a b
-differ a b i f = false_is (eq_bytes a b) (λ t. f (ap (λ (l : List ℕ). get_or l i 0) (eq_bytes_sound a b t)))
-
-pub agree : (a b : List ℕ) → length a ≡ length b → ((k : ℕ) → k < length a → get_or a k 0 ≡ get_or b k 0) → true ≡ eq_bytes a b
-agree a b e f = true_is (eq_bytes a b) (subst (λ (l : List ℕ). T (eq_bytes a l)) (ext_get_or 0 a b e f) (eq_bytes_refl a))
-
 -- ---- the ends of `operand_count` and `node_word`
 
 module _ {ws : List ℕ} {i : ℕ} (c : Stands ws i) where
@@ -117,12 +104,6 @@ module _ {ws : List ℕ} {i : ℕ} (c : Stands ws i) where
 
   pub count_small : get_or ws (i * 35 + 2) 0 ≤ 32
   count_small = omega (arith, c.count, c.most)
-
-  pub no_operands : kind < 2 → 0 ≡ length (operand_rows (row_at ws i))
-  no_operands h = ap length (sym (leaf_operands i (row_at ws i) c.tested h))
-
-  pub all_operands : 2 ≤ kind → get_or ws (i * 35 + 2) 0 ≡ length (operand_rows (row_at ws i))
-  all_operands h = c.count ∙ ap length (sym (operation_operands (row_at ws i) h))
 
   module _ (laid : RowsLaid ws) (inside : i < row_count ws) where
     pub symbol_done : (n : ℕ) → kind ≡ 0 → n ≡ number_in (rows_in ws) (row_fields (row_at ws i)) → 192 * n ≡ get_or (run ws i) 0 0

@@ -1,14 +1,12 @@
 -- The limits of 01's first section on rows, which are refusal 9 but for the length of their sheet, and the tests that the code makes of one row after another, in its order.
 -- TableLaws shows that together they are `laid-in-domain`. Assumes nothing.
-use Rattle.std.specs.Prelude.{ℕ, zero, suc, ◌+◌, ◌*◌, ◌/◌, ◌≤◌, ◌≡◌, Bool, true, ◌&&◌, cond, List, length, get_or, take, drop, leb}
+use Rattle.std.specs.Prelude.{Option, Some, None, ℕ, zero, suc, ◌+◌, ◌*◌, ◌/◌, ◌≤◌, ◌≡◌, Bool, true, ◌&&◌, cond, List, length, get_or, take, drop, leb}
 use Rattle.spec_tree.specs.Outcome.{Outcome, ok, refused, by, ◌>>=◌}
 use Rattle.spec_tree.specs.Bytes.{eq_bytes, every}
 use Rattle.spec_tree.specs.Rows.{trees, occurrences}
 use Rattle.spec_tree.specs.Layout.{table_words, table_of, in_domain}
 use Rattle.node_rows.specs.fields.Below.{below}
 use Rattle.node_rows.specs.fields.Tests.{fields_test}
-use Rattle.node_rows.specs.declared.rows.Checked.{Checked}
-use Rattle.node_rows.specs.declared.rows.Checked.TheVariants.{Laid, Refused}
 
 -- the words are the rows of a list within every limit of 01's first section
 unfoldable pub laid_in_domain : List ℕ → List ℕ → Bool
@@ -20,9 +18,10 @@ unfoldable pub check_domain : List ℕ → List ℕ → Outcome ℕ
 unfolding laid_in_domain table_of trees occurrences
 check_domain ws ns = cond (laid_in_domain ws ns) (ok (table_of ws ns)) (refused (by 9)) >>= λ t. ok (occurrences (trees t))
 
-abbrev pub checked : Checked → Outcome ℕ
-checked (Laid n) = ok n
-checked Refused = refused (by 9)
+-- the same, as the code gives it
+abbrev pub checked : Option ℕ → Outcome ℕ
+checked (Some n) = ok n
+checked None = refused (by 9)
 
 -- ---- the tests of a row, in the code's order
 

@@ -1,12 +1,12 @@
 -- Node rows unfolded into the words of their roots' trees (01, "Extraction", reading order; "Turned down", refusal 9). Assumes nothing.
-use Rattle.std.specs.Prelude.{ℕ, ◌*◌, ◌/◌, ◌≤◌, ◌≡◌, List, [], ◌++◌, length, get_or, take, drop, T}
+use Rattle.std.specs.Prelude.{Result, Ok, Err, ℕ, ◌*◌, ◌/◌, ◌≤◌, ◌≡◌, List, [], ◌++◌, length, get_or, take, drop, T}
 use Rattle.spec_tree.specs.Outcome.{Outcome, ok, refused, ◌>>=◌}
 use Rattle.spec_tree.specs.Tree.{Tree, Op, nil}
 use Rattle.spec_tree.specs.Rows.{Row, row_sym, row_const, row_op, at, trees_from, trees}
 use Rattle.spec_tree.specs.Layout.{row_width, rows_of, rows_ok, table_words, table_or_9}
 use Rattle.spec_tree.specs.Tokens.{tokens, all_tokens, number_in}
-use Rattle.node_rows.specs.declared.unfolded.Unfolded.{Unfolded}
-use Rattle.node_rows.specs.declared.unfolded.Unfolded.TheVariants.{Tokens, Refused}
+use Rattle.refusal.specs.declared.Refusal.{Refusal}
+use Rattle.refusal.specs.Numbers.{number_of}
 
 -- ---- the words' rows and trees, whatever the words are
 
@@ -63,6 +63,16 @@ pub record RowsLaid (ws : List ℕ) : Type 0 where
 unfoldable pub unfolded : List ℕ → List ℕ → Outcome (List ℕ)
 unfolding table_or_9 all_tokens number_in trees
 unfolded ws roots = table_or_9 ws roots >>= λ t. ok (all_tokens (number_in t.rows) (trees t))
+
+-- what `unfold` answers: how many words the trees are, or the number of a refusal
+pub data Unfolded : Type 0 where
+  Tokens : ℕ → Unfolded
+  Refused : ℕ → Unfolded
+
+-- the same, as the code gives it
+abbrev pub told : Result ℕ Refusal → Unfolded
+told (Ok n) = Tokens n
+told (Err e) = Refused (number_of e)
 
 -- the answer has the length or the number; the words come first and what stood past them stays; refused, nothing is changed
 abbrev pub Answers : Outcome (List ℕ) → List ℕ → Unfolded → List ℕ → Type 0

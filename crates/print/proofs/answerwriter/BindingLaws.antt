@@ -1,31 +1,28 @@
 -- A statement's rows are read into its binding, case by case (Bindings). Assumes nothing.
-use Prim.Native.Nat.{ℕ, zero, suc, ◌+◌, ◌-◌, ◌*◌, ◌/◌, ◌%◌, ◌≤◌, ◌<◌}
+use Rattle.std.specs.Prelude.{Some}
+use Prim.Native.Nat.{ℕ, suc, ◌+◌, ◌-◌, ◌/◌, ◌%◌, ◌≤◌, ◌<◌}
 use native.Mathlib.Omega.{arith}
 use native.Mathlib.Numerals.{add-one}
-use mathlib.Core.Path.{◌≡◌, refl, sym, ap, ap₂, ◌∙◌, subst}
-use mathlib.Core.Bool.{Bool, true, false}
-use mathlib.Core.Option.{Option, none, some}
-use mathlib.Core.List.{List, [], ◌∷◌}
+use mathlib.Core.Path.{◌≡◌, refl, sym, ap, ◌∙◌}
+use mathlib.Core.Bool.{Bool, false}
+use mathlib.Core.List.{List}
 use borrow.Author.Tests.{eq-eqb, ne_eqb}
 use lib.ListN.{length, get_or, drop, drop_of_length-le}
 use lib.Seq.{drop-cons}
 use lib.Dec.{eqb}
 use Rattle.spec_tree.specs.Tree.{Name, Tree}
 use Rattle.spec_tree.specs.Rows.{Row}
-use Rattle.spec_tree.specs.Tokens.{tokens, number_in, name_code, run_at, kind_of}
+use Rattle.spec_tree.specs.Tokens.{tokens, number_in, name_code, run_at}
 use Rattle.words.specs.tokens.Answers.{end_answer, There}
-use Rattle.words.specs.declared.tokens.Run.{Run}
-use Rattle.words.specs.declared.tokens.Run.TheVariants as run
 use Rattle.spec_cse.specs.Answer.{Intermediate, Arms}
 use Rattle.spec_cse.specs.Answer as answer
 use Rattle.spec_cse.specs.Read.{arm_count}
 use Rattle.print.specs.told.Places.{StmtAt, names_ahead}
 use Rattle.print.proofs.told.PlaceLaws.{tree_run, at_room, let_code}
-use Rattle.print.proofs.told.PartLaws.{Switches, by_sign, by_index, by_default, LetParts, let_parts, MatchParts, match_parts}
+use Rattle.print.proofs.told.PartLaws.{Switches, by_sign, by_index, by_default, let_parts, MatchParts, match_parts}
 use Rattle.print.specs.answerwriter.Bindings.{switch_by, binding_of}
 use Rattle.print.specs.declared.answerwriter.Switch.{Switch}
 use Rattle.print.specs.declared.answerwriter.Switch.TheVariants.{Index, Sign}
-use Rattle.print.specs.declared.answerwriter.Binding.{Binding}
 use Rattle.print.specs.declared.answerwriter.Binding.TheVariants.{Let, Match}
 
 -- ---- the names ahead, counted
@@ -34,9 +31,6 @@ module _ (ws : List ℕ) (at : ℕ) where
   -- i - at names were met
   abbrev pub NamesMet : ℕ → Type 0
   NamesMet i = (at ≤ i) × (i ≤ length ws) × (at + names_ahead (drop at ws) ≡ i + names_ahead (drop i ws))
-
-  pub met_begin : at ≤ length ws → NamesMet at
-  met_begin h = (omega arith, h, refl)
 
   one_ahead : (i : ℕ) → i < length ws → get_or ws i 0 % 64 ≡ 33 → names_ahead (drop i ws) ≡ suc (names_ahead (drop (suc i) ws))
   unfolding names_ahead
@@ -88,13 +82,13 @@ module _ (rows : List Row) (ws : List ℕ) (at : ℕ) where
     pub inside : first ≤ length ws
     pub counted : suc (names_ahead (drop first ws)) ≤ get_or ws at 0 / 64
 
-  key_end : (k : ℕ) (key : Tree) (ns : List Name) (arms : Arms) (first : ℕ) → MatchParts rows ws k key ns arms at → run.Ends first ≡ end_answer (at + 1) (run_at ws (at + 1)) → first ≡ at + 1 + length (tokens number key)
+  key_end : (k : ℕ) (key : Tree) (ns : List Name) (arms : Arms) (first : ℕ) → MatchParts rows ws k key ns arms at → Some first ≡ end_answer (at + 1) (run_at ws (at + 1)) → first ≡ at + 1 + length (tokens number key)
   unfolding end_answer
   key_end k key ns arms first p e =
-      let f : run.Ends first ≡ run.Ends (at + 1 + length (tokens number key)) = e ∙ ap (end_answer (at + 1)) (tree_run rows ws key p.key_here) in
+      let f : Some first ≡ Some (at + 1 + length (tokens number key)) = e ∙ ap (end_answer (at + 1)) (tree_run rows ws key p.key_here) in
       cc
 
-  pub key_ends : (s : Intermediate) (first : ℕ) → StmtAt rows ws at s → (get_or ws at 0 % 64 ≡ 29 → ⊥) → run.Ends first ≡ end_answer (at + 1) (run_at ws (at + 1)) → KeyEnds first
+  pub key_ends : (s : Intermediate) (first : ℕ) → StmtAt rows ws at s → (get_or ws at 0 % 64 ≡ 29 → ⊥) → Some first ≡ end_answer (at + 1) (run_at ws (at + 1)) → KeyEnds first
   key_ends (answer.Let n e) first h k f = absurd (k (let_parts rows ws n e at h).kind)
   key_ends (answer.Match j key ns arms) first h k f =
       let p = match_parts rows ws j key ns arms at h in
@@ -107,7 +101,7 @@ module _ (rows : List Row) (ws : List ℕ) (at : ℕ) where
   key_there (answer.Let n e) h k = absurd (k (let_parts rows ws n e at h).kind)
   key_there (answer.Match j key ns arms) h k = (length (tokens number key), tree_run rows ws key (match_parts rows ws j key ns arms at h).key_here)
 
-  module _ (first after bound count : ℕ) (e : run.Ends first ≡ end_answer (at + 1) (run_at ws (at + 1))) (f : after ≡ first + names_ahead (drop first ws)) (b : bound ≡ after - first) (c : count ≡ get_or ws at 0 / 64 - 1 - bound) where
+  module _ (first after bound count : ℕ) (e : Some first ≡ end_answer (at + 1) (run_at ws (at + 1))) (f : after ≡ first + names_ahead (drop first ws)) (b : bound ≡ after - first) (c : count ≡ get_or ws at 0 / 64 - 1 - bound) where
     counts : (k : ℕ) (key : Tree) (ns : List Name) (arms : Arms) → MatchParts rows ws k key ns arms at → (first ≡ at + 1 + length (tokens number key)) × (bound ≡ length ns) × (count ≡ arm_count arms)
     counts k key ns arms p =
         let g = key_end k key ns arms first p e in

@@ -1,9 +1,9 @@
 -- A statement's text from what its writers left: a let, a match's head, and a statement by its binding (Bindings, Writers). Assumes nothing.
-use Prim.Native.Nat.{ℕ, suc, ◌+◌, ◌-◌, ◌*◌, ◌≤◌, ◌<◌}
+use Prim.Native.Nat.{ℕ, ◌+◌, ◌*◌, ◌≤◌, ◌<◌}
 use native.Mathlib.Omega.{arith}
-use mathlib.Core.Path.{◌≡◌, refl, sym, ap, ap₂, ◌∙◌, subst}
+use mathlib.Core.Path.{◌≡◌, refl, sym, ap, ◌∙◌, subst}
 use mathlib.Core.Bool.{Bool, true, false, ◌&&◌}
-use mathlib.Core.List.{List, [], ◌∷◌, ◌++◌, append_assoc}
+use mathlib.Core.List.{List, ◌++◌, append_assoc}
 use lib.ListN.{length}
 use lib.Dec.{T, eqb}
 use Rattle.spec_tree.specs.Bytes.{bytes}
@@ -20,7 +20,7 @@ use Rattle.fmt.specs.emit.Writing.{Writes, low_bytes}
 use Rattle.fmt.specs.symbols.Symbols.{symbol_text}
 use Rattle.fmt.proofs.emit.WriteLaws.{writes_then, writes_as}
 use Rattle.fmt.specs.checked.Check.{rows_in}
-use Rattle.print.specs.told.Places.{StmtAt, TreeAt, NamesAt, ArmsAt, Passed, Owes}
+use Rattle.print.specs.told.Places.{StmtAt, Passed}
 use Rattle.print.specs.told.Pieces.{let_opening, let_text, equals, arms_opening, head_text, arms_run}
 use Rattle.print.specs.told.Writers.{TreeWritten, NamesWritten, LetWritten, HeadWritten, ArmsWritten, SomeTree, SomeNames, SomeArms}
 use Rattle.print.proofs.told.PieceLaws.{branch_is, select_is, default_is, let_is}
@@ -71,13 +71,6 @@ module _ {rows : List Row} {ws : List ℕ} {dry : Bool} {old m1 m2 m3 m4 : List 
   index_head {new} {e} q a b c t o =
       subst (λ (s : Switch). HeadWritten rows ws dry old to new e (is_sign s) (key_of s) n at) (sym q)
       (λ x ns after hx hn new' end' w. writes_then a (writes_then (b ns hn) (writes_then c (writes_then (t x hx).written (writes_then o w)))))
-
-module _ (rows : List Row) (ws : List ℕ) (sw : Switch) (key : ℕ) where
-  pub sign_key : sw ≡ Sign key → SomeTree rows ws (key_of sw) → SomeTree rows ws key
-  sign_key e h = subst (λ (s : Switch). SomeTree rows ws (key_of s)) e h
-
-  pub index_key : sw ≡ Index key → SomeTree rows ws (key_of sw) → SomeTree rows ws key
-  index_key e h = subst (λ (s : Switch). SomeTree rows ws (key_of s)) e h
 
 -- ---- a statement
 

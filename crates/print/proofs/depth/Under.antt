@@ -10,7 +10,7 @@ use lib.ListN.{length, get_or, drop, set, length-set, drop_of_length-le}
 use lib.Seq.{drop-cons, get_or-set_same, get_or-set_other}
 use lib.Dec.{leb, leb→le, le→leb}
 use Rattle.spec_tree.proofs.Logic.{same_test}
-use Rattle.spec_cse.specs.AnswerRows.{Span, Spans, span, no_span, spans, take_spans, drop_spans, stands_below, read_spans, span_depth, spans_depth, deepest, no_deeper}
+use Rattle.spec_cse.specs.AnswerRows.{Spans, no_span, take_spans, drop_spans, stands_below, read_spans, spans_depth, deepest, no_deeper}
 
 -- The innermost open row has n spans to come, those around it the numbers of a list, the innermost first; the last of all these is for what is below no row, and
 -- has all that is left.
@@ -67,13 +67,6 @@ unfolding no_deeper
 begun ws left h = record { long = h; high = omega arith; inside = omega arith; enough = omega arith; depth = refl }
 
 module _ {ws left : List ℕ} {level below i : ℕ} (o : Open ws left level below i) where
-  pub some_open : i < length ws → below ≡ 0 → 1 ≤ level
-  some_open h z = go level o.enough
-    where
-      go : (d : ℕ) → length ws ≤ i + bottom below (stack left d) → 1 ≤ d
-      go zero e = absurd (omega arith)
-      go (suc d) e = omega arith
-
   pub closed : i < length ws → below ≡ 0 → Open ws left (level - 1) (get_or left (level - 1) 0) i
   unfolding take_spans drop_spans spans_depth
   closed h z = go level below z o

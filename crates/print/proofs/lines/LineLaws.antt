@@ -18,10 +18,11 @@ use Rattle.fmt.specs.emit.Writing.{Writes}
 use Rattle.fmt.proofs.emit.WriteLaws.{writes_then, writes_as}
 use Rattle.fmt.specs.checked.Check.{rows_in, tree_in, checked_answer}
 use Rattle.fmt.specs.shapes.Places.{tree_here, Stands, Passes}
-use Rattle.fmt.specs.declared.checked.Checked.TheVariants as checked
+use Rattle.std.specs.Prelude.{Result, Ok, Err, None}
+use Rattle.words.specs.declared.fault.Fault.{Fault}
+use Rattle.words.specs.declared.fault.Fault.TheVariants as fault
 use Rattle.print.specs.lines.Line.{Spoken, starts_line, row_line, line_by, line_of, line_answer, bytes_left, opening, closing, Wrote}
 use Rattle.print.specs.declared.lines.Line.{Line}
-use Rattle.print.specs.declared.lines.Line.TheVariants as line
 use Rattle.print.proofs.lines.RowLaws.{starts_past, line_parts}
 
 clash : (b : Bool) → b ≡ true → b ≡ false → ⊥
@@ -65,11 +66,11 @@ module _ (rows ws : List ℕ) (at : ℕ) where
       go true f = absurd (clash true refl f)
       go false f = unfold line_by in refl
 
-  no_tree : checked.Broken ≡ checked_answer (at + 1) (run_at ws (at + 1)) (tree_ok (tree_in (rows_in rows) ws (at + 1))) → line_of rows ws at ≡ none
+  no_tree : None ≡ checked_answer (at + 1) (run_at ws (at + 1)) (tree_ok (tree_in (rows_in rows) ws (at + 1))) → line_of rows ws at ≡ none
   unfolding line_of tree_here checked_answer
   no_tree e = go (starts_line row) (run_at ws (at + 1)) (tree_ok (tree_in (rows_in rows) ws (at + 1))) e
     where
-      go : (b : Bool) (o : Option ℕ) (g : Bool) → checked.Broken ≡ checked_answer (at + 1) o g → line_by b o g at text ≡ none
+      go : (b : Bool) (o : Option ℕ) (g : Bool) → None ≡ checked_answer (at + 1) o g → line_by b o g at text ≡ none
       go false o g e = unfold line_by in refl
       go true none g e = unfold line_by in refl
       go true (some n) false e = unfold line_by in refl
@@ -77,38 +78,38 @@ module _ (rows ws : List ℕ) (at : ℕ) where
 
   -- ---- what is promised
 
-  abbrev pub Promised : Option Spoken → List ℕ → Line → List ℕ → Type 0
+  abbrev pub Promised : Option Spoken → List ℕ → Result Line Fault → List ℕ → Type 0
   Promised o old r new = (r ≡ line_answer o (length old)) × (new ≡ bytes_left o old)
 
-  broken : (o : Option Spoken) (old new : List ℕ) → o ≡ none → new ≡ old → Promised o old line.Broken new
+  broken : (o : Option Spoken) (old new : List ℕ) → o ≡ none → new ≡ old → Promised o old (Err fault.Broken) new
   unfolding line_answer bytes_left
   broken none old new e f = (refl, f)
   broken (some s) old new e f = absurd (let z : ◌≡◌ {A = ℕ} 0 1 = cc in omega arith)
 
   module _ (old : List ℕ) where
-    pub not_begun : false ≡ starts_line (get_or ws at 0) → Promised (line_of rows ws at) old line.Broken old
+    pub not_begun : false ≡ starts_line (get_or ws at 0) → Promised (line_of rows ws at) old (Err fault.Broken) old
     not_begun e = broken (line_of rows ws at) old old (no_start e) refl
 
-    pub not_there : checked.Broken ≡ checked_answer (at + 1) (run_at ws (at + 1)) (tree_ok (tree_in (rows_in rows) ws (at + 1))) → Promised (line_of rows ws at) old line.Broken old
+    pub not_there : None ≡ checked_answer (at + 1) (run_at ws (at + 1)) (tree_ok (tree_in (rows_in rows) ws (at + 1))) → Promised (line_of rows ws at) old (Err fault.Broken) old
     not_there e = broken (line_of rows ws at) old old (no_tree e) refl
 
-    too_short : (s : Spoken) → length old < length s.text → Promised (some s) old line.NoRoom old
+    too_short : (s : Spoken) → length old < length s.text → Promised (some s) old (Err fault.NoRoom) old
     unfolding line_answer bytes_left
     too_short s h = rw (lt-ltb (length old) (length s.text) h) (refl, refl)
 
-    fitting : (s : Spoken) (new : List ℕ) → length s.text ≤ length old → new ≡ s.text ++ drop (length s.text) old → Promised (some s) old (line.Text (length s.text) s.next) new
+    fitting : (s : Spoken) (new : List ℕ) → length s.text ≤ length old → new ≡ s.text ++ drop (length s.text) old → Promised (some s) old (Ok (record { bytes = length s.text; next = s.next })) new
     unfolding line_answer bytes_left
     fitting s new h e = rw (le-ltb (length old) (length s.text) h) (refl, e)
 
     module _ (b : true ≡ starts_line (get_or ws at 0)) (S : Stands rows ws (at + 1)) (mid : List ℕ) (next end : ℕ) (W : Wrote rows ws at true old mid next end) where
-      pub no_room : length mid < end → Promised (line_of rows ws at) old line.NoRoom mid
+      pub no_room : length mid < end → Promised (line_of rows ws at) old (Err fault.NoRoom) mid
       no_room h =
           let m : mid ≡ old = W.1.leaves in
           let l : length old < length text = omega (arith, h, W.1.ends, ap length m) in
-          subst (λ (x : List ℕ). Promised (line_of rows ws at) old line.NoRoom x) (sym m)
-          (subst (λ (o : Option Spoken). Promised o old line.NoRoom old) (sym (line_here b S)) (too_short (record { text = text; next = at + 1 + size tree }) l))
+          subst (λ (x : List ℕ). Promised (line_of rows ws at) old (Err fault.NoRoom) x) (sym m)
+          (subst (λ (o : Option Spoken). Promised o old (Err fault.NoRoom) old) (sym (line_here b S)) (too_short (record { text = text; next = at + 1 + size tree }) l))
 
-      pub written : (new : List ℕ) (after last : ℕ) → end ≤ length mid → Wrote rows ws at false mid new after last → Promised (line_of rows ws at) old (line.Text last after) new
+      pub written : (new : List ℕ) (after last : ℕ) → end ≤ length mid → Wrote rows ws at false mid new after last → Promised (line_of rows ws at) old (Ok (record { bytes = last; next = after })) new
       written new after last h X =
           let m : mid ≡ old = W.1.leaves in
           let l : length text ≤ length old = omega (arith, h, W.1.ends, ap length m) in
@@ -116,7 +117,7 @@ module _ (rows ws : List ℕ) (at : ℕ) where
           let q : new ≡ text ++ drop (length text) old =
           X.1.leaves ∙ (ap (λ (x : List ℕ). sets x 0 text) m ∙ (sets-eq text old 0 (omega arith) ∙ ap (λ (i : ℕ). text ++ drop i old) (let z : 0 + length text ≡ length text = omega arith in z))) in
           let s : Spoken = record { text = text; next = at + 1 + size tree } in
-          rw (n, X.0) (subst (λ (o : Option Spoken). Promised o old (line.Text (length text) (at + 1 + size tree)) new) (sym (line_here b S)) (fitting s new l q))
+          rw (n, X.0) (subst (λ (o : Option Spoken). Promised o old (Ok (record { bytes = length text; next = at + 1 + size tree })) new) (sym (line_here b S)) (fitting s new l q))
 
   -- ---- what `write_line` leaves
 

@@ -1,9 +1,9 @@
 -- What the loops over an arm's statements and over a match's arms keep (Places, Writers). Assumes nothing.
-use Prim.Native.Nat.{ℕ, zero, suc, ◌+◌, ◌-◌, ◌*◌, ◌/◌, ◌%◌, ◌≤◌, ◌<◌}
+use Prim.Native.Nat.{ℕ, suc, ◌+◌, ◌/◌, ◌≤◌, ◌<◌}
 use native.Mathlib.Omega.{arith}
 use native.Mathlib.Numerals.{add-one}
-use mathlib.Core.Path.{◌≡◌, refl, sym, ap, ap₂, ◌∙◌, subst}
-use mathlib.Core.Bool.{Bool, true, false}
+use mathlib.Core.Path.{◌≡◌, refl, sym, ap, ◌∙◌, subst}
+use mathlib.Core.Bool.{Bool}
 use mathlib.Core.List.{List, [], ◌∷◌, ◌++◌}
 use lib.ListN.{length, get_or, length-append}
 use lib.Dec.{T}
@@ -18,11 +18,11 @@ use Rattle.fmt.specs.emit.Writing.{Writes}
 use Rattle.fmt.proofs.emit.WriteLaws.{writes_then, writes_as}
 use Rattle.print.specs.told.Places.{At, ValuesAt, StmtAt, ArmAt, ArmsAt, Passed, Owes}
 use Rattle.print.specs.told.Pieces.{brace_opening, brace_closing, spaced, arm_opening, arm_closing, arms_closing, arms_run}
-use Rattle.print.specs.told.Writers.{ValuesWritten, StmtWritten, ArmWritten, ArmsWritten}
+use Rattle.print.specs.told.Writers.{ValuesWritten, StmtWritten, ArmWritten}
 use Rattle.print.proofs.told.PieceLaws.{arm_is, stmts_cons, stmts_none, arms_cons, arms_none, stmts_counted}
-use Rattle.print.proofs.told.PlaceLaws.{at_left, at_right, at_in, at_head, at_tail}
-use Rattle.print.proofs.told.PartLaws.{arm_words, arms_split, first_arm, other_arms, stmts_split, first_stmt, stmts_pass, stmts_fit, after_stmt, stmt_length}
-use Rattle.print.proofs.told.LoopLaws.{owes_all, owes_less, owes_as}
+use Rattle.print.proofs.told.PlaceLaws.{at_in, at_head}
+use Rattle.print.proofs.told.PartLaws.{arm_words, arms_split, first_arm, other_arms, first_stmt, stmts_pass, stmts_fit, after_stmt, stmt_length}
+use Rattle.print.proofs.told.LoopLaws.{owes_less, owes_as}
 
 spaced_cons : (s : List ℕ) (l : List (List ℕ)) (after : List ℕ) → spaced (s ∷ l) after ≡ s ++ (32 ∷ spaced l after)
 unfolding spaced
@@ -62,20 +62,6 @@ module _ (rows : List Row) (ws : List ℕ) (n at : ℕ) (bare dry : Bool) (old :
       let w = word arm_row (step_count s + length vs) in
       let e = at_head w (intermediates_words number s ++ values) h.here in
       (at_in w (intermediates_words number s ++ values) h.here, omega (arith, e, h.count))
-
-  pub stmts_begin : (count : ℕ) → ArmAt rows ws n at s vs → count ≡ step_count s → StmtsLeft count 0 (at + 1) old to
-  stmts_begin count h c =
-      record {
-        rest = s;
-        passes = h.passes;
-        fits = h.fits;
-        here = at_tail (word arm_row (step_count s + length vs)) (intermediates_words number s ++ values) h.here;
-        counted = omega arith;
-        after_row = omega arith;
-        enough = omega arith;
-        token = omega arith;
-        owes = owes_all (spaced (stmts_texts s) (after count)) refl;
-      }
 
   -- with what was written before the loop
   pub arm_whole :
@@ -182,16 +168,6 @@ module _ (rows : List Row) (ws : List ℕ) (n m at : ℕ) (bare d dry : Bool) (o
     pub token : next + length (arms_words (number_in rows) rest) ≡ at + length (arms_words (number_in rows) arms)
     pub after : at ≤ next
     pub owes : Owes dry old to (arms_run bare d m 0 (arms_texts arms bare)) mid place (arms_run bare d m i (arms_texts rest bare))
-
-  pub arms_begin : ArmsAt rows ws n m at arms → ArmsLeft 0 at old to
-  arms_begin h = record {
-    rest = arms;
-    left = record { count = refl; passes = h.passes; fits = h.fits; here = h.here };
-    counted = omega (arith, h.count);
-    token = refl;
-    after = omega arith;
-    owes = owes_all (arms_run bare d m 0 (arms_texts arms bare)) refl;
-  }
 
   module _ {i next : ℕ} {mid : List ℕ} {place : ℕ} (v : ArmsLeft i next mid place) where
     pub arms_next : i < m → (s : Intermediates) × (vs : List Tree) × ArmAt rows ws n next s vs

@@ -1,27 +1,26 @@
 -- What the loops over an answer's bindings and over its results keep (Writers). Assumes nothing.
-use Prim.Native.Nat.{ℕ, zero, suc, ◌+◌, ◌-◌, ◌≤◌, ◌<◌, min}
+use Prim.Native.Nat.{ℕ, ◌+◌, ◌≤◌, ◌<◌, min}
 use native.Mathlib.Omega.{arith}
-use mathlib.Core.Path.{◌≡◌, refl, sym, ap, ap₂, ◌∙◌, subst}
+use mathlib.Core.Path.{◌≡◌, refl, sym, ap, ◌∙◌, subst}
 use mathlib.Core.Bool.{Bool, true, false, not}
 use mathlib.Core.List.{List, [], ◌∷◌, ◌++◌}
 use borrow.Author.Tests.{eq-eqb, ne_eqb}
-use lib.ListN.{length, get_or, drop, length-append, drop_of_length-le}
+use lib.ListN.{length, get_or, drop, drop_of_length-le}
 use lib.Seq.{drop-cons}
 use lib.Dec.{T, eqb}
-use Rattle.spec_tree.specs.Tree.{Name, Tree}
+use Rattle.spec_tree.specs.Tree.{Tree}
 use Rattle.spec_tree.specs.Rows.{Row}
-use Rattle.spec_tree.specs.Passes.{trees_ok}
-use Rattle.spec_tree.specs.Tokens.{word, tokens, number_in}
+use Rattle.spec_tree.specs.Tokens.{tokens, number_in}
 use Rattle.spec_tree.specs.text.Text.{display}
-use Rattle.spec_cse.specs.Answer.{Intermediate, Intermediates, Arms, Answer, Let, Match, end, step, displays, stmt_text, stmts_texts, lines, answer_text}
+use Rattle.spec_cse.specs.Answer.{Intermediate, Intermediates, Answer, Let, Match, end, step, displays, stmt_text, stmts_texts, lines, answer_text}
 use Rattle.spec_cse.specs.AnswerRows.{result_row, each_words, intermediate_words, intermediates_words, answer_words, intermediates_ok}
-use Rattle.laws.specs.answer.Fitting.{all_fitting, stmts_fitting, numbered_in}
+use Rattle.laws.specs.answer.Fitting.{stmts_fitting, numbered_in}
 use Rattle.fmt.specs.emit.Writing.{Writes}
-use Rattle.fmt.proofs.emit.WriteLaws.{writes_none, writes_then}
-use Rattle.print.specs.told.Places.{At, TreeAt, ValuesAt, StmtAt, Passed, Owes}
-use Rattle.print.specs.told.Writers.{TreeWritten, StmtWritten, AnswerAt, ResultsAt, ResultsWritten, BindingsWritten, AnswerWritten, statement_ahead}
+use Rattle.fmt.proofs.emit.WriteLaws.{writes_none}
+use Rattle.print.specs.told.Places.{At, TreeAt, ValuesAt, StmtAt, Owes}
+use Rattle.print.specs.told.Writers.{TreeWritten, StmtWritten, AnswerAt, ResultsAt, statement_ahead}
 use Rattle.print.proofs.told.PieceLaws.{stmts_cons, stmts_none}
-use Rattle.print.proofs.told.PlaceLaws.{at_left, at_right, at_room, at_in, at_head, each_cons, each_none, value_in, value_row_is, value_tree, value_others, value_words}
+use Rattle.print.proofs.told.PlaceLaws.{each_none, value_in, value_row_is, value_tree, value_others, value_words}
 use Rattle.print.proofs.told.PartLaws.{Switches, by_sign, by_index, by_default, let_parts, match_parts, first_stmt, stmts_pass, stmts_fit, after_stmt, stmt_length}
 use Rattle.print.proofs.told.LoopLaws.{owes_all, owes_less, owes_as, displays_cons}
 
@@ -39,9 +38,6 @@ module _ (rows : List Row) (ws : List ℕ) (dry : Bool) (old : List ℕ) (to : �
     pub rest : List Tree
     pub left : ResultsAt rows ws next rest
     pub owes : Owes dry old to (lines (displays vs)) mid place (lines (displays rest))
-
-  pub results_begin : (at : ℕ) → ResultsAt rows ws at vs → ResultsLeft at old to
-  results_begin at h = record { rest = vs; left = h; owes = owes_all (lines (displays vs)) refl }
 
   module _ {next : ℕ} {mid : List ℕ} {place : ℕ} (v : ResultsLeft next mid place) where
     pub results_next : next < length ws → (t : Tree) × TreeAt rows ws (next + 1) t

@@ -1,34 +1,25 @@
 -- What the loops of the writers keep: the part that is left stands at the place reached, and its text is all that is still to be written (Places, Writers).
 -- Assumes nothing.
-use Prim.Native.Nat.{ℕ, zero, suc, ◌+◌, ◌-◌, ◌*◌, ◌/◌, ◌%◌, ◌≤◌, ◌<◌}
+use Prim.Native.Nat.{ℕ, suc, ◌+◌, ◌≤◌, ◌<◌}
 use native.Mathlib.Omega.{arith}
 use native.Mathlib.Numerals.{add-one}
-use mathlib.Core.Path.{◌≡◌, refl, sym, ap, ap₂, ◌∙◌, subst}
-use mathlib.Core.Bool.{Bool, true, false, ◌&&◌}
-use mathlib.Core.List.{List, [], ◌∷◌, ◌++◌, append_assoc}
-use lib.ListN.{length, get_or, drop, length-append}
-use lib.Dec.{T}
-use Rattle.spec_tree.specs.Bytes.{decimal}
-use Rattle.spec_tree.specs.Tree.{Name, input, xname, mname, Tree}
+use mathlib.Core.Path.{◌≡◌, refl, sym, ap, ◌∙◌, subst}
+use mathlib.Core.Bool.{Bool}
+use mathlib.Core.List.{List, [], ◌∷◌, ◌++◌}
+use lib.ListN.{length}
+use Rattle.spec_tree.specs.Tree.{Tree}
 use Rattle.spec_tree.specs.Rows.{Row}
-use Rattle.spec_tree.specs.Passes.{trees_ok}
-use Rattle.spec_tree.specs.Tokens.{word, tokens, number_in, name_in, name_by}
-use Rattle.spec_tree.specs.text.Text.{name_text, display}
-use Rattle.spec_cse.specs.Answer.{Intermediate, Intermediates, Arms, end, step, no_arm, arm, names_texts, displays, tuple, arm_text, stmt_text, stmts_texts, arms_texts}
-use Rattle.spec_cse.specs.Read.{arm_count}
-use Rattle.spec_cse.specs.AnswerRows.{arm_row, value_row, step_count, names_words, each_words, intermediate_words, intermediates_words, arms_words, match_names, intermediates_ok}
-use Rattle.laws.specs.answer.Fitting.{stmts_fitting, numbered_in}
-use Rattle.fmt.specs.emit.Writing.{Writes, low_bytes}
-use Rattle.fmt.specs.symbols.Symbols.{symbol_text}
+use Rattle.spec_tree.specs.Tokens.{tokens, number_in}
+use Rattle.spec_tree.specs.text.Text.{display}
+use Rattle.spec_cse.specs.Answer.{displays, tuple}
+use Rattle.spec_cse.specs.AnswerRows.{value_row, each_words}
+use Rattle.fmt.specs.emit.Writing.{Writes}
 use Rattle.fmt.proofs.emit.WriteLaws.{writes_then, writes_as}
-use Rattle.fmt.proofs.emit.TextLaws.{low_none}
-use Rattle.fmt.proofs.symbols.NameLaws.{low_decimal}
-use Rattle.print.specs.told.Places.{At, TreeAt, ValuesAt, NamesAt, StmtAt, ArmAt, ArmsAt, Passed, Owes}
-use Rattle.print.specs.told.Pieces.{tuple_opening, comma, tuple_closing, tuple_parts, brace_opening, brace_closing, spaced, arm_opening, arm_closing, arms_closing, arms_run}
-use Rattle.print.specs.told.Writers.{TreeWritten, ValuesWritten, StmtWritten, ArmWritten, ArmsWritten}
-use Rattle.print.proofs.told.PieceLaws.{tuple_is, arm_is, stmts_cons, stmts_none, arms_cons, arms_none, stmts_counted}
-use Rattle.print.proofs.told.PlaceLaws.{at_left, at_right, at_room, at_in, at_head, at_tail, each_cons, each_none, value_in, value_tree, value_others, value_words, names_cons, NameFirst, name_first}
-use Rattle.print.proofs.told.PartLaws.{arm_words, arms_split, first_arm, other_arms, stmts_split, first_stmt, stmts_pass, stmts_fit, after_stmt, stmt_length}
+use Rattle.print.specs.told.Places.{TreeAt, ValuesAt, Passed, Owes}
+use Rattle.print.specs.told.Pieces.{tuple_opening, comma, tuple_closing, tuple_parts}
+use Rattle.print.specs.told.Writers.{TreeWritten}
+use Rattle.print.proofs.told.PieceLaws.{tuple_is}
+use Rattle.print.proofs.told.PlaceLaws.{each_none, value_in, value_tree, value_others, value_words}
 
 -- ---- what is owed
 
@@ -72,15 +63,6 @@ module _ (rows : List Row) (ws : List ℕ) (n at : ℕ) (dry : Bool) (old : List
     pub count : i + length rest ≡ n
     pub token : next + length (each_words number value_row rest) ≡ at + length (each_words number value_row vs)
     pub owes : Owes dry old to (tuple_parts 0 (displays vs) (tuple_closing n)) mid place (tuple_parts i (displays rest) (tuple_closing n))
-
-  pub values_begin : ValuesAt rows ws value_row n at vs → ValuesLeft 0 at old to
-  values_begin h = record {
-    rest = vs;
-    left = record { count = refl; passes = h.passes; fits = h.fits; here = h.here };
-    count = omega (arith, h.count);
-    token = refl;
-    owes = owes_all (tuple_parts 0 (displays vs) (tuple_closing n)) refl;
-  }
 
   -- with what was written before the loop
   pub values_whole :

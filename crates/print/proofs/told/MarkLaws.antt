@@ -1,21 +1,25 @@
 -- What stands before, between and after parts, by the tests that choose it (Pieces). Assumes nothing.
-use Prim.Native.Nat.{ℕ, zero, suc, ◌+◌, ◌≤◌, ◌<◌, min}
+use Prim.Native.Nat.{ℕ, zero, suc, ◌+◌, min}
 use native.Mathlib.Omega.{arith}
-use native.Mathlib.Numerals.{add-one}
-use mathlib.Core.Path.{◌≡◌, refl, sym, ap, ◌∙◌}
+use mathlib.Core.Path.{◌≡◌, refl}
 use mathlib.Core.Bool.{Bool, true, false, ◌&&◌, cond}
-use mathlib.Core.List.{List, [], ◌∷◌, ◌++◌}
+use mathlib.Core.List.{List, [], ◌++◌}
 use borrow.Author.Tests.{eq-eqb, ne_eqb}
 use lib.ListN.{length}
 use lib.Dec.{eqb}
 use Rattle.spec_tree.specs.Bytes.{bytes, decimal}
 use Rattle.fmt.specs.emit.Writing.{Writes}
-use Rattle.fmt.proofs.emit.WriteLaws.{writes_none, writes_then, writes_as}
+use Rattle.fmt.proofs.emit.WriteLaws.{writes_none, writes_as}
 use Rattle.print.specs.told.Pieces.{tuple_opening, comma, tuple_closing, brace_opening, brace_closing, side_opening, side_closing, arm_opening, arm_closing, arms_closing}
 
 -- nothing is written where there is nothing to write
 pub nothing : {dry : Bool} {old : List ℕ} {to e : ℕ} (text : List ℕ) → [] ≡ text → e ≡ min to (length old + 1) → Writes dry old to text old e
 nothing text p h = writes_as [] text p (writes_none h)
+
+-- a text that is written where it is wanted
+pub marked : (b : Bool) (t x : List ℕ) → (b ≡ true → t ≡ x) → (b ≡ false → [] ≡ x) → cond b t [] ≡ x
+marked true t x y n = y refl
+marked false t x y n = n refl
 
 pub opening_one : (n : ℕ) → n ≡ 1 → [] ≡ tuple_opening n
 unfolding tuple_opening

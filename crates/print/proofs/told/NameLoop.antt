@@ -1,14 +1,14 @@
 -- What the loop over a match's names keeps, and the texts of made names (Places, Writers). Assumes nothing.
-use Prim.Native.Nat.{ℕ, zero, suc, ◌+◌, ◌-◌, ◌*◌, ◌/◌, ◌%◌, ◌≤◌, ◌<◌}
+use Prim.Native.Nat.{ℕ, suc, ◌+◌, ◌*◌, ◌/◌, ◌%◌, ◌≤◌, ◌<◌}
 use native.Mathlib.Omega.{arith}
 use native.Mathlib.Numerals.{add-one}
-use mathlib.Core.Path.{◌≡◌, refl, sym, ap, ap₂, ◌∙◌, subst}
-use mathlib.Core.Bool.{Bool, true, false}
-use mathlib.Core.List.{List, [], ◌∷◌, ◌++◌, map}
+use mathlib.Core.Path.{◌≡◌, refl, sym, ap, ◌∙◌, subst}
+use mathlib.Core.Bool.{Bool}
+use mathlib.Core.List.{List, [], ◌∷◌, ◌++◌}
 use lib.ListN.{length, get_or}
 use lib.Dec.{T}
 use Rattle.spec_tree.specs.Bytes.{decimal}
-use Rattle.spec_tree.specs.Tree.{Name, input, xname, mname}
+use Rattle.spec_tree.specs.Tree.{Name, xname, mname}
 use Rattle.spec_tree.specs.Rows.{Row}
 use Rattle.spec_tree.specs.Tokens.{number_in, name_by}
 use Rattle.spec_tree.specs.text.Text.{name_text}
@@ -21,8 +21,8 @@ use Rattle.fmt.proofs.symbols.NameLaws.{low_decimal}
 use Rattle.print.specs.told.Places.{At, NamesAt, Owes}
 use Rattle.print.specs.told.Pieces.{tuple_opening, comma, tuple_closing, tuple_parts}
 use Rattle.print.proofs.told.PieceLaws.{tuple_is}
-use Rattle.print.proofs.told.PlaceLaws.{NameFirst, name_first}
-use Rattle.print.proofs.told.LoopLaws.{owes_all, owes_less, owes_as, parts_cons, parts_none}
+use Rattle.print.proofs.told.PlaceLaws.{name_first}
+use Rattle.print.proofs.told.LoopLaws.{owes_less, owes_as, parts_cons, parts_none}
 
 -- ---- texts of made names
 
@@ -74,17 +74,6 @@ module _ (rows : List Row) (ws : List ℕ) (n at : ℕ) (dry : Bool) (old : List
     pub here : At ws (at + i) (names_words (number_in rows) rest)
     pub count : i + length rest ≡ n
     pub owes : Owes dry old to (tuple_parts 0 (names_texts ns) (tuple_closing n)) mid place (tuple_parts i (names_texts rest) (tuple_closing n))
-
-  pub names_begin : NamesAt rows ws n at ns → NamesLeft 0 old to
-  names_begin h =
-      let z : at ≡ at + 0 = omega arith in
-      record {
-        rest = ns;
-        made = h.made;
-        here = subst (λ (j : ℕ). At ws j (names_words (number_in rows) ns)) z h.here;
-        count = omega (arith, h.count);
-        owes = owes_all (tuple_parts 0 (names_texts ns) (tuple_closing n)) refl;
-      }
 
   -- with what was written before the loop
   pub names_whole :

@@ -1,7 +1,7 @@
 -- A statement's rows and an arm's, taken apart at their places (Places). Assumes nothing.
-use Prim.Native.Nat.{ℕ, zero, suc, ◌+◌, ◌-◌, ◌*◌, ◌/◌, ◌%◌, ◌≤◌, ◌<◌}
+use Prim.Native.Nat.{ℕ, suc, ◌+◌, ◌*◌, ◌/◌, ◌%◌, ◌≤◌, ◌<◌}
 use native.Mathlib.Omega.{arith}
-use mathlib.Core.Path.{◌≡◌, refl, sym, ap, ap₂, ◌∙◌, subst}
+use mathlib.Core.Path.{◌≡◌, refl, sym, ap, ◌∙◌, subst}
 use mathlib.Core.Bool.{Bool, true, false, ◌&&◌}
 use mathlib.Core.List.{List, [], ◌∷◌, ◌++◌, append_assoc}
 use borrow.Author.Tests.{eqb-true, eqb-false}
@@ -11,15 +11,15 @@ use Rattle.spec_tree.specs.Kinds.{is_switch, arity_ok}
 use Rattle.spec_tree.specs.Tree.{Name, input, xname, mname, Tree}
 use Rattle.spec_tree.specs.Rows.{Row}
 use Rattle.spec_tree.specs.Passes.{tree_ok, trees_ok}
-use Rattle.spec_tree.specs.Tokens.{word, name_code, tokens, number_in, kind_of}
+use Rattle.spec_tree.specs.Tokens.{word, name_code, tokens, number_in}
 use Rattle.spec_tree.proofs.Logic.{and_left, and_right}
-use Rattle.spec_cse.specs.Answer.{Intermediate, Intermediates, Arms, Let, Match, end, step, no_arm, arm}
+use Rattle.spec_cse.specs.Answer.{Intermediate, Intermediates, Arms, Let, Match, step, no_arm, arm}
 use Rattle.spec_cse.specs.Read.{arm_count}
-use Rattle.spec_cse.specs.AnswerRows.{match_row, name_row, arm_row, value_row, step_count, names_words, each_words, intermediate_words, intermediates_words, arms_words, let_name, match_names, intermediate_ok, intermediates_ok, arms_ok}
+use Rattle.spec_cse.specs.AnswerRows.{arm_row, value_row, step_count, names_words, each_words, intermediate_words, intermediates_words, arms_words, let_name, match_names, intermediate_ok, intermediates_ok, arms_ok}
 use Rattle.laws.specs.answer.Fitting.{a_switch_kind, fitting, all_fitting, stmt_fitting, stmts_fitting, arms_fitting, numbered_in}
 use Rattle.laws.proofs.answer.CodeLaws.{branch_fit, select_fit, default_fit}
-use Rattle.print.specs.told.Places.{At, names_ahead, TreeAt, ValuesAt, NamesAt, StmtAt, ArmAt, ArmsAt}
-use Rattle.print.proofs.told.PlaceLaws.{at_left, at_right, at_room, at_in, at_head, at_tail, names_cons, let_code, ahead_names}
+use Rattle.print.specs.told.Places.{At, names_ahead, TreeAt, NamesAt, StmtAt, ArmAt, ArmsAt}
+use Rattle.print.proofs.told.PlaceLaws.{at_left, at_right, at_in, at_head, at_tail, names_cons, let_code, ahead_names}
 
 -- ---- how many arms a match has
 

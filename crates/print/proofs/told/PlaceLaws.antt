@@ -1,30 +1,27 @@
 -- Words at places: a part's words are those of its own parts, one after another (Places). Assumes nothing.
-use Prim.Native.Nat.{ℕ, zero, suc, ◌+◌, ◌-◌, ◌*◌, ◌/◌, ◌%◌, ◌≤◌, ◌<◌}
+use Prim.Native.Nat.{ℕ, suc, ◌+◌, ◌-◌, ◌*◌, ◌/◌, ◌≤◌, ◌<◌}
 use native.Mathlib.Omega.{arith}
 use native.Mathlib.Nat.{add-zero}
-use mathlib.Core.Path.{◌≡◌, refl, sym, ap, ap₂, ◌∙◌, subst}
-use mathlib.Core.Bool.{Bool, true, false, ◌&&◌}
-use mathlib.Core.Option.{Option, none, some}
+use mathlib.Core.Path.{◌≡◌, refl, sym, ap, ◌∙◌, subst}
+use mathlib.Core.Bool.{Bool, true}
+use mathlib.Core.Option.{some}
 use mathlib.Core.List.{List, [], ◌∷◌, ◌++◌, append_assoc}
 use borrow.Author.Tests.{eq-eqb, ne_eqb}
 use lib.ListN.{length, get_or, drop, length-append, length-drop}
 use lib.Seq.{drop-drop, drop-append_seam, get_or-drop}
-use lib.Dec.{T, eqb, leb, ltb, leb→le, ltb→lt, eqb→eq}
-use Rattle.spec_tree.specs.Kinds.{is_switch, arity_ok, kind_at, kinds}
-use Rattle.spec_tree.specs.Tree.{Name, input, xname, mname, Tree, Sym, Const, Op, nil}
+use lib.Dec.{T}
+use Rattle.spec_tree.specs.Tree.{Name, input, xname, mname, Tree, Op, nil}
 use Rattle.spec_tree.specs.Rows.{Row}
 use Rattle.spec_tree.specs.Passes.{tree_ok, trees_ok}
-use Rattle.spec_tree.specs.Tokens.{word, name_code, tokens, all_tokens, number_in, name_in, kind_of, below_of, read, trees_at, words_of, run_at}
+use Rattle.spec_tree.specs.Tokens.{word, name_code, tokens, all_tokens, number_in, name_in, kind_of, read, trees_at, words_of, run_at}
 use Rattle.spec_tree.proofs.Logic.{and_left, and_right, and_both}
 use Rattle.spec_tree.proofs.TokenLaws.{words_none, tree_at}
 use Rattle.spec_tree.proofs.TokenCode.{coded, all_coded, renamed, read_tree, reads_back, all_tokens_cons}
-use Rattle.spec_cse.specs.Answer.{Intermediate, Intermediates, Arms, Let, Match, end, step, no_arm, arm}
-use Rattle.spec_cse.specs.Read.{arm_count}
-use Rattle.spec_cse.specs.AnswerRows.{match_row, name_row, arm_row, value_row, step_count, names_words, each_words, intermediate_words, intermediates_words, arms_words, let_name, match_names, intermediate_ok, intermediates_ok, arms_ok}
-use Rattle.laws.specs.answer.Fitting.{a_switch_kind, fitting, all_fitting, stmt_fitting, stmts_fitting, arms_fitting, numbered_in}
+use Rattle.spec_cse.specs.AnswerRows.{name_row, names_words, each_words, match_names}
+use Rattle.laws.specs.answer.Fitting.{fitting, all_fitting, numbered_in}
 use Rattle.laws.proofs.answer.ListNames.{numbered_back}
 use Rattle.laws.proofs.answer.TreeFronts.{fitting_coded, tree_words}
-use Rattle.print.specs.told.Places.{At, names_ahead, TreeAt, ValuesAt, NamesAt, StmtAt, ArmAt, ArmsAt}
+use Rattle.print.specs.told.Places.{At, names_ahead, TreeAt, ValuesAt}
 
 -- ---- words
 

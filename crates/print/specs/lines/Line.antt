@@ -14,8 +14,10 @@ use Rattle.fmt.specs.emit.Writing.{Writes, low_bytes}
 use Rattle.fmt.specs.symbols.Symbols.{symbol_text}
 use Rattle.print.specs.told.Pieces.{let_opening}
 use Rattle.fmt.specs.shapes.Places.{tree_here}
+use Rattle.std.specs.Prelude.{Result, Ok, Err}
+use Rattle.words.specs.declared.fault.Fault.{Fault}
+use Rattle.words.specs.declared.fault.Fault.TheVariants as fault
 use Rattle.print.specs.declared.lines.Line.{Line}
-use Rattle.print.specs.declared.lines.Line.TheVariants as line
 
 -- a result's row, or a let's of a name `__xN`
 unfoldable pub starts_line : ℕ → Bool
@@ -45,9 +47,9 @@ line_of rows ws at =
 
 -- ---- what `line_at` answers, and the bytes after it
 
-unfoldable pub line_answer : Option Spoken → ℕ → Line
-line_answer none lent = line.Broken
-line_answer (some s) lent = cond (ltb lent (length s.text)) line.NoRoom (line.Text (length s.text) s.next)
+unfoldable pub line_answer : Option Spoken → ℕ → Result Line Fault
+line_answer none lent = Err fault.Broken
+line_answer (some s) lent = cond (ltb lent (length s.text)) (Err fault.NoRoom) (Ok (record { bytes = length s.text; next = s.next }))
 
 unfoldable pub bytes_left : Option Spoken → List ℕ → List ℕ
 bytes_left none old = old

@@ -5,9 +5,9 @@ use Rattle.spec_tree.specs.Tree.{Name, Tree}
 use Rattle.spec_tree.specs.Rows.{Row}
 use Rattle.spec_tree.specs.Passes.{tree_ok, trees_ok}
 use Rattle.spec_tree.specs.Tokens.{word, tokens, number_in, kind_of}
-use Rattle.spec_cse.specs.Answer.{Intermediate, Intermediates, Arms, Answer}
+use Rattle.spec_cse.specs.Answer.{Intermediate, Intermediates, Arms}
 use Rattle.spec_cse.specs.Read.{arm_count}
-use Rattle.spec_cse.specs.AnswerRows.{name_row, arm_row, value_row, result_row, step_count, names_words, each_words, intermediate_words, intermediates_words, arms_words, match_names, intermediate_ok, intermediates_ok, arms_ok}
+use Rattle.spec_cse.specs.AnswerRows.{name_row, arm_row, value_row, step_count, names_words, each_words, intermediate_words, intermediates_words, arms_words, match_names, intermediate_ok, intermediates_ok, arms_ok}
 use Rattle.laws.specs.answer.Fitting.{fitting, all_fitting, stmt_fitting, stmts_fitting, arms_fitting, numbered_in}
 use Rattle.fmt.specs.emit.Writing.{Writes}
 

@@ -9,7 +9,7 @@ use Rattle.spec_cse.specs.Answer.{Intermediate, Intermediates, Arms, Answer, nam
 use Rattle.spec_cse.specs.AnswerRows.{value_row, result_row, arm_row, each_words, intermediate_words, intermediates_words, arms_words, intermediates_ok, step_count, answer_words}
 use Rattle.laws.specs.answer.Fitting.{all_fitting, stmts_fitting, numbered_in}
 use Rattle.fmt.specs.emit.Writing.{Writes}
-use Rattle.print.specs.told.Places.{At, TreeAt, ValuesAt, NamesAt, StmtAt, ArmAt, ArmsAt, Passed, Owes}
+use Rattle.print.specs.told.Places.{TreeAt, ValuesAt, NamesAt, StmtAt, ArmAt, ArmsAt, Passed, Owes}
 use Rattle.print.specs.told.Pieces.{let_text, head_text, arms_run}
 
 module _ (rows : List Row) (ws : List ℕ) (at : ℕ) (dry : Bool) (old : List ℕ) (to : ℕ) (new : List ℕ) (next end : ℕ) where

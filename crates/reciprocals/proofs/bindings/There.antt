@@ -1,13 +1,12 @@
 -- A tree stands at each place of a divisor to bind, so that settling by them is never refused. Assumes nothing.
 use Prim.Native.Nat.{ℕ, zero, suc, ◌+◌, ◌≤◌, ◌<◌}
 use native.Mathlib.Omega.{arith}
-use mathlib.Core.Path.{◌≡◌, refl, sym, ◌∙◌, ap}
+use mathlib.Core.Path.{◌≡◌, refl, ap}
 use mathlib.Core.Bool.{Bool, true, false, ◌&&◌}
 use mathlib.Core.Option.{some}
 use mathlib.Core.List.{List, [], ◌∷◌, ◌++◌, map}
 use lib.ListN.{length, get_or, drop, length-drop}
 use lib.Dec.{T, eqb, leb, leb→le}
-use Rattle.spec_tree.specs.Tree.{Tree}
 use Rattle.spec_tree.specs.Kinds.{Div}
 use Rattle.spec_tree.specs.Facts.{size}
 use Rattle.spec_tree.specs.Tokens.{all_tokens, read, numbered, kind_of, takes, run_at, trees_in}

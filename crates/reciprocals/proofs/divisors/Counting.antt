@@ -1,4 +1,5 @@
 -- How many of some places have a tree, one by one, and what the counts decide. Assumes nothing.
+use Rattle.std.specs.Prelude.{Option, unwrap_or}
 use Prim.Native.Nat.{ℕ, suc, ◌+◌, ◌≤◌, ◌<◌}
 use native.Mathlib.Omega.{arith}
 use mathlib.Core.Path.{◌≡◌, refl, sym, ◌∙◌, ap}
@@ -12,7 +13,6 @@ use lib.Dec.{leb}
 use Rattle.spec_tree.specs.Tree.{eq_tree}
 use Rattle.spec_tree.specs.Tokens.{same_at}
 use Rattle.words.specs.tokens.Answers.{same_answer}
-use Rattle.words.specs.declared.tokens.Equality.TheVariants as equality
 use Rattle.words.proofs.tokens.Complete.{same_is}
 use Rattle.words.specs.words.Words.{Complete}
 use Rattle.laws.specs.positions.Places.{numbered_at, among_places, count_places}
@@ -21,34 +21,18 @@ use Rattle.spec_tree.proofs.Logic.{and_false}
 
 -- ---- whether two trees are equal
 
-pub told_equal : (b : Bool) → equality.Equal ≡ same_answer (some b) → true ≡ b
+answered : (b : Bool) → unwrap_or (same_answer (some b)) false ≡ b
 unfolding same_answer
-told_equal true e = refl
-told_equal false e = absurd (let z : ◌≡◌ {A = ℕ} 0 1 = cc in omega arith)
-
-pub told_different : (b : Bool) → equality.Different ≡ same_answer (some b) → false ≡ b
-unfolding same_answer
-told_different true e = absurd (let z : ◌≡◌ {A = ℕ} 0 1 = cc in omega arith)
-told_different false e = refl
-
-pub never_broken : (b : Bool) → equality.Broken ≡ same_answer (some b) → ⊥
-unfolding same_answer
-never_broken true e = let z : ◌≡◌ {A = ℕ} 0 1 = cc in omega arith
-never_broken false e = let z : ◌≡◌ {A = ℕ} 0 1 = cc in omega arith
+answered true = refl
+answered false = refl
 
 module _ (ws : List ℕ) (complete : Complete ws) (i j : ℕ) (hi : i < length ws) (hj : j < length ws) where
   is : same_answer (same_at ws i j) ≡ same_answer (some (eq_tree (numbered_at ws i) (numbered_at ws j)))
   unfolding numbered_at
   is = same_is ws complete.0 complete.1 i j hi hj
 
-  pub are_equal : equality.Equal ≡ same_answer (same_at ws i j) → true ≡ eq_tree (numbered_at ws i) (numbered_at ws j)
-  are_equal e = told_equal (eq_tree (numbered_at ws i) (numbered_at ws j)) (e ∙ is)
-
-  pub are_different : equality.Different ≡ same_answer (same_at ws i j) → false ≡ eq_tree (numbered_at ws i) (numbered_at ws j)
-  are_different e = told_different (eq_tree (numbered_at ws i) (numbered_at ws j)) (e ∙ is)
-
-  pub are_there : equality.Broken ≡ same_answer (same_at ws i j) → ⊥
-  are_there e = never_broken (eq_tree (numbered_at ws i) (numbered_at ws j)) (e ∙ is)
+  pub equal_so : (r : Option Bool) (b : Bool) → r ≡ same_answer (same_at ws i j) → b ≡ unwrap_or r false → b ≡ eq_tree (numbered_at ws i) (numbered_at ws j)
+  equal_so r b e f = f ∙ (ap (λ (o : Option Bool). unwrap_or o false) (e ∙ is) ∙ answered (eq_tree (numbered_at ws i) (numbered_at ws j)))
 
 -- ---- one by one
 

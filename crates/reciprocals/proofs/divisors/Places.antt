@@ -1,9 +1,11 @@
 -- Where a divisor stands, and the list of all so far: how it starts, goes on and ends. Assumes nothing.
+use Rattle.std.specs.Prelude.{Some, None}
 use Prim.Native.Nat.{ℕ, zero, suc, ◌+◌, ◌≤◌, ◌<◌}
 use native.Mathlib.Omega.{arith}
 use mathlib.Core.Path.{◌≡◌, refl, sym, ◌∙◌, ap}
 use mathlib.Core.Bool.{Bool, true, false, ◌&&◌}
 use mathlib.Core.Option.{some}
+use Rattle.std.specs.Prelude.{Option, Some, None}
 use mathlib.Core.List.{List, [], ◌∷◌, ◌++◌, append-nil, append_assoc}
 use borrow.Author.Tests.{eq-eqb, ne_eqb, le-leb, lt-leb}
 use lib.ListN.{length, get_or, drop, set, length-append, length-drop}
@@ -13,20 +15,22 @@ use Rattle.spec_tree.specs.Facts.{size}
 use Rattle.spec_tree.specs.Tokens.{kind_of, below_of, takes, read, numbered, run_at}
 use Rattle.spec_tree.proofs.TokenLaws.{operation_takes, run_size}
 use Rattle.words.specs.tokens.Answers.{end_answer}
-use Rattle.words.specs.declared.tokens.Run.TheVariants as run
 use Rattle.laws.specs.positions.Places.{numbered_at, divides_at, second_at, divisor_places}
 use Rattle.laws.proofs.positions.DivisorPlaces.{enough}
 use Rattle.words.specs.words.Words.{Complete}
 use Rattle.reciprocals.specs.divisors.Listing.{second_answer, all_places}
 
+pub none_some : {s : ℕ} → None ≡ Some s → ⊥
+none_some {s} q = let z : ◌≡◌ {A = ℕ} 0 1 = cc in omega arith
+
 -- ---- one place
 
 module _ (ws : List ℕ) (p : ℕ) where
-  answer_by : (b : Bool) → divides_at ws p ≡ b → second_answer ws p ≡ elim b as (λ _. ℕ) [ true ↦ second_at ws p | false ↦ 0 ]
+  answer_by : (b : Bool) → divides_at ws p ≡ b → second_answer ws p ≡ elim b as (λ _. Option ℕ) [ true ↦ Some (second_at ws p) | false ↦ None ]
   unfolding second_answer
-  answer_by b e = ap (λ (c : Bool). elim c as (λ _. ℕ) [ true ↦ second_at ws p | false ↦ 0 ]) e
+  answer_by b e = ap (λ (c : Bool). elim c as (λ _. Option ℕ) [ true ↦ Some (second_at ws p) | false ↦ None ]) e
 
-  pub other_kind : (kind_of (get_or ws p 0) ≡ 6 → ⊥) → 0 ≡ second_answer ws p
+  pub other_kind : (kind_of (get_or ws p 0) ≡ 6 → ⊥) → None ≡ second_answer ws p
   unfolding divides_at
   other_kind ne = sym (answer_by false (ap (λ (b : Bool). b && leb 2 (takes (get_or ws p 0))) (ne_eqb (kind_of (get_or ws p 0)) 6 ne)))
 
@@ -38,7 +42,7 @@ module _ (ws : List ℕ) (p : ℕ) where
     unfolding divides_at
     divides b e = ap (λ (c : Bool). c && leb 2 (takes (get_or ws p 0))) (eq-eqb (kind_of (get_or ws p 0)) 6 k) ∙ e
 
-    pub one_operand : below_of (get_or ws p 0) < 2 → 0 ≡ second_answer ws p
+    pub one_operand : below_of (get_or ws p 0) < 2 → None ≡ second_answer ws p
     one_operand h = sym (answer_by false (divides false (lt-leb 2 (takes (get_or ws p 0)) (omega (arith, takes_all, h)))))
 
     module _ (complete : Complete ws) (here : p < length ws) (two : 2 ≤ below_of (get_or ws p 0)) where
@@ -64,18 +68,12 @@ module _ (ws : List ℕ) (p : ℕ) where
       unfolding numbered_at
       stands = run_size numbered ws complete.0 (p + 1) complete.1 more
 
-      pub not_broken : run.Broken ≡ end_answer (p + 1) (run_at ws (p + 1)) → ⊥
-      unfolding end_answer
-      not_broken e = let q : run.Broken ≡ run.Ends (p + 1 + size (numbered_at ws (p + 1))) = e ∙ ap (end_answer (p + 1)) stands in let z : ◌≡◌ {A = ℕ} 0 1 = cc in absurd (omega arith)
-
-      pub second_there : (e : ℕ) → run.Ends e ≡ end_answer (p + 1) (run_at ws (p + 1)) → e ≡ second_answer ws p
+      pub second_there : end_answer (p + 1) (run_at ws (p + 1)) ≡ second_answer ws p
       unfolding end_answer second_at
-      second_there e q =
-          let r : run.Ends e ≡ run.Ends (p + 1 + size (numbered_at ws (p + 1))) = q ∙ ap (end_answer (p + 1)) stands in
-          let c : e ≡ p + 1 + size (numbered_at ws (p + 1)) = cc in
+      second_there =
           let i : p + 1 ≡ suc p = omega arith in
           let d : divides_at ws p ≡ true = divides true (le-leb 2 (takes (get_or ws p 0)) (omega (arith, takes_all, two))) in
-          c ∙ (ap (λ (x : ℕ). x + size (numbered_at ws x)) i ∙ sym (answer_by true d))
+          ap (end_answer (p + 1)) stands ∙ (ap (λ (x : ℕ). Some (x + size (numbered_at ws x))) i ∙ sym (answer_by true d))
 
 -- ---- all places so far
 
@@ -99,19 +97,15 @@ module _ (ws : List ℕ) where
       let i : p + 1 ≡ suc p = omega arith in
       ap so_far i ∙ ap (λ (c : Bool). so_far p ++ elim c as (λ _. List ℕ) [ true ↦ second_at ws p ∷ [] | false ↦ [] ]) e
 
-  second_positive : (p : ℕ) → 0 < second_at ws p
-  unfolding second_at
-  second_positive p = omega arith
-
   module _ {old out : List ℕ} {n p : ℕ} (state : State old out n p) (room : length ws ≤ length old) (here : p < length ws) where
     pub long : length out ≡ length old
     long = ap length state.places ∙ omega (arith, length-append (so_far p) (drop n old), length-drop n old, state.count, state.few, state.inside, room)
 
-    pub turn_none : second_answer ws p ≤ 0 → State old out n (p + 1)
+    pub turn_none : None ≡ second_answer ws p → State old out n (p + 1)
     turn_none h = go (divides_at ws p) refl
       where
         go : (b : Bool) → divides_at ws p ≡ b → State old out n (p + 1)
-        go true e = absurd (omega (arith, answer_by ws p true e, second_positive p, h))
+        go true e = absurd (let q : None ≡ Some (second_at ws p) = h ∙ answer_by ws p true e in none_some q)
         go false e =
             let g : so_far (p + 1) ≡ so_far p = goes_on p false e ∙ append-nil (so_far p) in
             record {
@@ -121,13 +115,14 @@ module _ (ws : List ℕ) where
               places = state.places ∙ ap (λ (l : List ℕ). l ++ drop n old) (sym g);
             }
 
-    pub turn_one : (s : ℕ) → s ≡ second_answer ws p → 0 < s → State old (set out n s) (n + 1) (p + 1)
-    turn_one s q h = go (divides_at ws p) refl
+    pub turn_one : (s : ℕ) → Some s ≡ second_answer ws p → State old (set out n s) (n + 1) (p + 1)
+    turn_one s q = go (divides_at ws p) refl
       where
         go : (b : Bool) → divides_at ws p ≡ b → State old (set out n s) (n + 1) (p + 1)
-        go false e = absurd (omega (arith, answer_by ws p false e, q, h))
+        go false e = absurd (let r : None ≡ Some s = sym (q ∙ answer_by ws p false e) in none_some r)
         go true e =
-            let v : s ≡ second_at ws p = q ∙ answer_by ws p true e in
+            let r : Some s ≡ Some (second_at ws p) = q ∙ answer_by ws p true e in
+            let v : s ≡ second_at ws p = cc in
             let g : so_far (p + 1) ≡ so_far p ++ (s ∷ []) = goes_on p true e ∙ ap (λ (x : ℕ). so_far p ++ (x ∷ [])) (sym v) in
             let i : suc n ≡ n + 1 = omega arith in
             record {

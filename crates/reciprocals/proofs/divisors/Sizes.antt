@@ -1,5 +1,6 @@
 -- Sizes of trees at some places of a table: how they are put there, and that trees of two sizes are not equal. Assumes nothing.
-use Prim.Native.Nat.{ℕ, zero, suc, ◌+◌, ◌-◌, ◌≤◌, ◌<◌}
+use Rattle.std.specs.Prelude.{Some}
+use Prim.Native.Nat.{ℕ, zero, suc, ◌+◌, ◌≤◌, ◌<◌}
 use native.Mathlib.Omega.{arith}
 use mathlib.Core.Path.{◌≡◌, refl, sym, ◌∙◌, ap, subst}
 use mathlib.Core.Bool.{Bool, true, false}
@@ -17,7 +18,6 @@ use Rattle.spec_tree.proofs.TreeLaws.{eq_tree_sound}
 use Rattle.laws.specs.positions.Places.{numbered_at}
 use Rattle.words.specs.words.Words.{Complete}
 use Rattle.words.specs.tokens.Answers.{There, EndsAt, end_answer}
-use Rattle.words.specs.declared.tokens.Run.TheVariants as run
 use Rattle.reciprocals.proofs.settle.Stepping.{divisor_there}
 use Rattle.reciprocals.specs.divisors.Places.{Inside, SizeThere, Sized, with_sizes}
 
@@ -126,7 +126,7 @@ module _ (ws : List ℕ) where
     pub end_is : (end : ℕ) → EndsAt ws q end → end ≡ q + size (numbered_at ws q)
     unfolding end_answer
     end_is end e =
-        let x : run.Ends end ≡ run.Ends (q + size (numbered_at ws q)) = e ∙ ap (end_answer q) size_run in
+        let x : Some end ≡ Some (q + size (numbered_at ws q)) = e ∙ ap (end_answer q) size_run in
         cc
 
     pub end_within : (end : ℕ) → EndsAt ws q end → (q ≤ end) × (end ≤ length ws)

@@ -11,8 +11,9 @@ use lib.Seq.{take_at}
 use Rattle.spec_tree.specs.Outcome.{refused, by}
 use Rattle.spec_cse.specs.Order.{positions_taken}
 use Rattle.topo_sort.specs.Needs.{table_of, room, all_or_ring, order_answer, order_written, Orders}
-use Rattle.topo_sort.specs.declared.Ordered.{Ordered}
-use Rattle.topo_sort.specs.declared.Ordered.TheVariants as ordered
+use Rattle.std.specs.Prelude.{Result, Ok, Err, ⊤}
+use Rattle.topo_sort.specs.declared.OrderError.{OrderError}
+use Rattle.topo_sort.specs.declared.OrderError.TheVariants as order_error
 use Rattle.reciprocals.specs.final.Final.{final_rows}
 use Rattle.reciprocals.specs.final.Entries.{entries}
 use Rattle.reciprocals.specs.final.Ready.{Ready, marks, binding_run, final_order, InOrder, Positions, lent_rows}
@@ -33,7 +34,7 @@ module _ (bits waiting stack taken : List ℕ) (count : ℕ) (few : count ≤ 10
       (rw (le-leb count (length waiting) (omega arith)) (rw (le-leb count (length stack) (omega arith)) (rw (le-leb count (length taken) lent) refl))))
 
   pub ordered_so :
-      (k : ℕ) (places ws : List ℕ) (zeros : List ℕ) → zeros ≡ replicate (32 * count) 0 → bits ≡ marks (binding_run k places ws) count zeros → (r : Ordered) (new_waiting new_stack new : List ℕ)
+      (k : ℕ) (places ws : List ℕ) (zeros : List ℕ) → zeros ≡ replicate (32 * count) 0 → bits ≡ marks (binding_run k places ws) count zeros → (r : Result ⊤ OrderError) (new_waiting new_stack new : List ℕ)
       → length new ≡ length taken → Orders bits count waiting stack taken r new_waiting new_stack new → InOrder (final_order k places ws count) count taken new r
   unfolding final_order
   ordered_so k places ws zeros z e r new_waiting new_stack new l o =
@@ -55,27 +56,27 @@ module _ (bits waiting stack taken : List ℕ) (count : ℕ) (few : count ≤ 10
 -- ---- what it means
 
 module _ (order : List ℕ) (count : ℕ) where
-  all_means : ordered.All ≡ order_answer true count order → length order ≡ count
+  all_means : Ok tt ≡ order_answer true count order → length order ≡ count
   unfolding order_answer
   all_means e = go (eqb (length order) count) refl e
     where
-      go : (b : Bool) → eqb (length order) count ≡ b → ordered.All ≡ all_or_ring b (length order) → length order ≡ count
+      go : (b : Bool) → eqb (length order) count ≡ b → Ok tt ≡ all_or_ring b (length order) → length order ≡ count
       go true q r = eqb-true (length order) count q
       go false q r = let z : ◌≡◌ {A = ℕ} 0 1 = cc in absurd (omega arith)
 
-  ring_means : (n : ℕ) → ordered.Ring n ≡ order_answer true count order → length order ≡ count → ⊥
+  ring_means : (n : ℕ) → Err (order_error.Ring n) ≡ order_answer true count order → length order ≡ count → ⊥
   unfolding order_answer
   ring_means n e = go (eqb (length order) count) refl e
     where
-      go : (b : Bool) → eqb (length order) count ≡ b → ordered.Ring n ≡ all_or_ring b (length order) → length order ≡ count → ⊥
+      go : (b : Bool) → eqb (length order) count ≡ b → Err (order_error.Ring n) ≡ all_or_ring b (length order) → length order ≡ count → ⊥
       go true q r = let z : ◌≡◌ {A = ℕ} 0 1 = cc in absurd (omega arith)
       go false q r = eqb-false (length order) count q
 
-  never_broken : ordered.Broken ≡ order_answer true count order → ⊥
+  never_broken : Err order_error.Broken ≡ order_answer true count order → ⊥
   unfolding order_answer
   never_broken e = go (eqb (length order) count) e
     where
-      go : (b : Bool) → ordered.Broken ≡ all_or_ring b (length order) → ⊥
+      go : (b : Bool) → Err order_error.Broken ≡ all_or_ring b (length order) → ⊥
       go true r = let z : ◌≡◌ {A = ℕ} 0 1 = cc in omega arith
       go false r = let z : ◌≡◌ {A = ℕ} 0 1 = cc in omega arith
 
@@ -125,14 +126,14 @@ module _ {ws settled starts places : List ℕ} {k : ℕ} (ready : Ready ws settl
       subst (λ (l : List ℕ). (q : ℕ) → q < length (reverse l) → get_or (reverse l) q 0 < count) (order_is words z)
       (marked_positions k m places ws ready.complete (there_is ready) ready.enough count many few words z)
 
-  module _ (old new : List ℕ) (r : Ordered) (o : InOrder (final_order k places ws count) count old new r) where
-    pub settled_ring : (lent n : ℕ) → r ≡ ordered.Ring n → final_rows lent k places ws ≡ refused (by 11)
+  module _ (old new : List ℕ) (r : Result ⊤ OrderError) (o : InOrder (final_order k places ws count) count old new r) where
+    pub settled_ring : (lent n : ℕ) → r ≡ Err (order_error.Ring n) → final_rows lent k places ws ≡ refused (by 11)
     settled_ring lent n e = ring_by lent (32 * count) refl (ring_means order count n (sym e ∙ o.answer_is))
 
-    pub settled_never : r ≡ ordered.Broken → ⊥
+    pub settled_never : r ≡ Err order_error.Broken → ⊥
     settled_never e = never_broken order count (sym e ∙ o.answer_is)
 
-    module _ (e : r ≡ ordered.All) where
+    module _ (e : r ≡ Ok tt) where
       all_taken : length order ≡ count
       all_taken = all_means order count (sym e ∙ o.answer_is)
 

@@ -12,8 +12,9 @@ use Rattle.spec_tree.proofs.TokenLaws.{complete_within}
 use Rattle.words.proofs.words.Scanning.{Put, put_long}
 use Rattle.reciprocals.specs.settle.Steps.{settled_words}
 use Rattle.reciprocals.specs.settle.Answers.{Settling, settling}
-use Rattle.reciprocals.specs.declared.settle.Settled.{Settled}
-use Rattle.reciprocals.specs.declared.settle.Settled.TheVariants as settled
+use Rattle.std.specs.Prelude.{Result, Ok, Err}
+use Rattle.words.specs.declared.fault.Fault.{Fault}
+use Rattle.words.specs.declared.fault.Fault.TheVariants as fault
 use Rattle.reciprocals.proofs.bindings.Parts.{AllThere, settled_are}
 use Rattle.reciprocals.proofs.reciprocal.There.{tested_there}
 use Rattle.reciprocals.proofs.reciprocal.Whole.{first_words, first_settled, first_no_more, first_complete}
@@ -43,15 +44,15 @@ module _ {ws : List ℕ} {k m : ℕ} {places : List ℕ} (t : There ws k m place
     mid_long : length ws ≤ length mid
     mid_long = omega (arith, put_long old 0 ws mid (omega (arith, long)) copy, long)
 
-    settling_so : settling ws places 0 (m - k) mid (length ws) ≡ record { answer = settled.Words (length S); out = S ++ drop (length S) mid }
+    settling_so : settling ws places 0 (m - k) mid (length ws) ≡ record { answer = Ok (length S); out = S ++ drop (length S) mid }
     settling_so =
         first_settled ws places places_there (m - k) m t.complete mid copied (omega (arith, mid_long)) (omega (arith, t.few)) (omega (arith, t.numbers)) (omega (arith, t.numbers))
 
     pub settled_front :
-        (n : ℕ) (out : List ℕ) → settled.Words n ≡ (settling ws places 0 (m - k) mid (length ws)).answer → out ≡ (settling ws places 0 (m - k) mid (length ws)).out
+        (n : ℕ) (out : List ℕ) → Ok n ≡ (settling ws places 0 (m - k) mid (length ws)).answer → out ≡ (settling ws places 0 (m - k) mid (length ws)).out
         → SettledFront ws k m places out n
     settled_front n out e f =
-        let q : settled.Words n ≡ settled.Words (length S) = e ∙ ap (λ (s : Settling). s.answer) settling_so in
+        let q : Ok n ≡ Ok (length S) = e ∙ ap (λ (s : Settling). s.answer) settling_so in
         let p : n ≡ length S = cc in
         let o : out ≡ S ++ drop (length S) mid = f ∙ ap (λ (s : Settling). s.out) settling_so in
         let l = first_no_more ws places places_there (m - k) m t.complete in
@@ -61,9 +62,9 @@ module _ {ws : List ℕ} {k m : ℕ} {places : List ℕ} (t : There ws k m place
           short = omega (arith, p, l);
         }
 
-    pub settled_always : (b : Settled) → b ≡ (settling ws places 0 (m - k) mid (length ws)).answer → (b ≡ settled.Broken → ⊥) × (b ≡ settled.NoRoom → ⊥)
+    pub settled_always : (b : Result ℕ Fault) → b ≡ (settling ws places 0 (m - k) mid (length ws)).answer → (b ≡ Err fault.Broken → ⊥) × (b ≡ Err fault.NoRoom → ⊥)
     settled_always b e =
-        let q : b ≡ settled.Words (length S) = e ∙ ap (λ (s : Settling). s.answer) settling_so in
+        let q : b ≡ Ok (length S) = e ∙ ap (λ (s : Settling). s.answer) settling_so in
         ((λ x. let z : ◌≡◌ {A = ℕ} 0 1 = cc in omega arith), (λ x. let z : ◌≡◌ {A = ℕ} 0 1 = cc in omega arith))
 
   -- ---- listed

@@ -1,5 +1,6 @@
 -- A tree from before is taken from the settled words: its run stands where the list of trees says, and is the run of the final tree; a reciprocal is made, and is the
 -- run of the final tree too. Assumes nothing.
+use Rattle.std.specs.Prelude.{Some, None}
 use Prim.Native.Nat.{ℕ, suc, ◌+◌, ◌-◌, ◌≤◌, ◌<◌}
 use native.Mathlib.Omega.{arith}
 use mathlib.Core.Path.{◌≡◌, refl, sym, ◌∙◌, ap, subst}
@@ -16,7 +17,6 @@ use Rattle.spec_tree.specs.Tokens.{tokens, all_tokens, read, numbered, run_at, t
 use Rattle.spec_tree.proofs.TokenLaws.{complete_length, complete_within}
 use Rattle.spec_tree.proofs.TokenCode.{unnumbered, tokens_length}
 use Rattle.words.specs.tokens.Answers.{end_answer}
-use Rattle.words.specs.declared.tokens.Run.TheVariants as run
 use Rattle.words.proofs.words.Scanning.{Put}
 use Rattle.reciprocals.proofs.bindings.Parts.{AllThere, settled_are}
 use Rattle.reciprocals.specs.reciprocal.Bindings.{whole_reciprocal, BoundSo}
@@ -104,17 +104,17 @@ module _ {ws settled starts places : List ℕ} {k : ℕ} (ready : Ready ws settl
     run_within = omega (arith, ends_within settled i (omega (arith, read_count)), long_is, start_is)
 
     -- and so it is copied
-    pub never_broken : run.Broken ≡ end_answer (get_or starts i 0) (run_at settled (get_or starts i 0)) → ⊥
+    pub never_broken : None ≡ end_answer (get_or starts i 0) (run_at settled (get_or starts i 0)) → ⊥
     unfolding end_answer
     never_broken e =
-        let q : run.Broken ≡ run.Ends (get_or starts i 0 + length (final_run k places ws i)) = e ∙ ap (end_answer (get_or starts i 0)) run_there_is in
+        let q : None ≡ Some (get_or starts i 0 + length (final_run k places ws i)) = e ∙ ap (end_answer (get_or starts i 0)) run_there_is in
         let z : ◌≡◌ {A = ℕ} 0 1 = cc in
         omega arith
 
-    pub end_is : (end : ℕ) → run.Ends end ≡ end_answer (get_or starts i 0) (run_at settled (get_or starts i 0)) → end ≡ get_or starts i 0 + length (final_run k places ws i)
+    pub end_is : (end : ℕ) → Some end ≡ end_answer (get_or starts i 0) (run_at settled (get_or starts i 0)) → end ≡ get_or starts i 0 + length (final_run k places ws i)
     unfolding end_answer
     end_is end e =
-        let q : run.Ends end ≡ run.Ends (get_or starts i 0 + length (final_run k places ws i)) = e ∙ ap (end_answer (get_or starts i 0)) run_there_is in
+        let q : Some end ≡ Some (get_or starts i 0 + length (final_run k places ws i)) = e ∙ ap (end_answer (get_or starts i 0)) run_there_is in
         cc
 
     module _ (end : ℕ) (e : end ≡ get_or starts i 0 + length (final_run k places ws i)) where

@@ -3,7 +3,7 @@ use Prim.Native.Nat.{ℕ, zero, suc, ◌+◌, ◌-◌, ◌≤◌, ◌<◌}
 use native.Mathlib.Omega.{arith}
 use mathlib.Core.Path.{◌≡◌, refl, sym, ◌∙◌, ap, subst}
 use mathlib.Core.Bool.{Bool, true, false, not, ◌&&◌}
-use mathlib.Core.Option.{Option, some}
+use mathlib.Core.Option.{some}
 use mathlib.Core.List.{List, [], ◌∷◌, ◌++◌, map}
 use borrow.Author.Tests.{le-leb, ne_eqb}
 use lib.ListN.{length, get_or, take, drop, length-append, length-drop, length-take}
@@ -19,11 +19,11 @@ use Rattle.spec_tree.proofs.TokenCode.{unnumbered, writes_back}
 use Rattle.spec_rewrite.specs.Rewrite.{replace_divisor}
 use Rattle.laws.specs.positions.Places.{numbered_at, among_places, count_places}
 use Rattle.words.specs.tokens.Answers.{end_answer}
-use Rattle.words.specs.declared.tokens.Run.TheVariants as run
 use Rattle.words.proofs.words.Rewriting.{one_long}
 use Rattle.reciprocals.specs.settle.Answers.{Settling, settling}
-use Rattle.reciprocals.specs.declared.settle.Settled.{Settled}
-use Rattle.reciprocals.specs.declared.settle.Settled.TheVariants as settled
+use Rattle.std.specs.Prelude.{Result, Ok}
+use Rattle.std.specs.Result.{result_unwrap_or}
+use Rattle.words.specs.declared.fault.Fault.{Fault}
 use Rattle.reciprocals.specs.divisors.Places.{Inside}
 use Rattle.reciprocals.specs.reciprocal.Bindings.{one_over, no_division_words, is_plain, whole_reciprocal, BoundSo}
 use Rattle.reciprocals.proofs.bindings.Parts.{settle_tree, reciprocal, AllThere}
@@ -31,32 +31,24 @@ use Rattle.reciprocals.proofs.settle.Stepping.{Divisor, divisor_there}
 use Rattle.reciprocals.proofs.divisors.Counting.{among_counted}
 use Rattle.reciprocals.proofs.divisors.Within.{inside_take, inside_drop}
 use Rattle.reciprocals.proofs.reciprocal.Reading.{run_trees, over_complete, over_long, over_read}
-use Rattle.reciprocals.proofs.reciprocal.Made.{divisors, divisor, made, made_words, run_is, divisor_inside, so_made}
+use Rattle.reciprocals.proofs.reciprocal.Made.{divisors, divisor, made, made_words, run_is, so_made}
 use Rattle.reciprocals.proofs.reciprocal.Whole.{settled_from, settling_is}
 use Rattle.reciprocals.proofs.reciprocal.Unmoved.{read_kept, over_settled}
 
 -- ---- the test
 
-fails : (b : Bool) → not b ≡ true → b ≡ false
-fails true e = sym e
-fails false e = refl
-
-passes : (b : Bool) → not b ≡ false → b ≡ true
-passes true e = refl
-passes false e = sym e
-
-pub not_plain : (base later : List ℕ) (place n : ℕ) (b : Bool) → b ≡ no_division_words (take n (drop place base)) → not b ≡ true → false ≡ is_plain base later place n
+pub not_plain : (base later : List ℕ) (place n : ℕ) (b : Bool) → b ≡ no_division_words (take n (drop place base)) → b ≡ false → b ≡ is_plain base later place n
 unfolding is_plain
-not_plain base later place n b e f = ap (λ (x : Bool). x && not (among_places base place later)) (sym (fails b f) ∙ e)
+not_plain base later place n b e f = f ∙ ap (λ (x : Bool). x && not (among_places base place later)) (sym f ∙ e)
 
 pub plain_by :
-    (base later : List ℕ) (place n : ℕ) (b : Bool) → b ≡ no_division_words (take n (drop place base)) → not b ≡ false
+    (base later : List ℕ) (place n : ℕ) (b : Bool) → b ≡ no_division_words (take n (drop place base)) → b ≡ true
     → (c : ℕ) → c ≡ count_places base place later → eqb c 0 ≡ is_plain base later place n
 unfolding is_plain
 plain_by base later place n b e f c g =
     ap (λ (x : ℕ). eqb x 0) g
     ∙ (none_counted (count_places base place later)
-    ∙ (ap not (sym (among_counted base place later)) ∙ ap (λ (x : Bool). x && not (among_places base place later)) (sym (passes b f) ∙ e)))
+    ∙ (ap not (sym (among_counted base place later)) ∙ ap (λ (x : Bool). x && not (among_places base place later)) (sym f ∙ e)))
   where
     none_counted : (k : ℕ) → eqb k 0 ≡ not (leb 1 k)
     none_counted zero = refl
@@ -173,22 +165,26 @@ module _ (base places : List ℕ) (first j : ℕ) (h : j < length places) (there
     abbrev left : Settling
     left = settling base places (j + 1) first mid (2 + (end - get_or places j 0))
 
-    left_is : settling base places (j + 1) first mid (2 + (end - get_or places j 0)) ≡ record { answer = settled.Words (length (made_words base places first j)); out = made_words base places first j ++ drop (length (made_words base places first j)) mid }
+    left_is : settling base places (j + 1) first mid (2 + (end - get_or places j 0)) ≡ record { answer = Ok (length (made_words base places first j)); out = made_words base places first j ++ drop (length (made_words base places first j)) mid }
     left_is =
         settling_is base places there (j + 1) first mid (2 + many) 1 whole_over front_fits (omega (arith, few, ended.within)) low less
-        ∙ ap (λ (l : List ℕ). record { answer = settled.Words (length l); out = l ++ drop (length l) mid }) SIs
+        ∙ ap (λ (l : List ℕ). record { answer = Ok (length l); out = l ++ drop (length l) mid }) SIs
 
-    pub bound_settled :
-        (m : ℕ) (out : List ℕ) → settled.Words m ≡ (settling base places (j + 1) first mid (2 + (end - get_or places j 0))).answer
+    bound_settled :
+        (m : ℕ) (out : List ℕ) → Ok m ≡ (settling base places (j + 1) first mid (2 + (end - get_or places j 0))).answer
         → out ≡ (settling base places (j + 1) first mid (2 + (end - get_or places j 0))).out → BoundSo (whole_reciprocal base places first j) m out
     bound_settled m out e f =
         let new = made_words base places first j in
-        let q : settled.Words m ≡ settled.Words (length new) = e ∙ ap (λ (s : Settling). s.answer) left_is in
+        let q : Ok m ≡ Ok (length new) = e ∙ ap (λ (s : Settling). s.answer) left_is in
         let c : m ≡ length new = cc in
         let o : out ≡ new ++ drop (length new) mid = f ∙ ap (λ (s : Settling). s.out) left_is in
         so_made base places first j h there out m c (ap (take m) o ∙ take_at new (drop (length new) mid) m (sym c)) (omega (arith, c, ap length o, length-append new (drop (length new) mid)))
 
-    pub always_settled : (b : Settled) → b ≡ (settling base places (j + 1) first mid (2 + (end - get_or places j 0))).answer → (b ≡ settled.Broken → ⊥) × (b ≡ settled.NoRoom → ⊥)
-    always_settled b e =
-        let q : b ≡ settled.Words (length (made_words base places first j)) = e ∙ ap (λ (s : Settling). s.answer) left_is in
-        ((λ x. let z : ◌≡◌ {A = ℕ} 0 1 = cc in omega arith), (λ x. let z : ◌≡◌ {A = ℕ} 0 1 = cc in omega arith))
+    pub bound_so :
+        (r : Result ℕ Fault) (m : ℕ) (out : List ℕ) → r ≡ (settling base places (j + 1) first mid (2 + (end - get_or places j 0))).answer
+        → out ≡ (settling base places (j + 1) first mid (2 + (end - get_or places j 0))).out → m ≡ result_unwrap_or r (2 + (end - get_or places j 0))
+        → BoundSo (whole_reciprocal base places first j) m out
+    bound_so r m out e f g =
+        let is = ap (λ (s : Settling). s.answer) left_is in
+        let c : m ≡ length (made_words base places first j) = g ∙ ap (λ (x : Result ℕ Fault). result_unwrap_or x (2 + (end - get_or places j 0))) (e ∙ is) in
+        bound_settled m out (ap Ok c ∙ sym is) f

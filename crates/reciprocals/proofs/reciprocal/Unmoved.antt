@@ -1,15 +1,13 @@
 -- `1 / d` stays as it is where no word of d is a division's and none of the divisors after it is d: no later divisor is replaced in it. Assumes nothing.
-use Prim.Native.Nat.{ℕ, suc, ◌+◌, ◌≤◌, ◌<◌}
-use native.Mathlib.Omega.{arith}
+use Prim.Native.Nat.{ℕ, suc}
 use mathlib.Core.Path.{◌≡◌, refl, sym, ◌∙◌, ap, ap₂, subst}
 use mathlib.Core.Bool.{Bool, true, false, not, ◌&&◌}
 use mathlib.Core.List.{List, [], ◌∷◌, map}
-use borrow.Author.Tests.{eq-eqb, ne_eqb}
 use lib.IntN.{pos}
-use lib.ListN.{length, get_or, take, drop, drop_of_length-le}
-use lib.Seq.{drop-cons}
+use lib.ListN.{take, drop}
 use lib.Dec.{T, eqb}
-use Rattle.spec_tree.specs.Tree.{Name, xname, Tree, Forest, Sym, Const, Op, nil, ◌◂◌, forest, eq_tree}
+use Rattle.std.specs.List.{list_all}
+use Rattle.spec_tree.specs.Tree.{Name, xname, Tree, Forest, Const, Op, nil, ◌◂◌, forest, eq_tree}
 use Rattle.spec_tree.specs.Kinds.{Mul, Div}
 use Rattle.spec_tree.specs.Tokens.{read, numbered, kind_of, takes, tree_of_word}
 use Rattle.spec_tree.proofs.Logic.{and_left, and_right, not_so}
@@ -20,29 +18,12 @@ use Rattle.laws.specs.positions.Places.{numbered_at, among_places}
 use Rattle.reciprocals.specs.reciprocal.Bindings.{no_division_words}
 use Rattle.reciprocals.proofs.bindings.Parts.{settle_tree, reciprocal}
 
--- ---- the test of words, one by one
+-- ---- the test of words
 
--- what is still to be tested decides
-abbrev pub Decides : List ℕ → ℕ → Type 0
-Decides ws i = no_division_words (drop i ws) ≡ no_division_words ws
-
-module _ (ws : List ℕ) (i : ℕ) (more : i < length ws) (state : Decides ws i) where
-  next : not (eqb (kind_of (get_or ws i 0)) 6) && no_division_words (drop (suc i) ws) ≡ no_division_words ws
-  unfolding no_division_words
-  next = ap no_division_words (sym (drop-cons ws i 0 more)) ∙ state
-
-  pub turn_division : kind_of (get_or ws i 0) ≡ 6 → false ≡ no_division_words ws
-  turn_division e = ap (λ (b : Bool). not b && no_division_words (drop (suc i) ws)) (sym (eq-eqb (kind_of (get_or ws i 0)) 6 e)) ∙ next
-
-  pub turn_none : (kind_of (get_or ws i 0) ≡ 6 → ⊥) → Decides ws (i + 1)
-  turn_none e =
-      let k : i + 1 ≡ suc i = omega arith in
-      ap (λ (j : ℕ). no_division_words (drop j ws)) k
-      ∙ (ap (λ (b : Bool). not b && no_division_words (drop (suc i) ws)) (sym (ne_eqb (kind_of (get_or ws i 0)) 6 e)) ∙ next)
-
-pub all_tested : (ws : List ℕ) (i : ℕ) → length ws ≤ i → Decides ws i → true ≡ no_division_words ws
+pub none_divides : (ws : List ℕ) → list_all (λ w. not (eqb (kind_of w) 6)) ws ≡ no_division_words ws
 unfolding no_division_words
-all_tested ws i h state = ap no_division_words (sym (drop_of_length-le ws {i = i} h)) ∙ state
+none_divides [] = refl
+none_divides (w ∷ ws) = ap (λ (b : Bool). not (eqb (kind_of w) 6) && b) (none_divides ws)
 
 -- ---- trees without a division
 

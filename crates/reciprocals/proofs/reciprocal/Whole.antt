@@ -16,7 +16,7 @@ use Rattle.laws.specs.positions.Places.{numbered_at}
 use Rattle.words.specs.words.Words.{some_trees}
 use Rattle.reciprocals.specs.settle.Steps.{settled_words}
 use Rattle.reciprocals.specs.settle.Answers.{settling_by, forest_there, room_for, settling}
-use Rattle.reciprocals.specs.declared.settle.Settled.TheVariants as settled
+use Rattle.std.specs.Prelude.{Ok}
 use Rattle.reciprocals.proofs.bindings.Parts.{settle_tree, AllThere, settled_are}
 use Rattle.reciprocals.proofs.reciprocal.There.{there_after}
 use Rattle.reciprocals.proofs.reciprocal.Reading.{settled_no_more, settled_complete, settled_read}
@@ -40,7 +40,7 @@ module _ (base places : List ℕ) (there : AllThere base places) where
         settled_are base (drop from places) (first + from) (take len old) m complete (there_after base places from there)
         ∙ ap (λ (ds : List Tree). some (all_tokens unnumbered (map (settle_tree ds (first + from)) (read numbered (take len old))))) (map_drop (numbered_at base) from places)
 
-    pub settling_is : settling base places from first old len ≡ record { answer = settled.Words (length settled_from); out = settled_from ++ drop (length settled_from) old }
+    pub settling_is : settling base places from first old len ≡ record { answer = Ok (length settled_from); out = settled_from ++ drop (length settled_from) old }
     unfolding settling settling_by
     settling_is =
         let o = settled_words base (drop from places) (first + from) (take len old) in
@@ -57,14 +57,14 @@ module _ (base places : List ℕ) (there : AllThere base places) where
 
     pub first_settled :
         (old : List ℕ) → take (length base) old ≡ base → length base ≤ length old → length base ≤ 1929 → first ≤ 4294967296 → length places ≤ 4294967296
-        → settling base places 0 first old (length base) ≡ record { answer = settled.Words (length first_words); out = first_words ++ drop (length first_words) old }
+        → settling base places 0 first old (length base) ≡ record { answer = Ok (length first_words); out = first_words ++ drop (length first_words) old }
     first_settled old copy lent small low few =
         let i : first + 0 ≡ first = omega arith in
         let e : settled_from 0 first old (length base) m (ap trees_in copy ∙ complete) lent small low few ≡ first_words =
         ap (λ (ws : List ℕ). all_tokens unnumbered (map (settle_tree (map (numbered_at base) places) (first + 0)) (read numbered ws))) copy
         ∙ ap (λ (n : ℕ). all_tokens unnumbered (map (settle_tree (map (numbered_at base) places) n) (read numbered base))) i in
         settling_is 0 first old (length base) m (ap trees_in copy ∙ complete) lent small low few
-        ∙ ap (λ (l : List ℕ). record { answer = settled.Words (length l); out = l ++ drop (length l) old }) e
+        ∙ ap (λ (l : List ℕ). record { answer = Ok (length l); out = l ++ drop (length l) old }) e
 
     pub first_no_more : length first_words ≤ length base
     first_no_more = settled_no_more (map (numbered_at base) places) first base

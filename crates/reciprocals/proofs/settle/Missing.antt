@@ -9,16 +9,16 @@ use borrow.Author.Tests.{leb-false}
 use lib.ListN.{length, get_or, take, drop, length-drop}
 use lib.Seq.{drop-cons}
 use lib.Dec.{T, eqb, leb, eqb→eq, leb→le}
-use Rattle.spec_tree.specs.Tree.{Name, Tree}
-use Rattle.spec_tree.specs.Tokens.{kind_of, below_of, read, run_at, trees_in, all_tokens, numbered}
+use Rattle.spec_tree.specs.Tree.{Name}
+use Rattle.spec_tree.specs.Tokens.{kind_of, below_of, read, run_at, trees_in, all_tokens}
 use Rattle.spec_tree.proofs.Lists.{rest_is}
 use Rattle.spec_tree.proofs.Logic.{or_left_false, or_right_false}
 use Rattle.spec_tree.proofs.TokenLaws.{complete_tail}
 use Rattle.spec_rewrite.specs.Rewrite.{replace_divisor}
 use Rattle.words.specs.tokens.Answers.{end_answer}
-use Rattle.words.specs.declared.tokens.Run.TheVariants as run
 use Rattle.words.specs.words.Words.{rewritten_words, tree_of, begins_with, Complete}
-use Rattle.words.proofs.words.Requests.{begins_short}
+use Rattle.words.proofs.words.Requests.{begins_short, begins_is}
+use Rattle.std.specs.Cmp.Lexicographic.{pointwise}
 use Rattle.words.proofs.words.Rewriting.{one_long}
 use Rattle.replace.specs.divisor.Division.{divided_by}
 use Rattle.replace.proofs.divisor.Dividing.{other_kind, other_few, node_stays}
@@ -39,19 +39,21 @@ module _ (d : List ℕ) where
         ap (λ (l : List ℕ). begins_with l d || stand_among d (drop (suc i) ws)) (drop-cons ws i 0 more)
         ∙ (ap (stand_among d) (sym (drop-cons ws i 0 more)) ∙ state)
 
-    told : (b : Bool) → b ≡ begins_with (take (length ws - i) (drop i ws)) d → begins_with (drop i ws) d ≡ b
-    told b e = sym (e ∙ ap (λ (l : List ℕ). begins_with l d) (rest_is ws i))
+    told : (b : Bool) → b ≡ pointwise eqb d (take (i + length d - i) (drop i ws)) → begins_with (drop i ws) d ≡ b
+    told b e =
+        let z : i + length d - i ≡ length d = omega arith in
+        sym (begins_is (drop i ws) d b (e ∙ ap (λ (n : ℕ). pointwise eqb d (take n (drop i ws))) z))
 
-    pub turn_found : (b : Bool) → b ≡ begins_with (take (length ws - i) (drop i ws)) d → b ≡ true → true ≡ stand_among d ws
+    pub turn_found : (b : Bool) → b ≡ pointwise eqb d (take (i + length d - i) (drop i ws)) → b ≡ true → true ≡ stand_among d ws
     turn_found b e f = ap (λ (x : Bool). x || stand_among d (drop (suc i) ws)) (sym f ∙ sym (told b e)) ∙ next
 
-    pub turn_missed : (b : Bool) → b ≡ begins_with (take (length ws - i) (drop i ws)) d → b ≡ false → Decides ws (i + 1)
+    pub turn_missed : (b : Bool) → b ≡ pointwise eqb d (take (i + length d - i) (drop i ws)) → b ≡ false → Decides ws (i + 1)
     turn_missed b e f =
         let k : i + 1 ≡ suc i = omega arith in
         ap (λ (j : ℕ). stand_among d (drop j ws)) k ∙ (ap (λ (x : Bool). x || stand_among d (drop (suc i) ws)) (sym f ∙ sym (told b e)) ∙ next)
 
   -- too few words are left
-  too_few : (ws : List ℕ) → length ws < length d → stand_among d ws ≡ false
+  pub too_few : (ws : List ℕ) → length ws < length d → stand_among d ws ≡ false
   unfolding stand_among
   too_few [] h = refl
   too_few (w ∷ ws) h = ap (λ (b : Bool). b || stand_among d ws) (sym (begins_short (w ∷ ws) d h)) ∙ too_few ws (omega arith)

@@ -1,5 +1,5 @@
 -- Step after step, and what settling answers: the words so far, with the steps to come, are the whole. Assumes nothing.
-use Prim.Native.Nat.{ℕ, suc, ◌+◌, ◌-◌, ◌*◌, ◌/◌, ◌%◌, ◌≤◌, ◌<◌}
+use Prim.Native.Nat.{ℕ, suc, ◌+◌, ◌*◌, ◌/◌, ◌%◌, ◌≤◌, ◌<◌}
 use native.Mathlib.Omega.{arith}
 use mathlib.Core.Path.{◌≡◌, refl, sym, ◌∙◌, ap, ap₂, subst}
 use mathlib.Core.Bool.{Bool, true, false}
@@ -15,10 +15,11 @@ use Rattle.words.specs.words.Words.{rewritten_words, tree_of, name_of, some_tree
 use Rattle.replace.proofs.divisor.Chaining.{never_longer, as_many_trees}
 use Rattle.reciprocals.specs.settle.Steps.{step_words, settled_words}
 use Rattle.reciprocals.specs.settle.Answers.{stepped_answer, Front, Settling, settling_by, forest_there, room_for, settling}
-use Rattle.reciprocals.specs.declared.settle.Stepped.{Stepped}
-use Rattle.reciprocals.specs.declared.settle.Stepped.TheVariants as stepped
-use Rattle.reciprocals.specs.declared.settle.Settled.{Settled}
-use Rattle.reciprocals.specs.declared.settle.Settled.TheVariants as settled
+use Rattle.std.specs.Prelude as answer
+use Rattle.std.specs.Prelude.{Result, Ok, Err}
+use Rattle.std.specs.Option.{ok_or}
+use Rattle.words.specs.declared.fault.Fault.{Fault}
+use Rattle.words.specs.declared.fault.Fault.TheVariants as fault
 use Rattle.spec_tree.proofs.Lists.{fits_in, none_left}
 
 -- ---- names
@@ -95,7 +96,7 @@ module _ {base places : List ℕ} {from first : ℕ} {ws : List ℕ} {room spare
   abbrev pub whole : Option (List ℕ)
   whole = settled_words base (drop from places) (first + from) ws
 
-  abbrev pub Ends : Stepped → List ℕ → Type 0
+  abbrev pub Ends : answer.Option ℕ → List ℕ → Type 0
   Ends r out = (r ≡ stepped_answer whole) × Front whole out
 
   module _ (more : k < length places) where
@@ -112,21 +113,21 @@ module _ {base places : List ℕ} {from first : ℕ} {ws : List ℕ} {room spare
     unfolding settled_words
     after o e = subst (λ (q : Option (List ℕ)). ◌≡◌ {A = Option (List ℕ)} (elim q [ none ↦ none | some vs ↦ settled_words base (drop (suc k) places) (suc (first + k)) vs ]) whole) (sym step_is ∙ e) ahead
 
-    pub turn_broken : (out : List ℕ) → stepped.Broken ≡ stepped_answer one → Ends stepped.Broken out
+    pub turn_broken : (out : List ℕ) → answer.None ≡ stepped_answer one → Ends answer.None out
     unfolding stepped_answer Front
     turn_broken out e = go one refl e
       where
-        go : (o : Option (List ℕ)) → one ≡ o → stepped.Broken ≡ stepped_answer o → Ends stepped.Broken out
-        go none s q = subst (λ (w : Option (List ℕ)). (stepped.Broken ≡ stepped_answer w) × Front w out) (after none s) (refl, tt)
+        go : (o : Option (List ℕ)) → one ≡ o → answer.None ≡ stepped_answer o → Ends answer.None out
+        go none s q = subst (λ (w : Option (List ℕ)). (answer.None ≡ stepped_answer w) × Front w out) (after none s) (refl, tt)
         go (some vs) s q = let z : ◌≡◌ {A = ℕ} 0 1 = cc in absurd (omega arith)
 
     pub turn :
-        (m : ℕ) (work' spare' : List ℕ) → stepped.Words m ≡ stepped_answer one → Front one work' → length work' ≡ length work → length spare' ≡ length spare
+        (m : ℕ) (work' spare' : List ℕ) → answer.Some m ≡ stepped_answer one → Front one work' → length work' ≡ length work → length spare' ≡ length spare
         → State base places from first ws room spares work' spare' (k + 1) m
     unfolding stepped_answer Front
     turn m work' spare' e f l g = go one refl e f
       where
-        go : (o : Option (List ℕ)) → one ≡ o → stepped.Words m ≡ stepped_answer o → Front o work' → State base places from first ws room spares work' spare' (k + 1) m
+        go : (o : Option (List ℕ)) → one ≡ o → answer.Some m ≡ stepped_answer o → Front o work' → State base places from first ws room spares work' spare' (k + 1) m
         go none s q t = let z : ◌≡◌ {A = ℕ} 0 1 = cc in absurd (omega arith)
         go (some vs) s q t =
             let c : m ≡ length vs = cc in
@@ -144,24 +145,32 @@ module _ {base places : List ℕ} {from first : ℕ} {ws : List ℕ} {room spare
               same = ap (settled_words base (drop (k + 1) places) (first + (k + 1))) v ∙ (sym (ap (λ (x : ℕ). settled_words base (drop x places) (first + (k + 1)) vs) i) ∙ (sym (ap (λ (y : ℕ). settled_words base (drop (suc k) places) y vs) j) ∙ after (some vs) s));
             }
 
-  pub ends : length places ≤ k → Ends (stepped.Words n) work
+  pub ends : length places ≤ k → Ends (answer.Some n) work
   unfolding settled_words stepped_answer Front
   ends h =
       let l = length-take-le n work (omega (arith, state.fits, state.long)) in
       let e : some (take n work) ≡ whole = sym (ap (λ (r : List ℕ). settled_words base r (first + k) (take n work)) (none_left k places h)) ∙ state.same in
-      subst (λ (w : Option (List ℕ)). (stepped.Words n ≡ stepped_answer w) × Front w work) e (ap stepped.Words (sym l), ap (λ (i : ℕ). take i work) l)
+      subst (λ (w : Option (List ℕ)). (answer.Some n ≡ stepped_answer w) × Front w work) e (ap answer.Some (sym l), ap (λ (i : ℕ). take i work) l)
 
 -- ---- what settling answers and leaves
 
+pub some_steps : (o : answer.Option ℕ) (r : Result ℕ Fault) (n : ℕ) → r ≡ ok_or o fault.Broken → r ≡ Ok n → answer.Some n ≡ o
+some_steps answer.None r n e p = absurd (let z : ◌≡◌ {A = ℕ} 0 1 = cc in omega arith)
+some_steps (answer.Some m) r n e p = let q : n ≡ m = cc in ap answer.Some q
+
+pub no_steps : (o : answer.Option ℕ) (r : Result ℕ Fault) (f : Fault) → r ≡ ok_or o fault.Broken → r ≡ Err f → answer.None ≡ o
+no_steps answer.None r f e p = refl
+no_steps (answer.Some m) r f e p = absurd (let z : ◌≡◌ {A = ℕ} 0 1 = cc in omega arith)
+
 module _ (base places : List ℕ) (from first : ℕ) (old : List ℕ) (len : ℕ) where
-  abbrev pub Answers : Settled → List ℕ → Type 0
+  abbrev pub Answers : Result ℕ Fault → List ℕ → Type 0
   Answers r out = (r ≡ (settling base places from first old len).answer) × (out ≡ (settling base places from first old len).out)
 
   abbrev pub became : Option (List ℕ)
   became = settled_words base (drop from places) (first + from) (take len old)
 
   answers_by :
-      (a b : Bool) → forest_there old len ≡ a → room_for len first (length places) ≡ b → (r : Settled) (out : List ℕ) → settling_by a b became old ≡ record { answer = r; out = out }
+      (a b : Bool) → forest_there old len ≡ a → room_for len first (length places) ≡ b → (r : Result ℕ Fault) (out : List ℕ) → settling_by a b became old ≡ record { answer = r; out = out }
       → Answers r out
   unfolding settling
   answers_by a b e f r out q =
@@ -169,34 +178,34 @@ module _ (base places : List ℕ) (from first : ℕ) (old : List ℕ) (len : ℕ
       ap (λ (x : Bool). settling_by x (room_for len first (length places)) became old) e ∙ (ap (λ (y : Bool). settling_by a y became old) f ∙ q) in
       (sym (ap (λ (x : Settling). x.answer) s), sym (ap (λ (x : Settling). x.out) s))
 
-  pub too_few : length old < len → Answers settled.Broken old
+  pub too_few : length old < len → Answers (Err fault.Broken) old
   unfolding forest_there settling_by
-  too_few h = answers_by false (room_for len first (length places)) (rw (lt-leb len (length old) h) refl) refl settled.Broken old refl
+  too_few h = answers_by false (room_for len first (length places)) (rw (lt-leb len (length old) h) refl) refl (Err fault.Broken) old refl
 
-  pub incomplete : trees_in (take len old) ≡ none → len ≤ length old → Answers settled.Broken old
+  pub incomplete : trees_in (take len old) ≡ none → len ≤ length old → Answers (Err fault.Broken) old
   unfolding forest_there settling_by some_trees
-  incomplete e h = answers_by false (room_for len first (length places)) (rw (le-leb len (length old) h) (rw e refl)) refl settled.Broken old refl
+  incomplete e h = answers_by false (room_for len first (length places)) (rw (le-leb len (length old) h) (rw e refl)) refl (Err fault.Broken) old refl
 
   module _ (h : len ≤ length old) (complete : Complete (take len old)) where
     there : forest_there old len ≡ true
     unfolding forest_there some_trees
     there = rw (le-leb len (length old) h) (rw complete.1 refl)
 
-    full : room_for len first (length places) ≡ false → Answers settled.NoRoom old
+    full : room_for len first (length places) ≡ false → Answers (Err fault.NoRoom) old
     unfolding settling_by
-    full e = answers_by true false there e settled.NoRoom old refl
+    full e = answers_by true false there e (Err fault.NoRoom) old refl
 
-    pub long_list : 1929 < len → Answers settled.NoRoom old
+    pub long_list : 1929 < len → Answers (Err fault.NoRoom) old
     unfolding room_for
     long_list g = full (rw (lt-leb len 1929 g) refl)
 
     module _ (short : len ≤ 1929) where
-      pub high_number : 4294967296 < first → Answers settled.NoRoom old
+      pub high_number : 4294967296 < first → Answers (Err fault.NoRoom) old
       unfolding room_for
       high_number g = full (rw (le-leb len 1929 short) (rw (lt-leb first 4294967296 g) refl))
 
       module _ (low : first ≤ 4294967296) where
-        pub many_places : 4294967296 < length places → Answers settled.NoRoom old
+        pub many_places : 4294967296 < length places → Answers (Err fault.NoRoom) old
         unfolding room_for
         many_places g = full (rw (le-leb len 1929 short) (rw (le-leb first 4294967296 low) (rw (lt-leb (length places) 4294967296 g) refl)))
 
@@ -206,21 +215,21 @@ module _ (base places : List ℕ) (from first : ℕ) (old : List ℕ) (len : ℕ
           room = rw (le-leb len 1929 short) (rw (le-leb first 4294967296 low) (rw (le-leb (length places) 4294967296 few) refl))
 
           -- no divisor is left to replace
-          pub nothing_to_settle : length places ≤ from → Answers (settled.Words len) old
+          pub nothing_to_settle : length places ≤ from → Answers (Ok len) old
           unfolding settling_by settled_words
           nothing_to_settle g =
               let l = length-take-le len old h in
               let e : became ≡ some (take len old) = ap (λ (q : List ℕ). settled_words base q (first + from) (take len old)) (none_left from places g) in
               let w : take len old ++ drop (length (take len old)) old ≡ old =
               ap (λ (i : ℕ). take len old ++ drop i old) l ∙ take-append-drop len old in
-              answers_by true true there room (settled.Words len) old
+              answers_by true true there room (Ok len) old
               (ap (λ (o : Option (List ℕ)). settling_by true true o old) e
-              ∙ ap₂ (λ (i : ℕ) (o : List ℕ). record { answer = settled.Words i; out = o }) l w)
+              ∙ ap₂ (λ (i : ℕ) (o : List ℕ). record { answer = Ok i; out = o }) l w)
 
           -- the words are copied to an area
-          module _ (area copied : List ℕ) (copies : copied ≡ take len old ++ drop (length (take len old)) area) where
+          module _ (area copied : List ℕ) (copies : copied ≡ take len old ++ drop len area) where
             pub copied_front : take len copied ≡ take len old
-            copied_front = ap (take len) copies ∙ take_at (take len old) (drop (length (take len old)) area) len (length-take-le len old h)
+            copied_front = ap (take len) copies ∙ take_at (take len old) (drop len area) len (length-take-le len old h)
 
             abbrev pub result : Option (List ℕ)
             result = settled_words base (drop from places) (first + from) (take len copied)
@@ -228,15 +237,15 @@ module _ (base places : List ℕ) (from first : ℕ) (old : List ℕ) (len : ℕ
             result_is : result ≡ became
             result_is = ap (settled_words base (drop from places) (first + from)) copied_front
 
-            pub unsettled : stepped.Broken ≡ stepped_answer result → Answers settled.Broken old
+            pub unsettled : answer.None ≡ stepped_answer result → Answers (Err fault.Broken) old
             unfolding stepped_answer settling_by
             unsettled e = go became refl (e ∙ ap stepped_answer result_is)
               where
-                go : (o : Option (List ℕ)) → became ≡ o → stepped.Broken ≡ stepped_answer o → Answers settled.Broken old
-                go none s q = answers_by true true there room settled.Broken old (ap (λ (w : Option (List ℕ)). settling_by true true w old) s)
+                go : (o : Option (List ℕ)) → became ≡ o → answer.None ≡ stepped_answer o → Answers (Err fault.Broken) old
+                go none s q = answers_by true true there room (Err fault.Broken) old (ap (λ (w : Option (List ℕ)). settling_by true true w old) s)
                 go (some new) s q = let z : ◌≡◌ {A = ℕ} 0 1 = cc in absurd (omega arith)
 
-            module _ (n : ℕ) (work : List ℕ) (e : stepped.Words n ≡ stepped_answer result) (f : Front result work) where
+            module _ (n : ℕ) (work : List ℕ) (e : answer.Some n ≡ stepped_answer result) (f : Front result work) where
               pub record New : Type 0 where
                 pub new : List ℕ
                 pub is : became ≡ some new
@@ -247,7 +256,7 @@ module _ (base places : List ℕ) (from first : ℕ) (old : List ℕ) (len : ℕ
               unfolding stepped_answer Front
               new_there = go result refl e f
                 where
-                  go : (o : Option (List ℕ)) → result ≡ o → stepped.Words n ≡ stepped_answer o → Front o work → New
+                  go : (o : Option (List ℕ)) → result ≡ o → answer.Some n ≡ stepped_answer o → Front o work → New
                   go none s q t = let z : ◌≡◌ {A = ℕ} 0 1 = cc in absurd (omega arith)
                   go (some new) s q t =
                       let c : n ≡ length new = cc in
@@ -269,19 +278,13 @@ module _ (base places : List ℕ) (from first : ℕ) (old : List ℕ) (len : ℕ
                   let c = x.count in
                   omega (arith, fits_in n work, l, c)
 
-              pub goes_back : length (take n work) ≤ length old
-              goes_back =
-                  let x = new_there in
-                  let l : length (take n work) ≡ length x.new = ap length x.front in
-                  let c = x.count in
-                  omega (arith, no_more, l, c, h)
-
-              pub settled_so : (out : List ℕ) → out ≡ take n work ++ drop (length (take n work)) old → Answers (settled.Words n) out
+              pub settled_so : (part : List ℕ) → part ≡ take n work → Answers (Ok n) (part ++ drop n old)
               unfolding settling_by
-              settled_so out q =
+              settled_so part q =
                   let x = new_there in
-                  let w : out ≡ x.new ++ drop (length x.new) old = q ∙ ap (λ (l : List ℕ). l ++ drop (length l) old) x.front in
-                  answers_by true true there room (settled.Words n) out
+                  let w : part ++ drop n old ≡ x.new ++ drop (length x.new) old =
+                  ap (λ (l : List ℕ). l ++ drop n old) (q ∙ x.front) ∙ ap (λ (i : ℕ). x.new ++ drop i old) x.count in
+                  answers_by true true there room (Ok n) (part ++ drop n old)
                   (ap (λ (o : Option (List ℕ)). settling_by true true o old) x.is
-                  ∙ (ap (λ (i : ℕ). record { answer = settled.Words i; out = x.new ++ drop (length x.new) old }) (sym x.count)
-                  ∙ ap (λ (l : List ℕ). record { answer = settled.Words n; out = l }) (sym w)))
+                  ∙ (ap (λ (i : ℕ). record { answer = Ok i; out = x.new ++ drop (length x.new) old }) (sym x.count)
+                  ∙ ap (λ (l : List ℕ). record { answer = Ok n; out = l }) (sym w)))

@@ -1,5 +1,5 @@
 -- What the functions that work on lists of places are lent and leave. Assumes nothing.
-use Rattle.std.specs.Prelude.{ℕ, ◌<◌, ◌≡◌, Bool, not, ◌&&◌, cond, List, [], ◌∷◌, ◌++◌, length, get_or, take, drop, set, leb}
+use Rattle.std.specs.Prelude.{ℕ, ◌<◌, ◌≡◌, Bool, not, ◌&&◌, cond, List, [], ◌∷◌, ◌++◌, length, get_or, take, drop, set, leb, Option, None}
 use Rattle.spec_tree.specs.Facts.{size}
 use Rattle.rounds.specs.uses.Marks.{is_marked}
 use Rattle.reciprocals.specs.divisors.Listing.{second_answer}
@@ -29,10 +29,10 @@ pub record Listed (new old : List ℕ) (n : ℕ) (out : List ℕ) : Type 0 where
   pub count : n ≡ length new
   pub places : out ≡ new ++ drop (length new) old
 
--- where the divisor of the division at a marked place stands, 0 where there is none
-unfoldable pub marked_second : List ℕ → List ℕ → ℕ → ℕ
+-- where the divisor of the division at a marked place stands, if there is one
+unfoldable pub marked_second : List ℕ → List ℕ → ℕ → Option ℕ
 unfolding second_answer is_marked
-marked_second ws marks p = cond (is_marked marks p) (second_answer ws p) 0
+marked_second ws marks p = cond (is_marked marks p) (second_answer ws p) None
 
 -- the places of the divisors of divisions outside arms
 unfoldable pub outside_places : List ℕ → Bool → List ℕ

@@ -1,13 +1,13 @@
 -- What the parts of the end of flat extraction are given and give: the words with their trees settled, where each tree begins, which binding needs which, and the
 -- rows of the answer. Assumes nothing.
-use Rattle.std.specs.Prelude.{ℕ, zero, suc, ◌+◌, ◌-◌, ◌*◌, ◌≤◌, ◌<◌, ◌≡◌, true, cond, List, length, get_or, take, replicate, T, ltb}
+use Rattle.std.specs.Prelude.{ℕ, zero, suc, ◌+◌, ◌-◌, ◌*◌, ◌≤◌, ◌<◌, ◌≡◌, true, cond, List, length, get_or, take, replicate, T, ltb, Result, ⊤}
 use Rattle.std.proofs.Math.Option.{some}
 use Rattle.spec_tree.specs.Outcome.{Outcome, ok, refused, by}
 use Rattle.spec_tree.specs.Tokens.{trees_in}
 use Rattle.spec_cse.specs.Order.{positions_taken}
 use Rattle.spec_cse.specs.Call.{Extracted}
 use Rattle.topo_sort.specs.Needs.{table_of, order_answer, order_written}
-use Rattle.topo_sort.specs.declared.Ordered.{Ordered}
+use Rattle.topo_sort.specs.declared.OrderError.{OrderError}
 use Rattle.reciprocals.specs.settle.Steps.{settled_words}
 use Rattle.topo_sort.specs.reads.Marks.{with_needs}
 use Rattle.reciprocals.specs.reciprocal.Bindings.{all_there}
@@ -63,7 +63,7 @@ unfoldable pub final_order : ℕ → List ℕ → List ℕ → ℕ → List ℕ
 unfolding marks binding_run table_of positions_taken
 final_order k places ws count = positions_taken (table_of (marks (binding_run k places ws) count (replicate (32 * count) 0)) count)
 
-pub record InOrder (order : List ℕ) (count : ℕ) (old new : List ℕ) (answer : Ordered) : Type 0 where
+pub record InOrder (order : List ℕ) (count : ℕ) (old new : List ℕ) (answer : Result ⊤ OrderError) : Type 0 where
   pub answer_is : answer ≡ order_answer true count order
   pub taken_is : new ≡ order_written true order old
   pub inside : count ≤ length new

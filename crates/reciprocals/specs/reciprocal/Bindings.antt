@@ -1,6 +1,6 @@
 -- The binding of one divisor's reciprocal as words (01, "Reciprocals"): the words of `1 / d` settled by the divisors after it, where they stand, and when they stay
 -- as they are. Assumes nothing.
-use Rattle.std.specs.Prelude.{ℕ, ◌+◌, ◌≤◌, ◌≡◌, Bool, true, false, not, ◌&&◌, List, [], ◌∷◌, length, get_or, take, drop, eqb}
+use Rattle.std.specs.Prelude.{ℕ, ◌+◌, ◌≤◌, ◌≡◌, Bool, true, not, ◌&&◌, List, [], ◌∷◌, length, get_or, take, drop, eqb}
 use Rattle.std.proofs.Math.Option.{Option, none, some}
 use Rattle.spec_tree.specs.Kinds.{Div}
 use Rattle.spec_tree.specs.Facts.{size}

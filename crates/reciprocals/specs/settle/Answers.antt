@@ -4,14 +4,14 @@ use Rattle.std.proofs.Math.Option.{Option, none, some}
 use Rattle.spec_tree.specs.Tokens.{trees_in}
 use Rattle.words.specs.words.Words.{some_trees}
 use Rattle.reciprocals.specs.settle.Steps.{settled_words}
-use Rattle.reciprocals.specs.declared.settle.Stepped.{Stepped}
-use Rattle.reciprocals.specs.declared.settle.Stepped.TheVariants as stepped
-use Rattle.reciprocals.specs.declared.settle.Settled.{Settled}
-use Rattle.reciprocals.specs.declared.settle.Settled.TheVariants as settled
+use Rattle.std.specs.Prelude as answer
+use Rattle.std.specs.Prelude.{Result, Ok, Err}
+use Rattle.words.specs.declared.fault.Fault.{Fault}
+use Rattle.words.specs.declared.fault.Fault.TheVariants as fault
 
-unfoldable pub stepped_answer : Option (List ℕ) → Stepped
-stepped_answer none = stepped.Broken
-stepped_answer (some new) = stepped.Words (length new)
+unfoldable pub stepped_answer : Option (List ℕ) → answer.Option ℕ
+stepped_answer none = answer.None
+stepped_answer (some new) = answer.Some (length new)
 
 -- the new words stand in front
 unfoldable pub Front : Option (List ℕ) → List ℕ → Type 0
@@ -20,15 +20,15 @@ Front (some new) out = take (length new) out ≡ new
 
 -- what settling answers, and the words lent after it
 pub record Settling : Type 0 where
-  pub answer : Settled
+  pub answer : Result ℕ Fault
   pub out : List ℕ
 
 -- by whether the trees are there, whether there is room for them, and what they become: the new words in front of what stood after as many, or nothing written
 unfoldable pub settling_by : Bool → Bool → Option (List ℕ) → List ℕ → Settling
-settling_by false room new old = record { answer = settled.Broken; out = old }
-settling_by true false new old = record { answer = settled.NoRoom; out = old }
-settling_by true true none old = record { answer = settled.Broken; out = old }
-settling_by true true (some new) old = record { answer = settled.Words (length new); out = new ++ drop (length new) old }
+settling_by false room new old = record { answer = Err fault.Broken; out = old }
+settling_by true false new old = record { answer = Err fault.NoRoom; out = old }
+settling_by true true none old = record { answer = Err fault.Broken; out = old }
+settling_by true true (some new) old = record { answer = Ok (length new); out = new ++ drop (length new) old }
 
 -- the first words are there, and none lacks an operand
 unfoldable pub forest_there : List ℕ → ℕ → Bool

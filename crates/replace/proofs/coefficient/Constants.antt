@@ -1,4 +1,6 @@
 -- Which floats are constants, and the answers of `constant_of`. Assumes nothing.
+use Rattle.std.specs.Prelude.{Some, None}
+use Rattle.std.specs.Prelude.{Option as Maybe}
 use Rattle.std.proofs.Common.{◌≡◌, ℕ, zero, suc, ◌+◌, ◌-◌, ◌*◌, ◌/◌, ◌%◌, ◌^◌, ◌<◌, Bool, true, false, ◌&&◌, T, eqb, ltb, ℤ, sym, refl, ap, ◌∙◌, subst, ap₂, inl, inr, true≢false, eq-zero-or-pos, div-add-mod', arith, eqb→eq, ltb→lt, lt-ltb}
 use lib.Ieee.{Float, nan, inf, fin, binary64, up, down, neg, lt, fits}
 use lib.Ieee.Exact.{HasValue}
@@ -9,11 +11,8 @@ use Rattle.spec_tree.specs.Tokens.{constant_code}
 use Rattle.spec_tree.proofs.Logic.{and_left, and_right}
 use Rattle.spec_rewrite.specs.Rewrite.{whole_number, constant_of}
 use Rattle.replace.specs.coefficient.Answers.{float, constant_answer}
-use Rattle.replace.specs.declared.coefficient.Constant.TheVariants as constant
 use Rattle.replace.proofs.coefficient.Whole.{plus_zero, neg_float, neg_neg, positive_not_below, negative_below, minus_zero}
 use Rattle.replace.specs.coefficient.Size.{SizeOf}
-use Rattle.replace.specs.declared.coefficient.Size.{Size}
-use Rattle.replace.specs.declared.coefficient.Size.TheVariants as size
 use Rattle.spec_rewrite.proofs.Coefficient.{cut}
 
 -- ---- the floats of the numbers below 10^15 are constants
@@ -79,22 +78,22 @@ accepted (fin s m e) z f h =
 
 -- ---- the answers
 
-refused_is : (o : Outcome ℤ) → ((z : ℤ) → o ≡ ok z → ⊥) → constant.Not ≡ constant_answer o
+refused_is : (o : Outcome ℤ) → ((z : ℤ) → o ≡ ok z → ⊥) → None ≡ constant_answer o
 unfolding constant_answer
 refused_is (ok z) h = absurd (h z refl)
 refused_is (refused r) h = refl
 
 module _ (x : Float) (x_Fits : T (fits binary64 x)) where
-  pub positive_is : (r : Size) (n : ℕ) → r ≡ size.Of n → SizeOf x r → constant.Is (2 * n) ≡ constant_answer (constant_of x)
+  pub positive_is : (r : Maybe ℕ) (n : ℕ) → r ≡ Some n → SizeOf x r → Some (2 * n) ≡ constant_answer (constant_of x)
   unfolding constant_answer constant_code whole_number
   positive_is r n e k =
-      let h : SizeOf x (size.Of n) = subst (SizeOf x) e k in
+      let h : SizeOf x (Some n) = subst (SizeOf x) e k in
       sym (ap (λ (y : Float). constant_answer (constant_of y)) h.0 ∙ ap constant_answer (of_float false n h.1))
 
-  pub positive_none : (r : Size) → r ≡ size.No → SizeOf x r → lt x plus_zero ≡ false → constant.Not ≡ constant_answer (constant_of x)
+  pub positive_none : (r : Maybe ℕ) → r ≡ None → SizeOf x r → lt x plus_zero ≡ false → None ≡ constant_answer (constant_of x)
   positive_none r e k t = refused_is (constant_of x) (λ z q. let a = accepted x z x_Fits q in go a.sign a.magnitude a.small a.is a.no_minus_zero)
     where
-      h : SizeOf x size.No
+      h : SizeOf x None
       h = subst (SizeOf x) e k
 
       go : (s : Bool) (n : ℕ) → n < 10 ^ 15 → x ≡ float s n → (n ≡ 0 → s ≡ false) → ⊥
@@ -106,35 +105,32 @@ module _ (x : Float) (x_Fits : T (fits binary64 x)) where
           ]
 
   -- what is below zero is no zero
-  pub negative_more : (r : Size) (n : ℕ) → r ≡ size.Of n → SizeOf (neg x) r → lt x plus_zero ≡ true → 0 < n
+  pub negative_more : (r : Maybe ℕ) (n : ℕ) → r ≡ Some n → SizeOf (neg x) r → lt x plus_zero ≡ true → 0 < n
   negative_more r n e k t =
-      let h : SizeOf (neg x) (size.Of n) = subst (SizeOf (neg x)) e k in
+      let h : SizeOf (neg x) (Some n) = subst (SizeOf (neg x)) e k in
       let p : x ≡ float true n = sym (neg_neg x) ∙ ap neg h.0 ∙ neg_float n in
       elim (eq-zero-or-pos n) [
         | inl o ↦ absurd (true≢false (sym t ∙ ap (λ (y : Float). lt y plus_zero) p ∙ minus_zero n o))
         | inr q ↦ q
       ]
 
-  pub negative_is : (r : Size) (n : ℕ) → r ≡ size.Of n → SizeOf (neg x) r → lt x plus_zero ≡ true → constant.Is (2 * n - 1) ≡ constant_answer (constant_of x)
+  pub negative_is : (r : Maybe ℕ) (n : ℕ) → r ≡ Some n → SizeOf (neg x) r → lt x plus_zero ≡ true → Some (2 * n - 1) ≡ constant_answer (constant_of x)
   unfolding constant_answer constant_code whole_number
   negative_is r n e k t =
-      let h : SizeOf (neg x) (size.Of n) = subst (SizeOf (neg x)) e k in
+      let h : SizeOf (neg x) (Some n) = subst (SizeOf (neg x)) e k in
       let p : x ≡ float true n = sym (neg_neg x) ∙ ap neg h.0 ∙ neg_float n in
       sym (ap (λ (y : Float). constant_answer (constant_of y)) p ∙ ap constant_answer (of_float true n h.1) ∙ go n (negative_more r n e k t))
     where
-      go : (n : ℕ) → 0 < n → constant_answer (whole_number true n) ≡ constant.Is (2 * n - 1)
+      go : (n : ℕ) → 0 < n → constant_answer (whole_number true n) ≡ Some (2 * n - 1)
       go zero q = absurd (omega arith)
-      go (suc n) q = let d : 1 + 2 * n ≡ 2 * suc n - 1 = omega arith in ap constant.Is d
+      go (suc n) q = let d : 1 + 2 * n ≡ 2 * suc n - 1 = omega arith in ap Some d
 
-  pub negative_none : (r : Size) → r ≡ size.No → SizeOf (neg x) r → lt x plus_zero ≡ true → constant.Not ≡ constant_answer (constant_of x)
+  pub negative_none : (r : Maybe ℕ) → r ≡ None → SizeOf (neg x) r → lt x plus_zero ≡ true → None ≡ constant_answer (constant_of x)
   negative_none r e k t = refused_is (constant_of x) (λ z q. let a = accepted x z x_Fits q in go a.sign a.magnitude a.small a.is)
     where
-      h : SizeOf (neg x) size.No
+      h : SizeOf (neg x) None
       h = subst (SizeOf (neg x)) e k
 
       go : (s : Bool) (n : ℕ) → n < 10 ^ 15 → x ≡ float s n → ⊥
       go true n l p = h n l (ap neg (p ∙ sym (neg_float n)) ∙ neg_neg (float false n))
       go false n l p = true≢false (sym t ∙ ap (λ (y : Float). lt y plus_zero) p ∙ positive_not_below n l)
-
-pub size_small : (a : Float) (r : Size) (n : ℕ) → r ≡ size.Of n → SizeOf a r → n < 10 ^ 15
-size_small a r n e k = let h : SizeOf a (size.Of n) = subst (SizeOf a) e k in h.1

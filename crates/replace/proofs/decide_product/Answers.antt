@@ -1,5 +1,5 @@
 -- `replace::decide_product` meets its contract. Assumes nothing.
-use Rattle.std.proofs.Common.{sym, ◌∙◌, arith, rules}
+use Rattle.std.proofs.Common.{arith}
 use Rattle.replace.proofs.Deciding.{first_stands, first_fits, first_run, flat_known}
 use Rattle.replace.proofs.factors.Flattening.{flat_long}
 use Rattle.replace.proofs.decide_product.Goals as goal

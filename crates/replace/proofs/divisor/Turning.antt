@@ -1,4 +1,5 @@
 -- One turn of the scan in `rewrite`: a division by the divisor becomes a product, any other word is copied. Assumes nothing.
+use Rattle.std.specs.Prelude.{Some, None}
 use Rattle.std.proofs.Common.{◌≡◌, ℕ, ◌+◌, ◌-◌, ◌<◌, ◌≤◌, List, [], ◌∷◌, ◌++◌, length, get_or, take, drop, set, sym, refl, ap, ◌∙◌, arith, length-append, length-drop, length-set, get_or-drop, drop-drop}
 use mathlib.Core.Option.{some}
 use borrow.Rule.Slice.PartMut.{put_mid}
@@ -10,7 +11,6 @@ use Rattle.words.specs.words.Words.{rewritten_words, tree_of, name_of, Complete,
 use Rattle.words.proofs.words.Rewriting.{rewritten_short}
 use Rattle.words.proofs.words.Scanning.{put_one, put_more, put_lent, put_long, here_long, here_complete, Scanned, scan_long, scan_turn}
 use Rattle.replace.specs.divisor.Division.{division_of}
-use Rattle.replace.specs.declared.divisor.Division.TheVariants as division
 use Rattle.replace.proofs.divisor.Dividing.{Divided, division_made, node_stays}
 use Rattle.replace.proofs.divisor.Searching.{by_means, other_means}
 use Rattle.spec_tree.proofs.Lists.{rest_is}
@@ -49,7 +49,7 @@ module _ {ws d : List ℕ} {name : ℕ} {old out : List ℕ} {i o : ℕ} (place 
   out_room = omega (arith, scan_long (by_words d name) ws old place.fits place.state, place.state.fewer)
 
   pub turn_other :
-      division.Other ≡ division_of (take (length ws - i) (drop i ws)) d → State ws d name old (set out o (get_or ws i 0)) (i + 1) (o + 1)
+      None ≡ division_of (take (length ws - i) (drop i ws)) d → State ws d name old (set out o (get_or ws i 0)) (i + 1) (o + 1)
   turn_other q =
       let f = by_words d name in
       let n = other_means (drop i ws) d long_here complete_here (q ∙ ap (λ (l : List ℕ). division_of l d) here) in
@@ -60,7 +60,7 @@ module _ {ws d : List ℕ} {name : ℕ} {old out : List ℕ} {i o : ℕ} (place 
       (step ∙ ap (λ (k : ℕ). (k ∷ []) ++ rewritten_words f (drop 1 (drop i ws))) w)
       (put_one out o (get_or ws i 0) out_room)
 
-  module _ (e y : ℕ) (found : division.By e y ≡ division_of (take (length ws - i) (drop i ws)) d) where
+  module _ (e y : ℕ) (found : Some (record { second = e; end = y }) ≡ division_of (take (length ws - i) (drop i ws)) d) where
     divided : Divided (tree_of d) (drop i ws) name e y
     divided =
         let b = by_means (drop i ws) d e y (found ∙ ap (λ (l : List ℕ). division_of l d) here) in

@@ -1,5 +1,6 @@
 -- What a caller of `flatten_mul_factors` has: where it answers a product, its coefficient and its factors in order, each a tree inside the product's run; that it
 -- does answer one in complete words with a place for each; and that an accepted coefficient is exact. Assumes nothing.
+use Rattle.std.specs.Prelude.{Some, Ok}
 use Rattle.std.proofs.Common.{◌≡◌, ℕ, zero, suc, ◌+◌, ◌<◌, ◌≤◌, Bool, true, false, ltb, List, [], ◌∷◌, length, get_or, take, drop, pos, sym, refl, ap, ◌∙◌, subst, arith, length-drop, get_or-take, ltb-false, le-ltb}
 use mathlib.Core.Option.{Option, none, some}
 use lib.ListN.{length-map}
@@ -12,12 +13,10 @@ use Rattle.spec_tree.proofs.TokenLaws.{run_size, words_complete}
 use Rattle.spec_rewrite.specs.Rewrite.{one, constant_of, flatten_mul_factors}
 use Rattle.spec_rewrite.proofs.ReplaceValue.{exact}
 use Rattle.replace.specs.coefficient.Answers.{constant_answer}
-use Rattle.replace.specs.declared.coefficient.Constant.TheVariants as constant
 use Rattle.replace.proofs.coefficient.Exactness.{exact_code, exact_one}
 use Rattle.replace.specs.factors.Places.{tree, factor_places, at_places}
 use Rattle.replace.specs.factors.Answers.{flattened_by, flatten_answer}
 use Rattle.replace.specs.declared.factors.Product.{Product}
-use Rattle.replace.specs.declared.factors.Flattened.TheVariants as flattened
 use Rattle.replace.proofs.factors.WordRuns.{run_stands, stands_run}
 use Rattle.replace.proofs.factors.PlaceLaws.{Each, Inside, few_places, places_are_factors, places_inside}
 use Rattle.replace.proofs.factors.Answering.{by_run, a_tree}
@@ -54,7 +53,7 @@ pub record ProductOf (ws : List ℕ) (at : ℕ) (old : List ℕ) (p : Product) (
 
 module _ (ws : List ℕ) (at : ℕ) (old : List ℕ) (p : Product) (new : List ℕ) where
   product_made :
-      (n : ℕ) → run_at ws at ≡ some n → n ≤ length old → flattened.Of p ≡ (flattened_by false at (tree ws at) old).answer
+      (n : ℕ) → run_at ws at ≡ some n → n ≤ length old → Ok p ≡ (flattened_by false at (tree ws at) old).answer
       → new ≡ (flattened_by false at (tree ws at) old).places → ProductOf ws at old p new
   unfolding flattened_by
   product_made n e l a b =
@@ -79,16 +78,16 @@ module _ (ws : List ℕ) (at : ℕ) (old : List ℕ) (p : Product) (new : List �
             ap (λ (j : ℕ). drop j new) k ∙ (ap (drop (length ps)) b ∙ (drop-append_seam ps (drop (length ps) old) ∙ ap (λ (j : ℕ). drop j old) (sym k)));
       }
 
-  pub product_of : flattened.Of p ≡ (flatten_answer ws at old).answer → new ≡ (flatten_answer ws at old).places → ProductOf ws at old p new
+  pub product_of : Ok p ≡ (flatten_answer ws at old).answer → new ≡ (flatten_answer ws at old).places → ProductOf ws at old p new
   unfolding flatten_answer by_run flattened_by
   product_of a b = go (run_at ws at) refl a b
     where
-      by : (n : ℕ) (c : Bool) → run_at ws at ≡ some n → ltb (length old) n ≡ c → flattened.Of p ≡ (flattened_by c at (tree ws at) old).answer
+      by : (n : ℕ) (c : Bool) → run_at ws at ≡ some n → ltb (length old) n ≡ c → Ok p ≡ (flattened_by c at (tree ws at) old).answer
           → new ≡ (flattened_by c at (tree ws at) old).places → ProductOf ws at old p new
       by n true e t a b = absurd (let z : ◌≡◌ {A = ℕ} 0 1 = cc in omega arith)
       by n false e t a b = product_made n e (ltb-false (length old) n t) a b
 
-      go : (o : Option ℕ) → run_at ws at ≡ o → flattened.Of p ≡ (by_run o at (tree ws at) old).answer → new ≡ (by_run o at (tree ws at) old).places
+      go : (o : Option ℕ) → run_at ws at ≡ o → Ok p ≡ (by_run o at (tree ws at) old).answer → new ≡ (by_run o at (tree ws at) old).places
           → ProductOf ws at old p new
       go none e a b = absurd (let z : ◌≡◌ {A = ℕ} 0 1 = cc in omega arith)
       go (some n) e a b = by n (ltb (length old) n) e refl a b
@@ -110,7 +109,7 @@ module _ {ws : List ℕ} {at : ℕ} {old : List ℕ} {p : Product} {new : List �
       (one_of (Inside ws at (at + size (tree ws at))) (take p.count new) i h.inside (omega (arith, count_long)))
 
   -- the coefficient read back is the exact product of the integers, and one that compares equal to 1 is 1
-  pub exact_coefficient : (code : ℕ) → constant.Is code ≡ constant_answer (constant_of p.coefficient) → constant_at code ≡ exact (tree ws at)
+  pub exact_coefficient : (code : ℕ) → Some code ≡ constant_answer (constant_of p.coefficient) → constant_at code ≡ exact (tree ws at)
   exact_coefficient code e = exact_code (tree ws at) code (e ∙ ap (λ x. constant_answer (constant_of x)) h.coefficient_is)
 
   pub exact_unit : (b : Bool) → b ≡ eq p.coefficient one → b ≡ true → exact (tree ws at) ≡ pos 1

@@ -1,7 +1,7 @@
 -- Worked out by computing: of equal factors the first is taken out, and the name, put in at the end, is one of the factors from then on. Assumes nothing.
-use Rattle.std.proofs.Common.{◌≡◌, ℕ, List, [], ◌∷◌, refl}
+use Rattle.std.proofs.Common.{◌≡◌, ℕ, [], ◌∷◌, refl}
 use mathlib.Core.Option.{some}
-use Rattle.replace.specs.matching.Matching.{words_at, remove_runs, PlacesTaken, take_out_places}
+use Rattle.replace.specs.matching.Matching.{words_at, remove_runs, take_out_places}
 
 -- the words of a, b and __x0
 abbrev a : ℕ

@@ -1,14 +1,15 @@
 -- Places removed run by run: one search, and the next, again and again; and the name's places at the end. Assumes nothing.
-use Rattle.std.proofs.Common.{◌≡◌, ℕ, zero, suc, ◌+◌, ◌-◌, ◌*◌, ◌<◌, ◌≤◌, Bool, true, false, not, ◌&&◌, T, eqb, ltb, leb, List, [], ◌∷◌, ◌++◌, length, get_or, take, drop, set, sym, refl, ap, ◌∙◌, subst, ap₂, append_assoc, arith, le→leb, ltb→lt, leb→le, nltb→le, length-append, length-drop, length-set, take-append-drop, drop_of_length-le, length-take-le, drop-cons, get_or-take, take-take, drop-drop, take_at, eq-eqb, ne_eqb}
+use Rattle.std.specs.List.{list_any}
+use Rattle.spec_tree.proofs.Logic.{or_left_false, or_right_false}
+use Rattle.std.specs.Prelude.{Some, None}
+use Rattle.std.specs.Prelude.{Option as Maybe}
+use Rattle.std.proofs.Common.{◌≡◌, ℕ, zero, suc, ◌+◌, ◌-◌, ◌*◌, ◌<◌, ◌≤◌, Bool, true, false, ◌&&◌, T, eqb, leb, List, [], ◌∷◌, ◌++◌, length, get_or, take, drop, set, sym, refl, ap, ◌∙◌, subst, ap₂, append_assoc, arith, le→leb, leb→le, length-append, length-drop, length-set, take-append-drop, drop_of_length-le, length-take-le, drop-cons, get_or-take, take-take, drop-drop, take_at, eq-eqb, ne_eqb}
 use mathlib.Core.Option.{Option, none, some}
 use lib.Seq.{set_at}
 use Rattle.spec_tree.proofs.Tests.{is_true}
 use Rattle.words.specs.words.Words.{begins_with}
 use Rattle.replace.specs.matching.Matching.{is_passed, run_end, factor_runs, words_at, remove_run, remove_runs, PlacesTaken, once_more, take_out_places, names_after}
 use Rattle.replace.specs.matching.Answers.{Seeks, Removes, Lacks, Takes}
-use Rattle.replace.specs.declared.matching.Removed.{Removed}
-use Rattle.replace.specs.declared.matching.Removed.TheVariants as removed
-use Rattle.replace.specs.declared.matching.Taken.TheVariants as taken
 use Rattle.replace.proofs.matching.Runs.{factor_here, no_more}
 
 -- whether the run stands at the i-th place
@@ -19,21 +20,13 @@ hit at run l i = begins_with (at (get_or l i 0)) run
 pub record Missed (at : ℕ → List ℕ) (run l : List ℕ) (n : ℕ) : Type 0 where
   pub none : (i : ℕ) → i < n → hit at run l i ≡ false
 
-pub missed_none : (at : ℕ → List ℕ) (run l : List ℕ) → Missed at run l 0
-missed_none at run l = record { none = λ i h. absurd (clash i h) }
+pub missed_all : (at : ℕ → List ℕ) (run l : List ℕ) → list_any (λ p. begins_with (at p) run) l ≡ false → Missed at run l (length l)
+missed_all at run l e = record { none = λ i h. go l i h e }
   where
-    clash : (i : ℕ) → i < 0 → ⊥
-    clash i h = omega arith
-
-pub missed_more : {at : ℕ → List ℕ} {run l : List ℕ} {n : ℕ} → Missed at run l n → hit at run l n ≡ false → Missed at run l (n + 1)
-missed_more {at} {run} {l} {n} m e = record { none = λ i h. go i h (ltb i n) (ltb→lt i n) (nltb→le i n) }
-  where
-    is_n : (i : ℕ) → i < n + 1 → n ≤ i → n ≡ i
-    is_n i h g = omega arith
-
-    go : (i : ℕ) → i < n + 1 → (b : Bool) → (T b → i < n) → (T (not b) → n ≤ i) → hit at run l i ≡ false
-    go i h true p q = m.none i (p tt)
-    go i h false p q = subst (λ (k : ℕ). hit at run l k ≡ false) (is_n i h (q tt)) e
+    go : (l : List ℕ) (i : ℕ) → i < length l → list_any (λ p. begins_with (at p) run) l ≡ false → hit at run l i ≡ false
+    go [] i h e = absurd (omega arith)
+    go (p ∷ l) zero h e = or_left_false (begins_with (at p) run) _ e
+    go (p ∷ l) (suc i) h e = go l i (omega arith) (or_right_false (begins_with (at p) run) _ e)
 
 abbrev picked : Bool → List ℕ → ℕ → Option (List ℕ) → Option (List ℕ)
 picked b l p o = elim b [ true ↦ some l | false ↦ elim o [ none ↦ none | some r ↦ some (p ∷ r) ] ]
@@ -131,9 +124,6 @@ pub record Before (part : List ℕ) (q : ℕ) : Type 0 where
   pub runs : List (List ℕ)
   pub are : factor_runs part ≡ runs ++ factor_runs (drop q part)
   pub starts : q < length part → is_passed (get_or part q 0) ≡ false
-
-pub before_first : (part : List ℕ) (q : ℕ) → Seeks part 0 q → Before part q
-before_first part q s = record { runs = []; are = s.runs; starts = s.starts }
 
 pub before_more : (part : List ℕ) (q end next : ℕ) → Before part q → q < length part → end ≡ run_end part q → Seeks part end next → Before part next
 before_more part q end next b h e s =
@@ -299,10 +289,10 @@ module _ (at : ℕ → List ℕ) (end : ℕ) (runs : List (List ℕ)) (old : Lis
 
 -- ---- the ends of `take_out`
 
-removes_left : (o : Option (List ℕ)) (new : List ℕ) (r : Removed) (n : ℕ) → r ≡ removed.Left n → Removes o new r → (o ≡ some (take n new)) × (n ≤ length new)
+removes_left : (o : Option (List ℕ)) (new : List ℕ) (r : Maybe ℕ) (n : ℕ) → r ≡ Some n → Removes o new r → (o ≡ some (take n new)) × (n ≤ length new)
 removes_left o new r n e h = subst (Removes o new) e h
 
-removes_missing : (o : Option (List ℕ)) (new : List ℕ) (r : Removed) → r ≡ removed.Missing → Removes o new r → o ≡ none
+removes_missing : (o : Option (List ℕ)) (new : List ℕ) (r : Maybe ℕ) → r ≡ None → Removes o new r → o ≡ none
 removes_missing o new r e h = subst (Removes o new) e h
 
 -- l is what stood in front, kept behind itself; then it may be removed from
@@ -329,7 +319,7 @@ module _ (ws part : List ℕ) (name : ℕ) (old : List ℕ) (count : ℕ) where
       let l : q < length part = omega (arith, s.within, n) in
       taking_starts at (length ws) runs old count h (let x = ap length (s.runs ∙ factor_here part q l (s.starts l)) in omega arith)
 
-  pub no_factor : (q : ℕ) → Seeks part 0 q → q ≡ length part → count ≤ length old → 2 * count ≤ length old → Takes ws part name old count old (taken.Out count 0)
+  pub no_factor : (q : ℕ) → Seeks part 0 q → q ≡ length part → count ≤ length old → 2 * count ≤ length old → Takes ws part name old count old (Some (record { left = count; times = 0 }))
   no_factor q s e f h =
       let x : runs ≡ [] = s.runs ∙ no_more part q (omega arith) in
       let y = ap (λ (r : List (List ℕ)). take_out_places (2 * count) at (length ws) r (take count old)) x ∙ never_taken at (length ws) (2 * count) (take count old) in
@@ -337,7 +327,7 @@ module _ (ws part : List ℕ) (name : ℕ) (old : List ℕ) (count : ℕ) where
 
   module _ {l : List ℕ} {left times : ℕ} (t : Turning l left times) (h : times < 2 * count) (kept : List ℕ) (k : Kept left l kept) where
     -- how many are left
-    pub left_less : (new : List ℕ) → length new ≡ length kept → (r : Removed) (n : ℕ) → r ≡ removed.Left n → Removes (remove_runs at runs (take left kept)) new r → n < left
+    pub left_less : (new : List ℕ) → length new ≡ length kept → (r : Maybe ℕ) (n : ℕ) → r ≡ Some n → Removes (remove_runs at runs (take left kept)) new r → n < left
     left_less new same r n e m =
         let x = removes_left (remove_runs at runs (take left kept)) new r n e m in
         let f = runs_fewer at runs (take left kept) (take n new) x.0 in
@@ -346,31 +336,29 @@ module _ (ws part : List ℕ) (name : ℕ) (old : List ℕ) (count : ℕ) where
         omega (arith, t.some_run)
 
     pub turns :
-        (new : List ℕ) → length new ≡ length kept → (r : Removed) (n : ℕ) → r ≡ removed.Left n → Removes (remove_runs at runs (take left kept)) new r
+        (new : List ℕ) → length new ≡ length kept → (r : Maybe ℕ) (n : ℕ) → r ≡ Some n → Removes (remove_runs at runs (take left kept)) new r
         → Turning (set new n (length ws)) (n + 1) (times + 1)
     turns new same r n e m =
         let x = removes_left (remove_runs at runs (take left kept)) new r n e m in
         taking_turns at (length ws) runs old count t h new n (same ∙ k.same ∙ t.same) (left_less new same r n e m) (ap (remove_runs at runs) (sym k.front) ∙ x.0)
 
     pub stops :
-        (new back : List ℕ) → length new ≡ length kept → length back ≡ length new → (r : Removed) → r ≡ removed.Missing → Removes (remove_runs at runs (take left kept)) new r
-        → drop left new ≡ drop left kept → take left back ≡ take left (drop left new) → Takes ws part name old count back (taken.Out left times)
+        (new back : List ℕ) → length new ≡ length kept → length back ≡ length new → (r : Maybe ℕ) → r ≡ None → Removes (remove_runs at runs (take left kept)) new r
+        → drop left new ≡ drop left kept → take left back ≡ take left (drop left new) → Takes ws part name old count back (Some (record { left = left; times = times }))
     stops new back same again r e m rest b =
         let x = removes_missing (remove_runs at runs (take left kept)) new r e m in
-        let s = taking_stops at (length ws) runs old count t h (ap (remove_runs at runs) (sym k.front) ∙ x) in (
-          omega (arith, t.room),
-          (b ∙ ap (take left) rest ∙ k.behind ∙ s.0, omega (arith, t.same, t.fewer, t.room, k.same), s.1),
-        )
+        let s = taking_stops at (length ws) runs old count t h (ap (remove_runs at runs) (sym k.front) ∙ x) in
+        (omega (arith, t.room), (b ∙ ap (take left) rest ∙ k.behind ∙ s.0, omega (arith, t.same, t.fewer, t.room, k.same), s.1))
 
   -- one is missing, and nothing was touched
   pub lacks :
       {l : List ℕ} {left times : ℕ} → Turning l left times → times < 2 * count → (b : Bool) → b ≡ true → Lacks (remove_runs at runs (take left l)) b
-      → Takes ws part name old count l (taken.Out left times)
+      → Takes ws part name old count l (Some (record { left = left; times = times }))
   lacks {l} {left} t h b q e =
       let s = taking_stops at (length ws) runs old count t h (subst (Lacks (remove_runs at runs (take left l))) q e) in
       (omega (arith, t.room), (s.0, omega (arith, t.same, t.fewer, t.room), s.1))
 
-  pub ends : {l : List ℕ} {left times : ℕ} → Turning l left times → 2 * count ≤ times → Takes ws part name old count l (taken.Out left times)
+  pub ends : {l : List ℕ} {left times : ℕ} → Turning l left times → 2 * count ≤ times → Takes ws part name old count l (Some (record { left = left; times = times }))
   ends t h =
       let s = taking_ends at (length ws) runs old count t h in
       (omega (arith, t.room), (s.0, omega (arith, t.same, t.fewer, t.room), s.1))

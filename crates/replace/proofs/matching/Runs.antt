@@ -1,27 +1,14 @@
 -- Factors as runs, found from the left: what a word is passed for, where the next factor stands, where its run ends. Assumes nothing.
-use Rattle.std.proofs.Common.{◌≡◌, ℕ, zero, suc, ◌+◌, ◌-◌, ◌<◌, ◌≤◌, Bool, true, false, eqb, List, [], ◌∷◌, length, get_or, take, drop, sym, refl, ap, ◌∙◌, ap₂, arith, length-drop, drop_of_length-le, drop-cons, drop-drop, le-ltb, lt-ltb, eq-eqb, ne_eqb}
+use Rattle.std.specs.Prelude.{Option as Maybe, unwrap_or}
+use Rattle.std.specs.Prelude.{Some, None}
+use Rattle.std.proofs.Common.{◌≡◌, ℕ, zero, suc, ◌+◌, ◌-◌, ◌<◌, ◌≤◌, Bool, true, false, List, [], ◌∷◌, length, get_or, take, drop, sym, refl, ap, ◌∙◌, ap₂, arith, length-drop, drop_of_length-le, drop-cons, drop-drop, le-ltb, lt-ltb}
 use mathlib.Core.Option.{Option, none, some}
-use Rattle.spec_tree.specs.Bytes.{eq_bytes}
-use Rattle.spec_tree.specs.Tokens.{kind_of, words_of, run_at}
+use Rattle.spec_tree.specs.Tokens.{words_of, run_at}
 use Rattle.spec_tree.proofs.TokenLaws.{words_tail, words_complete}
 use Rattle.words.specs.tokens.Answers.{end_answer}
-use Rattle.words.specs.declared.tokens.Run.TheVariants as run
-use Rattle.words.specs.words.Words.{begins_with}
 use Rattle.replace.specs.matching.Matching.{is_passed, first_run, run_end, runs_after, factor_runs, words_at}
 
 -- ---- words passed through
-
-pub passes_mul : (w : ℕ) → kind_of w ≡ 5 → true ≡ is_passed w
-unfolding is_passed
-passes_mul w e = rw (eq-eqb (kind_of w) 5 e)
-
-pub passes_neg : (w : ℕ) → (kind_of w ≡ 5 → ⊥) → kind_of w ≡ 2 → true ≡ is_passed w
-unfolding is_passed
-passes_neg w n e = rw (ne_eqb (kind_of w) 5 n, eq-eqb (kind_of w) 2 e)
-
-pub passes_rest : (w : ℕ) → (kind_of w ≡ 5 → ⊥) → (kind_of w ≡ 2 → ⊥) → (b : Bool) → b ≡ eqb (kind_of w) 1 → b ≡ is_passed w
-unfolding is_passed
-passes_rest w n m b e = e ∙ rw (ne_eqb (kind_of w) 5 n, ne_eqb (kind_of w) 2 m)
 
 -- ---- the next factor
 
@@ -59,21 +46,25 @@ pub end_within : (part : List ℕ) (q : ℕ) → q < length part → (q < run_en
 unfolding run_end
 end_within part q h = (let f = first_within (drop q part) (omega (arith, length-drop q part)) in (omega (arith, f.0), omega (arith, f.1, length-drop q part)))
 
-pub end_found : (part : List ℕ) (q e : ℕ) → run.Ends e ≡ end_answer q (run_at part q) → e ≡ run_end part q
+pub end_found : (part : List ℕ) (q e : ℕ) → Some e ≡ end_answer q (run_at part q) → e ≡ run_end part q
 unfolding run_end first_run run_at end_answer
 end_found part q e p = go (words_of (drop q part) 1) p
   where
-    go : (o : Option ℕ) → run.Ends e ≡ end_answer q o → e ≡ q + elim o as (λ _. ℕ) [ none ↦ length (drop q part) | some n ↦ n ]
+    go : (o : Option ℕ) → Some e ≡ end_answer q o → e ≡ q + elim o as (λ _. ℕ) [ none ↦ length (drop q part) | some n ↦ n ]
     go none p = absurd (let z : ◌≡◌ {A = ℕ} 0 1 = cc in omega arith)
     go (some n) p = cc
 
-pub end_broken : (part : List ℕ) (q : ℕ) → q < length part → run.Broken ≡ end_answer q (run_at part q) → length part ≡ run_end part q
+pub end_broken : (part : List ℕ) (q : ℕ) → q < length part → None ≡ end_answer q (run_at part q) → length part ≡ run_end part q
 unfolding run_end first_run run_at end_answer
 end_broken part q h p = go (words_of (drop q part) 1) p
   where
-    go : (o : Option ℕ) → run.Broken ≡ end_answer q o → length part ≡ q + elim o as (λ _. ℕ) [ none ↦ length (drop q part) | some n ↦ n ]
+    go : (o : Option ℕ) → None ≡ end_answer q o → length part ≡ q + elim o as (λ _. ℕ) [ none ↦ length (drop q part) | some n ↦ n ]
     go none p = omega (arith, length-drop q part)
     go (some n) p = absurd (let z : ◌≡◌ {A = ℕ} 0 1 = cc in omega arith)
+
+pub end_either : (part : List ℕ) (q : ℕ) (r : Maybe ℕ) → q < length part → r ≡ end_answer q (run_at part q) → unwrap_or r (length part) ≡ run_end part q
+end_either part q None h e = end_broken part q h e
+end_either part q (Some n) h e = end_found part q n e
 
 -- a factor and those after it
 pub factor_here :

@@ -1,4 +1,5 @@
 -- What `first_part` answers at each of its exits, and what each answer says. Assumes nothing.
+use Rattle.std.specs.Prelude.{Some, None}
 use Rattle.std.proofs.Common.{◌≡◌, ℕ, ◌+◌, ◌-◌, ◌<◌, ◌≤◌, Bool, true, false, ◌&&◌, T, leb, List, [], ◌∷◌, length, get_or, drop, sym, refl, ap, ◌∙◌, subst, arith, le-leb, leb-true}
 use mathlib.Core.Option.{Option, none, some}
 use borrow.Author.Tests.{lt-leb}
@@ -7,7 +8,6 @@ use Rattle.spec_tree.specs.Tree.{eq_tree}
 use Rattle.spec_tree.specs.Tokens.{kind_of, below_of, takes, trees_in, words_of, run_at}
 use Rattle.spec_tree.proofs.TokenLaws.{operation_takes, complete_tail}
 use Rattle.words.specs.tokens.Answers.{end_answer}
-use Rattle.words.specs.declared.tokens.Run.TheVariants as run
 use Rattle.words.proofs.tokens.Comparing.{run_ends, run_after}
 use Rattle.words.specs.words.Words.{tree_of, begins_with, Complete}
 use Rattle.words.proofs.words.Rewriting.{begins_tree}
@@ -67,11 +67,11 @@ module _ (us d : List ℕ) where
   is_switched e a x y ex ey = rw (e, a, ex, ey)
 
   module _ (other : eq_tree (tree_of us) (tree_of d) ≡ false) (kind : 26 ≤ kind_of (get_or us 0 0)) (below : 1 ≤ below_of (get_or us 0 0)) where
-    pub key_there : 0 < length us → Complete us → run.Broken ≡ end_answer 1 (run_at us 1) → ⊥
+    pub key_there : 0 < length us → Complete us → None ≡ end_answer 1 (run_at us 1) → ⊥
     key_there h c p = first_not_broken us h c (arms_take (get_or us 0 0) kind below) p
 
     pub switch_found :
-        (e y : ℕ) → run.Ends e ≡ end_answer 1 (run_at us 1) → run.Ends y ≡ end_answer 0 (run_at us 0) → part.Switch e y ≡ part_of us d
+        (e y : ℕ) → Some e ≡ end_answer 1 (run_at us 1) → Some y ≡ end_answer 0 (run_at us 0) → part.Switch e y ≡ part_of us d
     switch_found e y first whole =
         let n : e ≡ 1 + (e - 1) = omega (arith, run_after us 1 e first) in
         let m : y - 0 ≡ y = omega arith in

@@ -1,16 +1,9 @@
 -- `replace::replace_sought` meets its contract. Assumes nothing.
-use Rattle.std.proofs.Common.{arith, rules}
 use Rattle.replace.proofs.Ends.{wrote, refused_there}
 use Rattle.replace.proofs.replace_sought.Goals as goal
 
-pub rewrite-step-requires : goal.rewrite-step-requires
-rewrite-step-requires c = record { trees = c.requires.trees; tokens_in_bounds = c.requires.tokens_in_bounds }
+pub returns-in-Ok : goal.returns-in-Ok
+returns-in-Ok c = let a = c.args in wrote a.tokens.now a.rule.target.now a.rule.name a.out.now c.rewrite.result _ c.rewrite.new.out c.in-Ok.is c.rewrite.ensures
 
-pub copy-requires : goal.copy-requires
-copy-requires c = omega (arith, c.requires.tokens_in_bounds.1, c.rewrite-step.auto.out)
-
-pub returns-in-Wrote : goal.returns-in-Wrote
-returns-in-Wrote c = let a = c.args in wrote a.tokens.now a.target.now a.name a.out.now c.rewrite-step.result _ c.rewrite-step.new.out c.in-Wrote.is c.rewrite-step.ensures
-
-pub returns-in-Refused : goal.returns-in-Refused
-returns-in-Refused c = let a = c.args in refused_there a.tokens.now a.target.now a.name a.out.now c.rewrite-step.result c.rewrite-step.new.out c.copy.new.out c.in-Refused.is c.rewrite-step.ensures c.copy.ensures
+pub returns-in-Err : goal.returns-in-Err
+returns-in-Err c = let a = c.args in refused_there a.tokens.now a.rule.target.now a.rule.name a.out.now c.rewrite.result c.rewrite.new.out c.copy.new.out _ c.in-Err.is c.rewrite.ensures c.copy.ensures

@@ -1,36 +1,13 @@
--- Tests of every word from the right, and of one word by its kind. Assumes nothing.
-use Rattle.std.proofs.Common.{◌≡◌, ℕ, zero, suc, ◌-◌, ◌<◌, ◌≤◌, Bool, true, false, cond, ◌&&◌, ◌||◌, T, eqb, ltb, leb, List, [], ◌∷◌, length, get_or, drop, sym, refl, ap, ◌∙◌, ap₂, arith, le-ltb, eqb-true, le-leb, leb-false, leb-true}
+-- A test of every word, and of one word by its kind. Assumes nothing.
+use Rattle.std.proofs.Common.{◌≡◌, ℕ, ◌<◌, ◌≤◌, Bool, true, false, cond, ◌&&◌, ◌||◌, T, eqb, ltb, leb, List, [], ◌∷◌, sym, refl, ap, ◌∙◌, arith, le-ltb, eqb-true, le-leb, leb-false, leb-true}
+use Rattle.std.specs.List.{list_all}
 use borrow.Author.Tests.{lt-leb}
-use lib.Seq.{drop-length}
 use Rattle.spec_tree.specs.Bytes.{every}
 use Rattle.spec_tree.specs.Kinds.{arity_ok}
 use Rattle.spec_tree.specs.Tokens.{kind_of, below_of}
 use Rattle.spec_tree.proofs.KindLaws.{arity_kind}
 use Rattle.node_rows.specs.kinds.Numbers.{kind_number}
 use Rattle.replace.specs.replacing.Replacing.{formed_word}
-use Rattle.spec_tree.proofs.Logic.{and_false}
-use Rattle.spec_tree.proofs.Lists.{place_before}
-
--- ---- from the right
-
-pub every_none : (p : ℕ → Bool) (ws : List ℕ) → every p (drop (length ws) ws) ≡ true
-every_none p ws = ap (every p) (drop-length ws) ∙ (unfold every in refl)
-
-every_cons : (p : ℕ → Bool) (w : ℕ) (ws : List ℕ) → every p (w ∷ ws) ≡ (p w && every p ws)
-unfolding every
-every_cons p w ws = refl
-
-pub every_more : (p : ℕ → Bool) (ws : List ℕ) (i : ℕ) → 0 < i → i ≤ length ws → every p (drop i ws) ≡ true → p (get_or ws (i - 1) 0) ≡ true → every p (drop (i - 1) ws) ≡ true
-every_more p ws i q h e f = ap (every p) (place_before ws i q h) ∙ every_cons p (get_or ws (i - 1) 0) (drop i ws) ∙ ap₂ ◌&&◌ f e
-
-pub every_fails : (p : ℕ → Bool) (ws : List ℕ) (k : ℕ) → k < length ws → p (get_or ws k 0) ≡ false → false ≡ every p ws
-unfolding every
-every_fails p [] k h e = absurd (omega arith)
-every_fails p (w ∷ ws) zero h e = sym (ap (λ (b : Bool). b && every p ws) e)
-every_fails p (w ∷ ws) (suc k) h e = sym (ap (λ (b : Bool). p w && b) (sym (every_fails p ws k (omega arith) e)) ∙ and_false (p w))
-
-pub every_ends : (p : ℕ → Bool) (ws : List ℕ) (i : ℕ) → i ≤ 0 → every p (drop i ws) ≡ true → true ≡ every p ws
-every_ends p ws i h e = (let z : i ≡ 0 = omega arith in sym (ap (λ (k : ℕ). every p (drop k ws)) (sym z) ∙ e))
 
 -- ---- a word by its kind
 
@@ -73,3 +50,8 @@ other_formed w h n l b e = e ∙ ap (λ (j : ℕ). arity_ok j (below_of w)) (num
 
 pub not_first : (a b c : Bool) → false ≡ a → false ≡ (a && (b && c))
 not_first a b c e = ap (λ (x : Bool). x && (b && c)) e
+
+pub every_is : (f : ℕ → Bool) (ws : List ℕ) → list_all f ws ≡ every f ws
+unfolding every
+every_is f [] = refl
+every_is f (w ∷ ws) = ap (λ (b : Bool). f w && b) (every_is f ws)

@@ -1,4 +1,5 @@
 -- What is decided at the first of some trees: the target, a word that stays, or a product with matches. Assumes nothing.
+use Rattle.std.specs.Prelude.{Some, None}
 use Rattle.std.proofs.Common.{◌≡◌, ℕ, zero, suc, ◌+◌, ◌-◌, ◌*◌, ◌/◌, ◌%◌, ◌^◌, ◌<◌, ◌≤◌, Bool, true, false, T, eqb, List, [], ◌∷◌, ◌++◌, length, get_or, take, drop, ℤ, pos, negsuc, sym, refl, ap, ◌∙◌, subst, ap₂, append-nil, arith, lit≤, length-append, length-take-le, get_or-take, take-take, take_at, eqb-true}
 use mathlib.Core.Option.{none, some}
 use lib.Ieee.{Float}
@@ -19,7 +20,6 @@ use Rattle.spec_rewrite.proofs.Factors.{factors_of}
 use Rattle.words.specs.words.Words.{number, tree_of, name_of, begins_with}
 use Rattle.words.proofs.words.Rewriting.{name_written, after_tree, begins_tree, first_tree}
 use Rattle.replace.specs.coefficient.Answers.{constant_answer}
-use Rattle.replace.specs.declared.coefficient.Constant.TheVariants as constant
 use Rattle.replace.specs.factors.Places.{tree, at_places}
 use Rattle.replace.specs.declared.factors.Product.{Product}
 use Rattle.replace.proofs.factors.PlaceLaws.{Each, Inside}
@@ -177,7 +177,7 @@ runs_long [] (t ∷ ts) m = absurd m
 runs_long (r ∷ runs) [] m = absurd m
 runs_long (r ∷ runs) (t ∷ ts) m = ap suc (runs_long runs ts m.2)
 
-accepted : (code : ℕ) (o : Outcome ℤ) → constant.Is code ≡ constant_answer o → (c : ℤ) × ((o ≡ ok c) × (code ≡ constant_code c))
+accepted : (code : ℕ) (o : Outcome ℤ) → Some code ≡ constant_answer o → (c : ℤ) × ((o ≡ ok c) × (code ≡ constant_code c))
 unfolding constant_answer
 accepted code (ok c) e = (c, (refl, cc))
 accepted code (refused i) e = (let z : ◌≡◌ {A = ℕ} 0 1 = cc in absurd (omega arith))
@@ -187,7 +187,7 @@ unfolding constant_code magnitude
 small_code (pos n) h = (let l : 2 * 10 ^ 15 ≤ 2 ^ 51 = lit≤ tt in omega arith)
 small_code (negsuc n) h = (let l : 2 * 10 ^ 15 ≤ 2 ^ 51 = lit≤ tt in omega arith)
 
-unaccepted : (o : Outcome ℤ) → constant.Not ≡ constant_answer o → (i : Refusal) × (o ≡ refused i)
+unaccepted : (o : Outcome ℤ) → None ≡ constant_answer o → (i : Refusal) × (o ≡ refused i)
 unfolding constant_answer
 unaccepted (ok c) e = (let z : ◌≡◌ {A = ℕ} 0 1 = cc in absurd (omega arith))
 unaccepted (refused i) e = (i, refl)
@@ -325,12 +325,12 @@ module _
           ∙ ap (λ (x : Float). constant_of x >>= λ c. each rp q.factors >>= λ l. ok (built c l)) (sym coefficient_is)
 
       -- its coefficient is no constant
-      pub refused_there : constant.Not ≡ constant_answer (constant_of p.coefficient) → RefusedAt part name ws
+      pub refused_there : None ≡ constant_answer (constant_of p.coefficient) → RefusedAt part name ws
       refused_there z =
           let u = unaccepted (constant_of p.coefficient) z in
           (u.0, ap rp is_product.is ∙ opened ∙ ap (λ (o : Outcome ℤ). o >>= λ c. each rp q.factors >>= λ l. ok (built c l)) u.1)
 
-      module _ (code : ℕ) (z : constant.Is code ≡ constant_answer (constant_of p.coefficient)) (left copies : ℕ) (cp : copies ≡ names_after (length ws) (take all places)) (lf : left ≡ all - copies) where
+      module _ (code : ℕ) (z : Some code ≡ constant_answer (constant_of p.coefficient)) (left copies : ℕ) (cp : copies ≡ names_after (length ws) (take all places)) (lf : left ≡ all - copies) where
         abbrev front : List ℕ
         front = agree.apart.front
 

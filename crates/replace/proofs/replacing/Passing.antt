@@ -1,5 +1,5 @@
 -- In a product without a match every word stays up to a factor that is no symbol: a product among them has some of its factors, and so no match. Assumes nothing.
-use Rattle.std.proofs.Common.{◌≡◌, ℕ, zero, suc, ◌+◌, ◌<◌, ◌≤◌, Bool, true, false, not, ◌||◌, T, eqb, ltb, List, [], ◌∷◌, ◌++◌, length, get_or, take, drop, sym, refl, ap, ◌∙◌, subst, append-nil, arith, ltb→lt, nltb→le, take-add, eq-eqb, ne_eqb, eqb-true}
+use Rattle.std.proofs.Common.{◌≡◌, ℕ, zero, suc, ◌+◌, ◌<◌, ◌≤◌, Bool, true, false, ◌||◌, T, eqb, List, [], ◌∷◌, ◌++◌, length, get_or, take, drop, sym, refl, ap, ◌∙◌, subst, append-nil, arith, take-add, eq-eqb, ne_eqb, eqb-true}
 use mathlib.Core.Option.{Option, none, some}
 use Rattle.spec_tree.specs.Outcome.{Outcome, ok, ◌>>=◌}
 use Rattle.spec_tree.specs.Tree.{Tree}
@@ -35,17 +35,6 @@ first_plain ws e zero h = by (eqb (kind_of (get_or ws 0 0)) 0) (eqb (kind_of (ge
     by false true c q = refl
     by false false c q = (let y : ◌≡◌ {A = ℕ} 0 1 = cc in absurd (omega arith))
 first_plain ws e (suc j) h = absurd (omega arith)
-
-pub plain_more :
-    (ws : List ℕ) (q : ℕ) → ((j : ℕ) → j < q → is_plain (get_or ws j 0) ≡ true) → is_plain (get_or ws q 0) ≡ true → (j : ℕ) → j < q + 1 → is_plain (get_or ws j 0) ≡ true
-plain_more ws q f e j k = go (ltb j q) (ltb→lt j q) (nltb→le j q)
-  where
-    last : (j : ℕ) → j < q + 1 → q ≤ j → j ≡ q
-    last j k l = omega arith
-
-    go : (b : Bool) → (T b → j < q) → (T (not b) → q ≤ j) → is_plain (get_or ws j 0) ≡ true
-    go true l g = f j (l tt)
-    go false l g = ap (λ (i : ℕ). is_plain (get_or ws i 0)) (last j k (g tt)) ∙ e
 
 pub plain_symbol : (w : ℕ) → kind_of w ≡ 0 → true ≡ is_plain w
 unfolding is_plain

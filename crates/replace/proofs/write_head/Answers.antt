@@ -1,5 +1,5 @@
 -- `replace::write_head` meets its contract. Assumes nothing.
-use Rattle.std.proofs.Common.{refl, ◌∙◌, arith, length-set, rules}
+use Rattle.std.proofs.Common.{refl, arith, length-set}
 use Rattle.replace.proofs.Writing.{head_one, head_minus, head_other, room_one, room_minus, room_other}
 use Rattle.replace.proofs.write_head.Goals as goal
 
@@ -18,20 +18,11 @@ put_repeated-requires-then-code-eq-MINUS_ONE c = let a = c.args in simp length-s
 pub overflow_add-result : goal.overflow_add-result
 overflow_add-result c = let a = c.args in omega (arith, room_minus a.code a.signs a.out.now c.if-code-eq-ONE.false c.if-code-eq-MINUS_ONE.true, c.requires.1, c.well_formed)
 
-pub shape_of-out-then-code-eq-MINUS_ONE : goal.shape_of-out-then-code-eq-MINUS_ONE
-shape_of-out-then-code-eq-MINUS_ONE c = c.put_repeated-then-code-eq-MINUS_ONE.auto.out ∙ length-set c.args.out.now 0 66
-
 pub returns-then-code-eq-MINUS_ONE : goal.returns-then-code-eq-MINUS_ONE
 returns-then-code-eq-MINUS_ONE c = let a = c.args in head_minus a.code a.signs a.out.now c.if-code-eq-ONE.false c.if-code-eq-MINUS_ONE.true (omega (arith, room_minus a.code a.signs a.out.now c.if-code-eq-ONE.false c.if-code-eq-MINUS_ONE.true, c.requires.1)) c.put_repeated-then-code-eq-MINUS_ONE.new.out c.put_repeated-then-code-eq-MINUS_ONE.ensures
 
 pub bounds-out-0-2 : goal.bounds-out-0-2
 bounds-out-0-2 c = let a = c.args in omega (arith, room_other a.code a.signs a.out.now c.if-code-eq-ONE.false c.if-code-eq-MINUS_ONE.false, c.requires.1)
-
-pub overflow_mul-out : goal.overflow_mul-out
-overflow_mul-out c = omega (arith, c.requires.0)
-
-pub overflow_add-out : goal.overflow_add-out
-overflow_add-out c = omega (arith, c.requires.0)
 
 pub bounds-out-1 : goal.bounds-out-1
 bounds-out-1 c = let a = c.args in simp length-set (omega (arith, room_other a.code a.signs a.out.now c.if-code-eq-ONE.false c.if-code-eq-MINUS_ONE.false, c.requires.1))
@@ -41,9 +32,6 @@ put_repeated-requires-2 c = let a = c.args in simp length-set (omega (arith, roo
 
 pub overflow_add-result-2 : goal.overflow_add-result-2
 overflow_add-result-2 c = let a = c.args in omega (arith, room_other a.code a.signs a.out.now c.if-code-eq-ONE.false c.if-code-eq-MINUS_ONE.false, c.requires.1, c.well_formed)
-
-pub shape_of-out : goal.shape_of-out
-shape_of-out c = c.put_repeated-2.auto.out ∙ simp length-set refl
 
 pub returns : goal.returns
 returns c = let a = c.args in head_other a.code a.signs a.out.now c.if-code-eq-ONE.false c.if-code-eq-MINUS_ONE.false (omega (arith, room_other a.code a.signs a.out.now c.if-code-eq-ONE.false c.if-code-eq-MINUS_ONE.false, c.requires.1)) _ refl c.put_repeated-2.new.out c.put_repeated-2.ensures

@@ -1,11 +1,9 @@
 -- What the functions of matching answer and leave. Assumes nothing.
-use Rattle.std.specs.Prelude.{◌≡◌, ℕ, ◌*◌, ◌<◌, ◌≤◌, Bool, true, false, List, length, take, drop, slice_index}
-use Rattle.std.proofs.Math.Option.{Option, none, some}
+use Rattle.std.specs.Prelude.{◌≡◌, ℕ, ◌*◌, ◌<◌, ◌≤◌, Bool, true, false, List, length, take, drop, slice_index, Option, Some, None}
+use Rattle.std.proofs.Math.Option as maybe
+use Rattle.std.proofs.Math.Option.{none, some}
 use Rattle.replace.specs.matching.Matching.{is_passed, factor_runs, words_at, PlacesTaken, take_out_places}
-use Rattle.replace.specs.declared.matching.Removed.{Removed}
-use Rattle.replace.specs.declared.matching.Removed.TheVariants as removed
 use Rattle.replace.specs.declared.matching.Taken.{Taken}
-use Rattle.replace.specs.declared.matching.Taken.TheVariants as taken
 
 -- the next factor's place is q, or the end
 pub record Seeks (part : List ℕ) (from q : ℕ) : Type 0 where
@@ -15,12 +13,12 @@ pub record Seeks (part : List ℕ) (from q : ℕ) : Type 0 where
   pub starts : q < length part → is_passed (slice_index part q) ≡ false
 
 -- what is left stands in front
-abbrev pub Removes : Option (List ℕ) → List ℕ → Removed → Type 0
-Removes o new (removed.Left n) = (o ≡ some (take n new)) × (n ≤ length new)
-Removes o new removed.Missing = o ≡ none
+abbrev pub Removes : maybe.Option (List ℕ) → List ℕ → Option ℕ → Type 0
+Removes o new (Some n) = (o ≡ some (take n new)) × (n ≤ length new)
+Removes o new None = o ≡ none
 
 -- where this is answered, one is missing
-abbrev pub Lacks : Option (List ℕ) → Bool → Type 0
+abbrev pub Lacks : maybe.Option (List ℕ) → Bool → Type 0
 Lacks o true = o ≡ none
 Lacks o false = Unit {0}
 
@@ -28,7 +26,7 @@ Lacks o false = Unit {0}
 abbrev pub TakenAs : PlacesTaken → List ℕ → ℕ → ℕ → Type 0
 TakenAs q new left times = (take left new ≡ q.places) × (left ≤ length new) × (times ≡ q.times)
 
-abbrev pub Takes : List ℕ → List ℕ → ℕ → List ℕ → ℕ → List ℕ → Taken → Type 0
-Takes ws part name old count new (taken.Out left times) =
-    (2 * count ≤ length old) × TakenAs (take_out_places (2 * count) (words_at ws name) (length ws) (factor_runs part) (take count old)) new left times
-Takes ws part name old count new taken.NoRoom = (length old < 2 * count) × (new ≡ old)
+abbrev pub Takes : List ℕ → List ℕ → ℕ → List ℕ → ℕ → List ℕ → Option Taken → Type 0
+Takes ws part name old count new (Some taken) =
+    (2 * count ≤ length old) × TakenAs (take_out_places (2 * count) (words_at ws name) (length ws) (factor_runs part) (take count old)) new taken.left taken.times
+Takes ws part name old count new None = (length old < 2 * count) × (new ≡ old)

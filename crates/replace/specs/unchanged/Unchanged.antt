@@ -1,14 +1,11 @@
 -- What `replace_or_leave` answers and leaves. Assumes nothing.
-use Rattle.std.specs.Prelude.{◌≡◌, ℕ, ◌+◌, ◌≤◌, List, length, take, drop}
+use Rattle.std.specs.Prelude.{◌≡◌, ℕ, ◌+◌, ◌≤◌, List, length, take, drop, Result, Ok, Err}
 use Rattle.replace.specs.Answers.{Replacement}
-use Rattle.replace.specs.declared.Replaced.{Replaced}
-use Rattle.replace.specs.declared.Replaced.TheVariants as replaced
+use Rattle.replace.specs.declared.ReplaceError.{ReplaceError}
 
-unfoldable pub words_left : Replaced → List ℕ → List ℕ → List ℕ
-words_left (replaced.Words n) new old = new
-words_left replaced.Refused new old = old
-words_left replaced.Broken new old = old
-words_left replaced.NoRoom new old = old
+unfoldable pub words_left : Result ℕ ReplaceError → List ℕ → List ℕ → List ℕ
+words_left (Ok n) new old = new
+words_left (Err e) new old = old
 
 -- the same answer, and nothing is written but what is answered
 unfoldable pub unchanged : Replacement → List ℕ → Replacement

@@ -13,21 +13,20 @@ use Rattle.laws.specs.positions.Names.{is_number, symbols_pass}
 use Rattle.laws.specs.positions.Places.{best_place}
 use Rattle.laws.proofs.positions.BestPlace.{if_some, named_there, best_at_place}
 use Rattle.rounds.specs.Answers.{Finds}
-use Rattle.rounds.specs.declared.choice.Best.{Best}
-use Rattle.rounds.specs.declared.choice.Best.TheVariants as answer
+use Rattle.std.specs.Prelude as answer
 
 -- the place of an answer
-abbrev pub place_in : Best → Option ℕ
-place_in (answer.At p) = some p
-place_in answer.Nothing = none
+abbrev pub place_in : answer.Option ℕ → Option ℕ
+place_in (answer.Some p) = some p
+place_in answer.None = none
 
 module _ (rows : List Row) (ws : List ℕ) (scoped : Bool) where
-  pub answer_is : (r : Best) → Finds rows ws scoped r → place_in r ≡ best_place ws (name_in rows) scoped
-  answer_is (answer.At p) f = sym f
-  answer_is answer.Nothing f = sym f
+  pub answer_is : (r : answer.Option ℕ) → Finds rows ws scoped r → place_in r ≡ best_place ws (name_in rows) scoped
+  answer_is (answer.Some p) f = sym f
+  answer_is answer.None f = sym f
 
   -- where symbols are numbered by the first row with their name, that is the best candidate of the definition
   pub answer_is_best :
-      (h : T (symbols_pass (is_number rows) ws)) (r : Best) → Finds rows ws scoped r
+      (h : T (symbols_pass (is_number rows) ws)) (r : answer.Option ℕ) → Finds rows ws scoped r
       → best scoped (read (name_in rows) ws) ≡ if_some (named_there rows ws h) (place_in r)
   answer_is_best h r f = best_at_place rows ws h scoped ∙ ap (if_some (named_there rows ws h)) (sym (answer_is r f))

@@ -1,12 +1,14 @@
 -- Where no word is a switch, no place is in an arm, and both forms have the same candidates. Assumes nothing.
-use Prim.Native.Nat.{ℕ, zero, suc, ◌+◌, ◌-◌, ◌≤◌, ◌<◌}
+use Prim.Native.Nat.{ℕ, zero, suc, ◌+◌, ◌≤◌}
 use native.Mathlib.Omega.{arith}
 use mathlib.Core.Path.{◌≡◌, refl, sym, ◌∙◌, ap, ap₂}
 use mathlib.Core.Bool.{Bool, true, false, not, ◌&&◌, ◌||◌}
 use mathlib.Core.Option.{Option, none, some}
 use mathlib.Core.List.{List}
-use borrow.Author.Tests.{le-leb, lt-leb, leb-false}
-use lib.ListN.{length, get_or}
+use lib.ListN.{length, get_or, take}
+use Rattle.std.specs.List.{list_any}
+use Rattle.std.proofs.lemmas.List.Folds.{list_any_more}
+use Rattle.std.proofs.lemmas.List.{take_all}
 use lib.Dec.{leb}
 use Rattle.spec_tree.specs.Kinds.{is_switch}
 use Rattle.spec_tree.specs.Facts.{cost, has_symbol}
@@ -17,35 +19,27 @@ use Rattle.rounds.specs.uses.Marks.{switch_among}
 use Rattle.rounds.specs.choice.Leading.{Alike}
 use Rattle.rounds.proofs.choice.Leaders.{same_places}
 
--- ---- a switch among words, from the right
+-- ---- a switch among words
 
--- what is left to look through
-pub record Scanning (ws : List ℕ) (i : ℕ) : Type 0 where
-  pub inside : i ≤ length ws
-  pub rest : switch_among ws (length ws) ≡ switch_among ws i
+or_swapped : (a b : Bool) → (a || b) ≡ (b || a)
+or_swapped true true = refl
+or_swapped true false = refl
+or_swapped false true = refl
+or_swapped false false = refl
 
-pub scanning_starts : (ws : List ℕ) → Scanning ws (length ws)
-scanning_starts ws = record { inside = omega arith; rest = refl }
-
-last_word : (ws : List ℕ) (i : ℕ) → 0 < i → switch_among ws i ≡ (is_switch (kind_of (get_or ws (i - 1) 0)) || switch_among ws (i - 1))
+switch_so_far : (ws : List ℕ) (n : ℕ) → n ≤ length ws → list_any (λ w. is_switch (kind_of w)) (take n ws) ≡ switch_among ws n
 unfolding switch_among
-last_word ws zero h = absurd (omega arith)
-last_word ws (suc n) h = let z : suc n - 1 ≡ n = omega arith in rw z
+switch_so_far ws zero h = refl
+switch_so_far ws (suc n) h =
+    let z : n + 1 ≡ suc n = omega arith in
+    ap (λ (m : ℕ). list_any (λ w. is_switch (kind_of w)) (take m ws)) (sym z)
+    ∙ (list_any_more (λ w. is_switch (kind_of w)) ws n 0 (omega arith)
+    ∙ (or_swapped (list_any (λ w. is_switch (kind_of w)) (take n ws)) (is_switch (kind_of (get_or ws n 0)))
+    ∙ ap (λ (b : Bool). is_switch (kind_of (get_or ws n 0)) || b) (switch_so_far ws n (omega arith))))
 
-module _ {ws : List ℕ} {i : ℕ} (k : Scanning ws i) where
-  pub scanning_finds : 0 < i → 26 ≤ kind_of (get_or ws (i - 1) 0) → true ≡ switch_among ws (length ws)
-  scanning_finds h g = sym (k.rest ∙ (last_word ws i h ∙ rw (le-leb 26 (kind_of (get_or ws (i - 1) 0)) g)))
-
-  pub scanning_turns : 0 < i → kind_of (get_or ws (i - 1) 0) < 26 → Scanning ws (i - 1)
-  scanning_turns h g =
-      record {
-        inside = omega (arith, k.inside);
-        rest = k.rest ∙ (last_word ws i h ∙ rw (lt-leb 26 (kind_of (get_or ws (i - 1) 0)) g));
-      }
-
-  pub scanning_ends : i ≤ 0 → false ≡ switch_among ws (length ws)
-  unfolding switch_among
-  scanning_ends h = let z : i ≡ 0 = omega arith in sym (k.rest ∙ ap (switch_among ws) z)
+pub any_switch : (ws : List ℕ) (r : Bool) → r ≡ list_any (λ w. is_switch (kind_of w)) ws → r ≡ switch_among ws (length ws)
+any_switch ws r e =
+    e ∙ (ap (list_any (λ w. is_switch (kind_of w))) (sym (take_all (length ws) ws (omega arith))) ∙ switch_so_far ws (length ws) (omega arith))
 
 -- ---- without one, the forms are alike
 

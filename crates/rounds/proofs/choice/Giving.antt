@@ -3,11 +3,13 @@ use Prim.Native.Nat.{ℕ, ◌+◌, ◌*◌, ◌≤◌, ◌<◌}
 use native.Mathlib.Omega.{arith}
 use mathlib.Core.Path.{◌≡◌, refl, sym, ◌∙◌, ap}
 use mathlib.Core.Bool.{Bool, true, false, cond}
-use mathlib.Core.Option.{Option, none, some}
+use mathlib.Core.Option.{none, some}
 use mathlib.Core.List.{List, ◌++◌}
-use borrow.Author.Tests.{le-ltb, eq-eqb, ne_eqb}
+use borrow.Author.Tests.{le-ltb, ltb-true, ltb-false, eq-eqb, ne_eqb}
 use lib.ListN.{length, get_or, drop, length-append, length-drop, get_or-append}
-use lib.Dec.{leb}
+use lib.Dec.{leb, ltb}
+use Rattle.std.specs.Prelude as answer
+use Rattle.std.specs.Bool.{then_some}
 use Rattle.spec_tree.specs.Tokens.{trees_in, trees_at, numbered, flag, name_in}
 use Rattle.rounds.specs.measure.Columns.{place_facts, all_place_facts}
 use Rattle.spec_tree.proofs.TokenLaws.{trees_length}
@@ -23,6 +25,7 @@ use Rattle.laws.proofs.positions.UsesAt.{uses_counted}
 use Rattle.rounds.specs.value_numbers.Answers.{Tables}
 use Rattle.rounds.proofs.value_numbers.Laws.{last_high}
 use Rattle.rounds.proofs.value_numbers.Sides.{operation_class}
+use Rattle.rounds.specs.Answers.{Finds}
 use Rattle.rounds.specs.choice.Leading.{HasFacts, HasMarks, HasUses, Alike, leader_of, Leads}
 use Rattle.rounds.proofs.choice.Forms.{best_same}
 
@@ -33,13 +36,20 @@ module _ (rows ws : List ℕ) (form scoped : Bool) (p s : ℕ) (k : Leads rows w
   led : best_place ws (name_in (rows_in rows)) scoped ≡ leader_of p s
   led = sym (k.best ∙ best_same ws (name_in (rows_in rows)) form scoped same)
 
-  pub finds_nothing : s ≡ 0 → best_place ws (name_in (rows_in rows)) scoped ≡ none
+  finds_nothing : s ≡ 0 → best_place ws (name_in (rows_in rows)) scoped ≡ none
   unfolding leader_of
   finds_nothing z = led ∙ ap (λ (b : Bool). cond b none (some p)) (eq-eqb s 0 z)
 
-  pub finds_at : (s ≡ 0 → ⊥) → best_place ws (name_in (rows_in rows)) scoped ≡ some p
+  finds_at : (s ≡ 0 → ⊥) → best_place ws (name_in (rows_in rows)) scoped ≡ some p
   unfolding leader_of
   finds_at z = led ∙ ap (λ (b : Bool). cond b none (some p)) (ne_eqb s 0 z)
+
+  pub finds_so : (r : answer.Option ℕ) → r ≡ then_some (ltb 0 s) p → Finds (rows_in rows) ws scoped r
+  finds_so r e = go (ltb 0 s) refl
+    where
+      go : (b : Bool) → ltb 0 s ≡ b → Finds (rows_in rows) ws scoped r
+      go true h = let l = ltb-true 0 s h in rw (e, h) (finds_at (λ z. omega arith))
+      go false h = let l = ltb-false 0 s h in rw (e, h) (finds_nothing (omega arith))
 
 -- ---- what `class_tables` and `mark_outside` leave
 

@@ -277,12 +277,20 @@ module _ (rows ws : List ℕ) (scoped : Bool) (i p l s : ℕ) (h : i < length ws
   unfolding best_step
   none_stays z b = rw (leads_none p l z, b)
 
-  pub none_yet : s ≡ l → s ≡ 0 → Met p l
+  none_yet : s ≡ l → s ≡ 0 → Met p l
   none_yet g z = go (cand ws scoped i s e)
     where
       go : Cand (candidate_at ws scoped i) s (savings_at ws i) → Met p l
       go (one b q n) = absurd (omega arith)
       go (not_one b q) = (k, none_stays (omega arith) b)
+
+  -- it saves nothing
+  pub saves_none : s ≡ 0 → Met p l
+  saves_none z = go (eqb l 0) refl
+    where
+      go : (b : Bool) → eqb l 0 ≡ b → Met p l
+      go true q = let u = eqb-true l 0 q in none_yet (omega arith) z
+      go false q = let u = eqb-false l 0 q in saves_less (omega arith)
 
   -- both save as much
   module _ (g : s ≡ l) (n : s ≡ 0 → ⊥) where

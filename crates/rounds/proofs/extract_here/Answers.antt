@@ -1,31 +1,29 @@
 -- `rounds::extract_here` meets its contract. Assumes nothing.
 use native.Mathlib.Omega.{arith}
-use mathlib.Core.Path.{refl, sym, ◌∙◌}
-use lib.ListN.{length}
+use mathlib.Core.Path.{refl, sym}
 use lib.Seq.{length-take-le}
-use Rattle.rounds.proofs.Extracting.{made_most, made_long, turned, turn_refused}
+use Rattle.rounds.proofs.Extracting.{turned, turn_refused}
 use borrow.Author.Rules.{rules}
+use Rattle.std.specs.Prelude.{Err}
+use Rattle.rounds.specs.Answers.{Turns}
 use Rattle.rounds.proofs.extract_here.Goals as goal
 
 pub slice_bounds-extract-end-2 : goal.slice_bounds-extract-end-2
 slice_bounds-extract-end-2 c = (let a = c.args in sym (length-take-le a.len a.tokens.now c.requires.len_in_bounds.0))
 
-pub extract-made-requires : goal.extract-made-requires
-extract-made-requires c = let a = c.args in
+pub extract-requires : goal.extract-requires
+extract-requires c = let a = c.args in
     let l = length-take-le a.len a.tokens.now c.requires.len_in_bounds.0 in
     record { chosen = c.requires.chosen; tokens_len_bound = (omega (arith, l, c.requires.len_in_bounds.1), c.requires.len_in_bounds.2); tokens_in_bounds = (omega (arith, l, c.requires.len_in_bounds_2), omega (arith, l, c.requires.len_in_bounds_2)) }
 
-pub slice_bounds-put-end : goal.slice_bounds-put-end
-slice_bounds-put-end c = (let a = c.args in omega (arith, made_most a.tokens.now a.len a.at a.name c.requires.len_in_bounds.0 _ _ c.extract-made.result c.extract-made.ensures c.in-Wrote.n c.in-Wrote.is, c.requires.len_in_bounds_2, c.extract-made.auto.out))
+pub returns-in_err-n : goal.returns-in_err-n
+returns-in_err-n c =
+    let a = c.args in
+    let t : Turns a.tokens.now a.len a.at a.name (Err c.in_err-n.field-0.0) a.tokens.now =
+    (turn_refused a.tokens.now a.len a.at a.name c.requires.len_in_bounds.0 _ _ c.extract.result c.extract.ensures c.in_err-n.field-0.0 c.in_err-n.was, refl) in
+    search rules
 
-pub slice_bounds-put-end-in-Wrote : goal.slice_bounds-put-end-in-Wrote
-slice_bounds-put-end-in-Wrote c = (let a = c.args in made_long a.tokens.now a.len a.at a.name c.requires.len_in_bounds.0 _ _ c.extract-made.result c.extract-made.ensures c.in-Wrote.n c.in-Wrote.is)
-
-pub put-requires : goal.put-requires
-put-requires c = (let a = c.args in omega (arith, made_most a.tokens.now a.len a.at a.name c.requires.len_in_bounds.0 _ _ c.extract-made.result c.extract-made.ensures c.in-Wrote.n c.in-Wrote.is, made_long a.tokens.now a.len a.at a.name c.requires.len_in_bounds.0 _ _ c.extract-made.result c.extract-made.ensures c.in-Wrote.n c.in-Wrote.is, c.requires.len_in_bounds))
-
-pub returns-in-Wrote : goal.returns-in-Wrote
-returns-in-Wrote c = (let a = c.args in turned a.tokens.now a.len a.at a.name c.requires.len_in_bounds.0 _ _ c.extract-made.result c.extract-made.ensures c.in-Wrote.n c.in-Wrote.is _ c.put.ensures)
-
-pub returns-in-Refused : goal.returns-in-Refused
-returns-in-Refused c = (let a = c.args in (turn_refused a.tokens.now a.len a.at a.name c.requires.len_in_bounds.0 _ _ c.extract-made.result c.extract-made.ensures c.in-Refused.is, refl))
+pub returns : goal.returns
+returns c =
+    let a = c.args in
+    turned a.tokens.now a.len a.at a.name c.requires.len_in_bounds.0 _ _ c.extract.result c.extract.ensures c.in_ok-n.n c.in_ok-n.was c.copy_from_slice.new.self c.copy_from_slice.ensures.after

@@ -1,12 +1,9 @@
-use native.Mathlib.Omega.{arith}
-use mathlib.Core.Path.{◌≡◌, refl}
+use mathlib.Core.Path.{◌≡◌}
 use lib.ListN.{length, take}
 use Rattle.spec_tree.specs.Facts.{all_operations}
 use Rattle.spec_tree.specs.Tokens.{read, numbered}
 use Rattle.fmt.specs.checked.Check.{rows_in}
-use Rattle.rounds.proofs.Lending.{lent_fewer}
-use Rattle.rounds.proofs.Ending.{Loop, loop_starts, few_made, ready, turn_next, turn_last, turn_refused}
-use borrow.Author.Rules.{rules}
+use Rattle.rounds.proofs.Ending.{Loop}
 use Rattle.rounds.proofs.extract_in.Given as goal
 
 abbrev pub invariant-loop-now : goal.invariant-loop-now

@@ -7,15 +7,14 @@ use mathlib.Core.Bool.{Bool, false, ◌&&◌}
 use mathlib.Core.Option.{Option, none, some}
 use mathlib.Core.List.{List, [], ◌∷◌, ◌++◌, append-nil}
 use lib.ListN.{length, get_or, take, drop}
-use lib.Dec.{T, eqb}
+use lib.Dec.{T}
 use Rattle.spec_tree.specs.Bytes.{every}
 use Rattle.spec_tree.specs.Outcome.{Outcome, ok, refused, ◌>>=◌, each}
 use Rattle.spec_tree.specs.Tree.{Name, xname, Tree, Forest, Sym, Const, Op, nil, ◌◂◌, folds}
 use Rattle.spec_tree.specs.Facts.{total, operations, all_operations, all_nodes, size}
 use Rattle.spec_tree.specs.Rows.{Row}
-use Rattle.spec_tree.specs.Tokens.{read, numbered, name_in, trees_in, run_at, tokens, all_tokens, kind_of}
+use Rattle.spec_tree.specs.Tokens.{read, numbered, name_in, trees_in, run_at, tokens, all_tokens}
 use Rattle.spec_tree.proofs.Logic.{and_left, and_right, and_both}
-use Rattle.spec_tree.proofs.Tests.{eq→eqb}
 use Rattle.spec_tree.proofs.TokenLaws.{run_size, words_complete}
 use Rattle.spec_tree.proofs.TokenCode.{unnumbered}
 use Rattle.spec_rewrite.specs.Rewrite.{replace}

@@ -9,8 +9,8 @@ use Rattle.rounds.specs.measure.Columns.{column, Inside}
 use Rattle.rounds.specs.measure.Operands.{Together}
 use Rattle.rounds.specs.value_numbers.Classes.{mixed}
 use Rattle.rounds.specs.value_numbers.Walks.{Walk}
-use Rattle.rounds.proofs.measure.Walking.{Next, Summing, summing, sum_turn, sum_end, Seeking, seeking, seek_turn, seek_end}
-use Rattle.rounds.proofs.value_numbers.Loops.{First, Keying, walk_first, key_starts, key_turns, key_ends}
+use Rattle.rounds.proofs.measure.Walking.{Summing, summing, sum_turn, sum_end, Seeking, seeking, seek_turn, seek_end}
+use Rattle.rounds.proofs.value_numbers.Loops.{Keying, walk_first, key_starts, key_turns, key_ends}
 
 module _ (fs cl : List ℕ) (w place count : ℕ) where
   pub record Gathering (size cost depth symbol key p left : ℕ) : Type 0 where

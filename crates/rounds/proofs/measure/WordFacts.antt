@@ -6,6 +6,8 @@ use mathlib.Core.Bool.{Bool, true, false, ◌||◌, cond}
 use mathlib.Core.List.{List, [], ◌∷◌, map}
 use borrow.Author.Tests.{eq-eqb, ne_eqb, le-leb, lt-leb}
 use lib.ListN.{take}
+use lib.Dec.{eqb}
+use Rattle.std.specs.Int.{from_bool}
 use Rattle.spec_tree.specs.Kinds.{is_select}
 use Rattle.spec_tree.specs.Tree.{Tree}
 use Rattle.spec_tree.specs.Facts.{total, greatest, some_of, first_and_greatest, cost, depth, has_symbol}
@@ -25,6 +27,14 @@ operation_own w h = rw (lt-leb (kind_of w) 1 h)
 pub symbol_own : (w : ℕ) → kind_of w ≡ 0 → own_symbol w ≡ 1
 unfolding own_symbol
 symbol_own w h = rw (eq-eqb (kind_of w) 0 h)
+
+pub symbol_so : (w r : ℕ) → r ≡ from_bool (eqb (kind_of w) 0) → r ≡ own_symbol w
+unfolding own_symbol
+symbol_so w r e = e ∙ go (eqb (kind_of w) 0)
+  where
+    go : (b : Bool) → from_bool b ≡ cond b 1 0
+    go true = refl
+    go false = refl
 
 pub other_own : (w : ℕ) → 0 < kind_of w → own_symbol w ≡ 0
 unfolding own_symbol

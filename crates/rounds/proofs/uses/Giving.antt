@@ -1,54 +1,43 @@
 -- What `mark_outside` answers in each case. Assumes nothing.
-use Prim.Native.Nat.{ℕ, ◌-◌, ◌≤◌, ◌<◌}
+use Rattle.words.specs.declared.fault.Fault.TheVariants as fault
+use Prim.Native.Nat.{ℕ, ◌≤◌, ◌<◌}
 use native.Mathlib.Omega.{arith}
-use mathlib.Core.Path.{◌≡◌, refl, sym, ◌∙◌, ap}
+use mathlib.Core.Path.{◌≡◌, refl, ◌∙◌}
 use mathlib.Core.Bool.{Bool, true, false}
-use mathlib.Core.Option.{Option, none, some}
+use mathlib.Core.Option.{none, some}
 use mathlib.Core.List.{List}
 use borrow.Author.Tests.{lt-ltb, le-ltb}
 use lib.ListN.{length, get_or}
 use lib.Dec.{ltb}
 use Rattle.spec_tree.specs.Tokens.{trees_in, flag}
-use Rattle.words.specs.tokens.Answers.{count_answer}
-use Rattle.words.specs.declared.tokens.Trees.TheVariants as trees
 use Rattle.laws.specs.positions.Places.{outside_at}
 use Rattle.rounds.specs.uses.Marks.{Complete, Ones, Marking, not_in_arms}
 use Rattle.rounds.specs.uses.Answers.{mark_answer}
-use Rattle.rounds.specs.declared.uses.Marked.{Marked}
-use Rattle.rounds.specs.declared.uses.Marked.TheVariants as marked
+use Rattle.std.specs.Prelude.{Result, Ok, Err, ⊤}
+use Rattle.words.specs.declared.fault.Fault.{Fault}
 use Rattle.rounds.proofs.uses.Marking.{marked_list}
-use Rattle.words.proofs.words.Requests.{uncounted}
 
-some_counted : (o : Option ℕ) (n : ℕ) → trees.Count n ≡ count_answer o → o ≡ some n
-unfolding count_answer
-some_counted none n e = absurd (let z : ◌≡◌ {A = ℕ} 0 1 = cc in omega arith)
-some_counted (some m) n e = let k : n ≡ m = cc in ap some (sym k)
-
-pub complete : (ws : List ℕ) (n : ℕ) → trees.Count n ≡ count_answer (trees_in ws) → Complete ws
-complete ws n e = λ b. let p = some_counted (trees_in ws) n e in let z : ◌≡◌ {A = ℕ} 0 1 = cc in omega arith
+pub complete : (ws : List ℕ) (n : ℕ) → trees_in ws ≡ some n → Complete ws
+complete ws n p = λ b. let z : ◌≡◌ {A = ℕ} 0 1 = cc in omega arith
 
 -- ---- marks
 
-abbrev pub Gives : List ℕ → Bool → List ℕ → Marked → List ℕ → Type 0
+abbrev pub Gives : List ℕ → Bool → List ℕ → Result ⊤ Fault → List ℕ → Type 0
 Gives ws scoped old answer new = (answer ≡ (mark_answer ws scoped old).answer) × (new ≡ (mark_answer ws scoped old).marks)
 
 module _ (ws : List ℕ) (scoped : Bool) (old : List ℕ) where
-  pub gives_no_room : length old < length ws → Gives ws scoped old marked.NoRoom old
+  pub gives_no_room : length old < length ws → Gives ws scoped old (Err fault.NoRoom) old
   unfolding mark_answer
   gives_no_room h = let t = lt-ltb (length old) (length ws) h in (rw t, rw t)
 
-  pub gives_broken : length ws ≤ length old → trees.Broken ≡ count_answer (trees_in ws) → Gives ws scoped old marked.Broken old
+  pub gives_broken : length ws ≤ length old → trees_in ws ≡ none → Gives ws scoped old (Err fault.Broken) old
   unfolding mark_answer
-  gives_broken h e =
-      let t = le-ltb (length old) (length ws) h in
-      let b = uncounted (trees_in ws) e in
-      (rw (t, b), rw (t, b))
+  gives_broken h b = let t = le-ltb (length old) (length ws) h in (rw (t, b), rw (t, b))
 
-  pub gives_done : (new : List ℕ) (n : ℕ) → length ws ≤ length old → trees.Count n ≡ count_answer (trees_in ws) → Marking ws (outside_at ws scoped) old new → Gives ws scoped old marked.Done new
+  pub gives_done : (new : List ℕ) (n : ℕ) → length ws ≤ length old → trees_in ws ≡ some n → Marking ws (outside_at ws scoped) old new → Gives ws scoped old (Ok tt) new
   unfolding mark_answer
-  gives_done new n h e k =
+  gives_done new n h b k =
       let t = le-ltb (length old) (length ws) h in
-      let b = some_counted (trees_in ws) n e in
       (rw (t, b), rw (t, b) (marked_list ws (outside_at ws scoped) old new h k))
 
 -- in the flat form every place is outside

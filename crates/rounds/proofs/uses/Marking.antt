@@ -1,90 +1,45 @@
 -- What each step of marking leaves, place by place. Assumes nothing.
+use Rattle.std.specs.Prelude.{Some, None}
 use Prim.Native.Nat.{ℕ, zero, suc, ◌+◌, ◌-◌, ◌≤◌, ◌<◌}
 use native.Mathlib.Omega.{arith}
 use mathlib.Core.Path.{◌≡◌, refl, sym, ◌∙◌, ap, ap₂}
 use mathlib.Core.Bool.{Bool, true, false, not, ◌&&◌, ◌||◌, cond}
 use mathlib.Core.Option.{Option, some}
 use mathlib.Core.List.{List, ◌++◌}
-use borrow.Author.Tests.{lt-ltb, le-ltb, le-leb, lt-leb, ltb-true, ltb-false, leb-true, leb-false, eqb-true, eqb-false}
-use lib.ListN.{length, get_or, set, drop, length-set, length-drop, length-append, get_or-append}
-use lib.Seq.{ext_get_or, get_or-set_same, get_or-set_other, get_or-append-add, get_or-drop}
-use lib.Dec.{eqb, leb, ltb}
+use borrow.Author.Tests.{lt-ltb, le-ltb, le-leb, lt-leb, ltb-true, ltb-false, leb-true, leb-false}
+use lib.ListN.{length, get_or, take, drop, replicate, length-drop, length-append, get_or-append}
+use lib.Seq.{ext_get_or, get_or-append-add, length-take-le}
+use Rattle.std.proofs.lemmas.List.{get_or-append_right, get_or-drop, get_or-take, get_or-replicate, length-replicate}
+use lib.Dec.{leb, ltb}
 use Rattle.spec_tree.specs.Facts.{size}
 use Rattle.spec_tree.specs.Tokens.{run_at, flag, kind_of}
 use Rattle.spec_tree.proofs.FactLaws.{size_one}
 use Rattle.spec_tree.proofs.TokenLaws.{words_short}
 use Rattle.words.specs.tokens.Answers.{end_answer}
-use Rattle.words.specs.declared.tokens.Run.TheVariants as run
 use Rattle.words.proofs.tokens.Comparing.{run_ends, run_after, broken_none}
 use Rattle.laws.specs.positions.Places.{numbered_at, in_arm_of, in_arm}
 use Rattle.rounds.specs.uses.Marks.{Complete, marks_of, Cleared, Ones, Arms, Marking, not_in_arms}
 use Rattle.rounds.proofs.uses.Runs.{run_there, ends_within}
 
--- a place below the next one, apart from the one between
-below_next : (j i : ℕ) → (j ≡ i → ⊥) → ltb j i ≡ ltb j (i + 1)
-below_next j i ne = go (ltb j i) refl
-  where
-    go : (b : Bool) → ltb j i ≡ b → ltb j i ≡ ltb j (i + 1)
-    go true e = e ∙ sym (lt-ltb j (i + 1) (omega (arith, ltb-true j i e)))
-    go false e = e ∙ sym (le-ltb j (i + 1) (let g = ltb-false j i e in let n : i < j = low j i ne g in omega arith))
-      where
-        low : (j i : ℕ) → (j ≡ i → ⊥) → i ≤ j → i < j
-        low j i ne g = elim (eqb j i) as (λ b. eqb j i ≡ b → i < j) [
-          | true ↦ λ q. absurd (ne (eqb-true j i q))
-          | false ↦ λ q. (let m = eqb-false j i q in omega arith)
-        ] refl
-
 -- ---- the first n places set
 
-pub ones_start : (old : List ℕ) → Ones old 0 old
-ones_start old = record { long = refl; each = λ j. rw (le-ltb j 0 (let z : 0 ≤ j = omega arith in z)) }
-
-pub ones_turn : {old mid : List ℕ} {i : ℕ} → Ones old i mid → i < length mid → Ones old (i + 1) (set mid i 1)
-ones_turn {old} {mid} {i} k h = record { long = length-set mid i 1 ∙ k.long; each = λ j. go j (eqb j i) refl }
+pub ones_filled : (old part : List ℕ) (n : ℕ) → n ≤ length old → part ≡ replicate (length (take n old)) 1 → Ones old n (part ++ drop n old)
+ones_filled old part n h e =
+    let z = length-take-le n old h in
+    let f : part ≡ replicate n 1 = e ∙ ap (λ (m : ℕ). replicate m 1) z in
+    let l : length part ≡ n = ap length f ∙ length-replicate n 1 in
+    record { long = omega (arith, length-append part (drop n old), length-drop n old, l); each = λ j. go l f j (ltb j n) refl }
   where
-    go : (j : ℕ) (b : Bool) → eqb j i ≡ b → get_or (set mid i 1) j 0 ≡ cond (ltb j (i + 1)) 1 (get_or old j 0)
-    go j true e =
-        let z : j ≡ i = eqb-true j i e in
-        let l : ltb j (i + 1) ≡ true = lt-ltb j (i + 1) (omega arith) in
-        rw l (ap (λ (m : ℕ). get_or (set mid i 1) m 0) z ∙ get_or-set_same mid i 1 0 h)
-    go j false e =
-        let n = eqb-false j i e in
-        get_or-set_other mid i j 1 0 n ∙ (k.each j ∙ ap (λ (b : Bool). cond b 1 (get_or old j 0)) (below_next j i n))
-
-pub ones_end : {old new : List ℕ} {i n : ℕ} → Ones old i new → i ≤ n → n ≤ i → Ones old n new
-ones_end {old} {new} {i} {n} k g h = let z : i ≡ n = omega arith in rw z at k
+    go : length part ≡ n → part ≡ replicate n 1 → (j : ℕ) (b : Bool) → ltb j n ≡ b → get_or (part ++ drop n old) j 0 ≡ cond (ltb j n) 1 (get_or old j 0)
+    go l f j true e =
+        let k = ltb-true j n e in
+        rw e (get_or-append part (drop n old) 0 j (omega arith) ∙ (ap (λ (x : List ℕ). get_or x j 0) f ∙ get_or-replicate n j 1 0 k))
+    go l f j false e =
+        let k = ltb-false j n e in
+        let s : n + (j - n) ≡ j = omega arith in
+        rw e (get_or-append_right part (drop n old) n j 0 l k ∙ (get_or-drop n old (j - n) 0 ∙ ap (λ (m : ℕ). get_or old m 0) s))
 
 -- ---- a part cleared
-
-pub record Clearing (old : List ℕ) (from to i : ℕ) (mid : List ℕ) : Type 0 where
-  pub done : Cleared old from i mid
-  pub low : from ≤ i
-  pub high : from < i → i ≤ to
-
-nothing_between : (from j : ℕ) → (leb from j && ltb j from) ≡ false
-nothing_between from j = go (leb from j) refl
-  where
-    go : (b : Bool) → leb from j ≡ b → (b && ltb j from) ≡ false
-    go true e = le-ltb j from (leb-true from j e)
-    go false e = refl
-
-pub clearing_starts : (old : List ℕ) (from to : ℕ) → Clearing old from to from old
-clearing_starts old from to =
-    record { done = record { long = refl; each = λ j. rw (nothing_between from j) }; low = omega arith; high = λ h. absurd (omega arith) }
-
-pub clearing_turns : {old mid : List ℕ} {from to i : ℕ} → Clearing old from to i mid → i < to → i < length mid → Clearing old from to (i + 1) (set mid i 0)
-clearing_turns {old} {mid} {from} {to} {i} k g h =
-    record { done = record { long = length-set mid i 0 ∙ k.done.long; each = λ j. go j (eqb j i) refl }; low = omega (arith, k.low); high = λ x. omega arith }
-  where
-    go : (j : ℕ) (b : Bool) → eqb j i ≡ b → get_or (set mid i 0) j 0 ≡ cond (leb from j && ltb j (i + 1)) 0 (get_or old j 0)
-    go j true e =
-        let z : j ≡ i = eqb-true j i e in
-        let l : ltb j (i + 1) ≡ true = lt-ltb j (i + 1) (omega arith) in
-        let m : leb from j ≡ true = le-leb from j (omega (arith, k.low)) in
-        rw (m, l) (ap (λ (p : ℕ). get_or (set mid i 0) p 0) z ∙ get_or-set_same mid i 0 0 h)
-    go j false e =
-        let n = eqb-false j i e in
-        get_or-set_other mid i j 0 0 n ∙ (k.done.each j ∙ ap (λ (b : Bool). cond (leb from j && b) 0 (get_or old j 0)) (below_next j i n))
 
 -- a range that is over before it begins
 over : (a j e : ℕ) → e ≤ a → (leb a j && ltb j e) ≡ false
@@ -94,22 +49,50 @@ over a j e h = go (leb a j) refl
     go true q = let l = leb-true a j q in le-ltb j e (omega arith)
     go false q = refl
 
-pub clearing_ends : {old new : List ℕ} {from to i : ℕ} → Clearing old from to i new → to ≤ i → Cleared old from to new
-clearing_ends {old} {new} {from} {to} {i} k h =
-    record { long = k.done.long; each = λ j. k.done.each j ∙ ap (λ (b : Bool). cond b 0 (get_or old j 0)) (same j) }
-  where
-    same : (j : ℕ) → (leb from j && ltb j i) ≡ (leb from j && ltb j to)
-    same j = go (ltb from i) refl
-      where
-        go : (b : Bool) → ltb from i ≡ b → (leb from j && ltb j i) ≡ (leb from j && ltb j to)
-        go true e =
-            let l = k.high (ltb-true from i e) in
-            let z : i ≡ to = omega arith in
-            ap (λ (m : ℕ). leb from j && ltb j m) z
-        go false e =
-            let l = ltb-false from i e in
-            let x : i ≤ from = omega arith in
-            over from j i x ∙ sym (over from j to (omega arith))
+pub nothing_cleared : (old : List ℕ) (from to : ℕ) → to ≤ from → Cleared old from to old
+nothing_cleared old from to h = record { long = refl; each = λ j. rw (over from j to h) }
+
+module _ (old part : List ℕ) (from to : ℕ) (h : from ≤ to) (g : to ≤ length old) (e : part ≡ replicate (length (take (to - from) (drop from old))) 0) where
+  part_is : part ≡ replicate (to - from) 0
+  part_is = e ∙ ap (λ (m : ℕ). replicate m 0) (length-take-le (to - from) (drop from old) (omega (arith, length-drop from old)))
+
+  part_long : length part ≡ to - from
+  part_long = ap length part_is ∙ length-replicate (to - from) 0
+
+  front_long : length (take from old) ≡ from
+  front_long = length-take-le from old (omega arith)
+
+  abbrev rest : List ℕ
+  rest = drop (to - from) (drop from old)
+
+  past_front : (j : ℕ) → from ≤ j → get_or (take from old ++ (part ++ rest)) j 0 ≡ get_or (part ++ rest) (j - from) 0
+  past_front j l = get_or-append_right (take from old) (part ++ rest) from j 0 front_long l
+
+  cleared_at : (j : ℕ) (b d : Bool) → leb from j ≡ b → ltb j to ≡ d → get_or (take from old ++ (part ++ rest)) j 0 ≡ cond (b && d) 0 (get_or old j 0)
+  cleared_at j false d x y =
+      let l = leb-false from j x in
+      get_or-append (take from old) (part ++ rest) 0 j (omega (arith, front_long)) ∙ get_or-take from old j 0 l
+  cleared_at j true true x y =
+      let l = leb-true from j x in
+      let m = ltb-true j to y in
+      past_front j l
+      ∙ (get_or-append part rest 0 (j - from) (omega (arith, part_long))
+      ∙ (ap (λ (q : List ℕ). get_or q (j - from) 0) part_is ∙ get_or-replicate (to - from) (j - from) 0 0 (omega arith)))
+  cleared_at j true false x y =
+      let l = leb-true from j x in
+      let m = ltb-false j to y in
+      let z : from + ((to - from) + (j - from - (to - from))) ≡ j = omega arith in
+      past_front j l
+      ∙ (get_or-append_right part rest (to - from) (j - from) 0 part_long (omega arith)
+      ∙ (get_or-drop (to - from) (drop from old) (j - from - (to - from)) 0
+      ∙ (get_or-drop from old ((to - from) + (j - from - (to - from))) 0 ∙ ap (λ (m : ℕ). get_or old m 0) z)))
+
+  pub part_cleared : Cleared old from to (take from old ++ (part ++ rest))
+  part_cleared =
+      record {
+        long = omega (arith, length-append (take from old) (part ++ rest), length-append part rest, length-drop (to - from) (drop from old), length-drop from old, front_long, part_long);
+        each = λ j. cleared_at j (leb from j) (ltb j to) refl refl;
+      }
 
 -- ---- the arms of one switch
 
@@ -144,7 +127,7 @@ arm_within ws p j c h g = go (leb 26 (kind_of (get_or ws p 0))) refl
 
 module _ (ws : List ℕ) (c : Complete ws) (p : ℕ) (h : p < length ws) where
   -- the switch is the last word, and has no arms
-  pub no_operands : (old : List ℕ) → run.Broken ≡ end_answer (p + 1) (run_at ws (p + 1)) → Arms ws p old old
+  pub no_operands : (old : List ℕ) → None ≡ end_answer (p + 1) (run_at ws (p + 1)) → Arms ws p old old
   no_operands old b = arms_none {ws = ws} {old = old} {p = p} (λ j. go j (leb 26 (kind_of (get_or ws p 0))) refl)
     where
       past : length ws ≤ p + 1
@@ -166,20 +149,20 @@ module _ (ws : List ℕ) (c : Complete ws) (p : ℕ) (h : p < length ws) where
   some_same n m o e f = let g : some n ≡ some m = sym e ∙ f in cc
 
   -- where a tree ends
-  pub ends_at : (j e : ℕ) → j < length ws → run.Ends e ≡ end_answer j (run_at ws j) → e ≡ j + size (numbered_at ws j)
+  pub ends_at : (j e : ℕ) → j < length ws → Some e ≡ end_answer j (run_at ws j) → e ≡ j + size (numbered_at ws j)
   ends_at j e l q =
       let a = run_after ws j e q in
       let s = some_same (e - j) (size (numbered_at ws j)) (run_at ws j) (run_ends ws j e q) (run_there ws c j l) in
       omega arith
 
-  pub never_broken : (j : ℕ) → j < length ws → run.Broken ≡ end_answer j (run_at ws j) → ⊥
+  pub never_broken : (j : ℕ) → j < length ws → None ≡ end_answer j (run_at ws j) → ⊥
   never_broken j l q =
       let x = run_there ws c j l in
       let y = broken_none j (run_at ws j) q in
       let z : ◌≡◌ {A = ℕ} 0 1 = cc in omega arith
 
   -- a run that is there begins among the words
-  pub begins_within : (j e : ℕ) → run.Ends e ≡ end_answer j (run_at ws j) → j < length ws
+  pub begins_within : (j e : ℕ) → Some e ≡ end_answer j (run_at ws j) → j < length ws
   unfolding run_at
   begins_within j e q =
       elim (ltb j (length ws)) as (λ d. ltb j (length ws) ≡ d → j < length ws) [
@@ -190,7 +173,7 @@ module _ (ws : List ℕ) (c : Complete ws) (p : ℕ) (h : p < length ws) where
             absurd (let z : ◌≡◌ {A = ℕ} 0 1 = cc in omega arith))
       ] refl
 
-  pub arms_cleared : (old new : List ℕ) (a e : ℕ) → 26 ≤ kind_of (get_or ws p 0) → run.Ends a ≡ end_answer (p + 1) (run_at ws (p + 1)) → run.Ends e ≡ end_answer p (run_at ws p) → Cleared old a e new → Arms ws p old new
+  pub arms_cleared : (old new : List ℕ) (a e : ℕ) → 26 ≤ kind_of (get_or ws p 0) → Some a ≡ end_answer (p + 1) (run_at ws (p + 1)) → Some e ≡ end_answer p (run_at ws p) → Cleared old a e new → Arms ws p old new
   arms_cleared old new a e g qa qe k =
       let s : p + 1 ≡ suc p = omega arith in
       let x : a ≡ p + 1 + size (numbered_at ws (p + 1)) = ends_at (p + 1) a (begins_within (p + 1) a qa) qa in
@@ -201,7 +184,7 @@ module _ (ws : List ℕ) (c : Complete ws) (p : ℕ) (h : p < length ws) where
         each = λ j. k.each j ∙ ap (λ (b : Bool). cond b 0 (get_or old j 0)) (ap₂ (λ (m n : ℕ). leb m j && ltb j n) x' y ∙ sym (is_arm ws p j g));
       }
 
-  pub end_fits : (e : ℕ) → run.Ends e ≡ end_answer p (run_at ws p) → e ≤ length ws
+  pub end_fits : (e : ℕ) → Some e ≡ end_answer p (run_at ws p) → e ≤ length ws
   end_fits e q = omega (arith, ends_at p e h q, ends_within ws c p h)
 
 -- ---- every arm

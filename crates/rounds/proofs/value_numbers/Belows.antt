@@ -1,5 +1,5 @@
 -- The classes that the tables give for a word's operands are those of its operands. Assumes nothing.
-use Prim.Native.Nat.{ℕ, zero, suc, ◌+◌, ◌*◌, ◌%◌, ◌≤◌, ◌<◌}
+use Prim.Native.Nat.{ℕ, zero, suc, ◌+◌, ◌*◌, ◌≤◌, ◌<◌}
 use native.Mathlib.Omega.{arith}
 use native.Mathlib.Nat.{add-zero}
 use mathlib.Core.Path.{◌≡◌, refl, sym, ◌∙◌, ap, subst}
@@ -18,7 +18,7 @@ use Rattle.spec_tree.proofs.TreeLaws.{eq_bytes_sound, eq_bytes_refl}
 use Rattle.spec_tree.proofs.TokenLaws.{sizes, read_past, read_size, tree_at}
 use Rattle.laws.specs.positions.Places.{numbered_at}
 use Rattle.rounds.specs.uses.Marks.{Complete}
-use Rattle.rounds.specs.value_numbers.Classes.{chain_of, mixed_all, class_by, class_of, class_at, bucket_at, operands_at}
+use Rattle.rounds.specs.value_numbers.Classes.{chain_of, mixed_all, class_of, class_at, bucket_at, operands_at}
 use Rattle.rounds.specs.value_numbers.Walks.{below, Walk, Sized}
 use Rattle.rounds.specs.value_numbers.Tables.{Known}
 use Rattle.rounds.proofs.value_numbers.Nodes.{node_word, node_operands, enough, same_node_tree}

@@ -1,10 +1,11 @@
--- Setting, counting by class, and giving every place what its class has. Assumes nothing.
+-- Counting by class, and giving every place what its class has. Assumes nothing.
 use Prim.Native.Nat.{ℕ, zero, suc, ◌+◌, ◌*◌, ◌/◌, ◌≤◌, ◌<◌}
 use native.Mathlib.Omega.{arith}
 use mathlib.Core.Path.{◌≡◌, refl, sym, ◌∙◌, ap}
-use mathlib.Core.Bool.{Bool, true, false, ◌&&◌}
+use mathlib.Core.Bool.{Bool, true, false, not, ◌&&◌}
 use mathlib.Core.List.{List}
-use borrow.Author.Tests.{eq-eqb, ne_eqb, le-leb, lt-leb}
+use borrow.Author.Tests.{eq-eqb, ne_eqb, eqb-true, eqb-false, le-leb, lt-leb}
+use Rattle.std.specs.Int.{from_bool}
 use lib.ListN.{length, get_or, set, length-set}
 use lib.Dec.{eqb}
 use Rattle.spec_tree.specs.Tokens.{flag}
@@ -14,21 +15,6 @@ use Rattle.rounds.specs.value_numbers.Tables.{Known, Reset, Counted, Uses}
 use Rattle.rounds.proofs.value_numbers.Laws.{last_high}
 use Rattle.rounds.proofs.value_numbers.Sides.{places_same, operation_class}
 use Rattle.rounds.proofs.value_numbers.Chains.{at_set}
-
--- ---- setting the first entries
-
-pub reset_starts : (old : List ℕ) (v : ℕ) → Reset old 0 v old
-reset_starts old v = record { long = refl; each = λ q h. absurd (omega arith) }
-
-pub reset_turns : {old new : List ℕ} {i v : ℕ} → Reset old i v new → i < length new → Reset old (i + 1) v (set new i v)
-reset_turns {old} {new} {i} {v} k h =
-    record {
-      long = simp length-set k.long;
-      each = λ q l. at_set (λ q x. q < i + 1 → x ≡ v) new i v q h (λ g. refl) (λ ne g. k.each q (omega (arith, ne))) l;
-    }
-
-pub reset_ends : {old new : List ℕ} {i n v : ℕ} → Reset old i v new → n ≤ i → Reset old n v new
-reset_ends {old} {new} {i} {n} {v} k h = record { long = k.long; each = λ q l. k.each q (omega arith) }
 
 -- ---- counting
 
@@ -112,10 +98,11 @@ pub one_passes : 1 ≡ flag true
 unfolding flag
 one_passes = refl
 
-pub not_marked : (marks : List ℕ) (i : ℕ) → get_or marks i 0 ≡ 0 → 0 ≡ flag (is_marked marks i)
+-- 1 for a place that is marked
+pub marked_flag : (marks : List ℕ) (i r : ℕ) → r ≡ from_bool (not (eqb (get_or marks i 0) 0)) → r ≡ flag (is_marked marks i)
 unfolding flag is_marked
-not_marked marks i h = sym (ap flag (lt-leb 1 (get_or marks i 0) (omega arith)))
-
-pub is_marked_one : (marks : List ℕ) (i : ℕ) → (get_or marks i 0 ≡ 0 → ⊥) → 1 ≡ flag (is_marked marks i)
-unfolding flag is_marked
-is_marked_one marks i h = sym (ap flag (le-leb 1 (get_or marks i 0) (omega (arith, h))))
+marked_flag marks i r e = e ∙ go (eqb (get_or marks i 0) 0) refl
+  where
+    go : (b : Bool) → eqb (get_or marks i 0) 0 ≡ b → from_bool (not b) ≡ flag (is_marked marks i)
+    go true h = let z = eqb-true (get_or marks i 0) 0 h in sym (ap flag (lt-leb 1 (get_or marks i 0) (omega arith)))
+    go false h = let z = eqb-false (get_or marks i 0) 0 h in sym (ap flag (le-leb 1 (get_or marks i 0) (omega arith)))

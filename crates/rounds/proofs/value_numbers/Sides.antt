@@ -5,16 +5,16 @@ use mathlib.Core.Path.{◌≡◌, refl, sym, ◌∙◌, ap, subst}
 use mathlib.Core.Bool.{Bool, true, false, ◌&&◌, cond}
 use mathlib.Core.List.{List, []}
 use borrow.Author.Tests.{eq-eqb, ne_eqb, le-leb, lt-leb, leb-true, leb-false}
-use lib.ListN.{length, get_or, take, drop}
+use lib.ListN.{length, get_or}
 use lib.Dec.{T, eqb, leb}
 use Rattle.spec_tree.specs.Tree.{Tree, eq_tree}
-use Rattle.spec_tree.specs.Tokens.{read, numbered, kind_of, takes, tree_of_word}
+use Rattle.spec_tree.specs.Tokens.{numbered, kind_of, tree_of_word}
 use Rattle.spec_tree.specs.Facts.{cost}
 use Rattle.spec_tree.proofs.TreeLaws.{eq_tree_sound, eq_tree_refl}
 use Rattle.spec_tree.proofs.TokenLaws.{Word, a_symbol, a_constant, an_operation, word_is, leaf_takes, symbol_tree, constant_tree}
 use Rattle.laws.specs.positions.Places.{numbered_at, equal_places}
 use Rattle.rounds.specs.uses.Marks.{Complete}
-use Rattle.rounds.specs.value_numbers.Classes.{last_place, last_at, class_by, class_at, class_places, operands_at}
+use Rattle.rounds.specs.value_numbers.Classes.{last_at, class_by, class_at, class_places, operands_at}
 use Rattle.rounds.proofs.value_numbers.Laws.{last_high, last_tree, last_same}
 use Rattle.rounds.proofs.value_numbers.Nodes.{node_tree, node_word}
 

@@ -7,7 +7,8 @@ use Rattle.spec_tree.specs.Bytes.{every}
 use Rattle.spec_tree.specs.Tokens.{flag, kind_of, name_in}
 use Rattle.spec_tree.specs.text.Text.{before}
 use Rattle.fmt.specs.checked.Check.{rows_in, word_ok}
-use Rattle.rounds.specs.uses.Marks.{is_marked}
+use Rattle.rounds.specs.uses.Marks.{Complete, is_marked}
+use Rattle.rounds.specs.value_numbers.Tables as tables
 use Rattle.laws.specs.positions.Places.{numbered_at, uses_at, savings_at, candidate_at, equal_places, outside_at, text_at, beats_at, best_place}
 
 -- four words of facts a place, of which these are looked up
@@ -33,6 +34,16 @@ pub record HasUses (ws cl us : List ℕ) : Type 0 where
 pub record HasOutside (ws : List ℕ) (scoped : Bool) (cl ou : List ℕ) : Type 0 where
   pub long : length ws ≤ length ou
   pub outside_are : scoped ≡ true → (i : ℕ) → i < length ws → 1 < kind_of (get_or ws i 0) → get_or ou (get_or cl i 0 / 4) 0 ≡ equal_places ws (outside_at ws scoped) i (length ws)
+
+-- all that was worked out of the places of words, none of which lacks an operand
+pub record Worked (ws : List ℕ) (scoped : Bool) (fs cl us ou : List ℕ) : Type 0 where
+  pub complete : Complete ws
+  pub few : length ws ≤ 1927
+  pub fits : (j : ℕ) → get_or ws j 0 < 18446744073709551616
+  pub facts : HasFacts ws fs
+  pub classes : tables.Known ws 0 cl
+  pub uses : HasUses ws cl us
+  pub outside : HasOutside ws scoped cl ou
 
 -- every tree can be written, and two texts fit
 pub record Writable (rows ws : List ℕ) (room : ℕ) : Type 0 where

@@ -5,7 +5,6 @@ use mathlib.Core.Path.{◌≡◌, refl, sym, ◌∙◌, ap}
 use mathlib.Core.Bool.{Bool, true, false}
 use mathlib.Core.List.{List, ◌++◌, map}
 use lib.ListN.{length, take, length-append}
-use lib.Seq.{length-take-le}
 use Rattle.spec_tree.specs.Tokens.{read, numbered}
 use Rattle.spec_tree.proofs.TokenCode.{all_tokens_append}
 use Rattle.words.specs.words.Words.{number}
@@ -24,9 +23,6 @@ abbrev pub Gathered : List ℕ → List ℕ → ℕ → ℕ → List ℕ → Lis
 Gathered ws places first len old out n j =
     ((n + length (reciprocals_held ws first places j) ≡ len + length (reciprocals_held ws first places 0)) × ((j ≤ length places) × (n ≤ 1927 + 1929 * j)))
     × ((length out ≡ length old) × (overlay n (reciprocals_held ws first places j) out ≡ overlay len (reciprocals_held ws first places 0) old))
-
-pub gathering_starts : (ws places : List ℕ) (first len : ℕ) (old : List ℕ) → len ≤ 1927 → Gathered ws places first len old old len 0
-gathering_starts ws places first len old h = ((refl, (omega arith, omega arith)), (refl, refl))
 
 -- all that is held is in two parts
 pub held_parts : (ws places : List ℕ) (first : ℕ) → words_held ws first places ≡ settled_held ws first places ++ reciprocals_held ws first places 0
@@ -57,9 +53,6 @@ module _ (ws places : List ℕ) (first : ℕ) (ready : Ready ws places first) (j
   module _ (one : List ℕ) (m : ℕ) (stands : Stands (reciprocal_words ws first places j) one m) where
     pub one_inside : m ≤ length one
     one_inside = stands.inside
-
-    pub one_counted : m ≡ length (take m one)
-    one_counted = sym (length-take-le m one one_inside)
 
     one_front : take m one ≡ reciprocal_words ws first places j
     one_front = stands.words

@@ -1,6 +1,6 @@
 -- The trees settled and a reciprocal taken, where all is there and there is room: settling is never refused. Which reciprocals hold a switch is told from their words.
 -- Assumes nothing.
-use Prim.Native.Nat.{ℕ, suc, ◌+◌, ◌≤◌, ◌<◌}
+use Prim.Native.Nat.{ℕ, suc, ◌≤◌, ◌<◌}
 use native.Mathlib.Omega.{arith}
 use mathlib.Core.Path.{◌≡◌, refl, sym, ◌∙◌, ap, subst}
 use mathlib.Core.Bool.{Bool, true, false, ◌&&◌}
@@ -16,8 +16,9 @@ use Rattle.spec_tree.proofs.Logic.{and_left, and_both, same_test}
 use Rattle.words.specs.words.Words.{number}
 use Rattle.laws.specs.positions.Places.{numbered_at}
 use Rattle.reciprocals.specs.settle.Answers.{Settling, settling}
-use Rattle.reciprocals.specs.declared.settle.Settled.{Settled}
-use Rattle.reciprocals.specs.declared.settle.Settled.TheVariants as settled
+use borrow.Author.Rules.{rules}
+use Rattle.std.specs.Prelude.{Result, Ok, IsOk}
+use Rattle.words.specs.declared.fault.Fault.{Fault}
 use Rattle.reciprocals.proofs.bindings.Parts.{settle_tree, settled_reciprocals, AllThere}
 use Rattle.reciprocals.specs.reciprocal.Bindings.{whole_reciprocal, BoundSo}
 use Rattle.reciprocals.specs.final.Ready.{Stands}
@@ -83,16 +84,16 @@ module _ (ws places : List ℕ) (first : ℕ) (ready : Ready ws places first) wh
     mid_long : length mid ≡ length old
     mid_long = ap length copy ∙ overlay_length 0 ws old
 
-    settling_so : settling ws places 0 first mid (length ws) ≡ record { answer = settled.Words (length (settled_held ws first places)); out = settled_held ws first places ++ drop (length (settled_held ws first places)) mid }
+    settling_so : settling ws places 0 first mid (length ws) ≡ record { answer = Ok (length (settled_held ws first places)); out = settled_held ws first places ++ drop (length (settled_held ws first places)) mid }
     settling_so =
         first_settled ws places there first ready.0.0.0 ready.0.0.1 mid copied (omega (arith, long, mid_long)) (omega (arith, ready.1.0)) ready.1.1.0 ready.1.1.1
-        ∙ ap (λ (l : List ℕ). record { answer = settled.Words (length l); out = l ++ drop (length l) mid }) (sym SIs)
+        ∙ ap (λ (l : List ℕ). record { answer = Ok (length l); out = l ++ drop (length l) mid }) (sym SIs)
 
     pub settled_all :
-        (n : ℕ) (out : List ℕ) → settled.Words n ≡ (settling ws places 0 first mid (length ws)).answer → out ≡ (settling ws places 0 first mid (length ws)).out
+        (n : ℕ) (out : List ℕ) → Ok n ≡ (settling ws places 0 first mid (length ws)).answer → out ≡ (settling ws places 0 first mid (length ws)).out
         → (n ≡ length (settled_held ws first places)) × (out ≡ overlay 0 (settled_held ws first places) (overlay 0 ws old))
     settled_all n out e f =
-        let q : settled.Words n ≡ settled.Words (length S) = e ∙ ap (λ (s : Settling). s.answer) settling_so in
+        let q : Ok n ≡ Ok (length S) = e ∙ ap (λ (s : Settling). s.answer) settling_so in
         let p : n ≡ length S = cc in (
           p,
           f
@@ -106,10 +107,10 @@ module _ (ws places : List ℕ) (first : ℕ) (ready : Ready ws places first) wh
         let same = none_settled ws places first ready.0.0.0 ready.0.0.1 none in
         (ap length (sym same), copy ∙ (sym (overlay_again ws old long) ∙ ap (λ (l : List ℕ). overlay 0 l (overlay 0 ws old)) (sym same)))
 
-    pub settled_always : (b : Settled) → b ≡ (settling ws places 0 first mid (length ws)).answer → (b ≡ settled.Broken → ⊥) × (b ≡ settled.NoRoom → ⊥)
+    pub settled_always : (b : Result ℕ Fault) → b ≡ (settling ws places 0 first mid (length ws)).answer → IsOk b
     settled_always b e =
-        let q : b ≡ settled.Words (length S) = e ∙ ap (λ (s : Settling). s.answer) settling_so in
-        ((λ x. let z : ◌≡◌ {A = ℕ} 0 1 = cc in omega arith), (λ x. let z : ◌≡◌ {A = ℕ} 0 1 = cc in omega arith))
+        let q : b ≡ Ok (length S) = e ∙ ap (λ (s : Settling). s.answer) settling_so in
+        subst (λ (x : Result ℕ Fault). IsOk x) (sym q) (search rules)
 
   -- ---- a reciprocal
 

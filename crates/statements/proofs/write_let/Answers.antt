@@ -4,7 +4,6 @@ use native.Mathlib.Omega.{arith}
 use Rattle.statements.proofs.Held.{lets_are, trees_few, places_few}
 use Rattle.statements.proofs.Writing.{let_long, let_written}
 use Rattle.fusion.specs.place.Whole.{tree_run}
-use borrow.Author.Rules.{rules}
 use Rattle.statements.proofs.write_let.Goals as goal
 
 pub overflow_add-first : goal.overflow_add-first
@@ -19,11 +18,8 @@ overflow_add-first-2 c = omega (arith, c.requires.readied.1.low, c.requires.p_bo
 pub overflow_add-results : goal.overflow_add-results
 overflow_add-results c = omega (arith, c.requires.readied.1.enough, c.requires.p_bound, lets_are c.requires.readied.1, trees_few c.requires.readied.1, places_few c.requires.readied.1)
 
-pub overflow_add-at : goal.overflow_add-at
-overflow_add-at c = omega (arith, c.requires.p_bound_2)
-
-pub write_tree-requires : goal.write_tree-requires
-write_tree-requires c = record { readied = c.requires.readied; i_in_bounds = (omega (arith, c.requires.readied.1.enough, c.requires.p_bound, lets_are c.requires.readied.1), omega (arith, c.requires.p_bound_2, let_long (c.args.first + c.args.p) (tree_run c.args.tokens.now c.args.results c.args.first c.args.places.now c.args.numbers.now (c.args.results + c.args.p)))) }
+pub write_tree-requires-clause-i_in_bounds : goal.write_tree-requires-clause-i_in_bounds
+write_tree-requires-clause-i_in_bounds c = (omega (arith, c.requires.readied.1.enough, c.requires.p_bound, lets_are c.requires.readied.1), omega (arith, c.requires.p_bound_2, let_long (c.args.first + c.args.p) (tree_run c.args.tokens.now c.args.results c.args.first c.args.places.now c.args.numbers.now (c.args.results + c.args.p))))
 
 pub returns : goal.returns
 returns c = let_written c.args.at (c.args.first + c.args.p) _ c.args.table.now _ _ _ c.write_tree.ensures.0 c.put_word.ensures c.write_tree.ensures.1

@@ -1,6 +1,6 @@
 -- What a scope holds as words (01, "Reciprocals", "Scoped fusion"): its trees settled by all divisors, and after them those reciprocals that hold a switch. What holding
 -- answers and leaves, by cases. Assumes nothing.
-use Rattle.std.specs.Prelude.{ℕ, ◌≤◌, ◌≡◌, Bool, true, false, ◌&&◌, List, map, length, take, drop, leb}
+use Rattle.std.specs.Prelude.{ℕ, ◌≤◌, ◌≡◌, Bool, true, false, ◌&&◌, List, map, length, take, drop, leb, Result, Ok, Err}
 use Rattle.spec_tree.specs.Tokens.{all_tokens, read, numbered, trees_in}
 use Rattle.words.specs.words.Words.{number, some_trees, Complete}
 use Rattle.laws.specs.positions.Places.{numbered_at}
@@ -9,8 +9,8 @@ use Rattle.reciprocals.specs.reciprocal.Bindings.{all_there}
 use Rattle.fusion.specs.Switchless.{with_switches}
 use Rattle.fusion.specs.place.Overlay.{overlay}
 use Rattle.fusion.specs.place.Parts.{words_held}
-use Rattle.statements.specs.declared.holding.Held.{Held}
-use Rattle.statements.specs.declared.holding.Held.TheVariants as held
+use Rattle.statements.specs.declared.holding.HoldError.{HoldError}
+use Rattle.statements.specs.declared.holding.HoldError.TheVariants as hold_error
 
 -- ---- the parts of what is held
 
@@ -52,16 +52,16 @@ Ready ws places first = (Complete ws × (all_there ws places ≡ true)) × ((len
 -- ---- what holding answers, and the words lent after it
 
 pub record Holding : Type 0 where
-  pub answer : Held
+  pub answer : Result ℕ HoldError
   pub out : List ℕ
 
 -- by whether the trees are there, whether there is room, and whether what is held is no longer than the words lent. It is written over a copy of the trees, and its words
 -- past the end are dropped.
 unfoldable pub holding_by : Bool → Bool → Bool → List ℕ → List ℕ → List ℕ → Holding
-holding_by false room few ws new old = record { answer = held.Broken; out = old }
-holding_by true false few ws new old = record { answer = held.NoRoom; out = old }
-holding_by true true false ws new old = record { answer = held.TooMany; out = overlay 0 new (overlay 0 ws old) }
-holding_by true true true ws new old = record { answer = held.Words (length new); out = overlay 0 new (overlay 0 ws old) }
+holding_by false room few ws new old = record { answer = Err hold_error.Broken; out = old }
+holding_by true false few ws new old = record { answer = Err hold_error.NoRoom; out = old }
+holding_by true true false ws new old = record { answer = Err hold_error.TooMany; out = overlay 0 new (overlay 0 ws old) }
+holding_by true true true ws new old = record { answer = Ok (length new); out = overlay 0 new (overlay 0 ws old) }
 
 unfoldable pub holding : List ℕ → List ℕ → ℕ → List ℕ → Holding
 unfolding holding_by whole_there room_to_hold words_held

@@ -1,20 +1,20 @@
 -- Links followed: the first stack, the dependents of one taken, and all that are taken, as by the table of bits that says the same. Assumes nothing.
+use Rattle.std.specs.Prelude.{⊤, Result}
 use Prim.Native.Nat.{ℕ, zero, suc, ◌+◌, ◌-◌, ◌≤◌, ◌<◌}
 use mathlib.Core.Path.{◌≡◌, refl, sym, ◌∙◌, ap, subst}
 use mathlib.Core.Bool.{Bool, true, false}
-use mathlib.Core.List.{List, [], ◌∷◌, ◌++◌, reverse}
+use mathlib.Core.List.{List, ◌++◌, reverse}
 use native.Mathlib.Omega.{arith}
-use borrow.Author.Tests.{eq-eqb, ne_eqb}
 use lib.Dec.{eqb}
-use lib.ListN.{length, get_or, drop, set}
+use lib.ListN.{length, get_or, drop}
 use lib.Seq.{set-get_or}
 use Rattle.words.specs.bits.Bits.{yes}
 use Rattle.spec_cse.specs.Order.{positions_taken}
-use Rattle.topo_sort.specs.Needs.{columns, table_of, order_answer, order_written}
-use Rattle.topo_sort.specs.Turns.{joined, joins, Pushed, Begun, Met, Lowered, Taken}
-use Rattle.topo_sort.specs.declared.Ordered.TheVariants as ordered
+use Rattle.topo_sort.specs.Needs.{table_of, all_or_ring, order_answer, order_written}
+use Rattle.topo_sort.specs.Turns.{joined, Pushed, Begun, Met, Lowered, Taken}
+use Rattle.topo_sort.specs.declared.OrderError.{OrderError}
 use Rattle.topo_sort.specs.links.Links.{stmt_of, next_of, Chain, needing, Linked, Joinable, SomeJoinable, OrdersLinked}
-use Rattle.topo_sort.proofs.Loops.{begun, not_met, Joining, joining_starts, joining_waits, joining_room, joining_turns, joining_ends, Taking, top_inside, taking_waits, taking_room}
+use Rattle.topo_sort.proofs.Loops.{begun, not_met, Joining, joining_waits, joining_room, joining_turns, joining_ends, Taking, top_inside, taking_waits, taking_room}
 
 -- ---- the first stack
 
@@ -33,14 +33,6 @@ module _ (needs : List ℕ) (count i : ℕ) (links : List ℕ) (head : ℕ) (old
     pub place : ℕ
     pub state : Joining needs count i old_waiting old_stack top waiting stack t place
     pub chain : Chain links h (needing needs i place (count - place))
-
-  pub following_starts : Following old_waiting old_stack top head
-  following_starts =
-      record {
-        place = 0;
-        state = joining_starts needs count i old_waiting old_stack top (omega (arith, joinable.room));
-        chain = subst (λ (n : ℕ). Chain links head (needing needs i 0 n)) (let z : count ≡ count - 0 = omega arith in z) joinable.chain;
-      }
 
   -- the statement of link h is the next to be met
   pub record Meeting (waiting stack : List ℕ) (t h : ℕ) : Type 0 where
@@ -152,14 +144,6 @@ module _ (needs : List ℕ) (count : ℕ) (old new : List ℕ) (n : ℕ) (t : Ta
   unfolding order_written
   written = subst (λ (k : ℕ). new ≡ reverse (positions_taken (table_of needs count)) ++ drop k old) t.many t.words
 
-  pub all_linked : n ≡ count → OrdersLinked needs count old ordered.All new
+  pub linked : (r : Result ⊤ OrderError) → r ≡ all_or_ring (eqb n count) n → OrdersLinked needs count old r new
   unfolding order_answer
-  all_linked e = record { answer_is = rw (eq-eqb (length (positions_taken (table_of needs count))) count (sym t.many ∙ e)) refl; taken_is = written }
-
-  pub some_linked : (n ≡ count → ⊥) → OrdersLinked needs count old (ordered.Ring n) new
-  unfolding order_answer
-  some_linked f =
-      record {
-        answer_is = rw (ne_eqb (length (positions_taken (table_of needs count))) count (λ e. f (t.many ∙ e))) (ap (λ (k : ℕ). ordered.Ring k) t.many);
-        taken_is = written;
-      }
+  linked r e = record { answer_is = e ∙ ap (λ (k : ℕ). all_or_ring (eqb k count) k) t.many; taken_is = written }

@@ -2,7 +2,7 @@
 use Prim.Native.Nat.{ℕ, zero, suc, ◌+◌, ◌-◌, ◌*◌, ◌/◌, ◌%◌, ◌≤◌, ◌<◌}
 use mathlib.Core.Path.{◌≡◌, refl, sym, ◌∙◌, ap, subst}
 use mathlib.Core.Bool.{Bool, true, false, ◌||◌}
-use mathlib.Core.List.{List, [], ◌∷◌, ◌++◌}
+use mathlib.Core.List.{List, [], ◌∷◌}
 use native.Mathlib.Omega.{arith}
 use borrow.Author.Tests.{eqb-true, eqb-false, eq-eqb, ne_eqb}
 use lib.Dec.{eqb}
@@ -12,7 +12,7 @@ use Rattle.words.specs.bits.Bits.{yes}
 use Rattle.topo_sort.specs.Needs.{columns}
 use Rattle.topo_sort.specs.Turns.{joined}
 use Rattle.topo_sort.specs.reads.Marks.{name_word, holds_name}
-use Rattle.topo_sort.specs.links.Links.{stmt_of, next_of, Chain, first_is, needing, one_if, how_many, Linkable, Added, Fresh, Links, Kept, Named, Names, Linking, Says, Lent, StmtLinked}
+use Rattle.topo_sort.specs.links.Links.{stmt_of, next_of, Chain, first_is, needing, one_if, how_many, Added, Fresh, Links, Kept, Named, Names, Linking, Says, Lent, StmtLinked}
 use Rattle.topo_sort.proofs.Left.{columns_step}
 use Rattle.topo_sort.proofs.reads.MarkLaws.{or_false, holds_none, holds_cons}
 use Rattle.topo_sort.proofs.reads.NameLaws.{holds_append}
@@ -51,13 +51,6 @@ no_link links h j e = rw (eq-eqb h 0 e) refl
 pub link_first : (links : List ℕ) (h j : ℕ) → (h ≡ 0 → ⊥) → eqb (stmt_of links h) j ≡ first_is links h j
 unfolding first_is
 link_first links h j f = rw (ne_eqb h 0 f) refl
-
-module _ (i j n : ℕ) (heads links : List ℕ) (b : Bool) where
-  pub link_there : b ≡ true → Added b i j n heads links n heads links
-  link_there e = rw e (refl, (refl, refl))
-
-  pub link_new : b ≡ false → Added b i j n heads links (n + 1) (set heads i (n + 1)) (set links n (j + 2048 * get_or heads i 0))
-  link_new e = rw e (refl, (refl, refl))
 
 -- ---- how many
 

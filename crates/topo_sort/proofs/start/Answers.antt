@@ -1,40 +1,25 @@
 -- `topo_sort::start` meets its contract. Assumes nothing.
-use Prim.Native.Nat.{◌-◌, ◌≤◌}
 use native.Mathlib.Omega.{arith}
-use Rattle.topo_sort.proofs.Loops.{Starting, starting, starting_turns, started}
+use mathlib.Core.Path.{refl, ◌∙◌}
+use Rattle.topo_sort.proofs.Stacks.{pushed_top}
+use Rattle.topo_sort.proofs.Loops.{starting, starting_turns, started}
+use Rattle.topo_sort.proofs.links.Following.{begun_linked}
 use Rattle.topo_sort.proofs.start.Goals as goal
 
-pub loop-rest-init : goal.loop-rest-init
-loop-rest-init c = let a = c.args in
-    (omega arith, starting a.needs.now a.count a.waiting.now a.stack.now (a.count - a.count) (omega arith))
+pub loop-j-init : goal.loop-j-init
+loop-j-init c = let a = c.args in
+    ((omega arith, (omega arith, refl)), (λ rules w. starting rules a.count a.waiting.now a.stack.now 0 refl))
 
-pub overflow_sub-count : goal.overflow_sub-count
-overflow_sub-count c = omega (arith, c.loop-rest-test.true, c.loop-rest.invariant.0)
-
-pub begin-top-requires : goal.begin-top-requires
-begin-top-requires c = let some = c.loop-rest-test.true in
-    let inv = c.loop-rest.invariant in
-    (omega (arith, some, inv.0, inv.1.waiting_long, c.requires.0), omega (arith, some, inv.0, inv.1.low, inv.1.stack_long, c.requires.1))
-
-pub overflow_sub-rest : goal.overflow_sub-rest
-overflow_sub-rest c = omega (arith, c.loop-rest-test.true)
-
-pub loop-rest-smaller : goal.loop-rest-smaller
-loop-rest-smaller c = omega (arith, c.loop-rest-test.true)
-
-pub loop-rest-preserved : goal.loop-rest-preserved
-loop-rest-preserved c = let a = c.args in
-    let some = c.loop-rest-test.true in (
-      omega (arith, c.loop-rest.invariant.0),
-      starting_turns a.needs.now a.count a.waiting.now a.stack.now c.loop-rest.waiting c.loop-rest.stack c.loop-rest.top (a.count - c.loop-rest.rest) c.loop-rest.invariant.1 c.requires.0 c.requires.1 (omega (arith, some, c.loop-rest.invariant.0)) (a.count - (c.loop-rest.rest - 1)) (omega (arith, some, c.loop-rest.invariant.0)) _ _ _ c.begin-top.ensures,
+pub loop-j-preserved : goal.loop-j-preserved
+loop-j-preserved c = let a = c.args in
+    let below = c.loop-j-test.true in
+    let up = pushed_top _ c.loop-j.j c.loop-j.stack c.loop-j.top _ _ c.push_free-top.ensures (omega (arith, c.loop-j.invariant.0.0, c.loop-j.invariant.0.1.1, below, c.requires.1)) in (
+      (omega (arith, up, c.loop-j.invariant.0.0), (omega (arith, below), c.push_free-top.ensures.long ∙ c.loop-j.invariant.0.1.1)),
+      (λ rules w.
+          starting_turns rules a.count a.waiting.now a.stack.now a.waiting.now c.loop-j.stack c.loop-j.top c.loop-j.j (c.loop-j.invariant.1 rules w) c.requires.0 c.requires.1 below _ refl a.waiting.now _ _
+          (begun_linked _ c.loop-j.j a.waiting.now c.loop-j.stack c.loop-j.top _ _ (w c.loop-j.j below) c.push_free-top.ensures)),
     )
-
-pub shape_of-waiting : goal.shape_of-waiting
-shape_of-waiting c = c.loop-rest.invariant.1.waiting_long
-
-pub shape_of-stack : goal.shape_of-stack
-shape_of-stack c = c.loop-rest.invariant.1.stack_long
 
 pub returns : goal.returns
 returns c = let a = c.args in
-    started a.needs.now a.count a.waiting.now a.stack.now c.loop-rest.waiting c.loop-rest.stack c.loop-rest.top (a.count - c.loop-rest.rest) c.loop-rest.invariant.1 c.requires.0 c.requires.1 (omega (arith, c.loop-rest-test.false))
+    λ rules w. started rules a.count a.waiting.now a.stack.now a.waiting.now c.loop-j.stack c.loop-j.top c.loop-j.j (c.loop-j.invariant.1 rules w) c.requires.0 c.requires.1 c.loop-j-test.false

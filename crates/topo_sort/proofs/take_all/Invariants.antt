@@ -1,8 +1,7 @@
 use Prim.Native.Nat.{◌-◌}
-use mathlib.Core.Path.{◌≡◌, refl, ◌∙◌}
-use native.Mathlib.Omega.{arith}
+use mathlib.Core.Path.{◌≡◌}
 use lib.ListN.{length}
-use Rattle.topo_sort.proofs.Loops.{Taking, taking_starts, taking_below, taking_waits, taking_room, taking_turns, taking_ends}
+use Rattle.topo_sort.proofs.Loops.{Taking}
 use Rattle.topo_sort.proofs.take_all.Given as goal
 
 abbrev pub invariant-loop-top : goal.invariant-loop-top

@@ -1,4 +1,5 @@
 -- The places of the first trees in front of what stood after them: how the list starts, goes on and ends, and what is answered. Assumes nothing.
+use Rattle.std.specs.Prelude.{Some, Result, Ok, Err}
 use Prim.Native.Nat.{ℕ, suc, ◌+◌, ◌≤◌, ◌<◌}
 use native.Mathlib.Omega.{arith}
 use mathlib.Core.Path.{◌≡◌, refl, sym, ◌∙◌, ap}
@@ -11,11 +12,10 @@ use lib.Seq.{take-suc, take_all, drop-cons, set_at, length-take-le}
 use Rattle.spec_tree.specs.Facts.{total, size}
 use Rattle.spec_tree.specs.Tokens.{read, trees_in, run_at, numbered}
 use Rattle.spec_tree.proofs.TokenLaws.{sizes, complete_length}
-use Rattle.words.specs.tokens.Answers.{end_answer}
-use Rattle.words.specs.declared.tokens.Run.TheVariants as run
+use Rattle.words.specs.tokens.Answers.{There, end_answer}
 use Rattle.topo_sort.specs.treelist.Starts.{starts_of, TreeListing, listing_room, listing_by, tree_listing}
-use Rattle.topo_sort.specs.declared.treelist.TreeList.{TreeList}
-use Rattle.topo_sort.specs.declared.treelist.TreeList.TheVariants as tree_list
+use Rattle.words.specs.declared.fault.Fault.{Fault}
+use Rattle.words.specs.declared.fault.Fault.TheVariants as fault
 use Rattle.topo_sort.proofs.treelist.Begins.{one_more, start_number, tree_number, past_sizes, starts_count, run_there}
 
 -- ---- the list so far
@@ -61,15 +61,14 @@ module _ (ws old : List ℕ) (count : ℕ) where
       stands : run_at ws at ≡ some (size (tree_number ws n))
       stands = ap (run_at ws) (sym is_start) ∙ run_there ws count complete n is_tree
 
-      pub not_broken : run.Broken ≡ end_answer at (run_at ws at) → ⊥
-      unfolding end_answer
-      not_broken e = let q : run.Broken ≡ run.Ends (at + size (tree_number ws n)) = e ∙ ap (end_answer at) stands in let z : ◌≡◌ {A = ℕ} 0 1 = cc in absurd (omega arith)
+      pub there : There ws at
+      there = (size (tree_number ws n), stands)
 
-      end_is : (e : ℕ) → run.Ends e ≡ end_answer at (run_at ws at) → e ≡ at + size (tree_number ws n)
+      end_is : (e : ℕ) → Some e ≡ end_answer at (run_at ws at) → e ≡ at + size (tree_number ws n)
       unfolding end_answer
-      end_is e q = let r : run.Ends e ≡ run.Ends (at + size (tree_number ws n)) = q ∙ ap (end_answer at) stands in cc
+      end_is e q = let r : Some e ≡ Some (at + size (tree_number ws n)) = q ∙ ap (end_answer at) stands in cc
 
-      pub turn : (e : ℕ) → run.Ends e ≡ end_answer at (run_at ws at) → State (set out n at) (n + 1) e
+      pub turn : (e : ℕ) → Some e ≡ end_answer at (run_at ws at) → State (set out n at) (n + 1) e
       turn e q =
           let i : n + 1 ≡ suc n = omega arith in
           record {
@@ -87,29 +86,29 @@ module _ (ws old : List ℕ) (count : ℕ) where
 -- ---- what listing answers and leaves
 
 module _ (ws old : List ℕ) where
-  abbrev pub Answers : TreeList → List ℕ → Type 0
+  abbrev pub Answers : Result ℕ Fault → List ℕ → Type 0
   Answers r out = (r ≡ (tree_listing ws old).answer) × (out ≡ (tree_listing ws old).out)
 
-  answers_by : (o : Option ℕ) → trees_in ws ≡ o → (r : TreeList) (out : List ℕ) → listing_by o (starts_of ws) old ≡ record { answer = r; out = out } → Answers r out
+  answers_by : (o : Option ℕ) → trees_in ws ≡ o → (r : Result ℕ Fault) (out : List ℕ) → listing_by o (starts_of ws) old ≡ record { answer = r; out = out } → Answers r out
   unfolding tree_listing
   answers_by o e r out q =
       let s : tree_listing ws old ≡ record { answer = r; out = out } = ap (λ (x : Option ℕ). listing_by x (starts_of ws) old) e ∙ q in
       (sym (ap (λ (x : TreeListing). x.answer) s), sym (ap (λ (x : TreeListing). x.out) s))
 
-  pub broken : trees_in ws ≡ none → Answers tree_list.Broken old
+  pub broken : trees_in ws ≡ none → Answers (Err fault.Broken) old
   unfolding listing_by
-  broken e = answers_by none e tree_list.Broken old refl
+  broken e = answers_by none e (Err fault.Broken) old refl
 
   module _ (n : ℕ) (complete : trees_in ws ≡ some n) where
-    pub full : length old < n → Answers tree_list.NoRoom old
+    pub full : length old < n → Answers (Err fault.NoRoom) old
     unfolding listing_by listing_room
-    full h = answers_by (some n) complete tree_list.NoRoom old (ap (λ (b : Bool). listing_room b n (starts_of ws) old) (lt-leb n (length old) h))
+    full h = answers_by (some n) complete (Err fault.NoRoom) old (ap (λ (b : Bool). listing_room b n (starts_of ws) old) (lt-leb n (length old) h))
 
-    pub listed : n ≤ length old → (out : List ℕ) → out ≡ starts_of ws ++ drop n old → Answers (tree_list.Count n) out
+    pub listed : n ≤ length old → (out : List ℕ) → out ≡ starts_of ws ++ drop n old → Answers (Ok n) out
     unfolding listing_by listing_room
     listed h out w =
-        answers_by (some n) complete (tree_list.Count n) out
-        (ap (λ (b : Bool). listing_room b n (starts_of ws) old) (le-leb n (length old) h) ∙ ap (λ (l : List ℕ). record { answer = tree_list.Count n; out = l }) (sym w))
+        answers_by (some n) complete (Ok n) out
+        (ap (λ (b : Bool). listing_room b n (starts_of ws) old) (le-leb n (length old) h) ∙ ap (λ (l : List ℕ). record { answer = Ok n; out = l }) (sym w))
 
 -- ---- what a caller reads in the list
 

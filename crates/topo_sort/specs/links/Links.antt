@@ -1,11 +1,11 @@
 -- Links from each statement to those that need it, in lists that ascend, as they are made and as they are followed (01, "Order"). Assumes nothing.
-use Rattle.std.specs.Prelude.{ℕ, zero, suc, ◌+◌, ◌-◌, ◌*◌, ◌/◌, ◌%◌, ◌≤◌, ◌<◌, ◌≡◌, Bool, true, false, ◌||◌, cond, List, [], ◌∷◌, eqb, length, get_or, set}
+use Rattle.std.specs.Prelude.{⊤, ℕ, zero, suc, ◌+◌, ◌-◌, ◌*◌, ◌/◌, ◌%◌, ◌≤◌, ◌<◌, ◌≡◌, Bool, true, false, ◌||◌, cond, List, [], ◌∷◌, eqb, length, get_or, set, Result}
 use Rattle.words.specs.bits.Bits.{yes}
 use Rattle.spec_cse.specs.Order.{positions_taken}
 use Rattle.topo_sort.specs.Needs.{columns, table_of, order_answer, order_written}
 use Rattle.topo_sort.specs.Turns.{joined, joins}
 use Rattle.topo_sort.specs.reads.Marks.{name_word, holds_name}
-use Rattle.topo_sort.specs.declared.Ordered.{Ordered}
+use Rattle.topo_sort.specs.declared.OrderError.{OrderError}
 
 -- the statement of link h, and the link after it
 abbrev pub stmt_of : List ℕ → ℕ → ℕ
@@ -137,6 +137,6 @@ pub record SomeJoinable (links : List ℕ) (head : ℕ) (waiting stack : List �
   pub joinable : Joinable needs count stmt links head waiting stack top
 
 -- the order that links give
-pub record OrdersLinked (needs : List ℕ) (count : ℕ) (taken : List ℕ) (answer : Ordered) (new_taken : List ℕ) : Type 0 where
+pub record OrdersLinked (needs : List ℕ) (count : ℕ) (taken : List ℕ) (answer : Result ⊤ OrderError) (new_taken : List ℕ) : Type 0 where
   pub answer_is : answer ≡ order_answer true count (positions_taken (table_of needs count))
   pub taken_is : new_taken ≡ order_written true (positions_taken (table_of needs count)) taken

@@ -1,22 +1,24 @@
 -- Equal runs of words are equal trees, and what `same` answers in each case. Assumes nothing.
+use Rattle.std.specs.Prelude.{Some, None}
 use Prim.Native.Nat.{ℕ, ◌+◌, ◌-◌, ◌≤◌, ◌<◌}
 use native.Mathlib.Omega.{arith}
 use mathlib.Core.Path.{◌≡◌, refl, sym, ◌∙◌, ap, subst}
-use mathlib.Core.Bool.{Bool, true, false}
+use mathlib.Core.Bool.{Bool, true, false, ◌&&◌}
 use mathlib.Core.Option.{Option, none, some}
 use mathlib.Core.List.{List, [], ◌∷◌, ◌++◌}
-use lib.ListN.{length, get_or, take, drop, length-take, length-drop, take-append-drop}
-use lib.Seq.{ext_get_or, get_or-take, get_or-drop, length-take-le}
-use lib.Dec.{T}
+use lib.ListN.{length, get_or, take, drop, length-drop, take-append-drop}
+use lib.Dec.{T, eqb}
+use Rattle.std.specs.Bool.{Decides}
+use Rattle.std.specs.Cmp.Lexicographic.{pointwise}
+use Rattle.std.proofs.lemmas.Slice.Eq.{slice_eq-Decides}
+use Rattle.std.proofs.lemmas.Bool.Decides.{Decides-eqb}
 use Rattle.spec_tree.specs.Bytes.{eq_bytes}
 use Rattle.spec_tree.specs.Tree.{Tree, Op, nil, eq_tree}
 use Rattle.spec_tree.specs.Tokens.{trees_at, read, numbered, all_tokens, words_of, run_at, same_at}
-use Rattle.spec_tree.proofs.TreeLaws.{eq_bytes_sound, eq_bytes_refl, eq_tree_sound, eq_tree_refl}
+use Rattle.spec_tree.proofs.TreeLaws.{eq_tree_sound, eq_tree_refl}
 use Rattle.spec_tree.proofs.TokenLaws.{tree_at, words_tail, words_complete, complete_read, complete_length}
 use Rattle.spec_tree.proofs.TokenCode.{unnumbered, writes_back}
 use Rattle.words.specs.tokens.Answers.{end_answer, same_answer}
-use Rattle.words.specs.declared.tokens.Run.TheVariants as run
-use Rattle.words.specs.declared.tokens.Equality.TheVariants as equality
 use Rattle.spec_tree.proofs.Logic.{not_true}
 use Rattle.spec_tree.proofs.Lists.{one_alone, first_alone}
 
@@ -26,30 +28,18 @@ test_true : (b : Bool) → T b → b ≡ true
 test_true true t = refl
 test_true false t = absurd t
 
--- ---- two runs of as many words
+-- ---- `==` of slices is the test of bytes
 
-word_at : (ws : List ℕ) (i n k : ℕ) → k < n → get_or (take n (drop i ws)) k 0 ≡ get_or ws (i + k) 0
-word_at ws i n k h = rw (get_or-take, get_or-drop)
+heads : (r : Bool) (p q : Bool) → p ≡ q → (r && p) ≡ elim r [ true ↦ q | false ↦ false ]
+heads true p q e = e
+heads false p q e = refl
 
-pub runs_equal :
-    (ws : List ℕ) (i j n : ℕ) → i + n ≤ length ws → j + n ≤ length ws → ((k : ℕ) → k < n → get_or ws (i + k) 0 ≡ get_or ws (j + k) 0)
-    → true ≡ eq_bytes (take n (drop i ws)) (take n (drop j ws))
-runs_equal ws i j n hi hj all =
-    let a = take n (drop i ws) in
-    let b = take n (drop j ws) in
-    let la : length a ≡ n = simp (length-take, length-drop) (omega arith) in
-    let lb : length b ≡ n = simp (length-take, length-drop) (omega arith) in
-    let e : a ≡ b =
-    ext_get_or 0 a b (la ∙ sym lb) (λ k h. let l : k < n = omega arith in word_at ws i n k l ∙ (all k l ∙ sym (word_at ws j n k l))) in
-    sym (test_true (eq_bytes a b) (rw e (eq_bytes_refl b)))
-
-pub runs_differ :
-    (ws : List ℕ) (i j n k : ℕ) → k < n → (get_or ws (i + k) 0 ≡ get_or ws (j + k) 0 → ⊥) → false ≡ eq_bytes (take n (drop i ws)) (take n (drop j ws))
-runs_differ ws i j n k h ne =
-    let a = take n (drop i ws) in
-    let b = take n (drop j ws) in
-    sym (not_true (eq_bytes a b)
-    (λ t. ne (sym (word_at ws i n k h) ∙ (ap (λ (l : List ℕ). get_or l k 0) (eq_bytes_sound a b t) ∙ word_at ws j n k h))))
+pub eq_bytes_is : (a b : List ℕ) → pointwise eqb a b ≡ eq_bytes a b
+unfolding eq_bytes
+eq_bytes_is [] [] = refl
+eq_bytes_is [] (y ∷ ys) = refl
+eq_bytes_is (x ∷ xs) [] = refl
+eq_bytes_is (x ∷ xs) (y ∷ ys) = heads (eqb x y) (pointwise eqb xs ys) (eq_bytes xs ys) (eq_bytes_is xs ys)
 
 -- ---- the tree of a run
 
@@ -125,62 +115,49 @@ module _ (ws : List ℕ) (i j n m : ℕ) (ri : run_at ws i ≡ some n) (rj : run
       not_true (eq_tree (tree ws i) (tree ws j))
       (λ t. h (sym a.code ∙ (ap (λ (u : Tree). all_tokens unnumbered (u ∷ [])) (eq_tree_sound (tree ws i) (tree ws j) t) ∙ b.code)))
 
-  pub same_length_differs : (n ≡ m → ⊥) → equality.Different ≡ same_answer (same_at ws i j)
+  pub compared_runs : (r : Bool) → r ≡ pointwise eqb (take n (drop i ws)) (take m (drop j ws)) → Some r ≡ same_answer (same_at ws i j)
   unfolding same_answer
-  same_length_differs h =
-      let a = run_tree ws i n ri in
-      let b = run_tree ws j m rj in
-      let d = different_trees (λ e. h (sym (length-take-le n (drop i ws) a.within) ∙ (ap length e ∙ length-take-le m (drop j ws) b.within))) in
-      sym (compared_is ∙ rw d)
-
-  pub same_runs : (r : Bool) → n ≡ m → r ≡ eq_bytes (take n (drop i ws)) (take n (drop j ws)) → same_answer (some r) ≡ same_answer (same_at ws i j)
-  same_runs r e q = sym (compared_is ∙ ap (λ (b : Bool). same_answer (some b)) (go r q))
+  compared_runs r q = sym (compared_is ∙ ap Some (go r (slice_eq-Decides Decides-eqb _ _ r q)))
     where
-      go : (r : Bool) → r ≡ eq_bytes (take n (drop i ws)) (take n (drop j ws)) → eq_tree (tree ws i) (tree ws j) ≡ r
-      go true q =
-          let t : T (eq_bytes (take n (drop i ws)) (take n (drop j ws))) = subst T q tt in
-          equal_trees (eq_bytes_sound (take n (drop i ws)) (take n (drop j ws)) t ∙ ap (λ (k : ℕ). take k (drop j ws)) e)
-      go false q =
-          different_trees
-          (λ p.
-          let s : take n (drop i ws) ≡ take n (drop j ws) = p ∙ ap (λ (k : ℕ). take k (drop j ws)) (sym e) in
-          let t : T (eq_bytes (take n (drop i ws)) (take n (drop j ws))) = subst (λ (l : List ℕ). T (eq_bytes (take n (drop i ws)) l)) s (eq_bytes_refl (take n (drop i ws))) in
-          subst T (sym q) t)
-
-  pub runs_inside : n ≡ m → (i + n ≤ length ws) × (j + n ≤ length ws)
-  unfolding run_at
-  runs_inside e =
-      let a = (run_tree ws i n ri).within in
-      let b = (run_tree ws j m rj).within in
-      (omega (arith, length-drop i ws, run_some (drop i ws) n ri), omega (arith, length-drop j ws, run_some (drop j ws) m rj))
+      go : (r : Bool) → Decides r (take n (drop i ws) ≡ take m (drop j ws)) → eq_tree (tree ws i) (tree ws j) ≡ r
+      go true d = equal_trees (d.0 refl)
+      go false d = different_trees (λ e. let z : ◌≡◌ {A = Bool} false true = d.1 e in cc)
 
 -- ---- from where a run ends
 
-ends_some : (at e : ℕ) (o : Option ℕ) → run.Ends e ≡ end_answer at o → o ≡ some (e - at)
+ends_some : (at e : ℕ) (o : Option ℕ) → Some e ≡ end_answer at o → o ≡ some (e - at)
 unfolding end_answer
 ends_some at e none p = absurd (let z : ◌≡◌ {A = ℕ} 0 1 = cc in omega arith)
 ends_some at e (some n) p = let q : e ≡ at + n = cc in let d : n ≡ e - at = omega arith in ap some d
 
-pub run_ends : (ws : List ℕ) (at e : ℕ) → run.Ends e ≡ end_answer at (run_at ws at) → run_at ws at ≡ some (e - at)
+pub run_ends : (ws : List ℕ) (at e : ℕ) → Some e ≡ end_answer at (run_at ws at) → run_at ws at ≡ some (e - at)
 run_ends ws at e p = ends_some at e (run_at ws at) p
 
-pub run_after : (ws : List ℕ) (at e : ℕ) → run.Ends e ≡ end_answer at (run_at ws at) → at ≤ e
+pub run_after : (ws : List ℕ) (at e : ℕ) → Some e ≡ end_answer at (run_at ws at) → at ≤ e
 unfolding end_answer
 run_after ws at e p = go (run_at ws at) p
   where
-    go : (o : Option ℕ) → run.Ends e ≡ end_answer at o → at ≤ e
+    go : (o : Option ℕ) → Some e ≡ end_answer at o → at ≤ e
     go none p = absurd (let z : ◌≡◌ {A = ℕ} 0 1 = cc in omega arith)
     go (some n) p = let q : e ≡ at + n = cc in omega arith
 
-pub broken_none : (at : ℕ) (o : Option ℕ) → run.Broken ≡ end_answer at o → o ≡ none
+pub broken_none : (at : ℕ) (o : Option ℕ) → None ≡ end_answer at o → o ≡ none
 unfolding end_answer
 broken_none at none p = refl
 broken_none at (some n) p = absurd (let z : ◌≡◌ {A = ℕ} 0 1 = cc in omega arith)
 
-pub first_broken : (ws : List ℕ) (i j : ℕ) → run.Broken ≡ end_answer i (run_at ws i) → equality.Broken ≡ same_answer (same_at ws i j)
+pub first_broken : (ws : List ℕ) (i j : ℕ) → None ≡ end_answer i (run_at ws i) → None ≡ same_answer (same_at ws i j)
 unfolding same_at same_answer
 first_broken ws i j p = sym (ap same_answer (no_first (run_at ws i) (run_at ws j) (eq_tree (tree ws i) (tree ws j)) (broken_none i (run_at ws i) p)))
 
-pub second_broken : (ws : List ℕ) (i j : ℕ) → run.Broken ≡ end_answer j (run_at ws j) → equality.Broken ≡ same_answer (same_at ws i j)
+pub second_broken : (ws : List ℕ) (i j : ℕ) → None ≡ end_answer j (run_at ws j) → None ≡ same_answer (same_at ws i j)
 unfolding same_at same_answer
 second_broken ws i j p = sym (ap same_answer (no_second (run_at ws i) (run_at ws j) (eq_tree (tree ws i) (tree ws j)) (broken_none j (run_at ws j) p)))
+
+pub run_within : (ws : List ℕ) (at e : ℕ) → Some e ≡ end_answer at (run_at ws at) → (at ≤ e) × (e ≤ length ws)
+unfolding run_at
+run_within ws at e p =
+    let q = run_ends ws at e p in
+    let h = run_after ws at e p in
+    let r = run_tree ws at (e - at) q in
+    (h, omega (arith, r.within, length-drop at ws, run_some (drop at ws) (e - at) q))

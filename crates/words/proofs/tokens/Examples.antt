@@ -1,23 +1,21 @@
 -- The answers at work: (a + b) * c and sin(a + b) of 01's sheet. Assumes nothing.
+use Rattle.std.specs.Prelude.{true, false, Some, None}
 use Prim.Native.Nat.{ℕ}
 use mathlib.Core.Path.{◌≡◌, refl}
 use mathlib.Core.List.{List, [], ◌∷◌}
 use Rattle.spec_tree.specs.Tokens.{trees_in, run_at, same_at}
 use Rattle.words.specs.tokens.Answers.{count_answer, end_answer, same_answer}
-use Rattle.words.specs.declared.tokens.Trees.TheVariants as trees
-use Rattle.words.specs.declared.tokens.Run.TheVariants as run
-use Rattle.words.specs.declared.tokens.Equality.TheVariants as equality
 
 abbrev sheet : List ℕ
 sheet = 133 ∷ 131 ∷ 0 ∷ 192 ∷ 576 ∷ 72 ∷ 131 ∷ 0 ∷ 192 ∷ []
 
 pub record Examples : Type 0 where
-  two_trees : count_answer (trees_in sheet) ≡ trees.Count 2
-  no_operand : count_answer (trees_in (131 ∷ 0 ∷ [])) ≡ trees.Broken
-  a_sum : end_answer 1 (run_at sheet 1) ≡ run.Ends 4
-  past_the_end : end_answer 9 (run_at sheet 9) ≡ run.Broken
-  the_same : same_answer (same_at sheet 1 6) ≡ equality.Equal
-  another : same_answer (same_at sheet 1 5) ≡ equality.Different
+  two_trees : count_answer (trees_in sheet) ≡ Some 2
+  no_operand : count_answer (trees_in (131 ∷ 0 ∷ [])) ≡ None
+  a_sum : end_answer 1 (run_at sheet 1) ≡ Some 4
+  past_the_end : end_answer 9 (run_at sheet 9) ≡ None
+  the_same : same_answer (same_at sheet 1 6) ≡ (Some true)
+  another : same_answer (same_at sheet 1 5) ≡ (Some false)
 
 pub examples : Examples
 unfolding count_answer end_answer same_answer trees_in run_at same_at

@@ -10,7 +10,7 @@ use lib.ListN.{length, get_or, take, drop, length-append, take-append-drop}
 use lib.Seq.{take_at, drop_at, length-take-le}
 use lib.Dec.{T}
 use Rattle.spec_tree.specs.Bytes.{eq_bytes}
-use Rattle.spec_tree.specs.Tree.{Tree, Sym, Op, nil, operands, eq_tree}
+use Rattle.spec_tree.specs.Tree.{Tree, Sym, Op, nil, eq_tree}
 use Rattle.spec_tree.specs.Facts.{total, size}
 use Rattle.spec_tree.specs.Tokens.{word, tokens, all_tokens, kind_of, takes, tree_of_word, read, trees_in, words_of, numbered}
 use Rattle.spec_tree.proofs.FactLaws.{size_one}

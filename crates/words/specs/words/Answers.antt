@@ -1,28 +1,25 @@
 -- What a rewriting of words answers and writes, by cases. Assumes nothing.
-use Rattle.std.specs.Prelude.{ℕ, Bool, true, false, List, ◌++◌, length, drop, ltb}
+use Rattle.std.specs.Prelude.{ℕ, Bool, true, false, List, ◌++◌, length, drop, ltb, Result, Ok, Err, ⊤}
 use Rattle.spec_tree.specs.Tree.{Name, Tree}
 use Rattle.words.specs.words.Words.{rewritten_words, tree_of, name_of, sound}
-use Rattle.words.specs.declared.words.Request.{Request}
-use Rattle.words.specs.declared.words.Request.TheVariants as request
-use Rattle.words.specs.declared.words.Rewritten.{Rewritten}
-use Rattle.words.specs.declared.words.Rewritten.TheVariants as rewritten
+use Rattle.words.specs.declared.fault.Fault.{Fault}
+use Rattle.words.specs.declared.fault.Fault.TheVariants as fault
 
 -- by whether the words and the name are sound, and whether there are more words than room
-unfoldable pub request_answer : Bool → Bool → Request
-request_answer false more = request.Broken
-request_answer true true = request.NoRoom
-request_answer true false = request.Sound
+unfoldable pub request_answer : Bool → Bool → Result ⊤ Fault
+request_answer false more = Err fault.Broken
+request_answer true true = Err fault.NoRoom
+request_answer true false = Ok tt
 
 -- what a rewriting answers, and the words lent after it
 pub record Rewriting : Type 0 where
-  pub answer : Rewritten
+  pub answer : Result ℕ Fault
   pub out : List ℕ
 
 -- the new words in front of what stood after as many, or nothing written
-unfoldable pub rewriting_by : Request → List ℕ → List ℕ → Rewriting
-rewriting_by request.Broken new old = record { answer = rewritten.Broken; out = old }
-rewriting_by request.NoRoom new old = record { answer = rewritten.NoRoom; out = old }
-rewriting_by request.Sound new old = record { answer = rewritten.Words (length new); out = new ++ drop (length new) old }
+unfoldable pub rewriting_by : Result ⊤ Fault → List ℕ → List ℕ → Rewriting
+rewriting_by (Err e) new old = record { answer = Err e; out = old }
+rewriting_by (Ok _) new old = record { answer = Ok (length new); out = new ++ drop (length new) old }
 
 -- a rewriting of every tree by one tree and a new name
 unfoldable pub rewriting : (Tree → Name → Tree → Tree) → List ℕ → List ℕ → ℕ → List ℕ → Rewriting

@@ -1,39 +1,45 @@
 use native.Mathlib.Omega.{arith}
-use mathlib.Core.Path.{sym, ◌∙◌, subst}
-use borrow.Author.Tests.{not-true, not-false}
-use lib.Dec.{T}
+use mathlib.Core.Path.{sym, ◌∙◌}
+use lib.Seq.{length-take-le}
 use Rattle.spec_tree.specs.Tokens.{trees_in}
-use Rattle.spec_tree.proofs.TokenLaws.{complete_within}
 use Rattle.words.proofs.words.Requests.{counted, uncounted}
-use Rattle.cse_flat.proofs.ending.Ends.{no_trees, too_few, not_there, too_long, too_many_names, made_is, goes_on}
-use borrow.Author.Rules.{rules}
+use Rattle.reciprocals.proofs.final.Starting.{trees_many, ready_is}
+use Rattle.cse_flat.proofs.ending.Ends.{trees_counted, made_is, there_is}
 use Rattle.cse_flat.proofs.ending.finish.Goals as goal
 
-pub returns-in_default : goal.returns-in_default
-returns-in_default c = let a = c.args in no_trees a.tokens.now a.results a.places.now a.table.now (uncounted (trees_in a.tokens.now) (sym c.in_default.is ∙ c.count_trees.ensures))
+pub unreachable-requires : goal.unreachable-requires
+unreachable-requires c =
+    let a = c.args in
+    trees_counted a.tokens.now a.results a.places.now c.requires.there.0 c.requires.there.1 (uncounted (trees_in a.tokens.now) (sym c.in_default.is ∙ c.count_trees.ensures))
 
-pub returns-then-results-trees : goal.returns-then-results-trees
-returns-then-results-trees c = let a = c.args in too_few a.tokens.now a.results a.places.now a.table.now c.in-Count.trees (counted c.in-Count.trees (trees_in a.tokens.now) (sym c.in-Count.is ∙ c.count_trees.ensures)) c.if-results-trees.true
+pub settle_all-n-requires-clause-there : goal.settle_all-n-requires-clause-there
+settle_all-n-requires-clause-there c =
+    let a = c.args in
+    there_is a.tokens.now a.results a.places.now c.requires.there.0 c.requires.there.1 c.in-Some.count (counted c.in-Some.count (trees_in a.tokens.now) (sym c.in-Some.is ∙ c.count_trees.ensures))
 
-pub returns-then-not-all_there : goal.returns-then-not-all_there
-returns-then-not-all_there c = let a = c.args in not_there a.tokens.now a.results a.places.now a.table.now c.in-Count.trees (counted c.in-Count.trees (trees_in a.tokens.now) (sym c.in-Count.is ∙ c.count_trees.ensures)) c.if-results-trees.false (sym c.all_there.ensures ∙ c.if-not-all_there.true)
+pub slice_bounds-trees-end-3 : goal.slice_bounds-trees-end-3
+slice_bounds-trees-end-3 c =
+    let a = c.args in
+    let there = there_is a.tokens.now a.results a.places.now c.requires.there.0 c.requires.there.1 c.in-Some.count (counted c.in-Some.count (trees_in a.tokens.now) (sym c.in-Some.is ∙ c.count_trees.ensures)) in
+    omega (arith, trees_many there, c.requires.lent.for_starts, c.list_trees.auto.starts)
 
-pub returns-then-tokens-gt-MOST : goal.returns-then-tokens-gt-MOST
-returns-then-tokens-gt-MOST c = let a = c.args in too_long a.tokens.now a.results a.places.now a.table.now c.in-Count.trees (counted c.in-Count.trees (trees_in a.tokens.now) (sym c.in-Count.is ∙ c.count_trees.ensures)) c.if-results-trees.false (sym c.all_there.ensures ∙ c.if-not-all_there.false) c.if-tokens-gt-MOST.true
+pub slice_bounds-trees-end-4 : goal.slice_bounds-trees-end-4
+slice_bounds-trees-end-4 c =
+    let a = c.args in
+    let there = there_is a.tokens.now a.results a.places.now c.requires.there.0 c.requires.there.1 c.in-Some.count (counted c.in-Some.count (trees_in a.tokens.now) (sym c.in-Some.is ∙ c.count_trees.ensures)) in
+    sym (length-take-le _ _ (omega (arith, trees_many there, c.requires.lent.for_starts, c.list_trees.auto.starts)))
 
-pub overflow_sub-trees-2 : goal.overflow_sub-trees-2
-overflow_sub-trees-2 c = let a = c.args in omega (arith, complete_within a.tokens.now c.in-Count.trees (counted c.in-Count.trees (trees_in a.tokens.now) (sym c.in-Count.is ∙ c.count_trees.ensures)), c.if-results-trees.false, c.if-tokens-gt-MOST.false)
+pub invariant_of-trees : goal.invariant_of-trees
+invariant_of-trees c =
+    let a = c.args in
+    let there = there_is a.tokens.now a.results a.places.now c.requires.there.0 c.requires.there.1 c.in-Some.count (counted c.in-Some.count (trees_in a.tokens.now) (sym c.in-Some.is ∙ c.count_trees.ensures)) in
+    record { ready = ready_is there _ _ c.settle_all-n.ensures a.starts.now _ (omega (arith, trees_many there, c.requires.lent.for_starts)) c.list_trees.ensures.1 }
 
-pub returns-then-places-trees : goal.returns-then-places-trees
-returns-then-places-trees c = let a = c.args in let e = counted c.in-Count.trees (trees_in a.tokens.now) (sym c.in-Count.is ∙ c.count_trees.ensures) in
-    too_many_names a.tokens.now a.results a.places.now a.table.now c.in-Count.trees e c.if-results-trees.false (sym c.all_there.ensures ∙ c.if-not-all_there.false) c.if-tokens-gt-MOST.false (omega (arith, complete_within a.tokens.now c.in-Count.trees e, c.if-results-trees.false, c.if-tokens-gt-MOST.false, c.if-places-trees.true))
-
-pub finish_there-requires : goal.finish_there-requires
-finish_there-requires c = let a = c.args in
-    let e = counted c.in-Count.trees (trees_in a.tokens.now) (sym c.in-Count.is ∙ c.count_trees.ensures) in
-    let made = made_is a.tokens.now a.results a.places.now a.table.now c.in-Count.trees e c.if-results-trees.false in
-    record { there = (record { complete = e; enough = c.if-results-trees.false; there = subst T (sym (sym c.all_there.ensures ∙ c.if-not-all_there.false)) tt; few = c.if-tokens-gt-MOST.false; numbers = omega (arith, complete_within a.tokens.now c.in-Count.trees e, c.if-results-trees.false, c.if-tokens-gt-MOST.false, c.if-places-trees.false) }, c.requires.for_settled); tokens_in_bounds = (c.requires.for_starts, c.requires.for_tree); places_in_bounds = (omega (arith, made, c.requires.for_taken), omega (arith, made, c.requires.for_waiting), c.requires.for_links) }
-
-pub returns : goal.returns
-returns c = let a = c.args in let e = counted c.in-Count.trees (trees_in a.tokens.now) (sym c.in-Count.is ∙ c.count_trees.ensures) in
-    goes_on a.tokens.now a.results a.places.now a.table.now c.in-Count.trees e c.if-results-trees.false (sym c.all_there.ensures ∙ c.if-not-all_there.false) c.if-tokens-gt-MOST.false (omega (arith, complete_within a.tokens.now c.in-Count.trees e, c.if-results-trees.false, c.if-tokens-gt-MOST.false, c.if-places-trees.false)) _ _ c.finish_there.ensures
+pub finish_settled-requires-clause-places_in_bounds : goal.finish_settled-requires-clause-places_in_bounds
+finish_settled-requires-clause-places_in_bounds c =
+    let a = c.args in
+    let e = counted c.in-Some.count (trees_in a.tokens.now) (sym c.in-Some.is ∙ c.count_trees.ensures) in
+    let there = there_is a.tokens.now a.results a.places.now c.requires.there.0 c.requires.there.1 c.in-Some.count e in
+    let made = made_is a.tokens.now a.results a.places.now c.requires.there.0 c.requires.there.1 c.in-Some.count e in
+    let long = length-take-le c.in-Some.count c.list_trees.new.starts (omega (arith, trees_many there, c.requires.lent.for_starts, c.list_trees.auto.starts)) in
+    (omega (arith, made, long, c.requires.lent.for_taken), omega (arith, made, long, c.requires.lent.for_waiting), c.requires.lent.for_links)

@@ -1,24 +1,25 @@
--- `cse_scoped::one_scope::copy_arm` meets its contract. Assumes nothing.
-use Prim.Native.Nat.{ℕ}
+use Rattle.std.specs.Prelude.{Err}
 use native.Mathlib.Omega.{arith}
-use mathlib.Core.Path.{refl, sym}
-use lib.ListN.{take, drop, length-replicate}
+use mathlib.Core.Path.{◌∙◌, ap}
 use lib.Seq.{length-take-le}
-use Rattle.cse_scoped.proofs.one_scope.Leaves.{column_in, column_over, column_put}
-use borrow.Author.Rules.{rules}
+use Rattle.cse_scoped.proofs.one_scope.Leaves.{copied_there, copied_over, never_broken}
 use Rattle.cse_scoped.proofs.one_scope.copy_arm.Goals as goal
 
-pub slice_bounds-copy_column-end-2 : goal.slice_bounds-copy_column-end-2
-slice_bounds-copy_column-end-2 c = sym (length-take-le c.args.h c.args.work.now c.requires.0)
+pub returns-in-Ok : goal.returns-in-Ok
+returns-in-Ok c =
+    let a = c.args in
+    let s = c.split_at_mut-held.ensures in
+    copied_there a.work.now a.group.now a.h a.a c.min-room.result c.requires.0 c.requires.1 c.requires.2 c.requires.3 (omega (arith, c.min-room.ensures)) (omega (arith, c.min-room.ensures)) (λ n f g. omega (arith, c.min-room.ensures, f, g)) _ _ c.in-Ok.n c.in-Ok.is _ _ s.front s.back c.copy_column.ensures
 
-pub returns-then-work-h : goal.returns-then-work-h
-returns-then-work-h c = let a = c.args in (column_over (take a.h a.work.now) a.group.now c.requires.3 c.requires.1 a.a c.requires.2 _ 128 (length-replicate {A = ℕ} 128 0) (omega arith) c.copy_column-column.result _ c.copy_column-column.ensures c.in-Words.n a.h a.work.now c.in-Words.is c.if-work-h.true, refl)
+pub returns-in-Err-NoRoom : goal.returns-in-Err-NoRoom
+returns-in-Err-NoRoom c =
+    let a = c.args in
+    let s = c.split_at_mut-held.ensures in
+    copied_over a.work.now a.group.now a.h a.a c.min-room.result c.requires.0 c.requires.1 c.requires.2 c.requires.3 (omega (arith, c.min-room.ensures)) (omega (arith, c.min-room.ensures)) (λ n f g. omega (arith, c.min-room.ensures, f, g)) _ _ (c.in-Err-NoRoom.is ∙ ap Err c.in-Err-NoRoom.field-0-is)
+    (c.copy_column.auto.out ∙ length-take-le _ _ (omega (arith, c.min-room.ensures, s.back_len, s.front_len))) _ _ s.front s.back c.copy_column.ensures
 
-pub slice_bounds-few-end : goal.slice_bounds-few-end
-slice_bounds-few-end c = let a = c.args in column_in (take a.h a.work.now) a.group.now c.requires.3 c.requires.1 a.a c.requires.2 _ 128 (length-replicate {A = ℕ} 128 0) (omega arith) c.copy_column-column.result _ c.copy_column-column.ensures c.in-Words.n c.in-Words.is
-
-pub slice_bounds-put-end : goal.slice_bounds-put-end
-slice_bounds-put-end c = let a = c.args in sym (length-take-le _ _ (column_in (take a.h a.work.now) a.group.now c.requires.3 c.requires.1 a.a c.requires.2 _ 128 (length-replicate {A = ℕ} 128 0) (omega arith) c.copy_column-column.result _ c.copy_column-column.ensures c.in-Words.n c.in-Words.is))
-
-pub returns : goal.returns
-returns c = let a = c.args in column_put (take a.h a.work.now) a.group.now c.requires.3 c.requires.1 a.a c.requires.2 _ 128 (length-replicate {A = ℕ} 128 0) (omega arith) c.copy_column-column.result _ c.copy_column-column.ensures c.in-Words.n a.h a.work.now _ c.in-Words.is c.requires.0 c.if-work-h.false c.put.ensures
+pub unreachable-requires : goal.unreachable-requires
+unreachable-requires c =
+    let a = c.args in
+    let s = c.split_at_mut-held.ensures in
+    never_broken a.work.now a.group.now a.h a.a c.min-room.result c.requires.0 c.requires.1 c.requires.2 c.requires.3 (omega (arith, c.min-room.ensures)) (omega (arith, c.min-room.ensures)) (λ n f g. omega (arith, c.min-room.ensures, f, g)) _ _ (c.in-Err-Broken.is ∙ ap Err c.in-Err-Broken.field-0-is) _ _ s.front s.back c.copy_column.ensures

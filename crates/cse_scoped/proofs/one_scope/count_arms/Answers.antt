@@ -1,7 +1,6 @@
 -- `cse_scoped::one_scope::count_arms` meets its contract. Assumes nothing.
 use native.Mathlib.Omega.{arith}
 use Rattle.cse_scoped.proofs.one_scope.Leaves.{opener_there, group_some, takes_some, arms_counted}
-use borrow.Author.Rules.{rules}
 use Rattle.cse_scoped.proofs.one_scope.count_arms.Goals as goal
 
 pub bounds-group-0 : goal.bounds-group-0

@@ -1,18 +1,29 @@
 -- `csescoped::sheet::scoped_sheet` meets its contract. Assumes nothing.
-use native.Mathlib.Omega.{arith}
-use lib.ListN.{length}
+use Rattle.std.proofs.Common.{sym, ap, arith, rules, length}
+use lib.Seq.{length-take-le}
+use Rattle.load.specs.Loaded.{told}
 use Rattle.csescoped.proofs.sheet.Steps.{read_few, read_fits, load_refused, loaded_says}
-use borrow.Author.Rules.{rules}
 use Rattle.csescoped.proofs.sheet.scoped_sheet.Goals as goal
 
-pub overflow_mul-n : goal.overflow_mul-n
-overflow_mul-n c = omega (arith, read_few c.args.sheet.now c.args.rows.now c.args.roots.now _ _ _ c.load-loaded.ensures _ _ c.in-Table.is)
+pub overflow_mul-end : goal.overflow_mul-end
+overflow_mul-end c = omega (arith, read_few c.args.sheet.now c.args.rows.now c.args.roots.now _ _ _ c.load.ensures _ _ (ap told c.in_ok-loaded.was))
 
-pub extracted-requires : goal.extracted-requires
-extracted-requires c = read_fits c.args.sheet.now c.args.rows.now c.args.roots.now _ _ _ c.load-loaded.ensures _ _ c.in-Table.is
+pub slice_bounds-extracted-end : goal.slice_bounds-extracted-end
+slice_bounds-extracted-end c = (read_fits c.args.sheet.now c.args.rows.now c.args.roots.now _ _ _ c.load.ensures _ _ (ap told c.in_ok-loaded.was)).0
 
-pub returns-in-Refused : goal.returns-in-Refused
-returns-in-Refused c = load_refused c.args.sheet.now c.args.rows.now c.args.roots.now _ _ _ c.load-loaded.ensures (length c.args.work.now) (length c.args.text.now) c.args.table.now c.args.out.now _ _ c.in-Refused.is
+pub slice_bounds-extracted-end-2 : goal.slice_bounds-extracted-end-2
+slice_bounds-extracted-end-2 c = sym (length-take-le _ _ (read_fits c.args.sheet.now c.args.rows.now c.args.roots.now _ _ _ c.load.ensures _ _ (ap told c.in_ok-loaded.was)).0)
 
-pub returns-in-Table : goal.returns-in-Table
-returns-in-Table c = loaded_says c.args.sheet.now c.args.rows.now c.args.roots.now _ _ _ c.load-loaded.ensures (length c.args.work.now) (length c.args.text.now) c.args.table.now c.args.out.now _ _ _ _ _ c.in-Table.is c.extracted.ensures
+pub slice_bounds-extracted-end-3 : goal.slice_bounds-extracted-end-3
+slice_bounds-extracted-end-3 c = (read_fits c.args.sheet.now c.args.rows.now c.args.roots.now _ _ _ c.load.ensures _ _ (ap told c.in_ok-loaded.was)).1
+
+pub slice_bounds-extracted-end-4 : goal.slice_bounds-extracted-end-4
+slice_bounds-extracted-end-4 c = sym (length-take-le _ _ (read_fits c.args.sheet.now c.args.rows.now c.args.roots.now _ _ _ c.load.ensures _ _ (ap told c.in_ok-loaded.was)).1)
+
+pub returns-in_err-loaded : goal.returns-in_err-loaded
+returns-in_err-loaded c =
+    let e = load_refused c.args.sheet.now c.args.rows.now c.args.roots.now _ _ _ c.load.ensures (length c.args.work.now) (length c.args.text.now) c.args.table.now c.args.out.now _ _ (ap told c.in_err-loaded.was) in
+    search rules
+
+pub returns : goal.returns
+returns c = loaded_says c.args.sheet.now c.args.rows.now c.args.roots.now _ _ _ c.load.ensures (length c.args.work.now) (length c.args.text.now) c.args.table.now c.args.out.now _ _ _ _ _ (ap told c.in_ok-loaded.was) c.extracted.ensures

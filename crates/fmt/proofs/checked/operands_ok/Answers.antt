@@ -1,13 +1,13 @@
 -- `fmt::checked::operands_ok` meets its contract. Assumes nothing.
-use Rattle.fmt.proofs.checked.WordLaws.{leaf_count, too_few, enough}
-use borrow.Author.Rules.{rules}
+use Rattle.std.proofs.Common.{◌∙◌, arith}
+use Rattle.fmt.proofs.checked.WordLaws.{leaf_count, default_count, plain_count}
 use Rattle.fmt.proofs.checked.operands_ok.Goals as goal
 
-pub returns-then-kind-lt-NEG : goal.returns-then-kind-lt-NEG
-returns-then-kind-lt-NEG c = leaf_count c.args.kind c.args.count c.if-kind-lt-NEG.true
+pub returns-in-0-to-1 : goal.returns-in-0-to-1
+returns-in-0-to-1 c = leaf_count c.args.kind c.args.count (omega arith)
 
-pub returns-then-count-counts : goal.returns-then-count-counts
-returns-then-count-counts c = too_few c.args.kind c.args.count c.counts_of-counts.result.fewest c.counts_of-counts.result.most c.if-kind-lt-NEG.false c.counts_of-counts.ensures.0 c.counts_of-counts.ensures.1 c.if-count-counts.true
+pub returns-in-28 : goal.returns-in-28
+returns-in-28 c = c.operands_ok.ensures ∙ default_count c.args.kind c.args.count c.in-28.is
 
-pub returns : goal.returns
-returns c = enough c.args.kind c.args.count c.counts_of-counts.result.fewest c.counts_of-counts.result.most c.if-kind-lt-NEG.false c.counts_of-counts.ensures.0 c.counts_of-counts.ensures.1 c.if-count-counts.false
+pub returns-in_default : goal.returns-in_default
+returns-in_default c = c.operands_ok-in_default.ensures ∙ plain_count c.args.kind c.args.count (omega arith) (λ e. omega arith)

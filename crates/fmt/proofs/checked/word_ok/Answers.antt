@@ -1,15 +1,14 @@
 -- `fmt::checked::word_ok` meets its contract. Assumes nothing.
-use mathlib.Core.Path.{sym, ◌∙◌}
+use Rattle.std.proofs.Common.{sym, ◌∙◌, arith}
 use Rattle.fmt.specs.checked.Check.{rows_in}
 use Rattle.fmt.proofs.checked.RunLaws.{symbol_word, constant_word, operation_word}
-use borrow.Author.Rules.{rules}
 use Rattle.fmt.proofs.checked.word_ok.Goals as goal
 
-pub returns-then-kind-eq-SYM : goal.returns-then-kind-eq-SYM
-returns-then-kind-eq-SYM c = c.symbol_ok.ensures ∙ sym (symbol_word (rows_in c.args.rows.now) c.args.w c.if-kind-eq-SYM.true)
+pub returns-in-0 : goal.returns-in-0
+returns-in-0 c = c.symbol_ok.ensures ∙ sym (symbol_word (rows_in c.args.rows.now) c.args.w c.in-0.is)
 
-pub returns-then-kind-eq-CONST : goal.returns-then-kind-eq-CONST
-returns-then-kind-eq-CONST c = c.constant_ok.ensures ∙ sym (constant_word (rows_in c.args.rows.now) c.args.w c.if-kind-eq-CONST.true)
+pub returns-in-1 : goal.returns-in-1
+returns-in-1 c = c.constant_ok.ensures ∙ sym (constant_word (rows_in c.args.rows.now) c.args.w c.in-1.is)
 
-pub returns : goal.returns
-returns c = c.operands_ok.ensures ∙ sym (operation_word (rows_in c.args.rows.now) c.args.w c.if-kind-eq-SYM.false c.if-kind-eq-CONST.false)
+pub returns-in_default : goal.returns-in_default
+returns-in_default c = c.operands_ok.ensures ∙ sym (operation_word (rows_in c.args.rows.now) c.args.w (λ e. omega arith) (λ e. omega arith))

@@ -1,7 +1,5 @@
 -- `fmt::emit::put_decimal` meets its contract; the number falls. Assumes nothing.
 use Rattle.fmt.proofs.emit.TextLaws.{digit_written, digits_written}
-use borrow.Author.Rules.{rules}
-use Prim.Native.Nat.{ℕ, ◌<◌}
 use Rattle.fmt.proofs.emit.+put_decimal.Goals as goal
 
 pub returns-then-n-lt10 : goal.returns-then-n-lt10

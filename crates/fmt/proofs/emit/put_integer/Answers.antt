@@ -1,6 +1,5 @@
 -- `fmt::emit::put_integer` meets its contract. Assumes nothing.
 use Rattle.fmt.proofs.emit.TextLaws.{plain_written, minus_written}
-use borrow.Author.Rules.{rules}
 use Rattle.fmt.proofs.emit.put_integer.Goals as goal
 
 pub returns-then-code-eq0 : goal.returns-then-code-eq0

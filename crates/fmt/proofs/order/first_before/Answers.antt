@@ -1,13 +1,11 @@
 -- `fmt::order::first_before` meets its contract. Assumes nothing.
-use native.Mathlib.Omega.{arith}
-use mathlib.Core.Path.{sym}
-use lib.Seq.{length-take-le}
-use Rattle.fmt.proofs.order.Beginnings.{in_order}
-use borrow.Author.Rules.{rules}
+use Rattle.std.proofs.Common.{◌∙◌, ap, ap₂}
+use lib.Seq.{take-length}
+use Rattle.spec_tree.specs.text.Text.{before, later}
+use Rattle.fmt.proofs.order.OrderLaws.{before_later}
 use Rattle.fmt.proofs.order.first_before.Goals as goal
 
-pub slice_bounds-before-end : goal.slice_bounds-before-end
-slice_bounds-before-end c = sym (length-take-le c.args.middle c.args.text.now (omega (arith, c.requires.0, c.requires.1)))
-
 pub returns : goal.returns
-returns c = in_order c.args.text.now c.args.middle c.args.end c.requires.1 _ _ c.later-last.ensures c.before-2.ensures
+returns c = let a = c.args in
+    c.before-2.ensures
+    ∙ (ap (before a.first.now) (c.later-last.ensures ∙ ap₂ later (take-length a.first.now) (take-length a.second.now)) ∙ before_later a.first.now a.second.now)

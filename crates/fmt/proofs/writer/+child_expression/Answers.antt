@@ -1,14 +1,10 @@
 -- The proof of the cycle {child, expression}. Each measure is twice the size of the tree, one more for `child`. Assumes nothing.
 use mathlib.Core.Path.{◌∙◌}
 use mathlib.Core.Bool.{true, false}
-use Rattle.spec_tree.specs.Facts.{size}
-use Rattle.fmt.specs.shapes.Places.{tree_here}
 use native.Mathlib.Omega.{arith}
 use Rattle.fmt.proofs.emit.WriteLaws.{writes_length}
 use Rattle.fmt.proofs.shapes.NodeLaws.{stands_inside, child_test, symbol_done, constant_done, plain_done, bracket_done}
-use Rattle.fmt.proofs.shapes.LoopLaws.{Writing, begin, stands, smaller, turn, finish}
-use borrow.Author.Rules.{rules}
-use Prim.Native.Nat.{ℕ, ◌<◌, ◌-◌, ◌*◌, ◌+◌}
+use Rattle.fmt.proofs.shapes.LoopLaws.{begin, stands, smaller, turn, finish}
 use Rattle.fmt.proofs.writer.+child_expression.Goals as goal
 
 pub child-offset_bounds-tokens-at : goal.child-offset_bounds-tokens-at
@@ -49,12 +45,6 @@ expression-loop-i-init t c = begin c.requires c.if-kind-eq-SYM.false c.if-kind-e
 
 pub expression-child-p-requires : goal.expression-child-p-requires
 expression-child-p-requires t c = (omega (arith, smaller c.requires c.if-kind-eq-SYM.false c.if-kind-eq-CONST.false c.loop-i.invariant c.loop-i-test.true, c.decreases), stands c.requires c.if-kind-eq-SYM.false c.if-kind-eq-CONST.false c.loop-i.invariant c.loop-i-test.true)
-
-pub expression-overflow_add-i : goal.expression-overflow_add-i
-expression-overflow_add-i t c = omega (arith, c.loop-i-test.true, c.type_inv.tokens c.args.at)
-
-pub expression-loop-i-smaller : goal.expression-loop-i-smaller
-expression-loop-i-smaller t c = omega (arith, c.loop-i-test.true)
 
 pub expression-loop-i-preserved : goal.expression-loop-i-preserved
 expression-loop-i-preserved t c = turn c.requires c.if-kind-eq-SYM.false c.if-kind-eq-CONST.false c.loop-i.invariant c.loop-i-test.true c.put_between-start.ensures c.child-p.ensures

@@ -1,13 +1,7 @@
-use mathlib.Core.Path.{◌∙◌}
-use mathlib.Core.Bool.{true, false}
 use Rattle.spec_tree.specs.Facts.{size}
 use Rattle.fmt.specs.shapes.Places.{tree_here}
-use native.Mathlib.Omega.{arith}
-use Rattle.fmt.proofs.emit.WriteLaws.{writes_length}
-use Rattle.fmt.proofs.shapes.NodeLaws.{stands_inside, child_test, symbol_done, constant_done, plain_done, bracket_done}
-use Rattle.fmt.proofs.shapes.LoopLaws.{Writing, begin, stands, smaller, turn, finish}
-use borrow.Author.Rules.{rules}
-use Prim.Native.Nat.{ℕ, ◌<◌, ◌-◌, ◌*◌, ◌+◌}
+use Rattle.fmt.proofs.shapes.LoopLaws.{Writing}
+use Prim.Native.Nat.{◌*◌, ◌+◌}
 use Rattle.fmt.proofs.writer.+child_expression.Given as goal
 
 abbrev pub decreases-expression : goal.decreases-expression
@@ -18,6 +12,3 @@ decreases-child l = size (tree_here l.rows.now l.tokens.now l.at) * 2 + 1
 
 abbrev pub invariant-expression-loop-i : goal.invariant-expression-loop-i
 invariant-expression-loop-i l = Writing l.dry l.rows l.tokens l.at l.initial.out l.initial.end l.out l.next l.end l.i
-
-abbrev pub decreases-expression-loop-i : goal.decreases-expression-loop-i
-decreases-expression-loop-i l = l.below - l.i

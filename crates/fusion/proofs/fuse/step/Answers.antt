@@ -1,67 +1,79 @@
 -- `fusion::fuse::step` meets its contract: the member is a tree of the base, so the words can be rewritten by it. Assumes nothing.
 use native.Mathlib.Omega.{arith}
 use mathlib.Core.Path.{sym, ◌∙◌}
-use lib.ListN.{length, take}
+use lib.ListN.{take}
 use lib.Seq.{length-take-le}
 use Rattle.reciprocals.proofs.settle.Stepping.{divisor_there}
-use Rattle.fusion.proofs.fuse.Stepping.{no_member, in_out, goes_back, not_broken, not_full, step_ends}
-use borrow.Author.Rules.{rules}
+use Rattle.fusion.proofs.Tests.{ok_by_some, no_ok_by_none}
+use Rattle.fusion.proofs.fuse.Stepping.{no_member, answers, in_out, fits_back, step_ends}
 use Rattle.fusion.proofs.fuse.step.Goals as goal
 
-pub returns-in_default : goal.returns-in_default
-returns-in_default c = record { value = (no_member c.args.base.now c.args.place c.args.name (take c.args.len c.args.work.now) c.args.work.now (sym c.in_default.is ∙ c.end_of.ensures)).0; front = (no_member c.args.base.now c.args.place c.args.name (take c.args.len c.args.work.now) _ (sym c.in_default.is ∙ c.end_of.ensures)).1 }
+pub returns-in_err-end-clause-value : goal.returns-in_err-end-clause-value
+returns-in_err-end-clause-value c = c.from_residual.ensures ∙ (no_member c.args.base.now c.args.place c.args.name (take c.args.len c.args.work.now) c.args.work.now (sym c.in_err-end.was ∙ c.end_of.ensures)).0
 
-pub slice_bounds-replace_outside_arms-end-2 : goal.slice_bounds-replace_outside_arms-end-2
-slice_bounds-replace_outside_arms-end-2 c = sym (length-take-le c.args.len c.args.work.now c.requires.len_in_bounds.0)
+pub returns-in_err-end-clause-front : goal.returns-in_err-end-clause-front
+returns-in_err-end-clause-front c = (no_member c.args.base.now c.args.place c.args.name (take c.args.len c.args.work.now) c.args.work.now (sym c.in_err-end.was ∙ c.end_of.ensures)).1
 
 pub offset_bounds-base-place : goal.offset_bounds-base-place
-offset_bounds-base-place c = let d = divisor_there c.args.base.now c.args.place _ (sym c.in-Ends.is ∙ c.end_of.ensures) in
+offset_bounds-base-place c = let d = divisor_there c.args.base.now c.args.place _ (sym c.in_ok-end.was ∙ c.end_of.ensures) in
     omega (arith, d.after, d.within, c.well_formed)
 
 pub slice_bounds-replace_outside_arms-count : goal.slice_bounds-replace_outside_arms-count
-slice_bounds-replace_outside_arms-count c = let d = divisor_there c.args.base.now c.args.place _ (sym c.in-Ends.is ∙ c.end_of.ensures) in
+slice_bounds-replace_outside_arms-count c = let d = divisor_there c.args.base.now c.args.place _ (sym c.in_ok-end.was ∙ c.end_of.ensures) in
     omega (arith, d.after, d.within)
 
 pub slice_bounds-replace_outside_arms-start : goal.slice_bounds-replace_outside_arms-start
-slice_bounds-replace_outside_arms-start c = let d = divisor_there c.args.base.now c.args.place _ (sym c.in-Ends.is ∙ c.end_of.ensures) in
+slice_bounds-replace_outside_arms-start c = let d = divisor_there c.args.base.now c.args.place _ (sym c.in_ok-end.was ∙ c.end_of.ensures) in
     omega (arith, d.after, d.within)
 
 pub slice_bounds-replace_outside_arms-end-3 : goal.slice_bounds-replace_outside_arms-end-3
-slice_bounds-replace_outside_arms-end-3 c = let d = divisor_there c.args.base.now c.args.place _ (sym c.in-Ends.is ∙ c.end_of.ensures) in
+slice_bounds-replace_outside_arms-end-3 c = let d = divisor_there c.args.base.now c.args.place _ (sym c.in_ok-end.was ∙ c.end_of.ensures) in
     omega (arith, d.after, d.within)
 
-pub slice_bounds-copy-end : goal.slice_bounds-copy-end
-slice_bounds-copy-end c = let d = divisor_there c.args.base.now c.args.place _ (sym c.in-Ends.is ∙ c.end_of.ensures) in
+pub returns-in_err-n : goal.returns-in_err-n
+returns-in_err-n c = let d = divisor_there c.args.base.now c.args.place _ (sym c.in_ok-end.was ∙ c.end_of.ensures) in
     let ws = take c.args.len c.args.work.now in
     let l = length-take-le c.args.len c.args.work.now c.requires.len_in_bounds.0 in
-    in_out c.args.base.now c.args.place _ c.args.name ws c.args.spare.now d c.requires.len_in_bounds.1 c.requires.name_value.0 (omega (arith, l, c.requires.len_in_bounds.0, c.requires.name_value.1)) _ _ (sym c.in-Words.is ∙ c.replace_outside_arms-replaced.ensures.0) c.replace_outside_arms-replaced.ensures.1
+    absurd (no_ok_by_none _ _ (sym c.ok.ensures.value ∙ c.in_err-n.was) (c.replace_outside_arms.ensures.0 ∙ answers c.args.base.now c.args.place _ c.args.name ws c.args.spare.now d c.requires.len_in_bounds.1 c.requires.name_value.0 (omega (arith, l, c.requires.len_in_bounds.0, c.requires.name_value.1))))
 
-pub slice_bounds-copy-end-in-Words : goal.slice_bounds-copy-end-in-Words
-slice_bounds-copy-end-in-Words c = let d = divisor_there c.args.base.now c.args.place _ (sym c.in-Ends.is ∙ c.end_of.ensures) in
+pub slice_bounds-copy_from_slice-end : goal.slice_bounds-copy_from_slice-end
+slice_bounds-copy_from_slice-end c = let d = divisor_there c.args.base.now c.args.place _ (sym c.in_ok-end.was ∙ c.end_of.ensures) in
     let ws = take c.args.len c.args.work.now in
     let l = length-take-le c.args.len c.args.work.now c.requires.len_in_bounds.0 in
-    sym (length-take-le _ _ (in_out c.args.base.now c.args.place _ c.args.name ws c.args.spare.now d c.requires.len_in_bounds.1 c.requires.name_value.0 (omega (arith, l, c.requires.len_in_bounds.0, c.requires.name_value.1)) _ _ (sym c.in-Words.is ∙ c.replace_outside_arms-replaced.ensures.0) c.replace_outside_arms-replaced.ensures.1))
+    fits_back c.args.base.now c.args.place _ c.args.name ws c.args.spare.now d c.requires.len_in_bounds.1 c.requires.name_value.0 (omega (arith, l, c.requires.len_in_bounds.0, c.requires.name_value.1)) _ _ (sym (ok_by_some _ _ (sym c.ok.ensures.value ∙ c.in_ok-n.was)) ∙ c.replace_outside_arms.ensures.0) (omega (arith, l, c.requires.len_in_bounds.0))
 
-pub copy-requires : goal.copy-requires
-copy-requires c = let d = divisor_there c.args.base.now c.args.place _ (sym c.in-Ends.is ∙ c.end_of.ensures) in
+pub slice_bounds-copy_from_slice-end-2 : goal.slice_bounds-copy_from_slice-end-2
+slice_bounds-copy_from_slice-end-2 c = let d = divisor_there c.args.base.now c.args.place _ (sym c.in_ok-end.was ∙ c.end_of.ensures) in
     let ws = take c.args.len c.args.work.now in
     let l = length-take-le c.args.len c.args.work.now c.requires.len_in_bounds.0 in
-    goes_back c.args.base.now c.args.place _ c.args.name ws c.args.spare.now d c.requires.len_in_bounds.1 c.requires.name_value.0 (omega (arith, l, c.requires.len_in_bounds.0, c.requires.name_value.1)) _ (length c.args.work.now) _ (sym c.in-Words.is ∙ c.replace_outside_arms-replaced.ensures.0) c.replace_outside_arms-replaced.ensures.1 (omega (arith, l, c.requires.len_in_bounds.0))
+    sym (length-take-le _ _ (fits_back c.args.base.now c.args.place _ c.args.name ws c.args.spare.now d c.requires.len_in_bounds.1 c.requires.name_value.0 (omega (arith, l, c.requires.len_in_bounds.0, c.requires.name_value.1)) _ _ (sym (ok_by_some _ _ (sym c.ok.ensures.value ∙ c.in_ok-n.was)) ∙ c.replace_outside_arms.ensures.0) (omega (arith, l, c.requires.len_in_bounds.0))))
 
-pub returns-in-Words : goal.returns-in-Words
-returns-in-Words c = let d = divisor_there c.args.base.now c.args.place _ (sym c.in-Ends.is ∙ c.end_of.ensures) in
+pub slice_bounds-copy_from_slice-end-3 : goal.slice_bounds-copy_from_slice-end-3
+slice_bounds-copy_from_slice-end-3 c = let d = divisor_there c.args.base.now c.args.place _ (sym c.in_ok-end.was ∙ c.end_of.ensures) in
     let ws = take c.args.len c.args.work.now in
     let l = length-take-le c.args.len c.args.work.now c.requires.len_in_bounds.0 in
-    record { value = (step_ends c.args.base.now c.args.place _ c.args.name ws c.args.spare.now d c.requires.len_in_bounds.1 c.requires.name_value.0 (omega (arith, l, c.requires.len_in_bounds.0, c.requires.name_value.1)) _ _ c.args.work.now _ (sym c.in-Words.is ∙ c.replace_outside_arms-replaced.ensures.0) c.replace_outside_arms-replaced.ensures.1 c.copy.ensures).0; front = (step_ends c.args.base.now c.args.place _ c.args.name ws c.args.spare.now d c.requires.len_in_bounds.1 c.requires.name_value.0 (omega (arith, l, c.requires.len_in_bounds.0, c.requires.name_value.1)) _ _ c.args.work.now _ (sym c.in-Words.is ∙ c.replace_outside_arms-replaced.ensures.0) c.replace_outside_arms-replaced.ensures.1 c.copy.ensures).1 }
+    in_out c.args.base.now c.args.place _ c.args.name ws c.args.spare.now d c.requires.len_in_bounds.1 c.requires.name_value.0 (omega (arith, l, c.requires.len_in_bounds.0, c.requires.name_value.1)) _ _ (sym (ok_by_some _ _ (sym c.ok.ensures.value ∙ c.in_ok-n.was)) ∙ c.replace_outside_arms.ensures.0) c.replace_outside_arms.ensures.1
 
-pub returns-in-Broken : goal.returns-in-Broken
-returns-in-Broken c = let d = divisor_there c.args.base.now c.args.place _ (sym c.in-Ends.is ∙ c.end_of.ensures) in
+pub slice_bounds-copy_from_slice-end-4 : goal.slice_bounds-copy_from_slice-end-4
+slice_bounds-copy_from_slice-end-4 c = let d = divisor_there c.args.base.now c.args.place _ (sym c.in_ok-end.was ∙ c.end_of.ensures) in
     let ws = take c.args.len c.args.work.now in
     let l = length-take-le c.args.len c.args.work.now c.requires.len_in_bounds.0 in
-    record { value = absurd (not_broken c.args.base.now c.args.place _ c.args.name ws c.args.spare.now d c.requires.len_in_bounds.1 c.requires.name_value.0 (omega (arith, l, c.requires.len_in_bounds.0, c.requires.name_value.1)) (sym c.in-Broken.is ∙ c.replace_outside_arms-replaced.ensures.0)); front = absurd (not_broken c.args.base.now c.args.place _ c.args.name ws c.args.spare.now d c.requires.len_in_bounds.1 c.requires.name_value.0 (omega (arith, l, c.requires.len_in_bounds.0, c.requires.name_value.1)) (sym c.in-Broken.is ∙ c.replace_outside_arms-replaced.ensures.0)) }
+    sym (length-take-le _ _ (in_out c.args.base.now c.args.place _ c.args.name ws c.args.spare.now d c.requires.len_in_bounds.1 c.requires.name_value.0 (omega (arith, l, c.requires.len_in_bounds.0, c.requires.name_value.1)) _ _ (sym (ok_by_some _ _ (sym c.ok.ensures.value ∙ c.in_ok-n.was)) ∙ c.replace_outside_arms.ensures.0) c.replace_outside_arms.ensures.1))
 
-pub returns-in-NoRoom : goal.returns-in-NoRoom
-returns-in-NoRoom c = let d = divisor_there c.args.base.now c.args.place _ (sym c.in-Ends.is ∙ c.end_of.ensures) in
+pub copy_from_slice-requires : goal.copy_from_slice-requires
+copy_from_slice-requires c = let d = divisor_there c.args.base.now c.args.place _ (sym c.in_ok-end.was ∙ c.end_of.ensures) in
     let ws = take c.args.len c.args.work.now in
     let l = length-take-le c.args.len c.args.work.now c.requires.len_in_bounds.0 in
-    record { value = absurd (not_full c.args.base.now c.args.place _ c.args.name ws c.args.spare.now d c.requires.len_in_bounds.1 c.requires.name_value.0 (omega (arith, l, c.requires.len_in_bounds.0, c.requires.name_value.1)) (sym c.in-NoRoom.is ∙ c.replace_outside_arms-replaced.ensures.0)); front = absurd (not_full c.args.base.now c.args.place _ c.args.name ws c.args.spare.now d c.requires.len_in_bounds.1 c.requires.name_value.0 (omega (arith, l, c.requires.len_in_bounds.0, c.requires.name_value.1)) (sym c.in-NoRoom.is ∙ c.replace_outside_arms-replaced.ensures.0)) }
+    length-take-le _ _ (fits_back c.args.base.now c.args.place _ c.args.name ws c.args.spare.now d c.requires.len_in_bounds.1 c.requires.name_value.0 (omega (arith, l, c.requires.len_in_bounds.0, c.requires.name_value.1)) _ _ (sym (ok_by_some _ _ (sym c.ok.ensures.value ∙ c.in_ok-n.was)) ∙ c.replace_outside_arms.ensures.0) (omega (arith, l, c.requires.len_in_bounds.0))) ∙ sym (length-take-le _ _ (in_out c.args.base.now c.args.place _ c.args.name ws c.args.spare.now d c.requires.len_in_bounds.1 c.requires.name_value.0 (omega (arith, l, c.requires.len_in_bounds.0, c.requires.name_value.1)) _ _ (sym (ok_by_some _ _ (sym c.ok.ensures.value ∙ c.in_ok-n.was)) ∙ c.replace_outside_arms.ensures.0) c.replace_outside_arms.ensures.1))
+
+pub returns-clause-value : goal.returns-clause-value
+returns-clause-value c = let d = divisor_there c.args.base.now c.args.place _ (sym c.in_ok-end.was ∙ c.end_of.ensures) in
+    let ws = take c.args.len c.args.work.now in
+    let l = length-take-le c.args.len c.args.work.now c.requires.len_in_bounds.0 in
+    (step_ends c.args.base.now c.args.place _ c.args.name ws c.args.spare.now d c.requires.len_in_bounds.1 c.requires.name_value.0 (omega (arith, l, c.requires.len_in_bounds.0, c.requires.name_value.1)) _ _ c.args.work.now _ (sym (ok_by_some _ _ (sym c.ok.ensures.value ∙ c.in_ok-n.was)) ∙ c.replace_outside_arms.ensures.0) c.replace_outside_arms.ensures.1 c.copy_from_slice.ensures.after).0
+
+pub returns-clause-front : goal.returns-clause-front
+returns-clause-front c = let d = divisor_there c.args.base.now c.args.place _ (sym c.in_ok-end.was ∙ c.end_of.ensures) in
+    let ws = take c.args.len c.args.work.now in
+    let l = length-take-le c.args.len c.args.work.now c.requires.len_in_bounds.0 in
+    (step_ends c.args.base.now c.args.place _ c.args.name ws c.args.spare.now d c.requires.len_in_bounds.1 c.requires.name_value.0 (omega (arith, l, c.requires.len_in_bounds.0, c.requires.name_value.1)) _ _ c.args.work.now _ (sym (ok_by_some _ _ (sym c.ok.ensures.value ∙ c.in_ok-n.was)) ∙ c.replace_outside_arms.ensures.0) c.replace_outside_arms.ensures.1 c.copy_from_slice.ensures.after).1

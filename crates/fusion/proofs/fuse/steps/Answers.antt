@@ -1,61 +1,28 @@
 -- `fusion::fuse::steps` meets its contract: the words so far, with the steps to come, are the whole. Assumes nothing.
-use Prim.Native.Nat.{◌-◌}
 use native.Mathlib.Omega.{arith}
 use mathlib.Core.Path.{sym, ◌∙◌}
-use lib.ListN.{length, get_or, take}
-use Rattle.fusion.proofs.Words.{m_word_symbol}
+use lib.ListN.{length}
 use Rattle.fusion.proofs.fuse.Numbers.{each_small}
-use Rattle.fusion.proofs.fuse.Fusing.{State, starts, turn_broken, turn, ends}
-use borrow.Author.Rules.{rules}
+use Rattle.fusion.proofs.fuse.Fusing.{turn_broken, turn, ends}
 use Rattle.fusion.proofs.fuse.steps.Goals as goal
 
-pub loop-k-init : goal.loop-k-init
-loop-k-init c = starts c.args.base.now c.args.places.now c.args.numbers.now c.args.len c.args.work.now c.args.spare.now c.requires.len_in_bounds.0 c.requires.len_in_bounds.1
-
-pub offset_bounds-numbers-k : goal.offset_bounds-numbers-k
-offset_bounds-numbers-k c = omega (arith, c.loop-k-test.true, c.well_formed)
-
-pub bounds-numbers-k : goal.bounds-numbers-k
-bounds-numbers-k c = omega (arith, c.loop-k-test.true, c.requires.places_in_bounds.0)
-
 pub overflow_mul-name : goal.overflow_mul-name
-overflow_mul-name c = omega (arith, each_small (length c.args.places.now) c.args.numbers.now c.loop-k.k c.requires.places_in_bounds.1 c.loop-k-test.true (omega (arith, c.loop-k-test.true, c.requires.places_in_bounds.0)))
+overflow_mul-name c = (omega (arith, each_small (length c.args.places.now) c.args.numbers.now c.loop-k.k c.requires.places_in_bounds.1 c.loop-k-test.true (omega (arith, c.loop-k-test.true, c.requires.places_in_bounds.0))))
 
 pub overflow_add-name : goal.overflow_add-name
-overflow_add-name c = omega (arith, each_small (length c.args.places.now) c.args.numbers.now c.loop-k.k c.requires.places_in_bounds.1 c.loop-k-test.true (omega (arith, c.loop-k-test.true, c.requires.places_in_bounds.0)))
+overflow_add-name c = (omega (arith, each_small (length c.args.places.now) c.args.numbers.now c.loop-k.k c.requires.places_in_bounds.1 c.loop-k-test.true (omega (arith, c.loop-k-test.true, c.requires.places_in_bounds.0))))
 
-pub offset_bounds-places-k : goal.offset_bounds-places-k
-offset_bounds-places-k c = omega (arith, c.loop-k-test.true, c.well_formed)
+pub returns-in_err-n-clause-value : goal.returns-in_err-n-clause-value
+returns-in_err-n-clause-value c = c.from_residual.ensures ∙ (turn_broken c.loop-k.invariant c.loop-k-test.true c.requires.places_in_bounds.0 c.step.new.work (sym c.in_err-n.was ∙ c.step.ensures.value)).0
 
-pub bounds-places-k : goal.bounds-places-k
-bounds-places-k c = c.loop-k-test.true
-
-pub step-requires : goal.step-requires
-step-requires c = record { len_in_bounds = (omega (arith, c.loop-k.invariant.fits, c.loop-k.invariant.long), c.loop-k.invariant.complete); name_value = (m_word_symbol (get_or c.args.numbers.now c.loop-k.k 0), omega (arith, c.loop-k.invariant.long, c.loop-k.invariant.spare_long, c.requires.work_in_bounds)) }
-
-pub shape_of-work-in_default : goal.shape_of-work-in_default
-shape_of-work-in_default c = omega (arith, c.step.auto.work, c.loop-k.invariant.long)
-
-pub shape_of-spare-in_default : goal.shape_of-spare-in_default
-shape_of-spare-in_default c = omega (arith, c.step.auto.spare, c.loop-k.invariant.spare_long)
-
-pub returns-in_default : goal.returns-in_default
-returns-in_default c = record { value = (turn_broken c.loop-k.invariant c.loop-k-test.true c.requires.places_in_bounds.0 c.loop-k.work (sym c.in_default.is ∙ c.step.ensures.value)).0; front = (turn_broken c.loop-k.invariant c.loop-k-test.true c.requires.places_in_bounds.0 _ (sym c.in_default.is ∙ c.step.ensures.value)).1 }
-
-pub overflow_add-k : goal.overflow_add-k
-overflow_add-k c = omega (arith, c.loop-k-test.true, c.well_formed)
-
-pub loop-k-smaller : goal.loop-k-smaller
-loop-k-smaller c = omega (arith, c.loop-k-test.true)
+pub returns-in_err-n-clause-front : goal.returns-in_err-n-clause-front
+returns-in_err-n-clause-front c = (turn_broken c.loop-k.invariant c.loop-k-test.true c.requires.places_in_bounds.0 c.step.new.work (sym c.in_err-n.was ∙ c.step.ensures.value)).1
 
 pub loop-k-preserved : goal.loop-k-preserved
-loop-k-preserved c = turn c.loop-k.invariant c.loop-k-test.true c.requires.places_in_bounds.0 _ _ _ (sym c.in-Words.is ∙ c.step.ensures.value) c.step.ensures.front c.step.auto.work c.step.auto.spare
+loop-k-preserved c = turn c.loop-k.invariant c.loop-k-test.true c.requires.places_in_bounds.0 _ _ _ (sym c.in_ok-n.was ∙ c.step.ensures.value) c.step.ensures.front c.step.auto.work c.step.auto.spare
 
-pub shape_of-work : goal.shape_of-work
-shape_of-work c = c.loop-k.invariant.long
+pub returns-clause-value : goal.returns-clause-value
+returns-clause-value c = (ends c.loop-k.invariant c.loop-k-test.false).0
 
-pub shape_of-spare : goal.shape_of-spare
-shape_of-spare c = c.loop-k.invariant.spare_long
-
-pub returns : goal.returns
-returns c = record { value = (ends c.loop-k.invariant c.loop-k-test.false).0; front = (ends c.loop-k.invariant c.loop-k-test.false).1 }
+pub returns-clause-front : goal.returns-clause-front
+returns-clause-front c = (ends c.loop-k.invariant c.loop-k-test.false).1

@@ -1,37 +1,18 @@
 -- `fusion::groups::first_joined` meets its contract. Assumes nothing.
 use native.Mathlib.Omega.{arith}
 use mathlib.Core.Path.{sym, ◌∙◌}
-use Prim.Native.Nat.{◌-◌}
 use Rattle.fusion.proofs.groups.Standing.{each_stands}
-use Rattle.fusion.proofs.groups.Joining.{Seeking, seeking_starts, joins_there, goes_past, seeking_ends}
+use Rattle.fusion.proofs.groups.Joining.{seeking_starts, joins_there, goes_past, seeking_ends}
 use Rattle.fusion.proofs.groups.first_joined.Goals as goal
 
 pub loop-j-init : goal.loop-j-init
 loop-j-init c = seeking_starts c.args.tokens.now c.args.places.now c.args.i
 
-pub offset_bounds-places-j : goal.offset_bounds-places-j
-offset_bounds-places-j c = omega (arith, c.loop-j-test.true, c.requires.complete.1, c.well_formed)
-
-pub bounds-places-j : goal.bounds-places-j
-bounds-places-j c = omega (arith, c.loop-j-test.true, c.requires.complete.1)
-
-pub offset_bounds-places-i : goal.offset_bounds-places-i
-offset_bounds-places-i c = omega (arith, c.requires.complete.1, c.well_formed)
-
-pub bounds-places-i : goal.bounds-places-i
-bounds-places-i c = c.requires.complete.1
-
-pub joins-requires : goal.joins-requires
-joins-requires c = record { complete = c.requires.complete.0; t = (each_stands c.args.tokens.now c.args.places.now c.requires.t c.loop-j.j (omega (arith, c.loop-j-test.true, c.requires.complete.1)), each_stands c.args.tokens.now c.args.places.now c.requires.t c.args.i c.requires.complete.1) }
+pub joins-requires-clause-t : goal.joins-requires-clause-t
+joins-requires-clause-t c = (each_stands c.args.tokens.now c.args.places.now c.requires.t c.loop-j.j (omega (arith, c.loop-j-test.true, c.requires.complete.1)), each_stands c.args.tokens.now c.args.places.now c.requires.t c.args.i c.requires.complete.1)
 
 pub returns-then-joins : goal.returns-then-joins
 returns-then-joins c = joins_there c.args.tokens.now c.args.places.now c.args.i c.loop-j.invariant c.loop-j-test.true (sym c.if-joins.true ∙ c.joins.ensures)
-
-pub overflow_add-j : goal.overflow_add-j
-overflow_add-j c = omega (arith, c.loop-j-test.true, c.requires.complete.1, c.well_formed)
-
-pub loop-j-smaller : goal.loop-j-smaller
-loop-j-smaller c = omega (arith, c.loop-j-test.true)
 
 pub loop-j-preserved : goal.loop-j-preserved
 loop-j-preserved c = goes_past c.args.tokens.now c.args.places.now c.args.i c.loop-j.invariant c.loop-j-test.true (sym c.if-joins.false ∙ c.joins.ensures)

@@ -1,17 +1,22 @@
--- `fusion::groups::has_arm` meets its contract: the tests decide. Assumes nothing.
+-- `fusion::groups::has_arm` meets its contract: a switch has its key, and then its arms. Assumes nothing.
 use native.Mathlib.Omega.{arith}
-use Rattle.fusion.proofs.groups.Armed.{past_end, no_switch, no_arm, arm_counted}
-use borrow.Author.Rules.{rules}
+use mathlib.Core.Path.{sym, ◌∙◌, subst}
+use lib.Dec.{T}
+use Rattle.fusion.proofs.groups.Standing.{stands_inside}
+use Rattle.fusion.proofs.groups.Armed.{arm_of_switch, some_operand, no_switch_there}
 use Rattle.fusion.proofs.groups.has_arm.Goals as goal
 
-pub returns-then-place-tokens : goal.returns-then-place-tokens
-returns-then-place-tokens c = past_end c.args.tokens.now c.args.arm c.args.place c.if-place-tokens.true
+pub offset_bounds-tokens-place : goal.offset_bounds-tokens-place
+offset_bounds-tokens-place c = omega (arith, stands_inside c.args.tokens.now c.args.place (subst T (sym c.if-stands.true ∙ c.stands.ensures) tt), c.well_formed)
 
-pub returns-then-word-lt-BRANCH : goal.returns-then-word-lt-BRANCH
-returns-then-word-lt-BRANCH c = no_switch c.args.tokens.now c.args.arm c.args.place c.if-word-lt-BRANCH.true
+pub bounds-tokens-place : goal.bounds-tokens-place
+bounds-tokens-place c = stands_inside c.args.tokens.now c.args.place (subst T (sym c.if-stands.true ∙ c.stands.ensures) tt)
 
-pub returns-then-operands-lt-OPERANDS : goal.returns-then-operands-lt-OPERANDS
-returns-then-operands-lt-OPERANDS c = no_arm c.args.tokens.now c.args.arm c.args.place (omega (arith, c.operand_count-operands.ensures, c.if-operands-lt-OPERANDS.true))
+pub overflow_sub-result : goal.overflow_sub-result
+overflow_sub-result c = omega (arith, c.operand_count.ensures, some_operand c.args.tokens.now c.args.arm c.args.place (sym c.if-stands.true ∙ c.stands.ensures))
 
-pub returns : goal.returns
-returns c = arm_counted c.args.tokens.now c.args.arm c.args.place _ c.operand_count-operands.ensures c.if-place-tokens.false c.if-word-lt-BRANCH.false c.if-operands-lt-OPERANDS.false
+pub returns-then-stands : goal.returns-then-stands
+returns-then-stands c = arm_of_switch c.args.tokens.now c.args.arm c.args.place (sym c.if-stands.true ∙ c.stands.ensures) _ c.operand_count.ensures
+
+pub returns-else-stands : goal.returns-else-stands
+returns-else-stands c = no_switch_there c.args.tokens.now c.args.arm c.args.place _ c.stands.ensures c.if-stands.false

@@ -1,20 +1,16 @@
--- `fusion::groups::have_arm` meets its contract: what is still to be tested decides. Assumes nothing.
-use Prim.Native.Nat.{◌-◌}
-use mathlib.Core.Path.{refl}
-use lib.ListN.{length}
-use borrow.Author.Tests.{not-true, not-false}
-use Rattle.fusion.proofs.groups.Armed.{Decides, turn_none, turn_one, all_tested}
+-- `fusion::groups::have_arm` meets its contract. Assumes nothing.
+use borrow.Author.Tests.{tests}
 use borrow.Author.Rules.{rules}
+use mathlib.Core.Path.{◌∙◌}
+use mathlib.Core.Path.{refl}
+use Rattle.std.proofs.lemmas.Iterator.{YieldsList-from_slice}
+use Rattle.std.proofs.lemmas.Iterator.Search.{all_from_yields_List}
+use Rattle.fusion.specs.groups.Copying.{armed_at, all_armed}
+use Rattle.fusion.proofs.Tests.{all_is}
 use Rattle.fusion.proofs.groups.have_arm.Goals as goal
 
-pub loop-k-init : goal.loop-k-init
-loop-k-init c = refl
-
-pub returns-then-not-has_arm : goal.returns-then-not-has_arm
-returns-then-not-has_arm c = turn_none c.args.tokens.now c.args.arm c.args.group.now c.loop-k.k c.loop-k-test.true c.loop-k.invariant _ c.has_arm.ensures (c.if-not-has_arm.true)
-
-pub loop-k-preserved : goal.loop-k-preserved
-loop-k-preserved c = turn_one c.args.tokens.now c.args.arm c.args.group.now c.loop-k.k c.loop-k-test.true c.loop-k.invariant _ c.has_arm.ensures (c.if-not-has_arm.false)
-
 pub returns : goal.returns
-returns c = all_tested c.args.tokens.now c.args.arm c.args.group.now c.loop-k.k c.loop-k-test.false c.loop-k.invariant
+unfolding all_armed
+returns c = let test = armed_at c.args.tokens.now c.args.arm in
+    all_from_yields_List test _ _ c.all.result c.all.ensures.ran (YieldsList-from_slice c.args.group.now cc) (λ x b q k. search (rules, tests))
+    ∙ all_is (all_armed c.args.tokens.now c.args.arm) test refl (λ x xs. refl) c.args.group.now

@@ -1,21 +1,20 @@
 -- `fusion::switches::list_switches` meets its contract. Assumes nothing.
-use mathlib.Core.Path.{sym, ◌∙◌}
-use lib.ListN.{length}
-use Rattle.spec_tree.specs.Tokens.{trees_in}
-use Rattle.words.proofs.words.Requests.{uncounted}
-use Rattle.fusion.proofs.switches.Giving.{marks_left, broken, few_marks, listed}
 use borrow.Author.Rules.{rules}
-use Rattle.words.proofs.words.Requests.{complete_by}
+use lib.ListN.{length}
+use Rattle.fusion.proofs.Tests.{uncounted_by, counted_by}
+use Rattle.fusion.proofs.switches.Giving.{marks_left, marks_refused, marks_accepted, broken, few_marks, listed}
 use Rattle.fusion.proofs.switches.list_switches.Goals as goal
 
-pub returns-in_default : goal.returns-in_default
-returns-in_default c = let a = c.args in let ws = a.tokens.now in broken ws (length a.marks.now) a.places.now (uncounted (trees_in ws) (sym c.in_default.is ∙ c.count_trees.ensures))
+pub returns-then-is_none : goal.returns-then-is_none
+returns-then-is_none c = broken c.args.tokens.now (length c.args.marks.now) c.args.places.now (uncounted_by c.args.tokens.now _ _ c.count_trees.ensures c.is_none.ensures c.if-is_none.true)
 
-pub returns-then-marks-tokens : goal.returns-then-marks-tokens
-returns-then-marks-tokens c = let a = c.args in let ws = a.tokens.now in few_marks ws (length a.marks.now) a.places.now (complete_by ws c.in-Count.field-0 (sym c.in-Count.is ∙ c.count_trees.ensures)) c.if-marks-tokens.true
+pub returns-in_err-mark_outside : goal.returns-in_err-mark_outside
+returns-in_err-mark_outside c = let k = marks_refused c.args.tokens.now c.args.marks.now (counted_by c.args.tokens.now _ _ c.count_trees.ensures c.is_none.ensures c.if-is_none.false) c.mark_outside.result c.mark_outside.ensures.0 _ c.in_err-mark_outside.was in
+    let e = few_marks c.args.tokens.now (length c.args.marks.now) c.args.places.now (counted_by c.args.tokens.now _ _ c.count_trees.ensures c.is_none.ensures c.if-is_none.false) k.1 in
+    search rules
 
 pub list-requires : goal.list-requires
-list-requires c = let a = c.args in let ws = a.tokens.now in let k = complete_by ws c.in-Count.field-0 (sym c.in-Count.is ∙ c.count_trees.ensures) in (k, marks_left ws a.marks.now _ c.if-marks-tokens.false k c.mark_outside.ensures.1)
+list-requires c = ((counted_by c.args.tokens.now _ _ c.count_trees.ensures c.is_none.ensures c.if-is_none.false), marks_left c.args.tokens.now c.args.marks.now _ (marks_accepted c.args.tokens.now c.args.marks.now (counted_by c.args.tokens.now _ _ c.count_trees.ensures c.is_none.ensures c.if-is_none.false) c.mark_outside.result c.mark_outside.ensures.0 _ c.in_ok-mark_outside.was) (counted_by c.args.tokens.now _ _ c.count_trees.ensures c.is_none.ensures c.if-is_none.false) c.mark_outside.ensures.1)
 
 pub returns : goal.returns
-returns c = let a = c.args in let ws = a.tokens.now in listed ws (length a.marks.now) a.places.now (complete_by ws c.in-Count.field-0 (sym c.in-Count.is ∙ c.count_trees.ensures)) c.if-marks-tokens.false _ _ c.list.ensures
+returns c = listed c.args.tokens.now (length c.args.marks.now) c.args.places.now (counted_by c.args.tokens.now _ _ c.count_trees.ensures c.is_none.ensures c.if-is_none.false) (marks_accepted c.args.tokens.now c.args.marks.now (counted_by c.args.tokens.now _ _ c.count_trees.ensures c.is_none.ensures c.if-is_none.false) c.mark_outside.result c.mark_outside.ensures.0 _ c.in_ok-mark_outside.was) _ _ c.list.ensures

@@ -1,19 +1,16 @@
--- `fusion::tables::fit` meets its contract: what is still to be tested decides. Assumes nothing.
-use Prim.Native.Nat.{◌-◌}
-use mathlib.Core.Path.{refl}
-use lib.ListN.{length}
-use Rattle.fusion.proofs.tables.Putting.{Decides, too_large, fit_turns, fit_ends}
+-- `fusion::tables::fit` meets its contract. Assumes nothing.
+use borrow.Author.Tests.{tests}
 use borrow.Author.Rules.{rules}
+use mathlib.Core.Path.{◌∙◌}
+use mathlib.Core.Path.{refl}
+use lib.Dec.{leb}
+use Rattle.std.proofs.lemmas.Iterator.{YieldsList-from_slice}
+use Rattle.std.proofs.lemmas.Iterator.Search.{all_from_yields_List}
+use Rattle.fusion.specs.tables.Names.{names_fit}
+use Rattle.fusion.proofs.Tests.{all_is}
 use Rattle.fusion.proofs.tables.fit.Goals as goal
 
-pub loop-i-init : goal.loop-i-init
-loop-i-init c = refl
-
-pub returns-then-numbers-i-gt-NUMBERS : goal.returns-then-numbers-i-gt-NUMBERS
-returns-then-numbers-i-gt-NUMBERS c = too_large c.args.numbers.now c.loop-i.i c.loop-i-test.true c.loop-i.invariant c.if-numbers-i-gt-NUMBERS.true
-
-pub loop-i-preserved : goal.loop-i-preserved
-loop-i-preserved c = fit_turns c.args.numbers.now c.loop-i.i c.loop-i-test.true c.loop-i.invariant c.if-numbers-i-gt-NUMBERS.false
-
 pub returns : goal.returns
-returns c = fit_ends c.args.numbers.now c.loop-i.i c.loop-i-test.false c.loop-i.invariant
+unfolding names_fit
+returns c = all_from_yields_List (λ n. leb n 549755813888) _ _ c.all.result c.all.ensures.ran (YieldsList-from_slice c.args.numbers.now cc) (λ x b q k. search (rules, tests))
+    ∙ all_is names_fit (λ n. leb n 549755813888) refl (λ x xs. refl) c.args.numbers.now

@@ -1,14 +1,9 @@
 -- `fusion::tables::put_names` meets its contract: the rows are written where each number has one. Assumes nothing.
-use mathlib.Core.Path.{sym, ◌∙◌}
 use Rattle.fusion.proofs.tables.Putting.{names_written, names_kept}
-use borrow.Author.Rules.{rules}
 use Rattle.fusion.proofs.tables.put_names.Goals as goal
 
-pub write_names-requires : goal.write_names-requires
-write_names-requires c = sym c.fit.ensures ∙ c.if-fit.true
+pub returns-then-fits : goal.returns-then-fits
+returns-then-fits c = names_written c.args.numbers.now c.args.table.now _ c.args.at _ c.fit-fits.ensures c.if-fits.true c.write_names.ensures
 
-pub returns-then-fit : goal.returns-then-fit
-returns-then-fit c = names_written c.args.numbers.now c.args.table.now _ c.args.at _ (sym c.if-fit.true) c.fit.ensures c.write_names.ensures
-
-pub returns-else-fit : goal.returns-else-fit
-returns-else-fit c = names_kept c.args.numbers.now c.args.table.now c.args.at _ (sym c.if-fit.false) c.fit.ensures
+pub returns-else-fits : goal.returns-else-fits
+returns-else-fits c = names_kept c.args.numbers.now c.args.table.now c.args.at _ c.fit-fits.ensures c.if-fits.false

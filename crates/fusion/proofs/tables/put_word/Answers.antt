@@ -1,6 +1,5 @@
 -- `fusion::tables::put_word` meets its contract: one word is put, or it is past the end. Assumes nothing.
 use Rattle.fusion.proofs.tables.Putting.{word_put, word_past}
-use borrow.Author.Rules.{rules}
 use Rattle.fusion.proofs.tables.put_word.Goals as goal
 
 pub returns-then-at-table : goal.returns-then-at-table

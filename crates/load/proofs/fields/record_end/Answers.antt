@@ -1,11 +1,7 @@
 -- `load::fields::record_end` meets its contract: no CRLF stands from the record's start to place i. Assumes nothing.
-use Prim.Native.Nat.{◌<◌, ◌-◌}
-use mathlib.Core.Path.{◌≡◌, sym, ◌∙◌}
+use mathlib.Core.Path.{sym, ◌∙◌}
 use native.Mathlib.Omega.{arith}
-use lib.ListN.{length, drop}
-use Rattle.load.specs.fields.End.{end_from, record_end}
 use Rattle.load.proofs.fields.Ends.{end_past, end_begin, end_next, end_found, end_last}
-use borrow.Author.Rules.{rules}
 use Rattle.load.proofs.fields.record_end.Goals as goal
 
 pub returns-then-at-s : goal.returns-then-at-s
@@ -13,9 +9,6 @@ returns-then-at-s c = end_past c.args.s.now c.args.at c.if-at-s.true
 
 pub loop-i-init : goal.loop-i-init
 loop-i-init c = (omega arith, end_begin c.args.s.now c.args.at c.if-at-s.false)
-
-pub ends_at-requires : goal.ends_at-requires
-ends_at-requires c = omega arith
 
 pub returns-then-ends_at : goal.returns-then-ends_at
 returns-then-ends_at c = end_found c.args.s.now c.args.at c.loop-i.i c.loop-i.invariant.1 (omega arith) (sym c.ends_at.ensures ∙ c.if-ends_at.true)

@@ -1,10 +1,7 @@
 use Prim.Native.Nat.{◌<◌, ◌-◌}
-use mathlib.Core.Path.{◌≡◌, sym, ◌∙◌}
-use native.Mathlib.Omega.{arith}
+use mathlib.Core.Path.{◌≡◌}
 use lib.ListN.{length, drop}
 use Rattle.load.specs.fields.End.{end_from, record_end}
-use Rattle.load.proofs.fields.Ends.{end_past, end_begin, end_next, end_found, end_last}
-use borrow.Author.Rules.{rules}
 use Rattle.load.proofs.fields.record_end.Given as goal
 
 abbrev pub invariant-loop-i : goal.invariant-loop-i

@@ -1,20 +1,10 @@
 -- `node_rows::records::digit_count` meets its contract: the digits counted and those still to come are those of the number. Assumes nothing.
-use mathlib.Core.Path.{◌≡◌}
-use Prim.Native.Nat.{◌+◌, ◌≤◌}
 use native.Mathlib.Omega.{arith}
-use lib.ListN.{length}
-use Rattle.spec_tree.specs.Bytes.{decimal}
-use Rattle.spec_tree.proofs.Digits.{one_digit, more_digits, digits_pos, digits_20}
+use Rattle.spec_tree.proofs.Digits.{one_digit, more_digits, digits_20}
 use Rattle.node_rows.proofs.records.digit_count.Goals as goal
 
 pub loop-m-init : goal.loop-m-init
 loop-m-init c = (omega arith, digits_20 c.args.n (omega arith))
-
-pub overflow_add-count : goal.overflow_add-count
-overflow_add-count c = omega (arith, digits_pos c.loop-m.m)
-
-pub loop-m-smaller : goal.loop-m-smaller
-loop-m-smaller c = omega arith
 
 pub loop-m-preserved : goal.loop-m-preserved
 loop-m-preserved c = (omega (arith, more_digits c.loop-m.m c.loop-m-test.true), c.loop-m.invariant.1)

@@ -1,9 +1,7 @@
 use mathlib.Core.Path.{◌≡◌}
 use Prim.Native.Nat.{◌+◌, ◌≤◌}
-use native.Mathlib.Omega.{arith}
 use lib.ListN.{length}
 use Rattle.spec_tree.specs.Bytes.{decimal}
-use Rattle.spec_tree.proofs.Digits.{one_digit, more_digits, digits_pos, digits_20}
 use Rattle.node_rows.proofs.records.digit_count.Given as goal
 
 abbrev pub invariant-loop-m : goal.invariant-loop-m

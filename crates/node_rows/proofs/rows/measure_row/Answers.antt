@@ -6,7 +6,6 @@ use lib.Dec.{T}
 use lib.ListN.{length, get_or}
 use Rattle.node_rows.specs.fields.Below.{below}
 use Rattle.node_rows.proofs.rows.Sums.{level_end_plain, operands_op, measure_leaf, measure_op}
-use borrow.Author.Rules.{rules}
 use Rattle.node_rows.proofs.rows.measure_row.Goals as goal
 
 pub returns-then-row-lt-NEG : goal.returns-then-row-lt-NEG

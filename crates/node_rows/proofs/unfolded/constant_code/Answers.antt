@@ -1,11 +1,7 @@
 -- `node_rows::unfolded::constant_code` meets its contract. Assumes nothing.
 use native.Mathlib.Omega.{arith}
 use Rattle.node_rows.proofs.unfolded.WordLaws.{plus_code, minus_code}
-use borrow.Author.Rules.{rules}
 use Rattle.node_rows.proofs.unfolded.constant_code.Goals as goal
-
-pub overflow_sub-result : goal.overflow_sub-result
-overflow_sub-result c = omega (arith, c.requires.1 (omega arith))
 
 pub returns-then-sign-eq0 : goal.returns-then-sign-eq0
 returns-then-sign-eq0 c = (plus_code c.args.sign c.args.size c.if-sign-eq0.true, omega arith)

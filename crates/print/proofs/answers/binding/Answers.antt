@@ -2,7 +2,6 @@
 use Rattle.fmt.specs.checked.Check.{rows_in}
 use Rattle.laws.proofs.answer.CodeLaws.{let_unmade}
 use Rattle.print.proofs.answers.Ends.{let_says}
-use borrow.Author.Rules.{rules}
 use Rattle.print.proofs.answers.binding.Goals as goal
 
 pub returns-then-words-at-ne-LET_CLASS : goal.returns-then-words-at-ne-LET_CLASS

@@ -1,11 +1,5 @@
-use Prim.Native.Nat.{◌≤◌, ◌-◌}
-use native.Mathlib.Omega.{arith}
-use mathlib.Core.Path.{◌≡◌, sym, ◌∙◌}
-use lib.ListN.{drop}
+use Rattle.std.proofs.Common.{◌≡◌, ◌-◌, ◌≤◌, drop}
 use Rattle.laws.specs.answer.Seen.{bound_by}
-use Rattle.laws.proofs.answer.WayLaws.{way_begins, way_ends}
-use Rattle.print.proofs.answers.Ends.{goes_on, is_bound, is_unbound}
-use borrow.Author.Rules.{rules}
 use Rattle.print.proofs.answers.bound_at.Given as goal
 
 abbrev pub invariant-loop-i : goal.invariant-loop-i

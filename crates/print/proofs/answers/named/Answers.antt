@@ -1,17 +1,19 @@
 -- `print::answers::named` meets its contract. Assumes nothing.
-use mathlib.Core.Path.{◌∙◌}
-use Rattle.node_rows.proofs.names.Leaves.{back}
-use Prim.Native.Nat.{◌+◌, ◌*◌}
-use Rattle.laws.proofs.answer.RowFirst.{named_not, named_no, named_so}
-use borrow.Author.Rules.{rules}
+use Rattle.std.proofs.Common.{◌+◌, ◌*◌, ℕ, List, get_or, min, refl, sym, ◌∙◌, ap}
+use Rattle.spec_tree.specs.Bytes.{eq_bytes}
+use Rattle.words.proofs.tokens.Comparing.{eq_bytes_is}
+use Rattle.laws.proofs.answer.RowFirst.{other_row, named_so}
+use Rattle.print.proofs.answers.Lists.{both_zero, not_both_zero}
 use Rattle.print.proofs.answers.named.Goals as goal
 
-pub returns-then-rows-at-ne0 : goal.returns-then-rows-at-ne0
-returns-then-rows-at-ne0 c = named_not c.args.rows.now c.args.row c.args.name.now c.requires c.if-rows-at-ne0.true
+pub returns-then-is_symbol : goal.returns-then-is_symbol
+returns-then-is_symbol c =
+    let ws = c.args.rows.now in
+    let name = c.args.name.now in
+    let z = both_zero _ _ c.if-is_symbol.ensures in
+    let count = min (get_or ws (c.args.row * 35 + 2) 0) 32 in
+    c.eq.ensures
+    ∙ (eq_bytes_is _ _ ∙ (ap (λ (s : List ℕ). eq_bytes s name) c.fields.ensures ∙ named_so ws c.args.row name c.requires z.0 z.1 count count refl refl))
 
-pub returns-then-rows-at-ne0-2 : goal.returns-then-rows-at-ne0-2
-returns-then-rows-at-ne0-2 c = named_no c.args.rows.now c.args.row c.args.name.now c.requires c.if-rows-at-ne0-2.true
-
-pub returns : goal.returns
-returns c = let part = c.fields_held.result in
-    c.same_bytes.ensures ∙ named_so c.args.rows.now c.args.row c.args.name.now c.requires c.if-rows-at-ne0.false c.if-rows-at-ne0-2.false part _ c.fields_held.ensures (back (c.args.row * 35 + 3) part)
+pub returns-else-is_symbol : goal.returns-else-is_symbol
+returns-else-is_symbol c = c.if-is_symbol.false ∙ sym (other_row c.args.rows.now c.args.row c.requires c.args.name.now (not_both_zero _ _ c.if-is_symbol.ensures)).1

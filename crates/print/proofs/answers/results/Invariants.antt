@@ -1,15 +1,12 @@
-use Prim.Native.Nat.{◌+◌, ◌-◌, ◌≤◌}
-use native.Mathlib.Omega.{arith}
-use lib.ListN.{length, drop}
+use Rattle.std.proofs.Common.{◌-◌, ◌≤◌, length, drop}
 use Rattle.fmt.specs.checked.Check.{rows_in}
-use Rattle.laws.specs.answer.Fronts.{TreeFront, Results}
-use Rattle.laws.proofs.answer.CodeLaws.{results_other, results_broken, results_next, results_done}
-use Rattle.print.proofs.answers.Ends.{ends, breaks}
-use borrow.Author.Rules.{rules}
+use Rattle.laws.specs.answer.Fronts.{Results}
 use Rattle.print.proofs.answers.results.Given as goal
 
 abbrev pub invariant-loop-i : goal.invariant-loop-i
-invariant-loop-i l = (l.at ≤ l.i) × (l.i ≤ length l.words) × (Results (rows_in l.rows) (drop l.at l.words) → Results (rows_in l.rows) (drop l.i l.words)) × (Results (rows_in l.rows) (drop l.i l.words) → Results (rows_in l.rows) (drop l.at l.words))
+invariant-loop-i l =
+    (l.at ≤ l.i) × (l.i ≤ length l.words) × (Results (rows_in l.rows) (drop l.at l.words) → Results (rows_in l.rows) (drop l.i l.words))
+    × (Results (rows_in l.rows) (drop l.i l.words) → Results (rows_in l.rows) (drop l.at l.words))
 
 abbrev pub decreases-loop-i : goal.decreases-loop-i
 decreases-loop-i l = length l.words - l.i

@@ -1,23 +1,32 @@
 -- `print::answers::rows_of_answer` meets its contract. Assumes nothing.
-use mathlib.Core.Path.{sym, ◌∙◌}
-use borrow.Author.Tests.{not-true, not-false}
+use Rattle.std.proofs.Common.{◌≡◌, Bool, true, false, ◌&&◌, length, sym, ◌∙◌, ap}
+use borrow.Author.Tests.{clash}
 use Rattle.fmt.specs.checked.Check.{rows_in}
-use Rattle.print.proofs.answers.Ends.{unshaped, repeats, unscoped, laid}
-use borrow.Author.Rules.{rules}
+use Rattle.laws.specs.answer.Seen.{seen, once}
+use Rattle.print.proofs.answers.Ends.{unshaped, laid}
 use Rattle.print.proofs.answers.rows_of_answer.Goals as goal
+use Rattle.print.proofs.answers.rows_of_answer.Goals.{then-shaped, else-shaped}
 
-pub returns-then-not-shaped : goal.returns-then-not-shaped
-returns-then-not-shaped c = let part = c.shaped.result in
-    unshaped (rows_in c.args.node_rows.now) c.args.answer.now part c.shaped.ensures (c.if-not-shaped.true)
+pub returns-then-bound_once : goal.returns-then-bound_once
+returns-then-bound_once c =
+    let list = rows_in c.args.node_rows.now in
+    let ws = c.args.answer.now in
+    elim c.if-shaped.branch [
+      | then-shaped w ↦ (
+          let o : true ≡ once ws = sym (sym w.bound_once.ensures ∙ (sym w.value-is ∙ c.if-bound_once.true)) in
+          c.in_scope.ensures ∙ (ap (λ (b : Bool). b && seen ws 0 (length ws)) o ∙ laid list ws c.shaped.result c.shaped.ensures w.if-shaped.true)
+          )
+      | else-shaped w ↦ absurd (clash (sym w.if-shaped.false ∙ (sym w.value-is ∙ c.if-bound_once.true)))
+    ]
 
-pub returns-then-not-bound_once : goal.returns-then-not-bound_once
-returns-then-not-bound_once c = let part = c.shaped.result in
-    repeats (rows_in c.args.node_rows.now) c.args.answer.now part c.shaped.ensures (c.if-not-shaped.false) (sym c.bound_once.ensures ∙ c.if-not-bound_once.true)
-
-pub returns-then-in_scope : goal.returns-then-in_scope
-returns-then-in_scope c = let part = c.shaped.result in
-    laid (rows_in c.args.node_rows.now) c.args.answer.now part c.shaped.ensures (c.if-not-shaped.false) (sym c.bound_once.ensures ∙ c.if-not-bound_once.false) (sym c.in_scope.ensures ∙ c.if-in_scope.true)
-
-pub returns-else-in_scope : goal.returns-else-in_scope
-returns-else-in_scope c = let part = c.shaped.result in
-    unscoped (rows_in c.args.node_rows.now) c.args.answer.now part c.shaped.ensures (c.if-not-shaped.false) (sym c.bound_once.ensures ∙ c.if-not-bound_once.false) (sym c.in_scope.ensures ∙ c.if-in_scope.false)
+pub returns-else-bound_once : goal.returns-else-bound_once
+returns-else-bound_once c =
+    let list = rows_in c.args.node_rows.now in
+    let ws = c.args.answer.now in
+    elim c.if-shaped.branch [
+      | then-shaped w ↦ (
+          let o : false ≡ once ws = sym (sym w.bound_once.ensures ∙ (sym w.value-is ∙ c.if-bound_once.false)) in
+          c.if-bound_once.false ∙ (ap (λ (b : Bool). b && seen ws 0 (length ws)) o ∙ laid list ws c.shaped.result c.shaped.ensures w.if-shaped.true)
+          )
+      | else-shaped w ↦ c.if-bound_once.false ∙ unshaped list ws c.shaped.result c.shaped.ensures w.if-shaped.false
+    ]

@@ -1,14 +1,20 @@
 -- `print::answers::use_ok` meets its contract. Assumes nothing.
-use mathlib.Core.Path.{◌∙◌}
+use Rattle.std.proofs.Common.{sym, ◌∙◌}
+use borrow.Author.Tests.{eqb-true, eqb-false, not-false}
 use Rattle.laws.proofs.answer.WayLaws.{use_other, use_listed, use_made}
-use borrow.Author.Rules.{rules}
 use Rattle.print.proofs.answers.use_ok.Goals as goal
-
-pub returns-then-w-ne0 : goal.returns-then-w-ne0
-returns-then-w-ne0 c = use_other c.args.words.now c.args.at c.if-w-ne0.true
+use Rattle.print.proofs.answers.use_ok.Goals.{then-w-ne-SYM, else-w-ne-SYM}
 
 pub returns-then-code-eq0 : goal.returns-then-code-eq0
-returns-then-code-eq0 c = use_listed c.args.words.now c.args.at c.if-w-ne0.false c.if-code-eq0.true
+returns-then-code-eq0 c =
+    elim c.if-w-ne-SYM.branch [
+      | then-w-ne-SYM w ↦ c.if-code-eq0.true ∙ use_other c.args.words.now c.args.at w.if-w-ne-SYM.true
+      | else-w-ne-SYM w ↦ c.if-code-eq0.true ∙ use_listed c.args.words.now c.args.at w.if-w-ne-SYM.false (eqb-true _ _ (sym w.value-is ∙ c.if-code-eq0.true))
+    ]
 
-pub returns : goal.returns
-returns c = c.bound_at.ensures ∙ use_made c.args.words.now c.args.at c.if-w-ne0.false c.if-code-eq0.false
+pub returns-else-code-eq0 : goal.returns-else-code-eq0
+returns-else-code-eq0 c =
+    elim c.if-w-ne-SYM.branch [
+      | then-w-ne-SYM w ↦ absurd (w.if-w-ne-SYM.true (eqb-true _ _ (not-false _ (sym w.value-is ∙ c.if-code-eq0.false))))
+      | else-w-ne-SYM w ↦ c.bound_at.ensures ∙ use_made c.args.words.now c.args.at w.if-w-ne-SYM.false (eqb-false _ _ (sym w.value-is ∙ c.if-code-eq0.false))
+    ]

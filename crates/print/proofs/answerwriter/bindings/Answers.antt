@@ -1,13 +1,8 @@
 -- `print::answerwriter::bindings` meets its contract: the statements that are left stand at the place reached. Assumes nothing.
-use Prim.Native.Nat.{◌-◌}
-use mathlib.Core.Path.{◌≡◌, refl, sym, ◌∙◌}
+use mathlib.Core.Path.{refl, sym, ◌∙◌}
 use native.Mathlib.Omega.{arith}
-use lib.ListN.{length}
-use Rattle.spec_cse.specs.Answer.{Answer}
 use Rattle.fmt.specs.checked.Check.{rows_in}
-use Rattle.print.specs.told.Writers.{AnswerAt}
-use Rattle.print.proofs.told.LineLoops.{BindingsLeft, bindings_begin, bindings_next, bindings_turn, bindings_end}
-use borrow.Author.Rules.{rules}
+use Rattle.print.proofs.told.LineLoops.{bindings_begin, bindings_next, bindings_turn, bindings_end}
 use Rattle.print.proofs.answerwriter.bindings.Goals as goal
 
 pub loop-out-init : goal.loop-out-init
@@ -21,9 +16,6 @@ loop-out-smaller c = omega (arith, (bindings_turn (rows_in c.args.rows.now) c.ar
 
 pub loop-out-preserved : goal.loop-out-preserved
 loop-out-preserved c = (c.put-end.auto.out ∙ (c.statement-p.auto.out ∙ c.loop-out.invariant.0), λ a h. (bindings_turn (rows_in c.args.rows.now) c.args.words.now c.args.dry _ _ a h (c.loop-out.invariant.1 a h) (sym c.statement_next.ensures ∙ c.loop-out-test.true) c.statement-p.ensures c.put-end.ensures).0)
-
-pub shape_of-out : goal.shape_of-out
-shape_of-out c = c.loop-out.invariant.0
 
 pub returns : goal.returns
 returns c = λ a h. bindings_end (rows_in c.args.rows.now) c.args.words.now c.args.dry _ _ a h (c.loop-out.invariant.1 a h) (sym c.statement_next.ensures ∙ c.loop-out-test.false)

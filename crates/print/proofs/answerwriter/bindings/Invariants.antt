@@ -1,12 +1,10 @@
 use Prim.Native.Nat.{◌-◌}
-use mathlib.Core.Path.{◌≡◌, refl, sym, ◌∙◌}
-use native.Mathlib.Omega.{arith}
+use mathlib.Core.Path.{◌≡◌}
 use lib.ListN.{length}
 use Rattle.spec_cse.specs.Answer.{Answer}
 use Rattle.fmt.specs.checked.Check.{rows_in}
 use Rattle.print.specs.told.Writers.{AnswerAt}
-use Rattle.print.proofs.told.LineLoops.{BindingsLeft, bindings_begin, bindings_next, bindings_turn, bindings_end}
-use borrow.Author.Rules.{rules}
+use Rattle.print.proofs.told.LineLoops.{BindingsLeft}
 use Rattle.print.proofs.answerwriter.bindings.Given as goal
 
 abbrev pub invariant-loop-out : goal.invariant-loop-out

@@ -1,6 +1,5 @@
 -- `print::answerwriter::let_opening` meets its contract. Assumes nothing.
 use Rattle.print.proofs.answerwriter.StatementLaws.{opening_written}
-use borrow.Author.Rules.{rules}
 use Rattle.print.proofs.answerwriter.let_opening.Goals as goal
 
 pub returns : goal.returns

@@ -2,7 +2,6 @@
 use Rattle.fmt.specs.emit.Writing.{low_bytes}
 use Rattle.fmt.specs.symbols.Symbols.{symbol_text}
 use Rattle.print.proofs.answerwriter.StatementLaws.{let_written}
-use borrow.Author.Rules.{rules}
 use Rattle.print.proofs.answerwriter.let_statement.Goals as goal
 
 pub returns : goal.returns

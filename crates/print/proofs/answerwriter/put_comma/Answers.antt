@@ -1,13 +1,15 @@
 -- `print::answerwriter::put_comma` meets its contract. Assumes nothing.
-use Rattle.print.proofs.told.MarkLaws.{nothing, comma_first, comma_later}
-use Rattle.print.specs.told.Pieces.{comma}
+use Rattle.std.proofs.Common.{not, eqb}
+use borrow.Author.Tests.{eqb-true, eqb-false, not-true, not-false}
 use Rattle.spec_tree.specs.Bytes.{bytes}
-use Rattle.fmt.proofs.emit.WriteLaws.{writes_then, writes_as}
-use borrow.Author.Rules.{rules}
+use Rattle.fmt.proofs.emit.WriteLaws.{writes_as}
+use Rattle.print.specs.told.Pieces.{comma}
+use Rattle.print.proofs.told.MarkLaws.{marked, comma_first, comma_later}
 use Rattle.print.proofs.answerwriter.put_comma.Goals as goal
 
-pub returns-then-i-eq0 : goal.returns-then-i-eq0
-returns-then-i-eq0 c = nothing (comma c.args.i) (comma_first c.args.i c.if-i-eq0.true) c.place.ensures
-
 pub returns : goal.returns
-returns c = writes_as (bytes ", ") (comma c.args.i) (comma_later c.args.i c.if-i-eq0.false) c.put_bytes.ensures
+returns c =
+    let a = c.args.i in
+    writes_as _ (comma a)
+    (marked (not (eqb a 0)) (bytes ", ") (comma a) (λ e. comma_later a (eqb-false a 0 (not-true _ e))) (λ e. comma_first a (eqb-true a 0 (not-false _ e))))
+    c.put_if.ensures

@@ -1,6 +1,5 @@
 -- `print::answerwriter::put_number` meets its contract. Assumes nothing.
-use Rattle.fmt.proofs.emit.WriteLaws.{writes_then, writes_as}
-use borrow.Author.Rules.{rules}
+use Rattle.fmt.proofs.emit.WriteLaws.{writes_then}
 use Rattle.print.proofs.answerwriter.put_number.Goals as goal
 
 pub returns : goal.returns

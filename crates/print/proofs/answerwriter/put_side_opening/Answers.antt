@@ -2,8 +2,7 @@
 use Rattle.print.proofs.told.MarkLaws.{side_first, side_second}
 use Rattle.print.specs.told.Pieces.{side_opening}
 use Rattle.spec_tree.specs.Bytes.{bytes}
-use Rattle.fmt.proofs.emit.WriteLaws.{writes_then, writes_as}
-use borrow.Author.Rules.{rules}
+use Rattle.fmt.proofs.emit.WriteLaws.{writes_as}
 use Rattle.print.proofs.answerwriter.put_side_opening.Goals as goal
 
 pub returns-then-i-eq0 : goal.returns-then-i-eq0

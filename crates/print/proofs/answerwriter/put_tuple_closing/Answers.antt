@@ -1,13 +1,15 @@
 -- `print::answerwriter::put_tuple_closing` meets its contract. Assumes nothing.
-use Rattle.print.proofs.told.MarkLaws.{nothing, closing_one, closing_many}
+use Rattle.std.proofs.Common.{not, eqb}
+use borrow.Author.Tests.{eqb-true, eqb-false, not-true, not-false}
+use Rattle.spec_tree.specs.Bytes.{bytes}
+use Rattle.fmt.proofs.emit.WriteLaws.{writes_as}
 use Rattle.print.specs.told.Pieces.{tuple_closing}
-use Rattle.fmt.proofs.emit.WriteLaws.{writes_then, writes_as}
-use mathlib.Core.List.{◌∷◌, []}
-use borrow.Author.Rules.{rules}
+use Rattle.print.proofs.told.MarkLaws.{marked, closing_one, closing_many}
 use Rattle.print.proofs.answerwriter.put_tuple_closing.Goals as goal
 
-pub returns-then-n-eq1 : goal.returns-then-n-eq1
-returns-then-n-eq1 c = nothing (tuple_closing c.args.n) (closing_one c.args.n c.if-n-eq1.true) c.place.ensures
-
 pub returns : goal.returns
-returns c = writes_as (41 ∷ []) (tuple_closing c.args.n) (closing_many c.args.n c.if-n-eq1.false) c.put.ensures
+returns c =
+    let a = c.args.n in
+    writes_as _ (tuple_closing a)
+    (marked (not (eqb a 1)) (bytes ")") (tuple_closing a) (λ e. closing_many a (eqb-false a 1 (not-true _ e))) (λ e. closing_one a (eqb-true a 1 (not-false _ e))))
+    c.put_if.ensures

@@ -1,13 +1,11 @@
 use Prim.Native.Nat.{◌-◌}
-use mathlib.Core.Path.{◌≡◌, refl, sym, ◌∙◌}
-use native.Mathlib.Omega.{arith}
+use mathlib.Core.Path.{◌≡◌}
 use lib.ListN.{length}
 use mathlib.Core.List.{List}
 use Rattle.fmt.specs.checked.Check.{rows_in}
 use Rattle.spec_tree.specs.Tree.{Tree}
 use Rattle.print.specs.told.Writers.{ResultsAt}
-use Rattle.print.proofs.told.LineLoops.{ResultsLeft, results_begin, results_next, results_turn, results_end}
-use borrow.Author.Rules.{rules}
+use Rattle.print.proofs.told.LineLoops.{ResultsLeft}
 use Rattle.print.proofs.answerwriter.results.Given as goal
 
 abbrev pub invariant-loop-next : goal.invariant-loop-next

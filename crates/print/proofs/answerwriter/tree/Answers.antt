@@ -1,6 +1,5 @@
 -- `print::answerwriter::tree` meets its contract. Assumes nothing.
 use Rattle.print.proofs.answerwriter.TreeText.{tree_stands, tree_written}
-use borrow.Author.Rules.{rules}
 use Rattle.print.proofs.answerwriter.tree.Goals as goal
 
 pub expression-requires : goal.expression-requires

@@ -1,6 +1,5 @@
 -- `print::lines::put_closing` meets its contract. Assumes nothing.
 use Rattle.print.proofs.lines.RowLaws.{closing_result, closing_let}
-use borrow.Author.Rules.{rules}
 use Rattle.print.proofs.lines.put_closing.Goals as goal
 
 pub returns-then-w-eq-RESULT : goal.returns-then-w-eq-RESULT

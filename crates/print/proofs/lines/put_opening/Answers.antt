@@ -1,6 +1,5 @@
 -- `print::lines::put_opening` meets its contract. Assumes nothing.
 use Rattle.print.proofs.lines.RowLaws.{opening_none, opening_let}
-use borrow.Author.Rules.{rules}
 use Rattle.print.proofs.lines.put_opening.Goals as goal
 
 pub returns-then-w-eq-RESULT : goal.returns-then-w-eq-RESULT

@@ -1,6 +1,5 @@
 -- `print::lines::refusal_line` meets its contract. Assumes nothing.
 use Rattle.print.proofs.lines.Refusing.{refusal_written}
-use borrow.Author.Rules.{rules}
 use Rattle.print.proofs.lines.refusal_line.Goals as goal
 
 pub returns : goal.returns

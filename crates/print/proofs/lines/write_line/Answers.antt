@@ -1,6 +1,5 @@
 -- `print::lines::write_line` meets its contract. Assumes nothing.
 use Rattle.print.proofs.lines.LineLaws.{told}
-use borrow.Author.Rules.{rules}
 use Rattle.print.proofs.lines.write_line.Goals as goal
 
 pub returns : goal.returns

@@ -1,15 +1,5 @@
-use native.Mathlib.Omega.{arith}
-use mathlib.Core.Path.{sym, ◌∙◌}
-use Prim.Native.Nat.{◌-◌}
-use lib.ListN.{length}
-use Rattle.reciprocals.proofs.divisors.Within.{inside_at}
-use Rattle.reciprocals.proofs.divisors.Sizes.{sized_at}
-use Rattle.reciprocals.proofs.divisors.Counting.{Counting, counting_starts, counts, passes, counting_ends}
-use borrow.Author.Rules.{rules}
+use Rattle.reciprocals.proofs.divisors.Counting.{Counting}
 use Rattle.reciprocals.proofs.divisors.count_sized.Given as goal
 
-abbrev pub invariant-loop-k : goal.invariant-loop-k
-invariant-loop-k l = Counting l.tokens l.list l.q l.count l.k
-
-abbrev pub decreases-loop-k : goal.decreases-loop-k
-decreases-loop-k l = length l.list - l.k
+abbrev pub invariant-loop-place : goal.invariant-loop-place
+invariant-loop-place l = Counting l.tokens l.list l.q l.count l.place-index

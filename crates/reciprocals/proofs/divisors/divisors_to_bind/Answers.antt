@@ -3,7 +3,6 @@ use native.Mathlib.Omega.{arith}
 use Rattle.spec_tree.specs.Tokens.{name_in}
 use Rattle.fmt.specs.checked.Check.{rows_in}
 use Rattle.reciprocals.proofs.divisors.Giving.{none_bound, bound, listed_room, chosen_there, front_long}
-use borrow.Author.Rules.{rules}
 use Rattle.reciprocals.proofs.divisors.divisors_to_bind.Goals as goal
 
 pub returns-then-list-lt2 : goal.returns-then-list-lt2

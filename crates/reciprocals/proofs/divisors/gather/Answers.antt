@@ -1,7 +1,6 @@
 -- `reciprocals::divisors::gather` meets its contract. Assumes nothing.
 use native.Mathlib.Omega.{arith}
 use Rattle.reciprocals.proofs.divisors.Giving.{listed_all, front_long, first_few, first_inside, second_inside, both_sized, gathered, listed_room}
-use borrow.Author.Rules.{rules}
 use Rattle.reciprocals.proofs.divisors.gather.Goals as goal
 
 pub slice_bounds-put_sizes-end : goal.slice_bounds-put_sizes-end

@@ -2,7 +2,6 @@
 use Rattle.spec_tree.specs.Tokens.{trees_in}
 use Rattle.rounds.proofs.choice.Giving.{marks_left}
 use Rattle.reciprocals.proofs.divisors.Within.{not_none}
-use borrow.Author.Rules.{rules}
 use Rattle.reciprocals.proofs.divisors.list_outside.Goals as goal
 
 pub list_marked-requires : goal.list_marked-requires

@@ -1,19 +1,16 @@
--- `reciprocals::reciprocal::all_there` meets its contract: what is still to be tested decides. Assumes nothing.
-use Prim.Native.Nat.{◌-◌}
-use mathlib.Core.Path.{refl, sym, ◌∙◌}
-use lib.ListN.{length}
-use Rattle.reciprocals.proofs.reciprocal.There.{Decides, turn_none, turn_one, all_tested}
-use borrow.Author.Rules.{rules}
+-- `reciprocals::reciprocal::all_there` meets its contract. Assumes nothing.
+use mathlib.Core.Path.{◌∙◌}
+use Rattle.std.proofs.Common.{rules, tests}
+use Rattle.std.proofs.lemmas.Iterator.{YieldsList-from_slice}
+use Rattle.std.proofs.lemmas.Iterator.Search.{all_from_yields_List}
+use Rattle.spec_tree.specs.Tokens.{run_at}
+use Rattle.words.specs.words.Words.{some_trees}
+use Rattle.reciprocals.proofs.reciprocal.There.{is_there, all_tested}
 use Rattle.reciprocals.proofs.reciprocal.all_there.Goals as goal
 
-pub loop-k-init : goal.loop-k-init
-loop-k-init c = refl
-
-pub returns-in_default : goal.returns-in_default
-returns-in_default c = turn_none c.args.base.now c.args.places.now c.loop-k.k c.loop-k-test.true c.loop-k.invariant (sym c.in_default.is ∙ c.end_of.ensures)
-
-pub loop-k-preserved : goal.loop-k-preserved
-loop-k-preserved c = turn_one c.args.base.now c.args.places.now c.loop-k.k c.loop-k-test.true c.loop-k.invariant _ (sym c.in-Ends.is ∙ c.end_of.ensures)
-
 pub returns : goal.returns
-returns c = all_tested c.args.base.now c.args.places.now c.loop-k.k c.loop-k-test.false c.loop-k.invariant
+returns c =
+    let base = c.args.base.now in
+    all_from_yields_List (λ p. some_trees (run_at base p)) _ _ c.all.result c.all.ensures.ran (YieldsList-from_slice c.args.places.now cc)
+    (λ x b q k. search (rules, tests, is_there))
+    ∙ all_tested base c.args.places.now

@@ -1,20 +1,16 @@
--- `reciprocals::reciprocal::no_division` meets its contract: what is still to be tested decides. Assumes nothing.
-use native.Mathlib.Omega.{arith}
-use Prim.Native.Nat.{◌-◌}
-use mathlib.Core.Path.{refl}
-use lib.ListN.{length}
-use Rattle.reciprocals.proofs.reciprocal.Unmoved.{Decides, turn_division, turn_none, all_tested}
-use borrow.Author.Rules.{rules}
+-- `reciprocals::reciprocal::no_division` meets its contract. Assumes nothing.
+use mathlib.Core.Path.{◌∙◌}
+use mathlib.Core.Bool.{not}
+use lib.Dec.{eqb}
+use Rattle.std.proofs.Common.{rules, tests}
+use Rattle.std.proofs.lemmas.Iterator.{YieldsList-from_slice}
+use Rattle.std.proofs.lemmas.Iterator.Search.{all_from_yields_List}
+use Rattle.spec_tree.specs.Tokens.{kind_of}
+use Rattle.reciprocals.proofs.reciprocal.Unmoved.{none_divides}
 use Rattle.reciprocals.proofs.reciprocal.no_division.Goals as goal
 
-pub loop-i-init : goal.loop-i-init
-loop-i-init c = refl
-
-pub returns-then-words-i-eq-DIV : goal.returns-then-words-i-eq-DIV
-returns-then-words-i-eq-DIV c = turn_division c.args.words.now c.loop-i.i c.loop-i-test.true c.loop-i.invariant c.if-words-i-eq-DIV.true
-
-pub loop-i-preserved : goal.loop-i-preserved
-loop-i-preserved c = turn_none c.args.words.now c.loop-i.i c.loop-i-test.true c.loop-i.invariant c.if-words-i-eq-DIV.false
-
 pub returns : goal.returns
-returns c = all_tested c.args.words.now c.loop-i.i c.loop-i-test.false c.loop-i.invariant
+returns c =
+    all_from_yields_List (λ w. not (eqb (kind_of w) 6)) _ _ c.all.result c.all.ensures.ran (YieldsList-from_slice c.args.words.now cc)
+    (λ x b q k. search (rules, tests))
+    ∙ none_divides c.args.words.now

@@ -1,11 +1,9 @@
 -- `reciprocals::reciprocal::reciprocal` meets its contract: `1 / d` is written, and stays as it is or is settled. Assumes nothing.
 use native.Mathlib.Omega.{arith}
-use mathlib.Core.Path.{sym, ◌∙◌}
-use lib.ListN.{length, get_or}
+use lib.ListN.{get_or}
 use Rattle.reciprocals.proofs.settle.Stepping.{divisor_there}
 use Rattle.reciprocals.proofs.reciprocal.There.{tested_there, there_at}
-use Rattle.reciprocals.proofs.reciprocal.Binding.{plain_rest, before_end, rest_inside, bound_plain, bound_settled, always_settled}
-use borrow.Author.Rules.{rules}
+use Rattle.reciprocals.proofs.reciprocal.Binding.{plain_rest, before_end, rest_inside, bound_plain, bound_so}
 use Rattle.reciprocals.proofs.reciprocal.reciprocal.Goals as goal
 
 pub tree_end-end-requires : goal.tree_end-end-requires
@@ -33,17 +31,7 @@ returns-then-is_plain c = let w = c.args.base.now in let l = c.args.places.now i
     bound_plain w l c.args.first c.args.j c.requires.complete.2 (tested_there w l c.requires.complete.1) c.requires.base_len_bound.0 c.args.out.now _ c.requires.base_len_bound.1 _ d c.write_quotient.ensures
     (plain_rest w l c.args.j (get_or l c.args.j 0) _ _ c.is_plain.ensures c.if-is_plain.true)
 
-pub returns-in-Words : goal.returns-in-Words
-returns-in-Words c = let w = c.args.base.now in let l = c.args.places.now in let d = divisor_there w (get_or l c.args.j 0) _ c.tree_end-end.ensures in
-    bound_settled w l c.args.first c.args.j c.requires.complete.2 (tested_there w l c.requires.complete.1) c.requires.base_len_bound.0 c.args.out.now _ c.requires.base_len_bound.1 _ d c.write_quotient.ensures
-    c.requires.first_bound.0 c.requires.first_bound.1 c.in-Words.m _ (sym c.in-Words.is ∙ c.settle-settled.ensures.0) c.settle-settled.ensures.1
-
-pub returns-in-Broken : goal.returns-in-Broken
-returns-in-Broken c = let w = c.args.base.now in let l = c.args.places.now in let d = divisor_there w (get_or l c.args.j 0) _ c.tree_end-end.ensures in
-    absurd ((always_settled w l c.args.first c.args.j c.requires.complete.2 (tested_there w l c.requires.complete.1) c.requires.base_len_bound.0 c.args.out.now _ c.requires.base_len_bound.1 _ d c.write_quotient.ensures
-    c.requires.first_bound.0 c.requires.first_bound.1 c.settle-settled.result c.settle-settled.ensures.0).0 c.in-Broken.is)
-
-pub returns-in-NoRoom : goal.returns-in-NoRoom
-returns-in-NoRoom c = let w = c.args.base.now in let l = c.args.places.now in let d = divisor_there w (get_or l c.args.j 0) _ c.tree_end-end.ensures in
-    absurd ((always_settled w l c.args.first c.args.j c.requires.complete.2 (tested_there w l c.requires.complete.1) c.requires.base_len_bound.0 c.args.out.now _ c.requires.base_len_bound.1 _ d c.write_quotient.ensures
-    c.requires.first_bound.0 c.requires.first_bound.1 c.settle-settled.result c.settle-settled.ensures.0).1 c.in-NoRoom.is)
+pub returns : goal.returns
+returns c = let w = c.args.base.now in let l = c.args.places.now in let d = divisor_there w (get_or l c.args.j 0) _ c.tree_end-end.ensures in
+    bound_so w l c.args.first c.args.j c.requires.complete.2 (tested_there w l c.requires.complete.1) c.requires.base_len_bound.0 c.args.out.now _ c.requires.base_len_bound.1 _ d c.write_quotient.ensures
+    c.requires.first_bound.0 c.requires.first_bound.1 c.settle.result _ _ c.settle.ensures.0 c.settle.ensures.1 c.unwrap_or.ensures

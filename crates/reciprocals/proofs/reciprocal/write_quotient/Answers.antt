@@ -1,6 +1,5 @@
 -- `reciprocals::reciprocal::write_quotient` meets its contract: two words are written, and the divisor is copied after them. Assumes nothing.
 use Rattle.reciprocals.proofs.reciprocal.Quotient.{one_begun, two_begun, part_fits, ended_long, quotient_written}
-use borrow.Author.Rules.{rules}
 use Rattle.reciprocals.proofs.reciprocal.write_quotient.Goals as goal
 
 pub bounds-work-1 : goal.bounds-work-1

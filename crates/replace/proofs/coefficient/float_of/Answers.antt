@@ -1,5 +1,5 @@
 -- `replace::coefficient::float_of` meets its contract. Assumes nothing.
-use Rattle.std.proofs.Common.{refl, ap, ◌∙◌, rules}
+use Rattle.std.proofs.Common.{refl, ap, ◌∙◌}
 use lib.Ieee.{neg}
 use Rattle.replace.proofs.coefficient.Codes.{even_float, odd_float}
 use Rattle.replace.proofs.coefficient.float_of.Goals as goal

@@ -1,6 +1,5 @@
-use Rattle.std.proofs.Common.{ℕ, ◌-◌, ◌<◌, length, sym, ◌∙◌, arith, length-set, rules}
-use Rattle.words.proofs.words.Scanning.{here_asked, scan_starts, scan_long, scan_ends}
-use Rattle.replace.proofs.divisor.Turning.{by_words, State, place_at, out_room, turn_other, room, part_complete, lent_room, few, back_long, turn_by}
+use Rattle.std.proofs.Common.{◌-◌, length}
+use Rattle.replace.proofs.divisor.Turning.{State}
 use Rattle.replace.proofs.divisor.+rewrite.Given as goal
 
 abbrev pub decreases-rewrite : goal.decreases-rewrite

@@ -1,10 +1,13 @@
+use mathlib.Core.Path.{◌≡◌}
+use Rattle.replace.specs.matching.Matching.{run_end}
 -- `replace::matching::end_from` meets its contract. Assumes nothing.
-use Rattle.std.proofs.Common.{sym, ◌∙◌, arith, rules}
-use Rattle.replace.proofs.matching.Runs.{end_within, end_found, end_broken}
+use Rattle.std.proofs.Common.{◌∙◌, arith}
+use Rattle.replace.proofs.matching.Runs.{end_within, end_either}
 use Rattle.replace.proofs.matching.end_from.Goals as goal
 
-pub returns-in_default : goal.returns-in_default
-returns-in_default c = let a = c.args in let e = end_broken a.part.now a.at c.requires (sym c.in_default.is ∙ c.end_of.ensures) in let w = end_within a.part.now a.at c.requires in (e, omega (arith, w.0), omega arith)
-
 pub returns : goal.returns
-returns c = let a = c.args in let e = end_found a.part.now a.at _ (sym c.in-Ends.is ∙ c.end_of.ensures) in let w = end_within a.part.now a.at c.requires in (e, omega (arith, w.0), omega (arith, w.1))
+returns c = let a = c.args in
+    let e = end_either a.part.now a.at c.end_of.result c.requires c.end_of.ensures in
+    let w = end_within a.part.now a.at c.requires in
+    let r : c.unwrap_or.result ≡ run_end a.part.now a.at = c.unwrap_or.ensures ∙ e in
+    (r, omega (arith, w.0), omega (arith, w.1))

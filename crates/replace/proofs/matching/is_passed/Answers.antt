@@ -1,13 +1,13 @@
 -- `replace::matching::is_passed` meets its contract. Assumes nothing.
-use Rattle.std.proofs.Common.{refl}
-use Rattle.replace.proofs.matching.Runs.{passes_mul, passes_neg, passes_rest}
+use Rattle.std.proofs.Common.{arith}
+use Rattle.std.proofs.lemmas.Bool.Decides.{nat_tests}
+use Rattle.replace.specs.matching.Matching.{is_passed}
 use Rattle.replace.proofs.matching.is_passed.Goals as goal
 
-pub returns-then-kind-eq-MUL : goal.returns-then-kind-eq-MUL
-returns-then-kind-eq-MUL c = passes_mul c.args.w c.if-kind-eq-MUL.true
-
 pub returns-then-kind-eq-NEG : goal.returns-then-kind-eq-NEG
-returns-then-kind-eq-NEG c = passes_neg c.args.w c.if-kind-eq-MUL.false c.if-kind-eq-NEG.true
+unfolding is_passed
+returns-then-kind-eq-NEG c = grind (arith, nat_tests)
 
-pub returns : goal.returns
-returns c = passes_rest c.args.w c.if-kind-eq-MUL.false c.if-kind-eq-NEG.false _ refl
+pub returns-else-kind-eq-NEG : goal.returns-else-kind-eq-NEG
+unfolding is_passed
+returns-else-kind-eq-NEG c = grind (arith, nat_tests)

@@ -1,10 +1,6 @@
 -- `rounds::choice::with_arms` meets its contract. Assumes nothing.
-use Rattle.rounds.proofs.choice.Forms.{by_switch, flat_alike}
-use borrow.Author.Rules.{rules}
+use Rattle.rounds.proofs.choice.Forms.{by_switch}
 use Rattle.rounds.proofs.choice.with_arms.Goals as goal
 
 pub returns-then-scoped : goal.returns-then-scoped
 returns-then-scoped c = rw c.if-scoped.true (by_switch _ _ c.has_switch.ensures)
-
-pub returns : goal.returns
-returns c = flat_alike _ c.args.scoped c.if-scoped.false

@@ -1,7 +1,6 @@
 -- `rounds::measure::both` meets its contract. Assumes nothing.
 use native.Mathlib.Omega.{arith}
 use Rattle.rounds.proofs.measure.Pairs.{pair, sizes_are, costs_are, pair_together}
-use borrow.Author.Rules.{rules}
 use Rattle.rounds.proofs.measure.both.Goals as goal
 
 pub overflow_mul-row : goal.overflow_mul-row
@@ -98,4 +97,4 @@ pub bounds-classes-second : goal.bounds-classes-second
 bounds-classes-second c = (let k = pair c.args.facts.now c.args.classes.now c.args.place c.requires.inside.0 c.requires.inside.1 in omega (arith, k.first_facts, k.within, k.second_facts, k.first_class, k.second_class, c.well_formed))
 
 pub returns : goal.returns
-returns c = (pair_together c.args.facts.now c.args.classes.now c.args.place c.args.w _ _ _ _ c.larger.ensures c.larger-2.ensures c.mix-key.ensures c.mix.ensures)
+returns c = (pair_together c.args.facts.now c.args.classes.now c.args.place c.args.w _ _ _ _ c.max.ensures c.max-2.ensures c.mix-key.ensures c.mix.ensures)

@@ -8,7 +8,6 @@ use Rattle.rounds.specs.measure.Columns.{column}
 use Rattle.rounds.specs.value_numbers.Classes.{mixed_all}
 use Rattle.rounds.specs.value_numbers.Walks.{below}
 use Rattle.rounds.proofs.measure.Walking.{small, operands_small, word_facts}
-use borrow.Author.Rules.{rules}
 use Rattle.rounds.proofs.measure.facts_at.Goals as goal
 
 pub of_operands-all-requires : goal.of_operands-all-requires

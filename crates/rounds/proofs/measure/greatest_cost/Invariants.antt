@@ -1,10 +1,7 @@
-use native.Mathlib.Omega.{arith}
-use Rattle.rounds.proofs.measure.Walking.{Seeking, seeking, seek_turn, seek_end}
-use borrow.Author.Rules.{rules}
+use Prim.Native.Nat.{ℕ, ◌+◌}
+use mathlib.Core.Path.{◌≡◌}
+use Rattle.rounds.proofs.measure.Walking.{Seeking}
 use Rattle.rounds.proofs.measure.greatest_cost.Given as goal
 
-abbrev pub invariant-loop-left : goal.invariant-loop-left
-invariant-loop-left l = Seeking l.facts 1 l.place l.count l.most l.p l.left
-
-abbrev pub decreases-loop-left : goal.decreases-loop-left
-decreases-loop-left l = l.left
+abbrev pub invariant-loop : goal.invariant-loop
+invariant-loop l = (left : ℕ) × (l.counter + left ≡ l.count) × Seeking l.facts 1 l.place l.count l.most l.p left

@@ -1,7 +1,6 @@
 -- `rounds::measure::mix` meets its contract. Assumes nothing.
 use mathlib.Core.Path.{refl}
 use Rattle.rounds.specs.value_numbers.Classes.{mixed}
-use borrow.Author.Rules.{rules}
 use Rattle.rounds.proofs.measure.mix.Goals as goal
 
 pub returns : goal.returns

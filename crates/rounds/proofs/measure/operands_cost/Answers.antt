@@ -1,8 +1,7 @@
 -- `rounds::measure::operands_cost` meets its contract. Assumes nothing.
 use native.Mathlib.Omega.{arith}
-use mathlib.Core.Path.{sym, ◌∙◌}
+use mathlib.Core.Path.{◌∙◌}
 use Rattle.rounds.proofs.measure.Walking.{costs_sum, costs_none, arms}
-use borrow.Author.Rules.{rules}
 use Rattle.rounds.proofs.measure.operands_cost.Goals as goal
 
 pub returns-then-kind-lt-SELECT : goal.returns-then-kind-lt-SELECT

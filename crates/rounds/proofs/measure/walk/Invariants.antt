@@ -1,10 +1,7 @@
-use native.Mathlib.Omega.{arith}
-use Rattle.rounds.proofs.measure.Together.{Gathering, gathering, fits, gathering_turns, gathering_ends}
-use borrow.Author.Rules.{rules}
+use Prim.Native.Nat.{ℕ, ◌+◌}
+use mathlib.Core.Path.{◌≡◌}
+use Rattle.rounds.proofs.measure.Together.{Gathering}
 use Rattle.rounds.proofs.measure.walk.Given as goal
 
-abbrev pub invariant-loop-left : goal.invariant-loop-left
-invariant-loop-left l = Gathering l.facts l.classes l.w l.place l.count l.size l.cost l.depth l.symbol l.key l.p l.left
-
-abbrev pub decreases-loop-left : goal.decreases-loop-left
-decreases-loop-left l = l.left
+abbrev pub invariant-loop : goal.invariant-loop
+invariant-loop l = (left : ℕ) × (l.counter + left ≡ l.count) × Gathering l.facts l.classes l.w l.place l.count l.size l.cost l.depth l.symbol l.key l.p left

@@ -1,10 +1,7 @@
 -- `rounds::outside::count_outside` meets its contract. Assumes nothing.
 use native.Mathlib.Omega.{arith}
-use mathlib.Core.Path.{refl, ◌∙◌}
-use lib.ListN.{length}
 use Rattle.rounds.proofs.value_numbers.Counts.{counted_starts}
 use Rattle.rounds.proofs.outside.Tallying.{counted_outside, nothing_outside}
-use borrow.Author.Rules.{rules}
 use Rattle.rounds.proofs.outside.count_outside.Goals as goal
 
 pub tally-requires : goal.tally-requires

@@ -1,12 +1,7 @@
-use Prim.Native.Nat.{◌-◌, ◌≤◌}
-use native.Mathlib.Omega.{arith}
+use Prim.Native.Nat.{◌≤◌}
 use lib.ListN.{length}
 use Rattle.rounds.specs.uses.Marks.{Marking, not_in_arms}
-use Rattle.rounds.proofs.uses.Marking.{marking_starts, marking_turns, marking_ends}
 use Rattle.rounds.proofs.uses.clear_arms.Given as goal
 
 abbrev pub invariant-loop-p : goal.invariant-loop-p
 invariant-loop-p l = (l.p ≤ length l.tokens) × Marking l.tokens (not_in_arms l.tokens l.p) l.initial.marks l.marks
-
-abbrev pub decreases-loop-p : goal.decreases-loop-p
-decreases-loop-p l = length l.tokens - l.p

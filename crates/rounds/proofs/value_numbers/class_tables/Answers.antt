@@ -3,7 +3,6 @@ use native.Mathlib.Omega.{arith}
 use Rattle.rounds.proofs.value_numbers.Chains.{passing_starts}
 use Rattle.rounds.proofs.value_numbers.Counts.{counted_starts}
 use Rattle.rounds.proofs.value_numbers.Answering.{leaves_tables}
-use borrow.Author.Rules.{rules}
 use Rattle.rounds.proofs.value_numbers.class_tables.Goals as goal
 
 pub reset-requires : goal.reset-requires

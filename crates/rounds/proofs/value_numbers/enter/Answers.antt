@@ -1,7 +1,6 @@
 -- `rounds::value_numbers::enter` meets its contract. Assumes nothing.
 use native.Mathlib.Omega.{arith}
 use Rattle.rounds.proofs.value_numbers.Passes.{put_sized, leaf_put, leaf_passing, leaf_counted, uses_fit, uses_turn}
-use borrow.Author.Rules.{rules}
 use Rattle.rounds.proofs.value_numbers.enter.Goals as goal
 
 pub put_leaf-requires : goal.put_leaf-requires

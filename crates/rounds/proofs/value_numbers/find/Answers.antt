@@ -1,9 +1,6 @@
 -- `rounds::value_numbers::find` meets its contract. Assumes nothing.
-use Prim.Native.Nat.{◌-◌}
 use native.Mathlib.Omega.{arith}
 use mathlib.Core.Path.{sym, ◌∙◌}
-use lib.ListN.{length}
-use Rattle.rounds.specs.value_numbers.Tables.{Chase}
 use Rattle.rounds.proofs.value_numbers.Chains.{chase_turns, chase_finds, chase_ends, chase_past}
 use Rattle.rounds.proofs.value_numbers.find.Goals as goal
 

@@ -1,9 +1,6 @@
 use Prim.Native.Nat.{◌-◌}
-use native.Mathlib.Omega.{arith}
-use mathlib.Core.Path.{sym, ◌∙◌}
 use lib.ListN.{length}
 use Rattle.rounds.specs.value_numbers.Tables.{Chase}
-use Rattle.rounds.proofs.value_numbers.Chains.{chase_turns, chase_finds, chase_ends, chase_past}
 use Rattle.rounds.proofs.value_numbers.find.Given as goal
 
 abbrev pub invariant-loop-p : goal.invariant-loop-p

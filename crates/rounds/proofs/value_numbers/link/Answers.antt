@@ -1,9 +1,7 @@
 -- `rounds::value_numbers::link` meets its contract. Assumes nothing.
 use native.Mathlib.Omega.{arith}
-use lib.ListN.{length-set}
 use Rattle.rounds.proofs.value_numbers.Laws.{last_high}
 use Rattle.rounds.proofs.value_numbers.Chains.{passing_turns, chase_starts}
-use borrow.Author.Rules.{rules}
 use Rattle.rounds.proofs.value_numbers.link.Goals as goal
 
 pub find-place-requires : goal.find-place-requires

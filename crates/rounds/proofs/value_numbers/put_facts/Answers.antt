@@ -4,7 +4,6 @@ use native.Mathlib.Omega.{arith}
 use mathlib.Core.Path.{refl, ◌∙◌}
 use lib.ListN.{length-set}
 use Rattle.rounds.proofs.value_numbers.Belows.{walk_there, bucket_is}
-use borrow.Author.Rules.{rules}
 use Rattle.rounds.proofs.value_numbers.put_facts.Goals as goal
 
 pub facts_at-f-requires : goal.facts_at-f-requires

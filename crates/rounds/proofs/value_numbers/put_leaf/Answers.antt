@@ -2,7 +2,6 @@
 use native.Mathlib.Omega.{arith}
 use lib.ListN.{length-set}
 use Rattle.rounds.proofs.value_numbers.Passes.{leaf_written}
-use borrow.Author.Rules.{rules}
 use Rattle.rounds.proofs.value_numbers.put_leaf.Goals as goal
 
 pub bounds-facts-row-2 : goal.bounds-facts-row-2

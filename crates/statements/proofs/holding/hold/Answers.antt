@@ -1,7 +1,5 @@
 -- `statements::holding::hold` meets its contract: what is wrong is told before anything is written. Assumes nothing.
-use borrow.Author.Tests.{not-true, not-false}
 use Rattle.statements.proofs.holding.Ends.{held_broken, held_full, ready_so, held_many, held_written}
-use borrow.Author.Rules.{rules}
 use Rattle.statements.proofs.holding.hold.Goals as goal
 
 pub returns-then-not-whole : goal.returns-then-not-whole

@@ -1,19 +1,18 @@
--- `statements::holding::no_switch` meets its contract: what is still to be tested decides. Assumes nothing.
-use Prim.Native.Nat.{◌-◌}
-use mathlib.Core.Path.{refl}
-use lib.ListN.{length}
-use Rattle.statements.proofs.holding.Switch.{Decides, turn_switch, turn_none, all_tested}
+-- `statements::holding::no_switch` meets its contract. Assumes nothing.
+use borrow.Author.Tests.{tests}
 use borrow.Author.Rules.{rules}
+use mathlib.Core.Path.{refl, sym, ◌∙◌, ap}
+use mathlib.Core.Bool.{Bool, not, ◌&&◌}
+use Rattle.std.proofs.lemmas.Iterator.{YieldsList-from_slice}
+use Rattle.std.proofs.lemmas.Iterator.Search.{all_from_yields_List}
+use Rattle.fusion.specs.switches.Listing.{switch_word}
+use Rattle.fusion.specs.Switchless.{no_switch_words}
+use Rattle.fusion.proofs.Tests.{all_is}
+use Rattle.statements.proofs.holding.Switch.{word_arms}
 use Rattle.statements.proofs.holding.no_switch.Goals as goal
 
-pub loop-i-init : goal.loop-i-init
-loop-i-init c = refl
-
-pub returns-then-is_switch : goal.returns-then-is_switch
-returns-then-is_switch c = turn_switch c.args.words.now c.loop-i.i c.loop-i-test.true c.loop-i.invariant _ c.is_switch.ensures c.if-is_switch.true
-
-pub loop-i-preserved : goal.loop-i-preserved
-loop-i-preserved c = turn_none c.args.words.now c.loop-i.i c.loop-i-test.true c.loop-i.invariant _ c.is_switch.ensures c.if-is_switch.false
-
 pub returns : goal.returns
-returns c = all_tested c.args.words.now c.loop-i.i c.loop-i-test.false c.loop-i.invariant
+unfolding no_switch_words
+returns c =
+    all_from_yields_List (λ w. not (switch_word w)) _ _ c.all.result c.all.ensures.ran (YieldsList-from_slice c.args.words.now cc) (λ x b q k. search (rules, tests))
+    ∙ all_is no_switch_words (λ w. not (switch_word w)) refl (λ w ws. ap (λ (b : Bool). not b && no_switch_words ws) (sym (word_arms w))) c.args.words.now

@@ -1,11 +1,9 @@
 use Prim.Native.Nat.{ℕ, ◌≤◌}
-use native.Mathlib.Omega.{arith}
-use mathlib.Core.Path.{◌≡◌, refl, ◌∙◌}
+use mathlib.Core.Path.{◌≡◌}
 use mathlib.Core.List.{List}
 use lib.ListN.{length}
 use Rattle.topo_sort.specs.links.Links.{Joinable}
-use Rattle.topo_sort.proofs.links.Following.{Following, following_starts, meeting, meeting_wide, meeting_waits, meeting_room, following_turns, following_ends}
-use borrow.Author.Rules.{rules}
+use Rattle.topo_sort.proofs.links.Following.{Following}
 use Rattle.topo_sort.proofs.links.join_linked.Given as goal
 
 abbrev pub invariant-loop-h : goal.invariant-loop-h

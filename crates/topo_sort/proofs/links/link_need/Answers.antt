@@ -1,19 +1,11 @@
 -- `topo_sort::links::link_need` meets its contract. Assumes nothing.
 use native.Mathlib.Omega.{arith}
-use Rattle.topo_sort.proofs.links.Making.{unnamed, named, other_word, past_word}
-use borrow.Author.Rules.{rules}
+use Rattle.topo_sort.proofs.links.Making.{unnamed, named, past_word}
 use Rattle.topo_sort.proofs.links.link_need.Goals as goal
-
-pub returns-then-w-ne-LET_NAME : goal.returns-then-w-ne-LET_NAME
-returns-then-w-ne-LET_NAME c = let a = c.args in
-    unnamed a.w a.j a.n a.heads.now a.links.now c.requires.within (λ i h. other_word a.w i c.if-w-ne-LET_NAME.true)
 
 pub returns-then-i-heads : goal.returns-then-i-heads
 returns-then-i-heads c = let a = c.args in
     unnamed a.w a.j a.n a.heads.now a.links.now c.requires.within (λ i h. past_word a.w i (omega (arith, c.if-i-heads.true)))
-
-pub add_link-requires : goal.add_link-requires
-add_link-requires c = (c.requires, c.if-i-heads.false)
 
 pub returns : goal.returns
 returns c = let a = c.args in

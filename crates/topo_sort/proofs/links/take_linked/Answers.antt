@@ -1,53 +1,19 @@
 -- `topo_sort::links::take_linked` meets its contract. Assumes nothing.
 use native.Mathlib.Omega.{arith}
-use mathlib.Core.Path.{◌≡◌, refl, ◌∙◌}
-use mathlib.Core.List.{List}
-use Prim.Native.Nat.{ℕ, ◌-◌}
-use lib.ListN.{length}
-use Rattle.topo_sort.specs.links.Links.{Linked}
-use Rattle.topo_sort.proofs.Loops.{Taking, taking_starts, taking_below, taking_turns, taking_ends}
+use mathlib.Core.Path.{refl, ◌∙◌}
+use Rattle.topo_sort.proofs.Loops.{taking_starts, taking_below, taking_turns, taking_ends}
 use Rattle.topo_sort.proofs.links.Following.{top_below, top_joinable, top_some}
 use Rattle.topo_sort.proofs.links.take_linked.Goals as goal
 
-pub start_linked-top-requires : goal.start_linked-top-requires
-start_linked-top-requires c = (c.requires.room.0.waiting_long, c.requires.room.0.stack_long)
-
 pub loop-top-init : goal.loop-top-init
 loop-top-init c = let a = c.args in
-    ((λ needs l. taking_starts needs a.count a.waiting.now _ a.taken.now _ c.requires.room.0.waiting_long (omega (arith, c.requires.room.0.stack_long, c.start_linked-top.auto.stack)) (c.start_linked-top.ensures needs l.waits)), (refl, refl))
-
-pub overflow_sub-i : goal.overflow_sub-i
-overflow_sub-i c = omega (arith, c.loop-top-test.true)
-
-pub offset_bounds-stack-top : goal.offset_bounds-stack-top
-offset_bounds-stack-top c = let a = c.args in
-    let some = c.loop-top-test.true in
-    let t = c.loop-top.invariant.0 c.requires.some_linked.needs c.requires.some_linked.linked in
-    omega (arith, t.inside, c.loop-top.invariant.1, c.well_formed, c.start_linked-top.auto)
-
-pub bounds-stack-top : goal.bounds-stack-top
-bounds-stack-top c = let a = c.args in
-    let some = c.loop-top-test.true in
-    let t = c.loop-top.invariant.0 c.requires.some_linked.needs c.requires.some_linked.linked in
-    omega (arith, some, t.inside)
-
-pub offset_bounds-taken-n : goal.offset_bounds-taken-n
-offset_bounds-taken-n c = let a = c.args in
-    let some = c.loop-top-test.true in
-    let t = c.loop-top.invariant.0 c.requires.some_linked.needs c.requires.some_linked.linked in
-    omega (arith, taking_below c.requires.some_linked.needs a.count a.taken.now c.loop-top.waiting c.loop-top.stack c.loop-top.taken c.loop-top.top c.loop-top.n t c.requires.room.0.taken_long some, c.requires.room.0.few)
+    ((λ needs l. taking_starts needs a.count a.waiting.now _ a.taken.now _ c.requires.room.0.waiting_long (omega (arith, c.requires.room.0.stack_long, c.start-top.auto.stack)) (c.start-top.ensures needs l.waits)), (refl, refl))
 
 pub bounds-taken-n : goal.bounds-taken-n
 bounds-taken-n c = let a = c.args in
     let some = c.loop-top-test.true in
     let t = c.loop-top.invariant.0 c.requires.some_linked.needs c.requires.some_linked.linked in
     omega (arith, taking_below c.requires.some_linked.needs a.count a.taken.now c.loop-top.waiting c.loop-top.stack c.loop-top.taken c.loop-top.top c.loop-top.n t c.requires.room.0.taken_long some, c.requires.room.0.taken_long, t.taken_long)
-
-pub overflow_add-n : goal.overflow_add-n
-overflow_add-n c = let a = c.args in
-    let some = c.loop-top-test.true in
-    let t = c.loop-top.invariant.0 c.requires.some_linked.needs c.requires.some_linked.linked in
-    omega (arith, taking_below c.requires.some_linked.needs a.count a.taken.now c.loop-top.waiting c.loop-top.stack c.loop-top.taken c.loop-top.top c.loop-top.n t c.requires.room.0.taken_long some, c.requires.room.0.few)
 
 pub offset_bounds-heads-i : goal.offset_bounds-heads-i
 offset_bounds-heads-i c = let a = c.args in
@@ -60,9 +26,6 @@ bounds-heads-i c = let a = c.args in
     let some = c.loop-top-test.true in
     let t = c.loop-top.invariant.0 c.requires.some_linked.needs c.requires.some_linked.linked in
     omega (arith, top_below c.requires.some_linked.needs a.count a.heads.now a.links.now a.waiting.now c.requires.some_linked.linked a.taken.now c.loop-top.waiting c.loop-top.stack c.loop-top.taken c.loop-top.top c.loop-top.n t c.requires.room.0.taken_long some, c.requires.room.1)
-
-pub overflow_sub-top : goal.overflow_sub-top
-overflow_sub-top c = omega (arith, c.loop-top-test.true)
 
 pub join_linked-top-requires : goal.join_linked-top-requires
 join_linked-top-requires c = let a = c.args in
@@ -84,15 +47,6 @@ loop-top-preserved c = let a = c.args in
           (c.join_linked-top.ensures needs a.count _ (top_joinable needs a.count a.heads.now a.links.now a.waiting.now l a.taken.now c.loop-top.waiting c.loop-top.stack c.loop-top.taken c.loop-top.top c.loop-top.n (c.loop-top.invariant.0 needs l) c.requires.room.0.taken_long some)) c.join_linked-top.auto.waiting c.join_linked-top.auto.stack),
       (c.join_linked-top.auto.waiting ∙ c.loop-top.invariant.1.0, c.join_linked-top.auto.stack ∙ c.loop-top.invariant.1.1),
     )
-
-pub shape_of-waiting : goal.shape_of-waiting
-shape_of-waiting c = c.loop-top.invariant.1.0
-
-pub shape_of-stack : goal.shape_of-stack
-shape_of-stack c = c.loop-top.invariant.1.1 ∙ c.start_linked-top.auto.stack
-
-pub shape_of-taken : goal.shape_of-taken
-shape_of-taken c = (c.loop-top.invariant.0 c.requires.some_linked.needs c.requires.some_linked.linked).taken_long
 
 pub returns : goal.returns
 returns c = let a = c.args in

@@ -1,11 +1,9 @@
-use native.Mathlib.Omega.{arith}
-use mathlib.Core.Path.{◌≡◌, refl, ◌∙◌}
+use mathlib.Core.Path.{◌≡◌}
 use mathlib.Core.List.{List}
 use Prim.Native.Nat.{ℕ, ◌-◌}
 use lib.ListN.{length}
 use Rattle.topo_sort.specs.links.Links.{Linked}
-use Rattle.topo_sort.proofs.Loops.{Taking, taking_starts, taking_below, taking_turns, taking_ends}
-use Rattle.topo_sort.proofs.links.Following.{top_below, top_joinable, top_some}
+use Rattle.topo_sort.proofs.Loops.{Taking}
 use Rattle.topo_sort.proofs.links.take_linked.Given as goal
 
 abbrev pub invariant-loop-top : goal.invariant-loop-top

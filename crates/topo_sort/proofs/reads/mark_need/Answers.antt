@@ -2,7 +2,6 @@
 use mathlib.Core.Path.{◌∙◌}
 use lib.ListN.{length}
 use Rattle.topo_sort.proofs.reads.Turns.{other_inside, other_kept, name_inside, name_marked}
-use borrow.Author.Rules.{rules}
 use Rattle.topo_sort.proofs.reads.mark_need.Goals as goal
 
 pub returns-then-w-ne-LET_NAME : goal.returns-then-w-ne-LET_NAME

@@ -4,7 +4,6 @@ use mathlib.Core.Path.{sym, ◌∙◌}
 use lib.ListN.{length}
 use Rattle.words.specs.bits.Bits.{bit}
 use Rattle.words.proofs.bits.BitLaws.{is_in, yes_inside, no_outside}
-use borrow.Author.Tests.{not-true, not-false}
 use Rattle.words.proofs.bits.get.Goals as goal
 
 pub returns-then-not-is_inside : goal.returns-then-not-is_inside

@@ -1,7 +1,6 @@
 -- `words::bits::is_inside` meets its contract. Assumes nothing.
 use native.Mathlib.Omega.{arith}
 use Rattle.words.proofs.bits.BitLaws.{outside_column, outside_word, inside_rest}
-use borrow.Author.Rules.{rules}
 use Rattle.words.proofs.bits.is_inside.Goals as goal
 
 pub returns-then-column-ge-COLUMNS : goal.returns-then-column-ge-COLUMNS

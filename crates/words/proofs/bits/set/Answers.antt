@@ -3,8 +3,6 @@ use native.Mathlib.Omega.{arith}
 use mathlib.Core.Path.{sym, ◌∙◌}
 use lib.ListN.{length}
 use Rattle.words.proofs.bits.BitLaws.{is_in, with_shifted, with_outside}
-use borrow.Author.Tests.{not-true, not-false}
-use borrow.Author.Rules.{rules}
 use Rattle.words.proofs.bits.set.Goals as goal
 
 pub returns-then-not-is_inside : goal.returns-then-not-is_inside

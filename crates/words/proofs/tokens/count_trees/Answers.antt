@@ -1,32 +1,34 @@
 -- `words::tokens::count_trees` meets its contract. Assumes nothing.
-use native.Mathlib.Omega.{arith}
-use Rattle.words.proofs.tokens.Counting.{Counting, counting_starts, counting_turns, counting_stops, counting_ends}
-use borrow.Author.Rules.{rules}
+use Rattle.std.proofs.Common.{arith, ◌-◌, ◌≡◌, ◌∷◌, [], ◌++◌, length}
+use Rattle.std.proofs.lemmas.Iterator.Adapters.{YieldsList-from_rev_slice}
+use Rattle.std.proofs.lemmas.Iterator.Consumers.{YieldsList-turn, YieldsList-end}
+use Rattle.std.proofs.lemmas.List.{length_push, length-reverse}
+use Rattle.words.proofs.tokens.Counting.{counting_starts, counting_turns, counting_stops, counting_ends, from_the_right}
 use Rattle.words.proofs.tokens.count_trees.Goals as goal
 
-pub loop-i-init : goal.loop-i-init
-loop-i-init c = counting_starts c.args.tokens.now
-
-pub overflow_sub-i : goal.overflow_sub-i
-overflow_sub-i c = omega arith
-
-pub offset_bounds-tokens-i : goal.offset_bounds-tokens-i
-offset_bounds-tokens-i c = omega (arith, c.loop-i.invariant, c.well_formed.0)
-
-pub bounds-tokens-i : goal.bounds-tokens-i
-bounds-tokens-i c = omega (arith, c.loop-i.invariant, c.well_formed.0)
+pub loop-w-init : goal.loop-w-init
+loop-w-init c = let n : length c.args.tokens.now - 0 ≡ length c.args.tokens.now = omega arith in rw n (counting_starts c.args.tokens.now)
 
 pub returns-then-operands-count : goal.returns-then-operands-count
-returns-then-operands-count c = counting_stops c.loop-i.invariant c.loop-i-test.true (omega (arith, c.if-operands-count.true, c.operand_count-operands.ensures))
+returns-then-operands-count c =
+    let ws = c.args.tokens.now in
+    let t = from_the_right ws _ _ (YieldsList-turn (YieldsList-from_rev_slice ws cc) c.loop-w.yielded _ c.loop-w.yielded_by _ _ c.in-Some.w c.in-Some.is c.next.ensures.steps) in
+    let few = rw t.1 at c.operand_count-operands.ensures in
+    counting_stops c.loop-w.invariant (omega (arith, t.0)) (omega (arith, c.if-operands-count.true, few))
 
 pub overflow_add-count : goal.overflow_add-count
-overflow_add-count c = omega (arith, c.loop-i.invariant, c.well_formed.0)
+overflow_add-count c = omega (arith, c.loop-w.invariant, c.well_formed.0)
 
-pub loop-i-smaller : goal.loop-i-smaller
-loop-i-smaller c = omega arith
-
-pub loop-i-preserved : goal.loop-i-preserved
-loop-i-preserved c = rw c.operand_count-operands.ensures (counting_turns c.loop-i.invariant c.loop-i-test.true (omega (arith, c.if-operands-count.false, c.operand_count-operands.ensures)))
+pub loop-w-preserved : goal.loop-w-preserved
+loop-w-preserved c =
+    let ws = c.args.tokens.now in
+    let t = from_the_right ws _ _ (YieldsList-turn (YieldsList-from_rev_slice ws cc) c.loop-w.yielded _ c.loop-w.yielded_by _ _ c.in-Some.w c.in-Some.is c.next.ensures.steps) in
+    let few = rw t.1 at c.operand_count-operands.ensures in
+    let n = length_push c.loop-w.yielded c.in-Some.w in
+    let k : length ws - length (c.loop-w.yielded ++ c.in-Some.w ∷ []) ≡ length ws - length c.loop-w.yielded - 1 = omega (arith, n) in
+    rw (k, few) (counting_turns c.loop-w.invariant (omega (arith, t.0)) (omega (arith, c.if-operands-count.false, few)))
 
 pub returns : goal.returns
-returns c = counting_ends c.loop-i.invariant c.loop-i-test.false
+returns c =
+    let t = YieldsList-end (YieldsList-from_rev_slice c.args.tokens.now cc) c.loop-w.yielded _ c.loop-w.yielded_by _ _ c.in-None.is c.next.ensures.steps in
+    counting_ends c.loop-w.invariant (omega (arith, t.1, length-reverse c.args.tokens.now))

@@ -1,45 +1,28 @@
 -- `words::tokens::end_of` meets its contract. Assumes nothing.
-use Prim.Native.Nat.{◌-◌}
-use native.Mathlib.Omega.{arith}
-use lib.ListN.{length, get_or}
+use Rattle.std.proofs.Common.{arith}
+use lib.ListN.{get_or}
 use Rattle.spec_tree.proofs.TokenLaws.{takes_below}
-use Rattle.words.proofs.tokens.Counting.{Ending, ending_starts, ending_past, ending_stops, ending_turns, ending_ends}
-use borrow.Author.Rules.{rules}
+use Rattle.words.proofs.tokens.Counting.{ending_starts, ending_stops, ending_next, ending_none, ending_ends}
 use Rattle.words.proofs.tokens.end_of.Goals as goal
 
-pub returns-then-at-tokens : goal.returns-then-at-tokens
-returns-then-at-tokens c = ending_past c.args.tokens.now c.args.at (omega (arith, c.if-at-tokens.true))
-
-pub loop-left-init : goal.loop-left-init
-loop-left-init c = ending_starts (omega (arith, c.if-at-tokens.false))
-
-pub overflow_sub-tokens : goal.overflow_sub-tokens
-overflow_sub-tokens c = omega (arith, c.loop-left.invariant)
-
-pub returns-then-left-tokens : goal.returns-then-left-tokens
-returns-then-left-tokens c = ending_stops c.loop-left.invariant (omega (arith, c.if-left-tokens.true))
-
-pub overflow_sub-left : goal.overflow_sub-left
-overflow_sub-left c = omega arith
-
-pub offset_bounds-tokens-i : goal.offset_bounds-tokens-i
-offset_bounds-tokens-i c = omega (arith, c.loop-left.invariant, c.well_formed.0)
-
-pub bounds-tokens-i : goal.bounds-tokens-i
-bounds-tokens-i c = omega (arith, c.loop-left.invariant, c.well_formed.0)
+pub loop-i-init : goal.loop-i-init
+loop-i-init c = (omega arith, λ h. omega (arith, h), λ h. ending_starts h)
 
 pub overflow_add-left : goal.overflow_add-left
-overflow_add-left c = let w = get_or c.args.tokens.now c.loop-left.i 0 in
-    omega (arith, c.loop-left.invariant, c.well_formed.0, c.operand_count.ensures, takes_below w, c.type_inv.tokens c.loop-left.i)
+overflow_add-left c = let w = get_or c.args.tokens.now c.loop-i.i 0 in
+    omega (arith, c.loop-i.invariant.1 c.loop-i-test.true, c.well_formed.0, c.operand_count.ensures, takes_below w, c.type_inv.tokens c.loop-i.i)
 
-pub overflow_add-i : goal.overflow_add-i
-overflow_add-i c = omega (arith, c.loop-left.invariant)
+pub returns-then-left-eq0 : goal.returns-then-left-eq0
+returns-then-left-eq0 c = let next = ending_next c.operand_count.result c.loop-i.invariant.2 c.loop-i.auto.i c.loop-i-test.true c.loop-i.invariant.0 c.operand_count.ensures in
+    ending_ends next (omega (arith, c.if-left-eq0.true))
 
-pub loop-left-smaller : goal.loop-left-smaller
-loop-left-smaller c = omega (arith, c.loop-left.invariant)
+pub returns-then-left-tokens : goal.returns-then-left-tokens
+returns-then-left-tokens c = let next = ending_next c.operand_count.result c.loop-i.invariant.2 c.loop-i.auto.i c.loop-i-test.true c.loop-i.invariant.0 c.operand_count.ensures in
+    ending_stops next c.if-left-tokens.true
 
-pub loop-left-preserved : goal.loop-left-preserved
-loop-left-preserved c = rw c.operand_count.ensures (ending_turns c.loop-left.invariant c.loop-left-test.true (omega (arith, c.loop-left.invariant)))
+pub loop-i-preserved : goal.loop-i-preserved
+loop-i-preserved c = let next = ending_next c.operand_count.result c.loop-i.invariant.2 c.loop-i.auto.i c.loop-i-test.true c.loop-i.invariant.0 c.operand_count.ensures in
+    (omega (arith, c.if-left-eq0.false), λ h. c.if-left-tokens.false, λ h. next)
 
 pub returns : goal.returns
-returns c = ending_ends c.loop-left.invariant c.loop-left-test.false
+returns c = ending_none c.loop-i.invariant.2 c.loop-i.invariant.0 c.loop-i-test.false

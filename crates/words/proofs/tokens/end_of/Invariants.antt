@@ -1,13 +1,6 @@
-use Prim.Native.Nat.{◌-◌}
-use native.Mathlib.Omega.{arith}
-use lib.ListN.{length, get_or}
-use Rattle.spec_tree.proofs.TokenLaws.{takes_below}
-use Rattle.words.proofs.tokens.Counting.{Ending, ending_starts, ending_past, ending_stops, ending_turns, ending_ends}
-use borrow.Author.Rules.{rules}
+use Rattle.std.proofs.Common.{◌-◌, ◌≤◌, ◌<◌, length}
+use Rattle.words.proofs.tokens.Counting.{Ending}
 use Rattle.words.proofs.tokens.end_of.Given as goal
 
-abbrev pub invariant-loop-left : goal.invariant-loop-left
-invariant-loop-left l = Ending l.tokens l.at l.i l.left
-
-abbrev pub decreases-loop-left : goal.decreases-loop-left
-decreases-loop-left l = length l.tokens - l.i
+abbrev pub invariant-loop-i : goal.invariant-loop-i
+invariant-loop-i l = (0 < l.left) × (l.i < length l.tokens → l.left ≤ length l.tokens - l.i) × (l.at ≤ length l.tokens → Ending l.tokens l.at l.i l.left)

@@ -2,66 +2,46 @@
 use Prim.Native.Nat.{◌-◌}
 use native.Mathlib.Omega.{arith}
 use mathlib.Core.Path.{sym, ◌∙◌}
-use mathlib.Core.Bool.{true, false}
-use Rattle.words.specs.tokens.Answers.{same_answer}
-use Rattle.words.proofs.tokens.Comparing.{run_ends, run_after, first_broken, second_broken, same_length_differs, same_runs, runs_inside}
-use borrow.Author.Rules.{rules}
+use Rattle.words.proofs.tokens.Comparing.{run_ends, run_within, first_broken, second_broken, compared_runs}
+use Rattle.std.proofs.Common.{rules}
 use Rattle.words.proofs.tokens.same.Goals as goal
 
-pub returns-in_default : goal.returns-in_default
-returns-in_default c = let a = c.args in
-    first_broken a.tokens.now a.i a.j (sym c.in_default.is ∙ c.end_of.ensures)
+pub slice_bounds-eq-count : goal.slice_bounds-eq-count
+slice_bounds-eq-count c = omega (arith, run_within c.args.tokens.now c.args.i c.in_ok-e.e (sym c.in_ok-e.was ∙ c.end_of.ensures))
 
-pub returns-in_default-end_of : goal.returns-in_default-end_of
-returns-in_default-end_of c = let a = c.args in
-    second_broken a.tokens.now a.i a.j (sym c.in_default-end_of.is ∙ c.end_of-2.ensures)
+pub slice_bounds-eq-end : goal.slice_bounds-eq-end
+slice_bounds-eq-end c = omega (arith, run_within c.args.tokens.now c.args.i c.in_ok-e.e (sym c.in_ok-e.was ∙ c.end_of.ensures))
 
-pub overflow_sub-n : goal.overflow_sub-n
-overflow_sub-n c = let a = c.args in
-    let e = c.in-Ends.e in
-    let f = c.in-Ends-end_of.f in
-    let p = sym c.in-Ends.is ∙ c.end_of.ensures in
-    let q = sym c.in-Ends-end_of.is ∙ c.end_of-2.ensures in
-    omega (arith, run_after a.tokens.now a.i e p)
+pub slice_bounds-eq-start : goal.slice_bounds-eq-start
+slice_bounds-eq-start c = omega (arith, run_within c.args.tokens.now c.args.i c.in_ok-e.e (sym c.in_ok-e.was ∙ c.end_of.ensures))
 
-pub overflow_sub-f : goal.overflow_sub-f
-overflow_sub-f c = let a = c.args in
-    let e = c.in-Ends.e in
-    let f = c.in-Ends-end_of.f in
-    let p = sym c.in-Ends.is ∙ c.end_of.ensures in
-    let q = sym c.in-Ends-end_of.is ∙ c.end_of-2.ensures in
-    omega (arith, run_after a.tokens.now a.j f q)
+pub offset_bounds-tokens-i : goal.offset_bounds-tokens-i
+offset_bounds-tokens-i c = omega (arith, run_within c.args.tokens.now c.args.i c.in_ok-e.e (sym c.in_ok-e.was ∙ c.end_of.ensures), c.well_formed.0)
 
-pub returns-then-n-f : goal.returns-then-n-f
-returns-then-n-f c = let a = c.args in
-    let e = c.in-Ends.e in
-    let f = c.in-Ends-end_of.f in
-    let p = sym c.in-Ends.is ∙ c.end_of.ensures in
-    let q = sym c.in-Ends-end_of.is ∙ c.end_of-2.ensures in
-    same_length_differs a.tokens.now a.i a.j (e - a.i) (f - a.j) (run_ends a.tokens.now a.i e p) (run_ends a.tokens.now a.j f q) c.if-n-f.true
+pub slice_bounds-eq-count-2 : goal.slice_bounds-eq-count-2
+slice_bounds-eq-count-2 c = omega (arith, run_within c.args.tokens.now c.args.j c.in_ok-f.f (sym c.in_ok-f.was ∙ c.end_of-2.ensures))
 
-pub equal_runs-requires : goal.equal_runs-requires
-equal_runs-requires c = let a = c.args in
-    let e = c.in-Ends.e in
-    let f = c.in-Ends-end_of.f in
-    let p = sym c.in-Ends.is ∙ c.end_of.ensures in
-    let q = sym c.in-Ends-end_of.is ∙ c.end_of-2.ensures in
-    runs_inside a.tokens.now a.i a.j (e - a.i) (f - a.j) (run_ends a.tokens.now a.i e p) (run_ends a.tokens.now a.j f q) (omega (arith, c.if-n-f.false))
+pub slice_bounds-eq-end-2 : goal.slice_bounds-eq-end-2
+slice_bounds-eq-end-2 c = omega (arith, run_within c.args.tokens.now c.args.j c.in_ok-f.f (sym c.in_ok-f.was ∙ c.end_of-2.ensures))
 
-pub returns-then-equal_runs : goal.returns-then-equal_runs
-unfolding same_answer
-returns-then-equal_runs c = let a = c.args in
-    let e = c.in-Ends.e in
-    let f = c.in-Ends-end_of.f in
-    let p = sym c.in-Ends.is ∙ c.end_of.ensures in
-    let q = sym c.in-Ends-end_of.is ∙ c.end_of-2.ensures in
-    same_runs a.tokens.now a.i a.j (e - a.i) (f - a.j) (run_ends a.tokens.now a.i e p) (run_ends a.tokens.now a.j f q) true (omega (arith, c.if-n-f.false)) (rw c.if-equal_runs.true at c.equal_runs.ensures)
+pub slice_bounds-eq-start-2 : goal.slice_bounds-eq-start-2
+slice_bounds-eq-start-2 c = omega (arith, run_within c.args.tokens.now c.args.j c.in_ok-f.f (sym c.in_ok-f.was ∙ c.end_of-2.ensures))
 
-pub returns-else-equal_runs : goal.returns-else-equal_runs
-unfolding same_answer
-returns-else-equal_runs c = let a = c.args in
-    let e = c.in-Ends.e in
-    let f = c.in-Ends-end_of.f in
-    let p = sym c.in-Ends.is ∙ c.end_of.ensures in
-    let q = sym c.in-Ends-end_of.is ∙ c.end_of-2.ensures in
-    same_runs a.tokens.now a.i a.j (e - a.i) (f - a.j) (run_ends a.tokens.now a.i e p) (run_ends a.tokens.now a.j f q) false (omega (arith, c.if-n-f.false)) (rw c.if-equal_runs.false at c.equal_runs.ensures)
+pub offset_bounds-tokens-j : goal.offset_bounds-tokens-j
+offset_bounds-tokens-j c = omega (arith, run_within c.args.tokens.now c.args.j c.in_ok-f.f (sym c.in_ok-f.was ∙ c.end_of-2.ensures), c.well_formed.0)
+
+pub returns : goal.returns
+returns c = let a = c.args in
+    let p = run_ends a.tokens.now a.i c.in_ok-e.e (sym c.in_ok-e.was ∙ c.end_of.ensures) in
+    let q = run_ends a.tokens.now a.j c.in_ok-f.f (sym c.in_ok-f.was ∙ c.end_of-2.ensures) in
+    compared_runs a.tokens.now a.i a.j (c.in_ok-e.e - a.i) (c.in_ok-f.f - a.j) p q c.eq.result c.eq.ensures
+
+pub returns-in_err-e : goal.returns-in_err-e
+returns-in_err-e c = let a = c.args in
+    let e = first_broken a.tokens.now a.i a.j (sym c.in_err-e.was ∙ c.end_of.ensures) in
+    search rules
+
+pub returns-in_err-f : goal.returns-in_err-f
+returns-in_err-f c = let a = c.args in
+    let e = second_broken a.tokens.now a.i a.j (sym c.in_err-f.was ∙ c.end_of-2.ensures) in
+    search rules

@@ -1,10 +1,8 @@
 -- `words::tokens::tree_end` meets its contract. Assumes nothing.
-use Prim.Native.Nat.{◌-◌}
 use native.Mathlib.Omega.{arith}
-use lib.ListN.{length, get_or}
+use lib.ListN.{get_or}
 use Rattle.spec_tree.proofs.TokenLaws.{takes_below}
-use Rattle.words.proofs.tokens.Counting.{Ending, there_starts, there_room, ending_turns, ending_ends}
-use borrow.Author.Rules.{rules}
+use Rattle.words.proofs.tokens.Counting.{there_starts, there_room, ending_turns, ending_ends}
 use Rattle.words.proofs.tokens.tree_end.Goals as goal
 
 pub loop-due-init : goal.loop-due-init

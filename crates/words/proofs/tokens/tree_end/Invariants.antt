@@ -1,9 +1,6 @@
 use Prim.Native.Nat.{◌-◌}
-use native.Mathlib.Omega.{arith}
-use lib.ListN.{length, get_or}
-use Rattle.spec_tree.proofs.TokenLaws.{takes_below}
-use Rattle.words.proofs.tokens.Counting.{Ending, there_starts, there_room, ending_turns, ending_ends}
-use borrow.Author.Rules.{rules}
+use lib.ListN.{length}
+use Rattle.words.proofs.tokens.Counting.{Ending}
 use Rattle.words.proofs.tokens.tree_end.Given as goal
 
 abbrev pub invariant-loop-due : goal.invariant-loop-due

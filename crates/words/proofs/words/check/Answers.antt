@@ -1,39 +1,41 @@
 -- `words::words::check` meets its contract. Assumes nothing.
 use native.Mathlib.Omega.{arith}
-use mathlib.Core.Path.{sym, ◌∙◌}
 use Rattle.spec_tree.specs.Tokens.{trees_in}
-use Rattle.words.proofs.words.Requests.{counted, uncounted, words_broken, part_broken, part_many, name_broken, no_room, all_sound}
-use borrow.Author.Rules.{rules}
+use Rattle.words.proofs.words.Requests.{counted_ok, uncounted_err, words_broken, part_broken, part_many, name_broken, no_room, all_sound}
+use Rattle.std.proofs.Common.{rules}
 use Rattle.words.proofs.words.check.Goals as goal
+use Rattle.words.proofs.words.check.Goals.{then-n-ne1-via-then-n-ne1, then-n-ne1-via-else-n-ne1+then-name-ne-SYM}
 
-pub returns-in_default : goal.returns-in_default
-returns-in_default c = words_broken c.args.tokens.now c.args.part.now c.args.name c.args.room (uncounted (trees_in c.args.tokens.now) (sym c.in_default.is ∙ c.count_trees.ensures))
+pub returns-in_err-ok_or : goal.returns-in_err-ok_or
+returns-in_err-ok_or c = let a = c.args in
+    let q = uncounted_err (trees_in a.tokens.now) _ _ (rw c.count_trees.ensures at c.ok_or.ensures.value) c.in_err-ok_or.was in
+    let e = words_broken a.tokens.now a.part.now a.name a.room q in
+    search rules
 
-pub returns-in_default-count_trees : goal.returns-in_default-count_trees
-returns-in_default-count_trees c = let a = c.args in
-    let p = counted c.in-Count.field-0 (trees_in a.tokens.now) (sym c.in-Count.is ∙ c.count_trees.ensures) in
-    part_broken a.tokens.now a.part.now a.name a.room c.in-Count.field-0 p (uncounted (trees_in a.part.now) (sym c.in_default-count_trees.is ∙ c.count_trees-2.ensures))
+pub returns-in_err-n : goal.returns-in_err-n
+returns-in_err-n c = let a = c.args in
+    let p = counted_ok _ (trees_in a.tokens.now) _ (rw c.count_trees.ensures at c.ok_or.ensures.value) c.in_ok-ok_or.was in
+    let q = uncounted_err (trees_in a.part.now) _ _ (rw c.count_trees-2.ensures at c.ok_or-2.ensures.value) c.in_err-n.was in
+    let e = part_broken a.tokens.now a.part.now a.name a.room _ p q in
+    search rules
 
 pub returns-then-n-ne1 : goal.returns-then-n-ne1
 returns-then-n-ne1 c = let a = c.args in
-    let p = counted c.in-Count.field-0 (trees_in a.tokens.now) (sym c.in-Count.is ∙ c.count_trees.ensures) in
-    let q = counted c.in-Count-count_trees.n (trees_in a.part.now) (sym c.in-Count-count_trees.is ∙ c.count_trees-2.ensures) in
-    part_many a.tokens.now a.part.now a.name a.room c.in-Count.field-0 p c.in-Count-count_trees.n q c.if-n-ne1.true
-
-pub returns-then-name-ne-SYM : goal.returns-then-name-ne-SYM
-returns-then-name-ne-SYM c = let a = c.args in
-    let p = counted c.in-Count.field-0 (trees_in a.tokens.now) (sym c.in-Count.is ∙ c.count_trees.ensures) in
-    let q = counted c.in-Count-count_trees.n (trees_in a.part.now) (sym c.in-Count-count_trees.is ∙ c.count_trees-2.ensures) in
-    name_broken a.tokens.now a.part.now a.name a.room c.in-Count.field-0 p c.in-Count-count_trees.n q (omega (arith, c.if-n-ne1.false)) c.if-name-ne-SYM.true
+    let p = counted_ok _ (trees_in a.tokens.now) _ (rw c.count_trees.ensures at c.ok_or.ensures.value) c.in_ok-ok_or.was in
+    let q = counted_ok _ (trees_in a.part.now) _ (rw c.count_trees-2.ensures at c.ok_or-2.ensures.value) c.in_ok-n.was in
+    elim c.then-n-ne1.branch [
+      | then-n-ne1-via-then-n-ne1 w ↦ part_many a.tokens.now a.part.now a.name a.room _ p _ q w.if-n-ne1.true
+      | then-n-ne1-via-else-n-ne1+then-name-ne-SYM w ↦ name_broken a.tokens.now a.part.now a.name a.room _ p _ q (omega (arith, w.if-n-ne1.false)) w.if-name-ne-SYM.true
+    ]
 
 pub returns-then-room-tokens : goal.returns-then-room-tokens
 returns-then-room-tokens c = let a = c.args in
-    let p = counted c.in-Count.field-0 (trees_in a.tokens.now) (sym c.in-Count.is ∙ c.count_trees.ensures) in
-    let q = counted c.in-Count-count_trees.n (trees_in a.part.now) (sym c.in-Count-count_trees.is ∙ c.count_trees-2.ensures) in
-    no_room a.tokens.now a.part.now a.name a.room c.in-Count.field-0 p c.in-Count-count_trees.n q (omega (arith, c.if-n-ne1.false)) (omega (arith, c.if-name-ne-SYM.false)) c.if-room-tokens.true
+    let p = counted_ok _ (trees_in a.tokens.now) _ (rw c.count_trees.ensures at c.ok_or.ensures.value) c.in_ok-ok_or.was in
+    let q = counted_ok _ (trees_in a.part.now) _ (rw c.count_trees-2.ensures at c.ok_or-2.ensures.value) c.in_ok-n.was in
+    no_room a.tokens.now a.part.now a.name a.room _ p _ q (omega (arith, c.if-n-ne1.false)) (omega (arith, c.if-name-ne-SYM.false)) c.if-room-tokens.true
 
 pub returns : goal.returns
 returns c = let a = c.args in
-    let p = counted c.in-Count.field-0 (trees_in a.tokens.now) (sym c.in-Count.is ∙ c.count_trees.ensures) in
-    let q = counted c.in-Count-count_trees.n (trees_in a.part.now) (sym c.in-Count-count_trees.is ∙ c.count_trees-2.ensures) in
-    all_sound a.tokens.now a.part.now a.name a.room c.in-Count.field-0 p c.in-Count-count_trees.n q (omega (arith, c.if-n-ne1.false)) (omega (arith, c.if-name-ne-SYM.false)) c.if-room-tokens.false
+    let p = counted_ok _ (trees_in a.tokens.now) _ (rw c.count_trees.ensures at c.ok_or.ensures.value) c.in_ok-ok_or.was in
+    let q = counted_ok _ (trees_in a.part.now) _ (rw c.count_trees-2.ensures at c.ok_or-2.ensures.value) c.in_ok-n.was in
+    all_sound a.tokens.now a.part.now a.name a.room _ p _ q (omega (arith, c.if-n-ne1.false)) (omega (arith, c.if-name-ne-SYM.false)) c.if-room-tokens.false

@@ -1,6 +1,0 @@
--- `node_rows::rows::check_many` meets its contract. Assumes nothing.
-use borrow.Author.Rules.{rules}
-use Rattle.node_rows.proofs.rows.check_many.Goals as goal
-
-pub returns : goal.returns
-returns c = c.check_with.ensures

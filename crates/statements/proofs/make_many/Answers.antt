@@ -1,7 +1,0 @@
--- `statements::make_many` meets its contract. Assumes nothing.
-use native.Mathlib.Omega.{arith}
-use borrow.Author.Rules.{rules}
-use Rattle.statements.proofs.make_many.Goals as goal
-
-pub make_with-requires : goal.make_with-requires
-make_with-requires c = record { readied = c.requires.readied; i_in_bounds = c.requires.i_in_bounds; tokens_in_bounds = omega (arith, c.requires.readied.1.few) }
