@@ -180,7 +180,7 @@ fn extract_within<const WORDS: usize, const FACTS: usize, const CHAINS: usize>(
     let mut next = [0u64; WORDS];
     let mut heads = [0u64; CHAINS];
     let mut uses = [0u64; WORDS];
-    tokens[..len].copy_from_slice(&work[..len]);
+    copy(&work[..len], &mut tokens);
     extract_words(
         rows,
         roots,

@@ -8,6 +8,7 @@ ghost use Rattle.fusion.specs.fuse.Answers.{stepped_answer, Front, all_small, fu
 
 use crate::tables::fit;
 use replace::outside::replace_outside_arms;
+use words::copying::copy;
 use words::fault::Fault;
 use words::layout::{MATCH_NAME, NEXT_NAME};
 use words::tokens::{count_trees, end_of};
@@ -34,7 +35,7 @@ fn step(
 {
     let end = end_of(base, place)?;
     let n = replace_outside_arms(&work[..len], &base[place..end], name, spare).ok()?;
-    work[..n].copy_from_slice(&spare[..n]);
+    copy(&spare[..n], work);
     Some(n)
 }
 
@@ -77,9 +78,9 @@ fn fuse_in(
     ensures { (result ≡ (fusing base.now places.now numbers.now tokens.old len).answer)
         × (tokens.new ≡ (fusing base.now places.now numbers.now tokens.old len).out) }
 {
-    work[..len].copy_from_slice(&tokens[..len]);
+    copy(&tokens[..len], work);
     let n = steps(base, places, numbers, work, len, spare).ok_or(Fault::Broken)?;
-    tokens[..n].copy_from_slice(&work[..n]);
+    copy(&work[..n], tokens);
     Ok(n)
 }
 

@@ -4,6 +4,7 @@ ghost use Rattle.std.specs.Prelude.{◌≡◌, true, [], ◌∷◌};
 ghost use Rattle.fusion.specs.place.Overlay.{overlay};
 ghost use Rattle.fusion.specs.tables.Names.{names_fit, names_put, rows_of_names};
 
+use words::copying;
 use words::layout::{MATCH_NAME_ROW, NEXT_NAME};
 
 // The largest number of a name.
@@ -26,7 +27,7 @@ pub fn put(words: &[u64], at: usize, table: &mut [u64])
         return;
     }
     let n = words.len().min(table.len() - at);
-    table[at..at + n].copy_from_slice(&words[..n]);
+    copying::put(&words[..n], at, table);
 }
 
 // Whether each number has a row.

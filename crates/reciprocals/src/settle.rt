@@ -8,6 +8,7 @@ ghost use Rattle.reciprocals.specs.settle.Steps.{stand_among, step_words, settle
 ghost use Rattle.reciprocals.specs.settle.Answers.{stepped_answer, Front, settling};
 
 use replace::divisor::replace_divisor;
+use words::copying::copy;
 use words::fault::Fault;
 use words::layout::{LET_NAME, NEXT_NAME};
 use words::tokens::{count_trees, end_of};
@@ -60,7 +61,7 @@ fn step(
         return Some(len);
     }
     let n = replace_divisor(&work[..len], divisor, name, spare).ok()?;
-    work[..n].copy_from_slice(&spare[..n]);
+    copy(&spare[..n], work);
     Some(n)
 }
 
@@ -105,9 +106,9 @@ fn settle_in(
     ensures { (result ≡ (settling base.now places.now from first tokens.old len).answer)
         × (tokens.new ≡ (settling base.now places.now from first tokens.old len).out) }
 {
-    work[..len].copy_from_slice(&tokens[..len]);
+    copy(&tokens[..len], work);
     let n = steps(base, places, from, first, work, len, spare).ok_or(Fault::Broken)?;
-    tokens[..n].copy_from_slice(&work[..n]);
+    copy(&work[..n], tokens);
     Ok(n)
 }
 

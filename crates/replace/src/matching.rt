@@ -1,7 +1,7 @@
 // The factors of a product taken out of another's (01, "Rewriting": each target factor is found, the first equal
 // remaining one is removed, the symbol joins the end), again and again. A factor of the product is a place among its
 // words, and the symbol a place past their end; the factors taken out are runs of other words.
-ghost use Rattle.std.specs.Prelude.{◌≡◌, ◌+◌, ◌-◌, ◌*◌, ◌<◌, ◌≤◌, ◌++◌, length, take, drop};
+ghost use Rattle.std.specs.Prelude.{◌≡◌, ◌+◌, ◌-◌, ◌<◌, ◌≤◌, ◌⊎◌, ◌++◌, length, take, drop};
 ghost use Rattle.words.specs.words.Words.{begins_with};
 ghost use Rattle.replace.specs.matching.Matching.{is_passed, factor_runs, run_end, words_at, remove_runs, names_after};
 ghost use Rattle.replace.specs.matching.Answers.{Seeks, Removes, Lacks, Takes};
@@ -58,12 +58,15 @@ fn stands_at(tokens: &[u64], name: u64, place: u64, run: &[u64]) -> bool
     }
 }
 
-// Moves the places from j + 1 up to n down by one.
+// Moves the places from j + 1 up to n down by one. A loop and no `copy_within`, here and below, for the reason that is told
+// where words are copied.
 fn close_gap(places: &mut [u64], j: usize, n: usize)
     requires { (j < n) × (n ≤ length places.old) }
     ensures { (take (n - 1) places.new ≡ take j places.old ++ drop (j + 1) (take n places.old)) × (drop n places.new ≡ drop n places.old) }
 {
-    places.copy_within(j + 1..n, j);
+    for k in j..n - 1 {
+        places[k] = places[k + 1];
+    }
 }
 
 // Removes for each factor of `part`, in order, the first of the `count` places where an equal tree stands, and tells
@@ -120,6 +123,17 @@ fn lacks_factor(tokens: &[u64], part: &[u64], name: u64, places: &[u64]) -> bool
     false
 }
 
+// Copies n places from one place to another.
+fn copy_places(places: &mut [u64], from: usize, to: usize, n: usize)
+    requires n_in_bounds { (from + n ≤ length places.old) × (to + n ≤ length places.old) }
+    requires fact { (from + n ≤ to) ⊎ (to + n ≤ from) }
+    ensures { (take n (drop to places.new) ≡ take n (drop from places.old)) × (take to places.new ≡ take to places.old) }
+{
+    for k in 0..n {
+        places[to + k] = places[from + k];
+    }
+}
+
 // Takes the factors of `part` out of the first `count` places as often as all of them are there, and puts the name's
 // place at the end each time. The places are kept behind themselves until then. Twice `count` times is enough: each
 // time there is a factor less, or one that isn't the name. None where fewer than twice as many places are lent.
@@ -143,9 +157,9 @@ pub fn take_out(
         if lacks_factor(tokens, part, name, &places[..left]) {
             return Some(Taken { left, times });
         }
-        places.copy_within(..left, left);
+        copy_places(places, 0, left, left);
         let Some(n) = remove_each(tokens, part, name, places, left) else {
-            places.copy_within(left..2 * left, 0);
+            copy_places(places, left, 0, left);
             return Some(Taken { left, times });
         };
         places[n] = tokens.len() as u64;

@@ -3,7 +3,7 @@ use Rattle.std.specs.Prelude.{Some, None, Ok, Err}
 use Prim.Native.Nat.{ℕ, ◌+◌, ◌-◌, ◌≤◌}
 use native.Mathlib.Omega.{arith}
 use native.Mathlib.Nat.{zero-add}
-use mathlib.Core.Path.{◌≡◌, sym, ◌∙◌, ap, subst}
+use mathlib.Core.Path.{◌≡◌, sym, ◌∙◌, ap, ap₂, subst}
 use mathlib.Core.Bool.{Bool}
 use mathlib.Core.Option.{none, some}
 use mathlib.Core.List.{List, ◌++◌}
@@ -29,21 +29,6 @@ use Rattle.rounds.proofs.kept.Looping.{number_first}
 use Rattle.rounds.specs.Answers.{Finds, Chosen, Extracts, Turns, TurnedSo}
 use Rattle.std.specs.Prelude.{Option, Some, None, Result, Ok, Err}
 use Rattle.replace.specs.declared.NotConstant.{NotConstant}
-
--- ---- a part copied into others
-
--- into the k words from n on
-module _ (mid part : List ℕ) (n k : ℕ) (long : length part ≡ k) (fits : n + k ≤ length mid) where
-  many : n + k - n ≡ k
-  many = omega arith
-
-  pub copy_fits : length (take (n + k - n) (drop n mid)) ≡ length part
-  copy_fits = length-take-le (n + k - n) (drop n mid) (omega (arith, length-drop n mid)) ∙ (many ∙ sym long)
-
-  pub copied : (new : List ℕ) → new ≡ part → Put mid n part (take n mid ++ (new ++ drop (n + k - n) (drop n mid)))
-  copied new e =
-      ap (λ (l : List ℕ). take n mid ++ (l ++ drop (n + k - n) (drop n mid))) e
-      ∙ ap (λ (l : List ℕ). take n mid ++ (part ++ l)) (drop-drop (n + k - n) n mid ∙ ap (λ (m : ℕ). drop m mid) (let z : n + (n + k - n) ≡ n + length part = omega (arith, long) in z))
 
 -- ---- an extraction
 
@@ -152,10 +137,10 @@ module _ (old : List ℕ) (len at name : ℕ) (within_old : len ≤ length old) 
   pub made_long : (n : ℕ) → q ≡ Ok n → n ≡ length (take n mid)
   made_long n w = (made n w).0.count ∙ ap length (sym (front n w))
 
-  pub turned : (n : ℕ) → q ≡ Ok n → (new : List ℕ) → new ≡ take n mid → Turns old len at name (Ok n) (new ++ drop n old)
-  turned n w new p =
+  pub turned : (n : ℕ) → q ≡ Ok n → (out : List ℕ) → out ≡ take n mid ++ drop (length (take n mid)) old → Turns old len at name (Ok n) out
+  turned n w out p =
       let d = (made n w).0 in
-      record { new = d.new; is = d.is; count = d.count; words = ap (λ (l : List ℕ). l ++ drop n old) (p ∙ front n w) }
+      record { new = d.new; is = d.is; count = d.count; words = p ∙ ap₂ (λ (l : List ℕ) (k : ℕ). l ++ drop k old) (front n w) (sym (made_long n w)) }
 
   pub turn_refused : (e : NotConstant) → q ≡ Err e → (i : Refusal) × (extract_words (numbered_at ws at) name ws ≡ refused i)
   turn_refused e w = subst (λ (q : Result ℕ NotConstant). Extracts ws at name blank q mid) w a

@@ -18,6 +18,7 @@ ghost use Rattle.rounds.specs.Rounds.{rounds_answer, LeavesWords};
 
 use crate::choice::best_place;
 use replace::{NotConstant, replace_known};
+use words::copying::{copy, put};
 use words::layout::{CLASSES, KINDS, LET_CLASS};
 use words::tokens::tree_end;
 
@@ -62,9 +63,8 @@ fn extract(
     let end = tree_end(tokens, at);
     let word = KINDS * (LET_CLASS + CLASSES * name);
     let n = replace_known(tokens, &tokens[at..end], word, places, out)?;
-    let last = n + (end - at);
-    out[n..last].copy_from_slice(&tokens[at..end]);
-    Ok(last)
+    put(&tokens[at..end], n, out);
+    Ok(n + (end - at))
 }
 
 // The same in the place of the words.
@@ -84,7 +84,7 @@ fn extract_here(
     ensures { Turns tokens.old len at name result tokens.new }
 {
     let n = extract(rows, &tokens[..len], scoped, at, name, places, out)?;
-    tokens[..n].copy_from_slice(&out[..n]);
+    copy(&out[..n], tokens);
     Ok(n)
 }
 

@@ -1,4 +1,5 @@
-// Words copied from one slice to another.
+// Words copied from one slice to another, by a loop and not by the library's `copy_from_slice`: that is `memmove` where the
+// compiler can't see that the two are apart, which what C links needs nowhere else.
 ghost use Rattle.std.specs.Prelude.{◌≡◌, ◌++◌, ◌+◌, ◌≤◌, length, take, drop};
 
 // Copies words to the front of others.
@@ -6,7 +7,9 @@ pub fn copy(s: &[u64], out: &mut [u64])
     requires { length s.now ≤ length out.old }
     ensures { out.new ≡ s.now ++ drop (length s.now) out.old }
 {
-    out[..s.len()].copy_from_slice(s);
+    for (i, w) in s.iter().enumerate() {
+        out[i] = *w;
+    }
 }
 
 // Copies words to a place of others.
@@ -14,5 +17,7 @@ pub fn put(words: &[u64], at: usize, out: &mut [u64])
     requires { at + length words.now ≤ length out.old }
     ensures { out.new ≡ take at out.old ++ (words.now ++ drop (at + length words.now) out.old) }
 {
-    out[at..at + words.len()].copy_from_slice(words);
+    for (k, w) in words.iter().enumerate() {
+        out[at + k] = *w;
+    }
 }

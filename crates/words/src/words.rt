@@ -27,5 +27,9 @@ pub fn check(tokens: &[u64], part: &[u64], name: u64, room: usize) -> Result<(),
 pub fn starts_with(words: &[u64], start: &[u64]) -> bool
     ensures { result ≡ begins_with words.now start.now }
 {
-    words.starts_with(start)
+    // Most places that are tried differ in their first word, which costs less to see than the library's scan does to begin.
+    match (words, start) {
+        ([w, ..], [s, ..]) if *w != *s => false,
+        _ => words.starts_with(start),
+    }
 }

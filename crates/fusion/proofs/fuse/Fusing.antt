@@ -134,12 +134,6 @@ module _ {base places numbers ws : List ℕ} {room spares : ℕ} {work spare : L
       let e : some (take n work) ≡ whole = sym (ap (λ (r : List ℕ). fused_words base r (drop k numbers) (take n work)) (none_left k places h)) ∙ state.same in
       subst (λ (w : maybe.Option (List ℕ)). (Some n ≡ stepped_answer w) × Front w work) e (ap Some (sym l), ap (λ (i : ℕ). take i work) l)
 
--- ---- words copied to the front of others, and what is told of them
-
-pub copies_so : (len : ℕ) (old area front : List ℕ) → len ≤ length old → front ≡ take len old → front ++ drop len area ≡ take len old ++ drop (length (take len old)) area
-copies_so len old area front h e =
-    ap (λ (l : List ℕ). l ++ drop len area) e ∙ ap (λ (j : ℕ). take len old ++ drop j area) (sym (length-take-le len old h))
-
 -- ---- what fusing answers and leaves
 
 module _ (base places numbers old : List ℕ) (len : ℕ) where
@@ -251,8 +245,12 @@ module _ (base places numbers old : List ℕ) (len : ℕ) where
                   let c = x.count in
                   omega (arith, fits_in n work, l, c)
 
-              pub in_tokens : n ≤ length old
-              in_tokens = omega (arith, no_more, h)
+              pub goes_back : length (take n work) ≤ length old
+              goes_back =
+                  let x = new_there in
+                  let l : length (take n work) ≡ length x.new = ap length x.front in
+                  let c = x.count in
+                  omega (arith, no_more, l, c, h)
 
               pub fused_so : (out : List ℕ) → out ≡ take n work ++ drop (length (take n work)) old → Answers (Ok n) out
               unfolding fusing_by

@@ -86,14 +86,18 @@ module _ (base : List ℕ) (place end name : ℕ) (ws spare : List ℕ) (there :
       let l : length out ≡ length (new ++ drop (length new) spare) = ap length (e ∙ leaves) in
       omega (arith, c, l, length-append new (drop (length new) spare))
 
-  pub fits_back : (n room : ℕ) → Ok n ≡ left.answer → length ws ≤ room → n ≤ room
-  fits_back n room a h = omega (arith, counted n a, short, h)
+  pub goes_back : (n room : ℕ) (out : List ℕ) → Ok n ≡ left.answer → out ≡ left.out → length ws ≤ room → length (take n out) ≤ room
+  goes_back n room out a e h =
+      let l : length (take n out) ≡ length new = ap length (taken n out (counted n a) e) in
+      omega (arith, l, short, h)
 
   pub step_ends :
-      (n : ℕ) (out work front : List ℕ) → Ok n ≡ left.answer → out ≡ left.out → front ≡ take n out → Ends base place name ws (Some n) (front ++ drop n work)
+      (n : ℕ) (out work after : List ℕ) → Ok n ≡ left.answer → out ≡ left.out → after ≡ take n out ++ drop (length (take n out)) work
+      → Ends base place name ws (Some n) after
   unfolding stepped_answer Front
-  step_ends n out work front a e f =
+  step_ends n out work after a e f =
       let c = counted n a in
-      let g : front ++ drop n work ≡ new ++ drop (length new) work = ap (λ (l : List ℕ). l ++ drop n work) (f ∙ taken n out c e) ∙ ap (λ (j : ℕ). new ++ drop j work) c in
-      subst (λ (w : maybe.Option (List ℕ)). (Some n ≡ stepped_answer w) × Front w (front ++ drop n work)) (sym step_makes)
+      let t = taken n out c e in
+      let g : after ≡ new ++ drop (length new) work = f ∙ ap (λ (l : List ℕ). l ++ drop (length l) work) t in
+      subst (λ (w : maybe.Option (List ℕ)). (Some n ≡ stepped_answer w) × Front w after) (sym step_makes)
       (ap Some c, ap (take (length new)) g ∙ take_at new (drop (length new) work) (length new) refl)

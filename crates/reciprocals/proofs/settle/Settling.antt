@@ -227,9 +227,9 @@ module _ (base places : List ℕ) (from first : ℕ) (old : List ℕ) (len : ℕ
               ∙ ap₂ (λ (i : ℕ) (o : List ℕ). record { answer = Ok i; out = o }) l w)
 
           -- the words are copied to an area
-          module _ (area copied : List ℕ) (copies : copied ≡ take len old ++ drop len area) where
+          module _ (area copied : List ℕ) (copies : copied ≡ take len old ++ drop (length (take len old)) area) where
             pub copied_front : take len copied ≡ take len old
-            copied_front = ap (take len) copies ∙ take_at (take len old) (drop len area) len (length-take-le len old h)
+            copied_front = ap (take len) copies ∙ take_at (take len old) (drop (length (take len old)) area) len (length-take-le len old h)
 
             abbrev pub result : Option (List ℕ)
             result = settled_words base (drop from places) (first + from) (take len copied)
@@ -278,13 +278,19 @@ module _ (base places : List ℕ) (from first : ℕ) (old : List ℕ) (len : ℕ
                   let c = x.count in
                   omega (arith, fits_in n work, l, c)
 
-              pub settled_so : (part : List ℕ) → part ≡ take n work → Answers (Ok n) (part ++ drop n old)
-              unfolding settling_by
-              settled_so part q =
+              pub goes_back : length (take n work) ≤ length old
+              goes_back =
                   let x = new_there in
-                  let w : part ++ drop n old ≡ x.new ++ drop (length x.new) old =
-                  ap (λ (l : List ℕ). l ++ drop n old) (q ∙ x.front) ∙ ap (λ (i : ℕ). x.new ++ drop i old) x.count in
-                  answers_by true true there room (Ok n) (part ++ drop n old)
+                  let l : length (take n work) ≡ length x.new = ap length x.front in
+                  let c = x.count in
+                  omega (arith, no_more, l, c, h)
+
+              pub settled_so : (out : List ℕ) → out ≡ take n work ++ drop (length (take n work)) old → Answers (Ok n) out
+              unfolding settling_by
+              settled_so out q =
+                  let x = new_there in
+                  let w : out ≡ x.new ++ drop (length x.new) old = q ∙ ap (λ (l : List ℕ). l ++ drop (length l) old) x.front in
+                  answers_by true true there room (Ok n) out
                   (ap (λ (o : Option (List ℕ)). settling_by true true o old) x.is
                   ∙ (ap (λ (i : ℕ). record { answer = Ok i; out = x.new ++ drop (length x.new) old }) (sym x.count)
                   ∙ ap (λ (l : List ℕ). record { answer = Ok n; out = l }) (sym w)))

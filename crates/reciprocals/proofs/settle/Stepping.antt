@@ -126,9 +126,6 @@ module _ (base : List ℕ) (place end name : ℕ) (ws spare : List ℕ) (there :
   pub never_silent : (r : Result ℕ Fault) (o : answer.Option ℕ) → r ≡ left.answer → o ≡ result_ok r → o ≡ answer.None → ⊥
   never_silent r o e f g = let q : answer.None ≡ answer.Some (length new) = sym g ∙ (f ∙ ap result_ok (e ∙ answers)) in let z : ◌≡◌ {A = ℕ} 0 1 = cc in omega arith
 
-  pub few : (n : ℕ) → Ok n ≡ left.answer → n ≤ length ws
-  few n a = let c = counted n a in omega (arith, c, short)
-
   taken : (n : ℕ) (out : List ℕ) → n ≡ length new → out ≡ left.out → take n out ≡ new
   taken n out c e = rw (e ∙ leaves) (take_at new (drop (length new) spare) n (sym c))
 
@@ -139,15 +136,21 @@ module _ (base : List ℕ) (place end name : ℕ) (ws spare : List ℕ) (there :
       let l : length out ≡ length (new ++ drop (length new) spare) = ap length (e ∙ leaves) in
       omega (arith, c, l, length-append new (drop (length new) spare))
 
+  pub goes_back : (n room : ℕ) (out : List ℕ) → Ok n ≡ left.answer → out ≡ left.out → length ws ≤ room → length (take n out) ≤ room
+  goes_back n room out a e h =
+      let l : length (take n out) ≡ length new = ap length (taken n out (counted n a) e) in
+      omega (arith, l, short, h)
+
   pub step_ends :
-      (n : ℕ) (out work part : List ℕ) → Ok n ≡ left.answer → out ≡ left.out → part ≡ take n out → Ends base place name ws (answer.Some n) (part ++ drop n work)
+      (n : ℕ) (out work after : List ℕ) → Ok n ≡ left.answer → out ≡ left.out → after ≡ take n out ++ drop (length (take n out)) work
+      → Ends base place name ws (answer.Some n) after
   unfolding stepped_answer Front
-  step_ends n out work part a e f =
+  step_ends n out work after a e f =
       let c = counted n a in
       let t = taken n out c e in
-      let g : part ++ drop n work ≡ new ++ drop n work = ap (λ (l : List ℕ). l ++ drop n work) (f ∙ t) in
-      subst (λ (w : Option (List ℕ)). (answer.Some n ≡ stepped_answer w) × Front w (part ++ drop n work)) (sym step_makes)
-      (ap answer.Some c, ap (take (length new)) g ∙ take_at new (drop n work) (length new) refl)
+      let g : after ≡ new ++ drop (length new) work = f ∙ ap (λ (l : List ℕ). l ++ drop (length l) work) t in
+      subst (λ (w : Option (List ℕ)). (answer.Some n ≡ stepped_answer w) × Front w after) (sym step_makes)
+      (ap answer.Some c, ap (take (length new)) g ∙ take_at new (drop (length new) work) (length new) refl)
 
 -- where the divisor's words don't stand among the words, these stay
 pub stays_so :

@@ -1,8 +1,7 @@
 -- `rounds::extract` meets its contract. Assumes nothing.
-use Prim.Native.Nat.{◌-◌}
 use native.Mathlib.Omega.{arith}
 use Rattle.fmt.specs.checked.Check.{rows_in}
-use Rattle.rounds.proofs.Extracting.{there, within, part_long, asked, room, put_room, done, refuses, copy_fits, copied}
+use Rattle.rounds.proofs.Extracting.{there, within, part_long, asked, room, put_room, done, refuses}
 use borrow.Author.Rules.{rules}
 use Rattle.std.specs.Prelude.{Err}
 use Rattle.rounds.specs.Answers.{Extracts}
@@ -44,41 +43,26 @@ returns-in_err-n c =
     refuses (rows_in a.rows.now) a.tokens.now a.scoped a.at a.name c.requires.chosen c.tree_end-end.result c.tree_end-end.ensures c.replace_known.result a.out.now _ c.requires.tokens_in_bounds.1 c.replace_known.ensures c.in_err-n.field-0.0 c.in_err-n.was in
     search rules
 
-pub overflow_sub-last : goal.overflow_sub-last
-overflow_sub-last c = (let a = c.args in (within (rows_in a.rows.now) a.tokens.now a.scoped a.at a.name c.requires.chosen c.tree_end-end.result c.tree_end-end.ensures).0)
+pub overflow_sub-result : goal.overflow_sub-result
+overflow_sub-result c = (let a = c.args in (within (rows_in a.rows.now) a.tokens.now a.scoped a.at a.name c.requires.chosen c.tree_end-end.result c.tree_end-end.ensures).0)
 
-pub overflow_add-last : goal.overflow_add-last
-overflow_add-last c = (let a = c.args in omega (arith, room (rows_in a.rows.now) a.tokens.now a.scoped a.at a.name c.requires.chosen c.tree_end-end.result c.tree_end-end.ensures c.replace_known.result a.out.now _ c.requires.tokens_in_bounds.1 c.replace_known.ensures c.in_ok-n.n c.in_ok-n.was, c.requires.tokens_len_bound))
+pub overflow_add-result : goal.overflow_add-result
+overflow_add-result c = (let a = c.args in omega (arith, room (rows_in a.rows.now) a.tokens.now a.scoped a.at a.name c.requires.chosen c.tree_end-end.result c.tree_end-end.ensures c.replace_known.result a.out.now _ c.requires.tokens_in_bounds.1 c.replace_known.ensures c.in_ok-n.n c.in_ok-n.was, c.requires.tokens_len_bound))
 
 pub offset_bounds-tokens-at-2 : goal.offset_bounds-tokens-at-2
 offset_bounds-tokens-at-2 c = (let a = c.args in omega (arith, within (rows_in a.rows.now) a.tokens.now a.scoped a.at a.name c.requires.chosen c.tree_end-end.result c.tree_end-end.ensures, c.requires.tokens_len_bound))
 
-pub slice_bounds-copy_from_slice-count-2 : goal.slice_bounds-copy_from_slice-count-2
-slice_bounds-copy_from_slice-count-2 c = (let a = c.args in (within (rows_in a.rows.now) a.tokens.now a.scoped a.at a.name c.requires.chosen c.tree_end-end.result c.tree_end-end.ensures).0)
+pub slice_bounds-put-count : goal.slice_bounds-put-count
+slice_bounds-put-count c = (let a = c.args in (within (rows_in a.rows.now) a.tokens.now a.scoped a.at a.name c.requires.chosen c.tree_end-end.result c.tree_end-end.ensures).0)
 
-pub slice_bounds-copy_from_slice-start-2 : goal.slice_bounds-copy_from_slice-start-2
-slice_bounds-copy_from_slice-start-2 c = (let a = c.args in (within (rows_in a.rows.now) a.tokens.now a.scoped a.at a.name c.requires.chosen c.tree_end-end.result c.tree_end-end.ensures).0)
+pub slice_bounds-put-start : goal.slice_bounds-put-start
+slice_bounds-put-start c = (let a = c.args in (within (rows_in a.rows.now) a.tokens.now a.scoped a.at a.name c.requires.chosen c.tree_end-end.result c.tree_end-end.ensures).0)
 
-pub slice_bounds-copy_from_slice-end-2 : goal.slice_bounds-copy_from_slice-end-2
-slice_bounds-copy_from_slice-end-2 c = (let a = c.args in (within (rows_in a.rows.now) a.tokens.now a.scoped a.at a.name c.requires.chosen c.tree_end-end.result c.tree_end-end.ensures).1)
+pub slice_bounds-put-end : goal.slice_bounds-put-end
+slice_bounds-put-end c = (let a = c.args in (within (rows_in a.rows.now) a.tokens.now a.scoped a.at a.name c.requires.chosen c.tree_end-end.result c.tree_end-end.ensures).1)
 
-pub slice_bounds-copy_from_slice-end : goal.slice_bounds-copy_from_slice-end
-slice_bounds-copy_from_slice-end c =
-    let a = c.args in
-    let room_for = put_room (rows_in a.rows.now) a.tokens.now a.scoped a.at a.name c.requires.chosen c.tree_end-end.result c.tree_end-end.ensures c.replace_known.result a.out.now _ c.requires.tokens_in_bounds.1 c.replace_known.ensures c.in_ok-n.n c.in_ok-n.was in
-    omega (arith, part_long (rows_in a.rows.now) a.tokens.now a.scoped a.at a.name c.requires.chosen c.tree_end-end.result c.tree_end-end.ensures)
-
-pub copy_from_slice-requires : goal.copy_from_slice-requires
-copy_from_slice-requires c =
-    let a = c.args in
-    let room_for = put_room (rows_in a.rows.now) a.tokens.now a.scoped a.at a.name c.requires.chosen c.tree_end-end.result c.tree_end-end.ensures c.replace_known.result a.out.now _ c.requires.tokens_in_bounds.1 c.replace_known.ensures c.in_ok-n.n c.in_ok-n.was in
-    let long = part_long (rows_in a.rows.now) a.tokens.now a.scoped a.at a.name c.requires.chosen c.tree_end-end.result c.tree_end-end.ensures in
-    copy_fits c.replace_known.new.out _ c.in_ok-n.n (c.tree_end-end.result - a.at) long (omega (arith, long))
+pub put-requires : goal.put-requires
+put-requires c = let a = c.args in put_room (rows_in a.rows.now) a.tokens.now a.scoped a.at a.name c.requires.chosen c.tree_end-end.result c.tree_end-end.ensures c.replace_known.result a.out.now _ c.requires.tokens_in_bounds.1 c.replace_known.ensures c.in_ok-n.n c.in_ok-n.was
 
 pub returns : goal.returns
-returns c =
-    let a = c.args in
-    let room_for = put_room (rows_in a.rows.now) a.tokens.now a.scoped a.at a.name c.requires.chosen c.tree_end-end.result c.tree_end-end.ensures c.replace_known.result a.out.now _ c.requires.tokens_in_bounds.1 c.replace_known.ensures c.in_ok-n.n c.in_ok-n.was in
-    let long = part_long (rows_in a.rows.now) a.tokens.now a.scoped a.at a.name c.requires.chosen c.tree_end-end.result c.tree_end-end.ensures in
-    done (rows_in a.rows.now) a.tokens.now a.scoped a.at a.name c.requires.chosen c.tree_end-end.result c.tree_end-end.ensures c.replace_known.result a.out.now _ c.requires.tokens_in_bounds.1 c.replace_known.ensures c.in_ok-n.n c.in_ok-n.was _
-    (copied c.replace_known.new.out _ c.in_ok-n.n (c.tree_end-end.result - a.at) long (omega (arith, long)) c.copy_from_slice.new.self c.copy_from_slice.ensures.after)
+returns c = let a = c.args in done (rows_in a.rows.now) a.tokens.now a.scoped a.at a.name c.requires.chosen c.tree_end-end.result c.tree_end-end.ensures c.replace_known.result a.out.now _ c.requires.tokens_in_bounds.1 c.replace_known.ensures c.in_ok-n.n c.in_ok-n.was _ c.put.ensures

@@ -26,4 +26,4 @@ returns-in_err-n c =
 pub returns : goal.returns
 returns c =
     let a = c.args in
-    turned a.tokens.now a.len a.at a.name c.requires.len_in_bounds.0 _ _ c.extract.result c.extract.ensures c.in_ok-n.n c.in_ok-n.was c.copy_from_slice.new.self c.copy_from_slice.ensures.after
+    turned a.tokens.now a.len a.at a.name c.requires.len_in_bounds.0 _ _ c.extract.result c.extract.ensures c.in_ok-n.n c.in_ok-n.was _ c.copy.ensures

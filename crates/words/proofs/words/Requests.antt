@@ -13,7 +13,8 @@ use Rattle.std.specs.Bool.{Decides}
 use Rattle.std.proofs.lemmas.Slice.Eq.{slice_eq-Decides}
 use Rattle.std.proofs.lemmas.Bool.Decides.{Decides-eqb}
 use borrow.Author.Tests.{eqb-true, eq-eqb, ne_eqb, lt-ltb, le-ltb, ltb-false}
-use lib.ListN.{length, take, length-take}
+use lib.ListN.{length, get_or, take, length-take}
+use lib.Seq.{get_or-take}
 use lib.Dec.{T, eqb, ltb}
 use Rattle.spec_tree.specs.Bytes.{eq_bytes}
 use Rattle.spec_tree.specs.Tokens.{kind_of, trees_in}
@@ -113,6 +114,12 @@ unfolding begins_with
 begins_short ws start h =
     sym (not_true (eq_bytes (take (length start) ws) start)
     (λ t. let e = ap length (eq_bytes_sound (take (length start) ws) start t) in omega (arith, e, length-take (length start) ws)))
+
+pub begins_differs : (ws start : List ℕ) (k : ℕ) → k < length start → (get_or ws k 0 ≡ get_or start k 0 → ⊥) → false ≡ begins_with ws start
+unfolding begins_with
+begins_differs ws start k h ne =
+    sym (not_true (eq_bytes (take (length start) ws) start)
+    (λ t. ne (sym (get_or-take (length start) ws k 0 h) ∙ ap (λ (l : List ℕ). get_or l k 0) (eq_bytes_sound (take (length start) ws) start t))))
 
 -- `starts_with` of slices
 pub begins_is : (ws start : List ℕ) (r : Bool) → r ≡ pointwise eqb start (take (length start) ws) → r ≡ begins_with ws start

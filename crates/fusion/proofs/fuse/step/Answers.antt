@@ -1,11 +1,11 @@
 -- `fusion::fuse::step` meets its contract: the member is a tree of the base, so the words can be rewritten by it. Assumes nothing.
 use native.Mathlib.Omega.{arith}
 use mathlib.Core.Path.{sym, ◌∙◌}
-use lib.ListN.{take}
+use lib.ListN.{length, take}
 use lib.Seq.{length-take-le}
 use Rattle.reciprocals.proofs.settle.Stepping.{divisor_there}
 use Rattle.fusion.proofs.Tests.{ok_by_some, no_ok_by_none}
-use Rattle.fusion.proofs.fuse.Stepping.{no_member, answers, in_out, fits_back, step_ends}
+use Rattle.fusion.proofs.fuse.Stepping.{no_member, answers, in_out, goes_back, step_ends}
 use Rattle.fusion.proofs.fuse.step.Goals as goal
 
 pub returns-in_err-end-clause-value : goal.returns-in_err-end-clause-value
@@ -36,44 +36,32 @@ returns-in_err-n c = let d = divisor_there c.args.base.now c.args.place _ (sym c
     let l = length-take-le c.args.len c.args.work.now c.requires.len_in_bounds.0 in
     absurd (no_ok_by_none _ _ (sym c.ok.ensures.value ∙ c.in_err-n.was) (c.replace_outside_arms.ensures.0 ∙ answers c.args.base.now c.args.place _ c.args.name ws c.args.spare.now d c.requires.len_in_bounds.1 c.requires.name_value.0 (omega (arith, l, c.requires.len_in_bounds.0, c.requires.name_value.1))))
 
-pub slice_bounds-copy_from_slice-end : goal.slice_bounds-copy_from_slice-end
-slice_bounds-copy_from_slice-end c = let d = divisor_there c.args.base.now c.args.place _ (sym c.in_ok-end.was ∙ c.end_of.ensures) in
-    let ws = take c.args.len c.args.work.now in
-    let l = length-take-le c.args.len c.args.work.now c.requires.len_in_bounds.0 in
-    fits_back c.args.base.now c.args.place _ c.args.name ws c.args.spare.now d c.requires.len_in_bounds.1 c.requires.name_value.0 (omega (arith, l, c.requires.len_in_bounds.0, c.requires.name_value.1)) _ _ (sym (ok_by_some _ _ (sym c.ok.ensures.value ∙ c.in_ok-n.was)) ∙ c.replace_outside_arms.ensures.0) (omega (arith, l, c.requires.len_in_bounds.0))
-
-pub slice_bounds-copy_from_slice-end-2 : goal.slice_bounds-copy_from_slice-end-2
-slice_bounds-copy_from_slice-end-2 c = let d = divisor_there c.args.base.now c.args.place _ (sym c.in_ok-end.was ∙ c.end_of.ensures) in
-    let ws = take c.args.len c.args.work.now in
-    let l = length-take-le c.args.len c.args.work.now c.requires.len_in_bounds.0 in
-    sym (length-take-le _ _ (fits_back c.args.base.now c.args.place _ c.args.name ws c.args.spare.now d c.requires.len_in_bounds.1 c.requires.name_value.0 (omega (arith, l, c.requires.len_in_bounds.0, c.requires.name_value.1)) _ _ (sym (ok_by_some _ _ (sym c.ok.ensures.value ∙ c.in_ok-n.was)) ∙ c.replace_outside_arms.ensures.0) (omega (arith, l, c.requires.len_in_bounds.0))))
-
-pub slice_bounds-copy_from_slice-end-3 : goal.slice_bounds-copy_from_slice-end-3
-slice_bounds-copy_from_slice-end-3 c = let d = divisor_there c.args.base.now c.args.place _ (sym c.in_ok-end.was ∙ c.end_of.ensures) in
+pub slice_bounds-copy-end : goal.slice_bounds-copy-end
+slice_bounds-copy-end c = let d = divisor_there c.args.base.now c.args.place _ (sym c.in_ok-end.was ∙ c.end_of.ensures) in
     let ws = take c.args.len c.args.work.now in
     let l = length-take-le c.args.len c.args.work.now c.requires.len_in_bounds.0 in
     in_out c.args.base.now c.args.place _ c.args.name ws c.args.spare.now d c.requires.len_in_bounds.1 c.requires.name_value.0 (omega (arith, l, c.requires.len_in_bounds.0, c.requires.name_value.1)) _ _ (sym (ok_by_some _ _ (sym c.ok.ensures.value ∙ c.in_ok-n.was)) ∙ c.replace_outside_arms.ensures.0) c.replace_outside_arms.ensures.1
 
-pub slice_bounds-copy_from_slice-end-4 : goal.slice_bounds-copy_from_slice-end-4
-slice_bounds-copy_from_slice-end-4 c = let d = divisor_there c.args.base.now c.args.place _ (sym c.in_ok-end.was ∙ c.end_of.ensures) in
+pub slice_bounds-copy-end-2 : goal.slice_bounds-copy-end-2
+slice_bounds-copy-end-2 c = let d = divisor_there c.args.base.now c.args.place _ (sym c.in_ok-end.was ∙ c.end_of.ensures) in
     let ws = take c.args.len c.args.work.now in
     let l = length-take-le c.args.len c.args.work.now c.requires.len_in_bounds.0 in
     sym (length-take-le _ _ (in_out c.args.base.now c.args.place _ c.args.name ws c.args.spare.now d c.requires.len_in_bounds.1 c.requires.name_value.0 (omega (arith, l, c.requires.len_in_bounds.0, c.requires.name_value.1)) _ _ (sym (ok_by_some _ _ (sym c.ok.ensures.value ∙ c.in_ok-n.was)) ∙ c.replace_outside_arms.ensures.0) c.replace_outside_arms.ensures.1))
 
-pub copy_from_slice-requires : goal.copy_from_slice-requires
-copy_from_slice-requires c = let d = divisor_there c.args.base.now c.args.place _ (sym c.in_ok-end.was ∙ c.end_of.ensures) in
+pub copy-requires : goal.copy-requires
+copy-requires c = let d = divisor_there c.args.base.now c.args.place _ (sym c.in_ok-end.was ∙ c.end_of.ensures) in
     let ws = take c.args.len c.args.work.now in
     let l = length-take-le c.args.len c.args.work.now c.requires.len_in_bounds.0 in
-    length-take-le _ _ (fits_back c.args.base.now c.args.place _ c.args.name ws c.args.spare.now d c.requires.len_in_bounds.1 c.requires.name_value.0 (omega (arith, l, c.requires.len_in_bounds.0, c.requires.name_value.1)) _ _ (sym (ok_by_some _ _ (sym c.ok.ensures.value ∙ c.in_ok-n.was)) ∙ c.replace_outside_arms.ensures.0) (omega (arith, l, c.requires.len_in_bounds.0))) ∙ sym (length-take-le _ _ (in_out c.args.base.now c.args.place _ c.args.name ws c.args.spare.now d c.requires.len_in_bounds.1 c.requires.name_value.0 (omega (arith, l, c.requires.len_in_bounds.0, c.requires.name_value.1)) _ _ (sym (ok_by_some _ _ (sym c.ok.ensures.value ∙ c.in_ok-n.was)) ∙ c.replace_outside_arms.ensures.0) c.replace_outside_arms.ensures.1))
+    goes_back c.args.base.now c.args.place _ c.args.name ws c.args.spare.now d c.requires.len_in_bounds.1 c.requires.name_value.0 (omega (arith, l, c.requires.len_in_bounds.0, c.requires.name_value.1)) _ (length c.args.work.now) _ (sym (ok_by_some _ _ (sym c.ok.ensures.value ∙ c.in_ok-n.was)) ∙ c.replace_outside_arms.ensures.0) c.replace_outside_arms.ensures.1 (omega (arith, l, c.requires.len_in_bounds.0))
 
 pub returns-clause-value : goal.returns-clause-value
 returns-clause-value c = let d = divisor_there c.args.base.now c.args.place _ (sym c.in_ok-end.was ∙ c.end_of.ensures) in
     let ws = take c.args.len c.args.work.now in
     let l = length-take-le c.args.len c.args.work.now c.requires.len_in_bounds.0 in
-    (step_ends c.args.base.now c.args.place _ c.args.name ws c.args.spare.now d c.requires.len_in_bounds.1 c.requires.name_value.0 (omega (arith, l, c.requires.len_in_bounds.0, c.requires.name_value.1)) _ _ c.args.work.now _ (sym (ok_by_some _ _ (sym c.ok.ensures.value ∙ c.in_ok-n.was)) ∙ c.replace_outside_arms.ensures.0) c.replace_outside_arms.ensures.1 c.copy_from_slice.ensures.after).0
+    (step_ends c.args.base.now c.args.place _ c.args.name ws c.args.spare.now d c.requires.len_in_bounds.1 c.requires.name_value.0 (omega (arith, l, c.requires.len_in_bounds.0, c.requires.name_value.1)) _ _ c.args.work.now _ (sym (ok_by_some _ _ (sym c.ok.ensures.value ∙ c.in_ok-n.was)) ∙ c.replace_outside_arms.ensures.0) c.replace_outside_arms.ensures.1 c.copy.ensures).0
 
 pub returns-clause-front : goal.returns-clause-front
 returns-clause-front c = let d = divisor_there c.args.base.now c.args.place _ (sym c.in_ok-end.was ∙ c.end_of.ensures) in
     let ws = take c.args.len c.args.work.now in
     let l = length-take-le c.args.len c.args.work.now c.requires.len_in_bounds.0 in
-    (step_ends c.args.base.now c.args.place _ c.args.name ws c.args.spare.now d c.requires.len_in_bounds.1 c.requires.name_value.0 (omega (arith, l, c.requires.len_in_bounds.0, c.requires.name_value.1)) _ _ c.args.work.now _ (sym (ok_by_some _ _ (sym c.ok.ensures.value ∙ c.in_ok-n.was)) ∙ c.replace_outside_arms.ensures.0) c.replace_outside_arms.ensures.1 c.copy_from_slice.ensures.after).1
+    (step_ends c.args.base.now c.args.place _ c.args.name ws c.args.spare.now d c.requires.len_in_bounds.1 c.requires.name_value.0 (omega (arith, l, c.requires.len_in_bounds.0, c.requires.name_value.1)) _ _ c.args.work.now _ (sym (ok_by_some _ _ (sym c.ok.ensures.value ∙ c.in_ok-n.was)) ∙ c.replace_outside_arms.ensures.0) c.replace_outside_arms.ensures.1 c.copy.ensures).1

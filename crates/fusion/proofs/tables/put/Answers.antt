@@ -8,5 +8,8 @@ use Rattle.fusion.proofs.tables.put.Goals as goal
 pub returns-then-at-table : goal.returns-then-at-table
 returns-then-at-table c = sym (overlay_past c.args.at c.args.words.now c.args.table.now (omega arith))
 
+pub put-requires : goal.put-requires
+put-requires c = omega (arith, length-take-le _ c.args.words.now (omega (arith, c.min-n.ensures)), c.min-n.ensures)
+
 pub returns : goal.returns
-returns c = copied_over c.args.words.now c.args.table.now _ c.args.at _ c.min-n.ensures c.copy_from_slice.ensures.after
+returns c = copied_over c.args.words.now c.args.table.now _ c.args.at _ c.min-n.ensures c.put.ensures

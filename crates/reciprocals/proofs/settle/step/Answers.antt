@@ -1,9 +1,9 @@
 -- `reciprocals::settle::step` meets its contract: the divisor is a tree of the base, so the words can be rewritten by it. Assumes nothing.
 use native.Mathlib.Omega.{arith}
 use mathlib.Core.Path.{sym, ◌∙◌}
-use lib.ListN.{take}
+use lib.ListN.{length, take}
 use lib.Seq.{length-take-le}
-use Rattle.reciprocals.proofs.settle.Stepping.{divisor_there, no_divisor, told, never_silent, few, in_out, step_ends, stays_so}
+use Rattle.reciprocals.proofs.settle.Stepping.{divisor_there, no_divisor, told, never_silent, goes_back, in_out, step_ends, stays_so}
 use Rattle.words.proofs.words.Rewriting.{one_long}
 use Rattle.reciprocals.proofs.settle.step.Goals as goal
 
@@ -40,46 +40,31 @@ returns-in_err-n c =
     let l = length-take-le c.args.len c.args.work.now c.requires.len_in_bounds.0 in
     absurd (never_silent c.args.base.now c.args.place _ c.args.name (take c.args.len c.args.work.now) c.args.spare.now d c.requires.len_in_bounds.1 c.requires.name_value.0 (omega (arith, l, c.requires.len_in_bounds.0, c.requires.name_value.1)) c.replace_divisor.result c.ok.result c.replace_divisor.ensures.0 c.ok.ensures.value c.in_err-n.was)
 
-pub slice_bounds-copy_from_slice-end : goal.slice_bounds-copy_from_slice-end
-slice_bounds-copy_from_slice-end c =
-    let d = divisor_there c.args.base.now c.args.place _ (sym c.in_ok-end.was ∙ c.end_of.ensures) in
-    let l = length-take-le c.args.len c.args.work.now c.requires.len_in_bounds.0 in
-    let t = told c.args.base.now c.args.place _ c.args.name (take c.args.len c.args.work.now) c.args.spare.now d c.requires.len_in_bounds.1 c.requires.name_value.0 (omega (arith, l, c.requires.len_in_bounds.0, c.requires.name_value.1)) c.replace_divisor.result c.ok.result c.in_ok-n.n c.replace_divisor.ensures.0 c.ok.ensures.value c.in_ok-n.was in
-    omega (arith, few c.args.base.now c.args.place _ c.args.name (take c.args.len c.args.work.now) c.args.spare.now d c.requires.len_in_bounds.1 c.requires.name_value.0 (omega (arith, l, c.requires.len_in_bounds.0, c.requires.name_value.1)) _ t, l, c.requires.len_in_bounds.0)
-
-pub slice_bounds-copy_from_slice-end-2 : goal.slice_bounds-copy_from_slice-end-2
-slice_bounds-copy_from_slice-end-2 c =
-    let d = divisor_there c.args.base.now c.args.place _ (sym c.in_ok-end.was ∙ c.end_of.ensures) in
-    let l = length-take-le c.args.len c.args.work.now c.requires.len_in_bounds.0 in
-    let t = told c.args.base.now c.args.place _ c.args.name (take c.args.len c.args.work.now) c.args.spare.now d c.requires.len_in_bounds.1 c.requires.name_value.0 (omega (arith, l, c.requires.len_in_bounds.0, c.requires.name_value.1)) c.replace_divisor.result c.ok.result c.in_ok-n.n c.replace_divisor.ensures.0 c.ok.ensures.value c.in_ok-n.was in
-    sym (length-take-le c.in_ok-n.n c.args.work.now (omega (arith, few c.args.base.now c.args.place _ c.args.name (take c.args.len c.args.work.now) c.args.spare.now d c.requires.len_in_bounds.1 c.requires.name_value.0 (omega (arith, l, c.requires.len_in_bounds.0, c.requires.name_value.1)) _ t, l, c.requires.len_in_bounds.0)))
-
-pub slice_bounds-copy_from_slice-end-3 : goal.slice_bounds-copy_from_slice-end-3
-slice_bounds-copy_from_slice-end-3 c =
+pub slice_bounds-copy-end : goal.slice_bounds-copy-end
+slice_bounds-copy-end c =
     let d = divisor_there c.args.base.now c.args.place _ (sym c.in_ok-end.was ∙ c.end_of.ensures) in
     let l = length-take-le c.args.len c.args.work.now c.requires.len_in_bounds.0 in
     let t = told c.args.base.now c.args.place _ c.args.name (take c.args.len c.args.work.now) c.args.spare.now d c.requires.len_in_bounds.1 c.requires.name_value.0 (omega (arith, l, c.requires.len_in_bounds.0, c.requires.name_value.1)) c.replace_divisor.result c.ok.result c.in_ok-n.n c.replace_divisor.ensures.0 c.ok.ensures.value c.in_ok-n.was in
     in_out c.args.base.now c.args.place _ c.args.name (take c.args.len c.args.work.now) c.args.spare.now d c.requires.len_in_bounds.1 c.requires.name_value.0 (omega (arith, l, c.requires.len_in_bounds.0, c.requires.name_value.1)) _ _ t c.replace_divisor.ensures.1
 
-pub slice_bounds-copy_from_slice-end-4 : goal.slice_bounds-copy_from_slice-end-4
-slice_bounds-copy_from_slice-end-4 c =
+pub slice_bounds-copy-end-2 : goal.slice_bounds-copy-end-2
+slice_bounds-copy-end-2 c =
     let d = divisor_there c.args.base.now c.args.place _ (sym c.in_ok-end.was ∙ c.end_of.ensures) in
     let l = length-take-le c.args.len c.args.work.now c.requires.len_in_bounds.0 in
     let t = told c.args.base.now c.args.place _ c.args.name (take c.args.len c.args.work.now) c.args.spare.now d c.requires.len_in_bounds.1 c.requires.name_value.0 (omega (arith, l, c.requires.len_in_bounds.0, c.requires.name_value.1)) c.replace_divisor.result c.ok.result c.in_ok-n.n c.replace_divisor.ensures.0 c.ok.ensures.value c.in_ok-n.was in
     sym (length-take-le _ _ (in_out c.args.base.now c.args.place _ c.args.name (take c.args.len c.args.work.now) c.args.spare.now d c.requires.len_in_bounds.1 c.requires.name_value.0 (omega (arith, l, c.requires.len_in_bounds.0, c.requires.name_value.1)) _ _ t c.replace_divisor.ensures.1))
 
-pub copy_from_slice-requires : goal.copy_from_slice-requires
-copy_from_slice-requires c =
+pub copy-requires : goal.copy-requires
+copy-requires c =
     let d = divisor_there c.args.base.now c.args.place _ (sym c.in_ok-end.was ∙ c.end_of.ensures) in
     let l = length-take-le c.args.len c.args.work.now c.requires.len_in_bounds.0 in
     let t = told c.args.base.now c.args.place _ c.args.name (take c.args.len c.args.work.now) c.args.spare.now d c.requires.len_in_bounds.1 c.requires.name_value.0 (omega (arith, l, c.requires.len_in_bounds.0, c.requires.name_value.1)) c.replace_divisor.result c.ok.result c.in_ok-n.n c.replace_divisor.ensures.0 c.ok.ensures.value c.in_ok-n.was in
-    length-take-le c.in_ok-n.n c.args.work.now (omega (arith, few c.args.base.now c.args.place _ c.args.name (take c.args.len c.args.work.now) c.args.spare.now d c.requires.len_in_bounds.1 c.requires.name_value.0 (omega (arith, l, c.requires.len_in_bounds.0, c.requires.name_value.1)) _ t, l, c.requires.len_in_bounds.0))
-    ∙ sym (length-take-le _ _ (in_out c.args.base.now c.args.place _ c.args.name (take c.args.len c.args.work.now) c.args.spare.now d c.requires.len_in_bounds.1 c.requires.name_value.0 (omega (arith, l, c.requires.len_in_bounds.0, c.requires.name_value.1)) _ _ t c.replace_divisor.ensures.1))
+    goes_back c.args.base.now c.args.place _ c.args.name (take c.args.len c.args.work.now) c.args.spare.now d c.requires.len_in_bounds.1 c.requires.name_value.0 (omega (arith, l, c.requires.len_in_bounds.0, c.requires.name_value.1)) _ (length c.args.work.now) _ t c.replace_divisor.ensures.1 (omega (arith, l, c.requires.len_in_bounds.0))
 
 pub returns : goal.returns
 returns c =
     let d = divisor_there c.args.base.now c.args.place _ (sym c.in_ok-end.was ∙ c.end_of.ensures) in
     let l = length-take-le c.args.len c.args.work.now c.requires.len_in_bounds.0 in
     let t = told c.args.base.now c.args.place _ c.args.name (take c.args.len c.args.work.now) c.args.spare.now d c.requires.len_in_bounds.1 c.requires.name_value.0 (omega (arith, l, c.requires.len_in_bounds.0, c.requires.name_value.1)) c.replace_divisor.result c.ok.result c.in_ok-n.n c.replace_divisor.ensures.0 c.ok.ensures.value c.in_ok-n.was in
-    let ends = step_ends c.args.base.now c.args.place _ c.args.name (take c.args.len c.args.work.now) c.args.spare.now d c.requires.len_in_bounds.1 c.requires.name_value.0 (omega (arith, l, c.requires.len_in_bounds.0, c.requires.name_value.1)) _ _ c.args.work.now c.copy_from_slice.new.self t c.replace_divisor.ensures.1 c.copy_from_slice.ensures.after in
+    let ends = step_ends c.args.base.now c.args.place _ c.args.name (take c.args.len c.args.work.now) c.args.spare.now d c.requires.len_in_bounds.1 c.requires.name_value.0 (omega (arith, l, c.requires.len_in_bounds.0, c.requires.name_value.1)) _ _ c.args.work.now _ t c.replace_divisor.ensures.1 c.copy.ensures in
     record { value = ends.0; front = ends.1 }
