@@ -16,11 +16,13 @@ use Rattle.spec_cse.specs.Call.{Extracted, work_words, work_bytes, extract_call,
 use Rattle.fmt.specs.checked.Check.{rows_in}
 use Rattle.laws.proofs.positions.RowNames.{tree_words}
 use Rattle.reciprocals.specs.final.Final.{final_rows}
-use Rattle.cse_flat.specs.ending.Answers.{by_number, finish_outcome, trees_there, room_for}
+use Rattle.cse_flat.specs.ending.Answers.{finish_outcome, trees_there, room_for, Tested, Ended, Broken, NoRoom, tested, finishing}
+use Rattle.cse_flat.specs.declared.ending.FinishError.{FinishError}
+use Rattle.cse_flat.specs.declared.ending.FinishError.TheVariants as finish_error
 use Rattle.cse_flat.specs.refined.Parts.{extract_from}
 use Rattle.cse_flat.proofs.refined.Ending.{call_short, call_enough, from_nine, final_counts}
 use Rattle.cse_flat.proofs.refined.Flat.{flat_ten}
-use Rattle.cse_flat.proofs.refined.Finishing.{flat_trees_there, flat_room_for, flat_fits, flat_bindings, flat_outcome}
+use Rattle.cse_flat.proofs.refined.Finishing.{finishes, flat_trees_there, flat_room_for, flat_fits, flat_bindings, flat_outcome}
 use Rattle.cse_flat.specs.Extraction.{Extraction}
 use Rattle.cse_flat.specs.Extraction as extraction
 use Rattle.cse_flat.specs.Answers.{extraction_answer, Lists}
@@ -45,26 +47,40 @@ module _ (ws : List ℕ) (k : ℕ) (places table : List ℕ) (made : ℕ) where
   abbrev final : Outcome Extracted
   final = final_rows (length table) k places ws
 
-  module _ (count : made ≡ length (drop k (read numbered ws))) (f : Result ℕ RefusalName) (new : List ℕ) (given : (by_number f ≡ (finish_outcome final table).answer) × (new ≡ (finish_outcome final table).table)) where
-    abbrev By : Result ℕ ℕ → Type 0
-    By (Ok n) = AnswersBy final table (extraction.Rows n made) new
-    By (Err q) = AnswersBy final table (extraction.Refused q) new
+  module _ (there : T (trees_there ws k places) × T (room_for ws k places)) (count : made ≡ length (drop k (read numbered ws))) (f : Result ℕ FinishError) (new : List ℕ)
+      (given : (tested f ≡ (finishing ws k places table).answer) × (new ≡ (finishing ws k places table).table)) where
+    abbrev By : Tested → Type 0
+    By (Ended (Ok n)) = AnswersBy final table (extraction.Rows n made) new
+    By (Ended (Err q)) = AnswersBy final table (extraction.Refused q) new
+    By Broken = ⊥
+    By NoRoom = ⊥
 
-    by_outcome : (o : Outcome Extracted) → final ≡ o → new ≡ (finish_outcome o table).table → By (finish_outcome o table).answer
+    by_outcome : (o : Outcome Extracted) → final ≡ o → new ≡ (finish_outcome o table).table → By (Ended (finish_outcome o table).answer)
     unfolding finish_outcome extraction_answer table_after
     by_outcome (ok x) e t =
         subst (λ (o : Outcome Extracted). AnswersBy o table (extraction.Rows (length x.words) made) new) (sym e)
         (ap (extraction.Rows (length x.words)) (count ∙ sym (final_counts (length table) k places ws x e)), t)
     by_outcome (refused i) e t = subst (λ (o : Outcome Extracted). AnswersBy o table (extraction.Refused i.number) new) (sym e) (refl, t)
 
-    ended : By (by_number f)
-    ended = subst By (sym given.0) (by_outcome final refl given.1)
+    ended : By (tested f)
+    ended =
+        let e = finishes ws k places table there.0 there.1 in
+        subst By (sym (given.0 ∙ e.0)) (by_outcome final refl (given.1 ∙ e.1))
+
+    ended_as : (r : Result ℕ FinishError) → f ≡ r → By (tested r)
+    ended_as r e = subst (λ (r : Result ℕ FinishError). By (tested r)) e ended
 
     pub ends_in_rows : (n : ℕ) → f ≡ Ok n → AnswersBy final table (extraction.Rows n made) new
-    ends_in_rows n e = subst (λ (r : Result ℕ RefusalName). By (by_number r)) e ended
+    ends_in_rows n e = ended_as (Ok n) e
 
-    pub ends_refused : (q : RefusalName) → f ≡ Err q → AnswersBy final table (extraction.Refused (number_of q)) new
-    ends_refused q e = subst (λ (r : Result ℕ RefusalName). By (by_number r)) e ended
+    pub ends_refused : (q : RefusalName) → f ≡ Err (finish_error.Refused q) → AnswersBy final table (extraction.Refused (number_of q)) new
+    ends_refused q e = ended_as (Err (finish_error.Refused q)) e
+
+    pub never_broken : f ≡ Err finish_error.Broken → ⊥
+    never_broken e = ended_as (Err finish_error.Broken) e
+
+    pub never_roomless : f ≡ Err finish_error.NoRoom → ⊥
+    never_roomless e = ended_as (Err finish_error.NoRoom) e
 
 -- ---- the flat form
 

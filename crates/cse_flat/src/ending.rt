@@ -2,16 +2,20 @@
 // places to bind are bound, the bindings are put in the order of their needs, and the answer's rows are counted and
 // written. The trees after the rounds are settled once.
 ghost use Rattle.std.specs.Prelude.{◌≡◌, true, ◌++◌, ◌+◌, ◌-◌, ◌*◌, ◌≤◌, ◌<◌, length, take, drop, replicate, T, IfSome};
+ghost use Rattle.std.proofs.Math.Option.{some};
+ghost use Rattle.spec_tree.specs.Tokens.{trees_in};
 ghost use Rattle.topo_sort.specs.reads.Marks.{with_needs};
 ghost use Rattle.topo_sort.specs.links.Links.{Lent, StmtLinked, Linked};
 ghost use Rattle.reciprocals.specs.final.Entries.{entry_row, entry_tree};
 ghost use Rattle.reciprocals.specs.final.Final.{final_rows};
 ghost use Rattle.reciprocals.specs.final.Ready.{There, SettledFront, marks, InOrder, Positions, lent_rows};
-ghost use Rattle.cse_flat.specs.ending.Answers.{by_number, finish_outcome, trees_there, room_for, Room};
+ghost use Rattle.cse_flat.specs.ending.Answers.{by_number, finish_outcome, trees_there, room_for, tested, finishing, Room};
+ghost use Rattle.cse_flat.specs.declared.ending.FinishError.TheVariants.{Refused};
 ghost use Rattle.cse_flat.specs.ending.Needs.{needs_of};
 ghost use Rattle.cse_flat.specs.trees.Runs.{tree_run, let_run, let_count, lets_taken, rows_of_entry, rows_of_all};
 
 use crate::trees::FinalTrees;
+use reciprocals::reciprocal::all_there;
 use reciprocals::settle::settle;
 use refusal::Refusal;
 use topo_sort::links::{link_stmt, order_linked};
@@ -22,7 +26,7 @@ use words::copying::put;
 use words::layout::{FIRST_LET, NEXT_NAME, RESULT};
 use words::tokens::count_trees;
 
-// The most bindings.
+// The most words, and the most bindings.
 const MOST: usize = 1024;
 
 // Few bindings, so that most lists needn't clear the large arrays.
@@ -30,6 +34,25 @@ const FEW: usize = 64;
 
 // The words of a row of a table of bits.
 const ROW: usize = 32;
+
+// Why there are no rows.
+#[derive(Clone, Copy, Debug, PartialEq, Eq)]
+pub enum FinishError {
+    // Bindings that need each other, or an answer of more rows than lent.
+    Refused(Refusal),
+    // A word lacks operands, there are fewer trees than results, or no tree stands at one of the places.
+    Broken,
+    // More than 1,024 words, or bindings with the reciprocals.
+    NoRoom,
+}
+
+impl From<Refusal> for FinishError {
+    ghost from_gives = { λ r e. e ≡ Refused r };
+
+    fn from(refusal: Refusal) -> FinishError {
+        FinishError::Refused(refusal)
+    }
+}
 
 // What binding j needs.
 fn mark_one(trees: &FinalTrees, j: usize, room: &mut [u64], bits: &mut [u64])
@@ -356,9 +379,41 @@ fn settle_all(
     }
 }
 
+// Settles the trees after the rounds, and lists where each begins. They are there, and have room.
+fn finish_there(
+    tokens: &[u64],
+    results: usize,
+    count: usize,
+    places: &[u64],
+    settled: &mut [u64],
+    starts: &mut [u64],
+    room: &mut [u64],
+    taken: &mut [u64],
+    waiting: &mut [u64],
+    work: &mut [u64],
+    table: &mut [u64],
+) -> Result<usize, Refusal>
+    requires there { T (trees_there tokens.now results places.now) × T (room_for tokens.now results places.now) }
+    requires counted { trees_in tokens.now ≡ some count }
+    requires lent { Room tokens.now results places.now (length settled.old) (length starts.old) (length room.old) (length taken.old) (length waiting.old) (length work.old) }
+    ensures { (by_number result ≡ (finish_outcome (final_rows (length table.old) results places.now tokens.now) table.old).answer)
+        × (table.new ≡ (finish_outcome (final_rows (length table.old) results places.now tokens.now) table.old).table) }
+{
+    let n = settle_all(tokens, results, count, places, settled);
+    let _ = list_trees(&settled[..n], starts);
+    let trees = FinalTrees {
+        tokens,
+        results,
+        places,
+        settled: &settled[..n],
+        starts: &starts[..count],
+    };
+    finish_settled(&trees, room, taken, waiting, work, table)
+}
+
 // The words of all trees are `results` results, then the bindings by number from 0 on; the divisors to bind stand at
-// the places, in order. The answer's rows stand in front of what was in the table, and their number is told; or,
-// refused by 11 or 12, nothing is written. What else is lent is worked in.
+// the places, in order. The answer's rows stand in front of what was in the table, and their number is told; or, on
+// Err, nothing is written. What else is lent is worked in.
 pub fn finish(
     tokens: &[u64],
     results: usize,
@@ -370,23 +425,22 @@ pub fn finish(
     waiting: &mut [u64],
     work: &mut [u64],
     table: &mut [u64],
-) -> Result<usize, Refusal>
-    requires there { T (trees_there tokens.now results places.now) × T (room_for tokens.now results places.now) }
-    requires lent { Room tokens.now results places.now (length settled.old) (length starts.old) (length room.old) (length taken.old) (length waiting.old) (length work.old) }
-    ensures { (by_number result ≡ (finish_outcome (final_rows (length table.old) results places.now tokens.now) table.old).answer)
-        × (table.new ≡ (finish_outcome (final_rows (length table.old) results places.now tokens.now) table.old).table) }
+) -> Result<usize, FinishError>
+    requires { Room tokens.now results places.now (length settled.old) (length starts.old) (length room.old) (length taken.old) (length waiting.old) (length work.old) }
+    ensures { (tested result ≡ (finishing tokens.now results places.now table.old).answer)
+        × (table.new ≡ (finishing tokens.now results places.now table.old).table) }
 {
     let Some(count) = count_trees(tokens) else {
-        unreachable!()
+        return Err(FinishError::Broken);
     };
-    let n = settle_all(tokens, results, count, places, settled);
-    let _ = list_trees(&settled[..n], starts);
-    let trees = FinalTrees {
-        tokens,
-        results,
-        places,
-        settled: &settled[..n],
-        starts: &starts[..count],
-    };
-    finish_settled(&trees, room, taken, waiting, work, table)
+    if results > count || !all_there(tokens, places) {
+        return Err(FinishError::Broken);
+    }
+    if tokens.len() > MOST || places.len() > MOST - (count - results) {
+        return Err(FinishError::NoRoom);
+    }
+    let rows = finish_there(
+        tokens, results, count, places, settled, starts, room, taken, waiting, work, table,
+    )?;
+    Ok(rows)
 }

@@ -21,7 +21,7 @@ ghost use Rattle.cse_flat.specs.ending.Answers.{trees_there, room_for, Room};
 ghost use Rattle.cse_flat.specs.refined.Parts.{extract_from};
 ghost use Rattle.cse_flat.specs.Answers.{extraction_answer, told, Lists};
 
-use crate::ending::finish;
+use crate::ending::{FinishError, finish};
 use crate::workarea::is_short;
 use node_rows::unfolded::unfold;
 use reciprocals::divisors::divisors_to_bind;
@@ -140,7 +140,7 @@ fn extract_words(
     let listed = list_in(
         rows, tokens, len, facts, classes, next, heads, uses, text, places,
     )?;
-    let written = finish(
+    let written = match finish(
         &tokens[..listed.words],
         roots.len(),
         &places[..listed.divisors],
@@ -151,7 +151,12 @@ fn extract_words(
         heads,
         work,
         table,
-    )?;
+    ) {
+        Ok(n) => n,
+        Err(FinishError::Refused(refusal)) => return Err(refusal),
+        Err(FinishError::Broken) => unreachable!(),
+        Err(FinishError::NoRoom) => unreachable!(),
+    };
     Ok(Extracted {
         rows: written,
         count: listed.made,

@@ -2,13 +2,14 @@
 use Rattle.std.specs.Prelude.{Result, Ok, Err}
 use Prim.Native.Nat.{ℕ, ◌+◌, ◌-◌, ◌≤◌, ◌<◌}
 use native.Mathlib.Omega.{arith}
-use mathlib.Core.Path.{◌≡◌, refl, sym, ◌∙◌, ap}
-use mathlib.Core.Bool.{Bool, true, false, cond}
+use mathlib.Core.Path.{◌≡◌, refl, sym, ◌∙◌, ap, ap₂, subst}
+use mathlib.Core.Bool.{Bool, true, false, ◌&&◌, cond}
 use mathlib.Core.Option.{Option, none, some}
 use mathlib.Core.List.{List, ◌++◌}
-use borrow.Author.Tests.{lt-ltb, le-ltb, leb-true}
+use borrow.Author.Tests.{lt-ltb, le-ltb, le-leb, lt-leb, leb-true}
 use lib.Dec.{T, leb, ltb}
 use lib.ListN.{length, drop, length-drop}
+use Rattle.refusal.specs.declared.Refusal.{Refusal as RefusalName}
 use Rattle.words.specs.declared.fault.Fault.{Fault}
 use Rattle.words.specs.declared.fault.Fault.TheVariants as fault
 use Rattle.spec_tree.specs.Outcome.{Outcome, ok, refused, by}
@@ -18,8 +19,9 @@ use Rattle.spec_tree.proofs.Tests.{is_true}
 use Rattle.spec_tree.proofs.TokenLaws.{complete_length}
 use Rattle.spec_cse.specs.Call.{Extracted}
 use Rattle.reciprocals.specs.reciprocal.Bindings.{all_there}
+use Rattle.reciprocals.specs.final.Final.{final_rows}
 use Rattle.reciprocals.specs.final.Ready.{lent_rows, There}
-use Rattle.cse_flat.specs.ending.Answers.{finish_outcome, at_least, trees_there, room_for}
+use Rattle.cse_flat.specs.ending.Answers.{by_number, finish_outcome, at_least, trees_there, room_for, Tested, Ended, Broken, NoRoom, TestedFinishing, finish_by, finishing}
 
 -- an answer and a table are those of an outcome
 abbrev pub Ends : Outcome Extracted → List ℕ → Result ℕ ℕ → List ℕ → Type 0
@@ -59,16 +61,84 @@ never_err b h fault.NoRoom e = h.1 e
 
 -- ---- what the tests say
 
+pub made_is : (ws : List ℕ) (k m : ℕ) → trees_in ws ≡ some m → length (drop k (read numbered ws)) ≡ m - k
+made_is ws k m complete = omega (arith, length-drop k (read numbered ws), complete_length numbered ws m complete)
+
+module _ (ws : List ℕ) (k : ℕ) (places old : List ℕ) where
+  abbrev pub Finishes : Tested → List ℕ → Type 0
+  Finishes r new = (r ≡ (finishing ws k places old).answer) × (new ≡ (finishing ws k places old).table)
+
+  finishes_by : (b c : Bool) → trees_there ws k places ≡ b → room_for ws k places ≡ c → finishing ws k places old ≡ finish_by b c (final_rows (length old) k places ws) old
+  unfolding finishing
+  finishes_by b c d e = ap₂ (λ (x y : Bool). finish_by x y (final_rows (length old) k places ws) old) d e
+
+  broken : trees_there ws k places ≡ false → Finishes Broken old
+  unfolding finish_by
+  broken e =
+      let q = finishes_by false (room_for ws k places) e refl in
+      (sym (ap (λ (f : TestedFinishing). f.answer) q), sym (ap (λ (f : TestedFinishing). f.table) q))
+
+  full : trees_there ws k places ≡ true → room_for ws k places ≡ false → Finishes NoRoom old
+  unfolding finish_by
+  full d e =
+      let q = finishes_by true false d e in
+      (sym (ap (λ (f : TestedFinishing). f.answer) q), sym (ap (λ (f : TestedFinishing). f.table) q))
+
+  pub no_trees : trees_in ws ≡ none → Finishes Broken old
+  unfolding trees_there at_least
+  no_trees e = broken (ap (λ (o : Option ℕ). at_least k o && all_there ws places) e)
+
+  module _ (m : ℕ) (complete : trees_in ws ≡ some m) where
+    pub too_few : m < k → Finishes Broken old
+    unfolding trees_there at_least
+    too_few h = broken (ap (λ (o : Option ℕ). at_least k o && all_there ws places) complete ∙ ap (λ (b : Bool). b && all_there ws places) (lt-leb k m h))
+
+    module _ (enough : k ≤ m) where
+      by_places : (b : Bool) → all_there ws places ≡ b → trees_there ws k places ≡ b
+      unfolding trees_there at_least
+      by_places b e = ap (λ (o : Option ℕ). at_least k o && all_there ws places) complete ∙ (ap (λ (b : Bool). b && all_there ws places) (le-leb k m enough) ∙ e)
+
+      pub not_there : all_there ws places ≡ false → Finishes Broken old
+      not_there e = broken (by_places false e)
+
+      module _ (there : all_there ws places ≡ true) where
+        pub all_are_there : T (trees_there ws k places)
+        all_are_there = subst T (sym (by_places true there)) tt
+
+        pub too_long : 1024 < length ws → Finishes NoRoom old
+        unfolding room_for
+        too_long h = full (by_places true there) (ap (λ (b : Bool). b && leb (length (drop k (read numbered ws)) + length places) 1024) (lt-leb (length ws) 1024 h))
+
+        module _ (short : length ws ≤ 1024) where
+          by_names : (b : Bool) → leb (length (drop k (read numbered ws)) + length places) 1024 ≡ b → room_for ws k places ≡ b
+          unfolding room_for
+          by_names b e = ap (λ (b : Bool). b && leb (length (drop k (read numbered ws)) + length places) 1024) (le-leb (length ws) 1024 short) ∙ e
+
+          names_fit : (m - k) + length places ≤ 1024 → leb (length (drop k (read numbered ws)) + length places) 1024 ≡ true
+          names_fit h = le-leb (length (drop k (read numbered ws)) + length places) 1024 (omega (arith, made_is ws k m complete))
+
+          pub too_many_names : 1024 < (m - k) + length places → Finishes NoRoom old
+          too_many_names h = full (by_places true there) (by_names false (lt-leb (length (drop k (read numbered ws)) + length places) 1024 (omega (arith, made_is ws k m complete))))
+
+          pub all_have_room : (m - k) + length places ≤ 1024 → T (room_for ws k places)
+          all_have_room h = subst T (sym (by_names true (names_fit h))) tt
+
+          -- where all is there and has room, what the end answers
+          pub goes_on :
+              (m - k) + length places ≤ 1024
+              → (r q : Result ℕ RefusalName) → r ≡ q → (new : List ℕ) → Ends (final_rows (length old) k places ws) old (by_number r) new → Finishes (Ended (by_number q)) new
+          unfolding finish_by
+          goes_on h r q e new x =
+              let f = finishes_by true true (by_places true there) (by_names true (names_fit h)) in
+              (ap (λ (z : Result ℕ RefusalName). Ended (by_number z)) (sym e) ∙ (ap Ended x.0 ∙ sym (ap (λ (z : TestedFinishing). z.answer) f)), x.1 ∙ sym (ap (λ (z : TestedFinishing). z.table) f))
+
+-- ---- where the trees are there and have room
+
 module _ (ws : List ℕ) (k : ℕ) (places : List ℕ) (there : T (trees_there ws k places)) (room : T (room_for ws k places)) where
   enough_by : (o : Option ℕ) (m : ℕ) → o ≡ some m → T (at_least k o) → k ≤ m
   unfolding at_least
   enough_by none m e h = absurd h
   enough_by (some n) m e h = (let z : n ≡ m = cc in omega (arith, leb-true k n (is_true (leb k n) h)))
-
-  none_by : (o : Option ℕ) → o ≡ none → T (at_least k o) → ⊥
-  unfolding at_least
-  none_by none e h = h
-  none_by (some n) e h = (let z : ◌≡◌ {A = ℕ} 0 1 = cc in omega arith)
 
   some_there : T (at_least k (trees_in ws))
   unfolding trees_there
@@ -88,19 +158,12 @@ module _ (ws : List ℕ) (k : ℕ) (places : List ℕ) (there : T (trees_there w
       let n = length (drop k (read numbered ws)) + length places in
       leb-true n 1024 (is_true (leb n 1024) (and_right (leb (length ws) 1024) (leb n 1024) room))
 
-  pub trees_counted : trees_in ws ≡ none → ⊥
-  trees_counted e = none_by (trees_in ws) e some_there
-
-  module _ (m : ℕ) (complete : trees_in ws ≡ some m) where
-    pub made_is : length (drop k (read numbered ws)) ≡ m - k
-    made_is = omega (arith, length-drop k (read numbered ws), complete_length numbered ws m complete)
-
-    pub there_is : There ws k m places
-    there_is =
-        record {
-          complete = complete;
-          enough = enough_by (trees_in ws) m complete some_there;
-          there = places_there;
-          few = few_words;
-          numbers = omega (arith, few_names, made_is);
-        }
+  pub there_is : (m : ℕ) → trees_in ws ≡ some m → There ws k m places
+  there_is m complete =
+      record {
+        complete = complete;
+        enough = enough_by (trees_in ws) m complete some_there;
+        there = places_there;
+        few = few_words;
+        numbers = omega (arith, few_names, made_is ws k m complete);
+      }

@@ -1,12 +1,14 @@
 use Rattle.std.proofs.Common.{rules}
 use native.Mathlib.Omega.{arith}
+use Rattle.std.specs.Prelude.{◌≡◌, Err}
 use mathlib.Core.Path.{ap}
 use lib.ListN.{length, take}
 use lib.Seq.{length-take-le}
+use Rattle.cse_flat.specs.declared.ending.FinishError.TheVariants as finish_error
 use Rattle.cse_flat.proofs.refined.Starting.{start_short}
 use Rattle.cse_flat.proofs.refined.Unfolding.{unfolded_words}
 use Rattle.cse_flat.proofs.refined.Flat.{flat_extractable, flat_symbols}
-use Rattle.cse_flat.proofs.Ends.{stops_at_10, words_there, words_long, places_there, places_long, finish_there, finish_counts, finish_room, ends_so, ends_in_rows, ends_refused}
+use Rattle.cse_flat.proofs.Ends.{stops_at_10, words_there, words_long, places_there, places_long, finish_there, finish_counts, finish_room, ends_so, ends_in_rows, ends_refused, never_broken, never_roomless}
 use Rattle.cse_flat.proofs.extract_words.Goals as goal
 
 pub list_in-requires : goal.list_in-requires
@@ -36,30 +38,52 @@ finish-requires c = let a = c.args in
     let long = length-take-le a.len a.tokens.now c.requires.roots_value.1 in
     let r = finish_room a.rows.now a.roots.now a.table.now u.0 _ u.1 c.list_in.result _ _ c.list_in.ensures c.in_ok-listed.listed c.in_ok-listed.was in
     record {
-      there = finish_there a.rows.now a.roots.now a.table.now u.0 _ u.1 c.list_in.result _ _ c.list_in.ensures c.in_ok-listed.listed c.in_ok-listed.was;
-      lent = record {
-        for_settled = omega (arith, r.0, long, c.requires.lent.for_classes, c.list_in.auto.classes);
-        for_starts = omega (arith, r.0, long, c.requires.lent.for_next, c.list_in.auto.next);
-        for_tree = omega (arith, r.0, long, c.requires.len_in_bounds.0, c.list_in.auto.facts);
-        for_taken = omega (arith, r.1, long, c.requires.lent.for_uses, c.list_in.auto.uses);
-        for_waiting = omega (arith, r.1, long, c.requires.lent.for_marks, c.list_in.auto.heads);
-        for_links = c.requires.len_in_bounds.1;
-      };
+      for_settled = omega (arith, r.0, long, c.requires.lent.for_classes, c.list_in.auto.classes);
+      for_starts = omega (arith, r.0, long, c.requires.lent.for_next, c.list_in.auto.next);
+      for_tree = omega (arith, r.0, long, c.requires.len_in_bounds.0, c.list_in.auto.facts);
+      for_taken = omega (arith, r.1, long, c.requires.lent.for_uses, c.list_in.auto.uses);
+      for_waiting = omega (arith, r.1, long, c.requires.lent.for_marks, c.list_in.auto.heads);
+      for_links = c.requires.len_in_bounds.1;
     }
 
-pub returns-in_err-written : goal.returns-in_err-written
-returns-in_err-written c =
+pub returns-in-Err-Refused : goal.returns-in-Err-Refused
+returns-in-Err-Refused c =
     let a = c.args in
     let u = unfolded_words a.rows.now a.roots.now (take a.len a.tokens.now) c.requires.roots_value.0 in
     let l = c.in_ok-listed.listed in
-    let e = ends_so a.rows.now a.roots.now a.table.now u.0 _ u.1 c.list_in.result _ _ c.list_in.ensures l c.in_ok-listed.was _ _
-    (ends_refused (take l.words c.list_in.new.tokens) (length a.roots.now) (take l.divisors c.list_in.new.places) a.table.now l.made (finish_counts a.rows.now a.roots.now a.table.now u.0 _ u.1 c.list_in.result _ _ c.list_in.ensures l c.in_ok-listed.was) _ _ c.finish.ensures _ c.in_err-written.was) in
+    let there = finish_there a.rows.now a.roots.now a.table.now u.0 _ u.1 c.list_in.result _ _ c.list_in.ensures l c.in_ok-listed.was in
+    let count = finish_counts a.rows.now a.roots.now a.table.now u.0 _ u.1 c.list_in.result _ _ c.list_in.ensures l c.in_ok-listed.was in
+    let e : c.finish.result ≡ Err (finish_error.Refused c.in-Err-Refused.refusal) = search rules in
+    let h = ends_so a.rows.now a.roots.now a.table.now u.0 _ u.1 c.list_in.result _ _ c.list_in.ensures l c.in_ok-listed.was _ _
+    (ends_refused (take l.words c.list_in.new.tokens) (length a.roots.now) (take l.divisors c.list_in.new.places) a.table.now l.made there count _ _ c.finish.ensures _ e) in
     search rules
+
+pub unreachable-requires : goal.unreachable-requires
+unreachable-requires c =
+    let a = c.args in
+    let u = unfolded_words a.rows.now a.roots.now (take a.len a.tokens.now) c.requires.roots_value.0 in
+    let l = c.in_ok-listed.listed in
+    let there = finish_there a.rows.now a.roots.now a.table.now u.0 _ u.1 c.list_in.result _ _ c.list_in.ensures l c.in_ok-listed.was in
+    let count = finish_counts a.rows.now a.roots.now a.table.now u.0 _ u.1 c.list_in.result _ _ c.list_in.ensures l c.in_ok-listed.was in
+    let e : c.finish.result ≡ Err finish_error.Broken = search rules in
+    never_broken (take l.words c.list_in.new.tokens) (length a.roots.now) (take l.divisors c.list_in.new.places) a.table.now l.made there count _ _ c.finish.ensures e
+
+pub unreachable-requires-in-Err-NoRoom : goal.unreachable-requires-in-Err-NoRoom
+unreachable-requires-in-Err-NoRoom c =
+    let a = c.args in
+    let u = unfolded_words a.rows.now a.roots.now (take a.len a.tokens.now) c.requires.roots_value.0 in
+    let l = c.in_ok-listed.listed in
+    let there = finish_there a.rows.now a.roots.now a.table.now u.0 _ u.1 c.list_in.result _ _ c.list_in.ensures l c.in_ok-listed.was in
+    let count = finish_counts a.rows.now a.roots.now a.table.now u.0 _ u.1 c.list_in.result _ _ c.list_in.ensures l c.in_ok-listed.was in
+    let e : c.finish.result ≡ Err finish_error.NoRoom = search rules in
+    never_roomless (take l.words c.list_in.new.tokens) (length a.roots.now) (take l.divisors c.list_in.new.places) a.table.now l.made there count _ _ c.finish.ensures e
 
 pub returns : goal.returns
 returns c =
     let a = c.args in
     let u = unfolded_words a.rows.now a.roots.now (take a.len a.tokens.now) c.requires.roots_value.0 in
     let l = c.in_ok-listed.listed in
+    let there = finish_there a.rows.now a.roots.now a.table.now u.0 _ u.1 c.list_in.result _ _ c.list_in.ensures l c.in_ok-listed.was in
+    let count = finish_counts a.rows.now a.roots.now a.table.now u.0 _ u.1 c.list_in.result _ _ c.list_in.ensures l c.in_ok-listed.was in
     ends_so a.rows.now a.roots.now a.table.now u.0 _ u.1 c.list_in.result _ _ c.list_in.ensures l c.in_ok-listed.was _ _
-    (ends_in_rows (take l.words c.list_in.new.tokens) (length a.roots.now) (take l.divisors c.list_in.new.places) a.table.now l.made (finish_counts a.rows.now a.roots.now a.table.now u.0 _ u.1 c.list_in.result _ _ c.list_in.ensures l c.in_ok-listed.was) _ _ c.finish.ensures _ c.in_ok-written.was)
+    (ends_in_rows (take l.words c.list_in.new.tokens) (length a.roots.now) (take l.divisors c.list_in.new.places) a.table.now l.made there count _ _ c.finish.ensures _ c.in-Ok.is)

@@ -2,8 +2,8 @@
 -- nothing.
 use Prim.Native.Nat.{ℕ, ◌+◌, ◌≤◌}
 use native.Mathlib.Omega.{arith}
-use mathlib.Core.Path.{◌≡◌, sym, ◌∙◌, ap, subst}
-use mathlib.Core.Bool.{false, ◌||◌}
+use mathlib.Core.Path.{◌≡◌, sym, ◌∙◌, ap, ap₂, subst}
+use mathlib.Core.Bool.{Bool, false, ◌||◌}
 use mathlib.Core.Option.{Option}
 use mathlib.Core.List.{List}
 use lib.ListN.{length, take, drop}
@@ -12,12 +12,13 @@ use lib.Dec.{T, leb, ltb, le→leb}
 use Rattle.spec_tree.specs.Layout.{table_of, laid_out}
 use Rattle.spec_tree.specs.Tokens.{read, numbered, trees_in}
 use Rattle.spec_tree.proofs.Logic.{and_both, or_left_false, or_right_false}
+use Rattle.spec_tree.proofs.Tests.{is_true}
 use Rattle.spec_cse.specs.Call.{work_words, work_bytes}
 use Rattle.fmt.specs.checked.Check.{rows_in}
 use Rattle.laws.proofs.positions.RowNames.{tree_words}
 use Rattle.reciprocals.specs.reciprocal.Bindings.{all_there}
 use Rattle.reciprocals.specs.final.Final.{final_rows}
-use Rattle.cse_flat.specs.ending.Answers.{at_least, trees_there, room_for}
+use Rattle.cse_flat.specs.ending.Answers.{Ended, TestedFinishing, finish_outcome, finish_by, finishing, at_least, trees_there, room_for}
 use Rattle.cse_flat.specs.refined.Parts.{extract_from, RoundsListed}
 use Rattle.cse_flat.proofs.refined.Starting.{start_short}
 use Rattle.cse_flat.proofs.refined.Flat.{to_bind, flat_rest, flat_complete, flat_results, flat_shorter, flat_short, flat_room, flat_there, flat_made}
@@ -62,6 +63,16 @@ module _ (rows roots : List ℕ) (lent : ℕ) (h : T (laid_out rows roots)) (ws 
 
     pub flat_outcome : extract_from false rows roots lent ≡ final_rows lent (length roots) ds vs
     flat_outcome = flat_rest rows roots lent h ws same vs l.0 ∙ ap (λ (ps : List ℕ). final_rows lent (length roots) ps vs) (sym ds_are)
+
+-- where the trees are there and have room, the end is that of the definition
+pub finishes :
+    (ws : List ℕ) (k : ℕ) (places table : List ℕ) → T (trees_there ws k places) → T (room_for ws k places)
+    → ((finishing ws k places table).answer ≡ Ended (finish_outcome (final_rows (length table) k places ws) table).answer)
+    × ((finishing ws k places table).table ≡ (finish_outcome (final_rows (length table) k places ws) table).table)
+unfolding finishing finish_by
+finishes ws k places table g h =
+    let e = ap₂ (λ (a b : Bool). finish_by a b (final_rows (length table) k places ws) table) (is_true (trees_there ws k places) g) (is_true (room_for ws k places) h) in
+    (ap (λ (f : TestedFinishing). f.answer) e, ap (λ (f : TestedFinishing). f.table) e)
 
 -- ---- the work area
 

@@ -1,5 +1,5 @@
 -- What the end of flat extraction answers, and what it leaves in the table, by cases. Assumes nothing.
-use Rattle.std.specs.Prelude.{ℕ, ◌+◌, ◌≤◌, ◌≡◌, Bool, false, ◌&&◌, List, ◌++◌, length, drop, leb, Result, Ok, Err}
+use Rattle.std.specs.Prelude.{ℕ, ◌+◌, ◌≤◌, ◌≡◌, Bool, true, false, ◌&&◌, List, ◌++◌, length, drop, leb, Result, Ok, Err}
 use Rattle.std.proofs.Math.Option.{Option, none, some}
 use Rattle.refusal.specs.declared.Refusal.{Refusal}
 use Rattle.refusal.specs.Numbers.{number_of}
@@ -7,6 +7,9 @@ use Rattle.spec_tree.specs.Outcome.{Outcome, ok, refused}
 use Rattle.spec_tree.specs.Tokens.{read, numbered, trees_in}
 use Rattle.spec_cse.specs.Call.{Extracted}
 use Rattle.reciprocals.specs.reciprocal.Bindings.{all_there}
+use Rattle.reciprocals.specs.final.Final.{final_rows}
+use Rattle.cse_flat.specs.declared.ending.FinishError.{FinishError}
+use Rattle.cse_flat.specs.declared.ending.FinishError.TheVariants as finish_error
 
 -- a refusal by its number
 abbrev pub by_number : Result ℕ Refusal → Result ℕ ℕ
@@ -37,6 +40,39 @@ trees_there ws k places = at_least k (trees_in ws) && all_there ws places
 unfoldable pub room_for : List ℕ → ℕ → List ℕ → Bool
 unfolding read
 room_for ws k places = leb (length ws) 1024 && leb (length (drop k (read numbered ws)) + length places) 1024
+
+-- ---- what `finish` answers, which tests what it is given
+
+-- how many rows or the number of the refusal, or that the trees aren't there, or that there is no room for them
+pub data Tested : Type 0 where
+  Ended : Result ℕ ℕ → Tested
+  Broken : Tested
+  NoRoom : Tested
+
+-- what the code answers, so told
+abbrev pub tested : Result ℕ FinishError → Tested
+tested (Ok n) = Ended (Ok n)
+tested (Err (finish_error.Refused r)) = Ended (Err (number_of r))
+tested (Err finish_error.Broken) = Broken
+tested (Err finish_error.NoRoom) = NoRoom
+
+-- what it answers, and the table after it
+pub record TestedFinishing : Type 0 where
+  pub answer : Tested
+  pub table : List ℕ
+
+-- by whether the trees are there, and whether there is room for them
+unfoldable pub finish_by : Bool → Bool → Outcome Extracted → List ℕ → TestedFinishing
+unfolding finish_outcome
+finish_by false room o old = record { answer = Broken; table = old }
+finish_by true false o old = record { answer = NoRoom; table = old }
+finish_by true true o old = record { answer = Ended (finish_outcome o old).answer; table = (finish_outcome o old).table }
+
+-- the whole of it, from the words, how many of their trees are results, the places of the divisors to bind and the
+-- table lent
+unfoldable pub finishing : List ℕ → ℕ → List ℕ → List ℕ → TestedFinishing
+unfolding finish_by trees_there room_for final_rows
+finishing ws k places old = finish_by (trees_there ws k places) (room_for ws k places) (final_rows (length old) k places ws) old
 
 -- how many words are lent to the end: for the settled trees and where they begin, for one tree, for the bindings in order and what they wait for, and for links or
 -- a table of bits
