@@ -28,6 +28,7 @@ use reciprocals::divisors::divisors_to_bind;
 use refusal::Refusal;
 use replace::NotConstant;
 use rounds::{extract_all, extract_in};
+use words::copying::copy;
 
 // The most words of a list's trees, and so the most places.
 const MOST: usize = 1024;

@@ -78,8 +78,18 @@ fn put_sheet(line: &[u8], sheet: &mut [u8]) -> usize
     n
 }
 
+// A number's digits, by `write_all` and no `print!`, here and in the other replays: that gives up on a line after some
+// writes that signals interrupt. Each has its own, since a public one of stdio would have nothing to promise.
+fn say_decimal(to: Stdout, n: u64) {
+    let mut digits = [0u8; 20];
+    let k = io::decimal(n, &mut digits);
+    write_all(&to, &digits[..k]);
+}
+
 fn say_line(to: Stdout, number: usize, line: &[u8]) {
-    let _ = println!(to; "# {number}");
+    write_all(&to, b"# ");
+    say_decimal(to, number as u64);
+    write_all(&to, b"\n");
     let mut sheet = [0u8; 65536];
     let n = put_sheet(line, &mut sheet);
     say_sheet(to, &sheet[..n]);

@@ -162,10 +162,23 @@ fn digest(from: u64, words: &[u64]) -> u64 {
     words.iter().fold(from, |d, w| step(step(d, *w / HALF), *w))
 }
 
+// A number's digits, by `write_all` and no `print!`, here and in the other replays: that gives up on a line after some
+// writes that signals interrupt. Each has its own, since a public one of stdio would have nothing to promise.
+fn say_decimal(to: Stdout, n: u64) {
+    let mut digits = [0u8; 20];
+    let k = io::decimal(n, &mut digits);
+    write_all(&to, &digits[..k]);
+}
+
 // 01's number or 0, the record or how many rows, how many roots, and the digest. That a write failed has nobody to
 // tell.
 fn say_answer(to: Stdout, number: u64, count: u64, roots: u64, digest: u64) {
-    let _ = println!(to; "{number} {count} {roots} {digest}");
+    for n in [number, count, roots] {
+        say_decimal(to, n);
+        write_all(&to, b" ");
+    }
+    say_decimal(to, digest);
+    write_all(&to, b"\n");
 }
 
 fn say_sheet(to: Stdout, sheet: &[u8], rows: &mut [u64], roots: &mut [u64]) {

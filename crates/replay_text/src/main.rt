@@ -52,10 +52,25 @@ fn say_bytes(to: Stdout, out: &[u8]) {
     write_all(&to, b"\n");
 }
 
+// A number's digits, by `write_all` and no `print!`, here and in the other replays: that gives up on a line after some
+// writes that signals interrupt. Each has its own, since a public one of stdio would have nothing to promise.
+fn say_decimal(to: Stdout, n: u64) {
+    let mut digits = [0u8; 20];
+    let k = io::decimal(n, &mut digits);
+    write_all(&to, &digits[..k]);
+}
+
+// A number and a space.
+fn say_number(to: Stdout, n: u64) {
+    say_decimal(to, n);
+    write_all(&to, b" ");
+}
+
 // The places after a tree's words and after its text, and the bytes lent.
 fn say_text(to: Stdout, text: Option<Pos>, out: &[u8]) {
     if let Some(Pos { next, to: end }) = text {
-        let _ = print!(to; "{next} {end} ");
+        say_number(to, next as u64);
+        say_number(to, end as u64);
         say_bytes(to, out);
     } else {
         say_bytes(to, b"broken");
@@ -74,10 +89,13 @@ fn say_tree(to: Stdout, rows: &[u64], words: &[u64], out: &mut [u8]) {
 // How many bytes an answer's text has, or by which number it is refused, and the bytes lent.
 fn say_answer(to: Stdout, rows: &[u64], words: &[u64], out: &mut [u8]) {
     out.fill(FILLED);
-    let _ = match print(rows, words, out) {
-        Ok(n) => print!(to; "{n} "),
-        Err(refusal) => print!(to; "refused {} ", u64::from(refusal)),
-    };
+    match print(rows, words, out) {
+        Ok(n) => say_number(to, n as u64),
+        Err(refusal) => {
+            write_all(&to, b"refused ");
+            say_number(to, u64::from(refusal));
+        }
+    }
     say_bytes(to, out);
 }
 

@@ -5,7 +5,6 @@ use borrow.Author.Tests.{leb-true, leb-false}
 use mathlib.Core.Path.{◌≡◌, refl, sym, ◌∙◌, ap, subst}
 use mathlib.Core.Bool.{Bool, true, false, ◌&&◌}
 use mathlib.Core.List.{List, [], ◌∷◌, ◌++◌}
-use borrow.Rule.Slice.PartMut.{post_of}
 use lib.ListN.{length, get_or, take, drop, set, take-append-drop, drop_of_length-le}
 use lib.Seq.{take_all, drop-drop, length-take-le, take-suc, take-length}
 use lib.Dec.{T, leb, leb→le}
@@ -25,13 +24,16 @@ word_past at w old h = sym (overlay_past at (w ∷ []) old h)
 -- ---- words copied, as many as there is room for
 
 pub copied_over :
-    (ws old new : List ℕ) (at n : ℕ) → n ≡ min (length ws) (length old - at) → new ≡ take n ws → take at old ++ (new ++ post_of at (at + n - at) old) ≡ overlay at ws old
+    (ws old out : List ℕ) (at n : ℕ) → n ≡ min (length ws) (length old - at) → out ≡ take at old ++ (take n ws ++ drop (at + length (take n ws)) old)
+    → out ≡ overlay at ws old
 unfolding overlay
-copied_over ws old new at n e f =
-    let k : at + n - at ≡ n = omega arith in
+copied_over ws old out at n e f =
+    let l : length (take n ws) ≡ n = length-take-le n ws (omega (arith, e)) in
     let p = go (leb (length ws) (length old - at)) refl in
-    ap (λ (j : ℕ). take at old ++ (new ++ drop j (drop at old))) k
-    ∙ (ap (λ (l : List ℕ). take at old ++ (l ++ drop n (drop at old))) (f ∙ p.0) ∙ ap (λ (l : List ℕ). take at old ++ (take (length old - at) ws ++ l)) p.1)
+    f
+    ∙ (ap (λ (j : ℕ). take at old ++ (take n ws ++ drop (at + j) old)) l
+    ∙ (ap (λ (x : List ℕ). take at old ++ (take n ws ++ x)) (sym (drop-drop n at old) ∙ p.1)
+    ∙ ap (λ (x : List ℕ). take at old ++ (x ++ drop (at + length ws) old)) p.0))
   where
     go : (b : Bool) → leb (length ws) (length old - at) ≡ b → (take n ws ≡ take (length old - at) ws) × (drop n (drop at old) ≡ drop (at + length ws) old)
     go true q =
