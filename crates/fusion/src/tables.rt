@@ -4,7 +4,6 @@ ghost use Rattle.std.specs.Prelude.{◌≡◌, true, [], ◌∷◌};
 ghost use Rattle.fusion.specs.place.Overlay.{overlay};
 ghost use Rattle.fusion.specs.tables.Names.{names_fit, names_put, rows_of_names};
 
-use words::copying;
 use words::layout::{MATCH_NAME_ROW, NEXT_NAME};
 
 // The largest number of a name.
@@ -27,7 +26,9 @@ pub fn put(words: &[u64], at: usize, table: &mut [u64])
         return;
     }
     let n = words.len().min(table.len() - at);
-    copying::put(&words[..n], at, table);
+    for i in 0..n {
+        table[at + i] = words[i];
+    }
 }
 
 // Whether each number has a row.

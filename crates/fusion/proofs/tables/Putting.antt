@@ -4,9 +4,9 @@ use native.Mathlib.Omega.{arith}
 use borrow.Author.Tests.{leb-true, leb-false}
 use mathlib.Core.Path.{◌≡◌, refl, sym, ◌∙◌, ap, subst}
 use mathlib.Core.Bool.{Bool, true, false, ◌&&◌}
-use mathlib.Core.List.{List, [], ◌∷◌, ◌++◌}
-use lib.ListN.{length, get_or, take, drop, set, take-append-drop, drop_of_length-le}
-use lib.Seq.{take_all, drop-drop, length-take-le, take-suc, take-length}
+use mathlib.Core.List.{List, [], ◌∷◌}
+use lib.ListN.{length, get_or, take, drop, set, take-append-drop}
+use lib.Seq.{length-take-le, take-suc, take-length}
 use lib.Dec.{T, leb, leb→le}
 use Rattle.fusion.specs.place.Overlay.{overlay}
 use Rattle.fusion.specs.place.Parts.{name_rows}
@@ -20,30 +20,6 @@ word_put at w old = sym (overlay_word at w old)
 
 pub word_past : (at w : ℕ) (old : List ℕ) → length old ≤ at → old ≡ overlay at (w ∷ []) old
 word_past at w old h = sym (overlay_past at (w ∷ []) old h)
-
--- ---- words copied, as many as there is room for
-
-pub copied_over :
-    (ws old out : List ℕ) (at n : ℕ) → n ≡ min (length ws) (length old - at) → out ≡ take at old ++ (take n ws ++ drop (at + length (take n ws)) old)
-    → out ≡ overlay at ws old
-unfolding overlay
-copied_over ws old out at n e f =
-    let l : length (take n ws) ≡ n = length-take-le n ws (omega (arith, e)) in
-    let p = go (leb (length ws) (length old - at)) refl in
-    f
-    ∙ (ap (λ (j : ℕ). take at old ++ (take n ws ++ drop (at + j) old)) l
-    ∙ (ap (λ (x : List ℕ). take at old ++ (take n ws ++ x)) (sym (drop-drop n at old) ∙ p.1)
-    ∙ ap (λ (x : List ℕ). take at old ++ (x ++ drop (at + length ws) old)) p.0))
-  where
-    go : (b : Bool) → leb (length ws) (length old - at) ≡ b → (take n ws ≡ take (length old - at) ws) × (drop n (drop at old) ≡ drop (at + length ws) old)
-    go true q =
-        let h = leb-true (length ws) (length old - at) q in
-        let i : at + n ≡ at + length ws = omega (arith, h, e) in
-        (take_all n ws (omega (arith, h, e)) ∙ sym (take_all (length old - at) ws h), drop-drop n at old ∙ ap (λ (j : ℕ). drop j old) i)
-    go false q =
-        let h = leb-false (length ws) (length old - at) q in
-        let i : n ≡ length old - at = omega (arith, h, e) in
-        (ap (λ (j : ℕ). take j ws) i, drop-drop n at old ∙ (drop_of_length-le old {i = at + n} (omega (arith, i)) ∙ sym (drop_of_length-le old {i = at + length ws} (omega (arith, h)))))
 
 -- ---- one word after another
 
@@ -85,6 +61,14 @@ module _ (ws old out : List ℕ) (at i : ℕ) (state : Put ws at old out i) wher
   put_ends h =
       let n : i ≡ length ws = omega (arith, state.0) in
       state.1.1 ∙ (ap (λ (j : ℕ). overlay at (take j ws) old) n ∙ ap (λ (l : List ℕ). overlay at l old) (take-length ws))
+
+  -- all, or as many as there is room for
+  pub words_put : i ≡ min (length ws) (length old - at) → at ≤ length old → out ≡ overlay at ws old
+  words_put e h = go (leb (length ws) i) refl
+    where
+      go : (b : Bool) → leb (length ws) i ≡ b → out ≡ overlay at ws old
+      go true q = put_ends (leb-true (length ws) i q)
+      go false q = put_full (omega (arith, leb-false (length ws) i q, e))
 
 -- ---- rows of names
 

@@ -14,7 +14,7 @@ use Rattle.std.proofs.lemmas.Slice.Eq.{slice_eq-Decides}
 use Rattle.std.proofs.lemmas.Bool.Decides.{Decides-eqb}
 use borrow.Author.Tests.{eqb-true, eq-eqb, ne_eqb, lt-ltb, le-ltb, ltb-false}
 use lib.ListN.{length, get_or, take, length-take}
-use lib.Seq.{get_or-take}
+use lib.Seq.{ext_get_or, get_or-take, length-take-le}
 use lib.Dec.{T, eqb, ltb}
 use Rattle.spec_tree.specs.Bytes.{eq_bytes}
 use Rattle.spec_tree.specs.Tokens.{kind_of, trees_in}
@@ -120,6 +120,14 @@ unfolding begins_with
 begins_differs ws start k h ne =
     sym (not_true (eq_bytes (take (length start) ws) start)
     (λ t. ne (sym (get_or-take (length start) ws k 0 h) ∙ ap (λ (l : List ℕ). get_or l k 0) (eq_bytes_sound (take (length start) ws) start t))))
+
+pub begins_all : (ws start : List ℕ) → length start ≤ length ws → ((k : ℕ) → k < length start → get_or ws k 0 ≡ get_or start k 0) → true ≡ begins_with ws start
+unfolding begins_with
+begins_all ws start h all =
+    let l = length-take-le (length start) ws h in
+    let e : take (length start) ws ≡ start =
+    ext_get_or 0 (take (length start) ws) start l (λ k b. let i : k < length start = omega (arith, l) in get_or-take (length start) ws k 0 i ∙ all k i) in
+    sym (test_true (eq_bytes (take (length start) ws) start) (subst (λ (l : List ℕ). T (eq_bytes l start)) (sym e) (eq_bytes_refl start)))
 
 -- `starts_with` of slices
 pub begins_is : (ws start : List ℕ) (r : Bool) → r ≡ pointwise eqb start (take (length start) ws) → r ≡ begins_with ws start
