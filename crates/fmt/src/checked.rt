@@ -28,6 +28,7 @@ fn constant_ok(code: u64) -> bool
     code <= LARGEST
 }
 
+#[tactic(auto, using(crate::proofs::checked::WordLaws::right_counts), unfolding(spec_tree::specs::Kinds::arity_ok))]
 fn operands_ok(kind: u64, count: u64) -> bool
     ensures { result ≡ operands_ok kind count }
 {

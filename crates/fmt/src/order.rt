@@ -8,6 +8,7 @@ ghost use Rattle.fmt.specs.order.Order.{text_here, both_long};
 use crate::writer::expression;
 
 // Whether s comes before t: at the first byte in which they differ, or where s ends and t goes on.
+#[tactic(auto, using(crate::proofs::order::Comparing::library_before))]
 pub fn before(s: &[u8], t: &[u8]) -> bool
     ensures { result ≡ before s.now t.now }
 {

@@ -82,3 +82,6 @@ module _ (k n : ℕ) where
   plain_count h m =
       let c = number_is k m in
       rw (le-leb Neg k h) (ap₂ (λ (f g : ℕ). leb f n && leb n g) c.0 c.1)
+
+-- a count of operands by the kind
+pub ruleset right_counts = (leaf_count, default_count, plain_count)
