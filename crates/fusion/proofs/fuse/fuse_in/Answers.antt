@@ -13,10 +13,10 @@ copy-requires c = omega (arith, length-take-le c.args.len c.args.tokens.now c.re
 
 pub steps-requires : goal.steps-requires
 steps-requires c = record {
-      len_in_bounds = (omega (arith, c.copy.auto.out, c.requires.len_in_bounds_2.0), subst Complete (sym (copied_front c.args.base.now c.args.places.now c.args.numbers.now c.args.tokens.now c.args.len c.requires.len_in_bounds.0 c.requires.len_in_bounds.1 c.requires.len_in_bounds.2 c.requires.len_bound.0 (sym c.requires.len_bound.1) _ _ c.copy.ensures)) c.requires.len_in_bounds.1);
-      places_in_bounds = (c.requires.len_in_bounds.2, c.requires.len_bound.1);
-      work_in_bounds = omega (arith, c.copy.auto.out, c.requires.len_in_bounds_2.1);
-    }
+  len_in_bounds = (omega (arith, c.copy.auto.out, c.requires.len_in_bounds_2.0), subst Complete (sym (copied_front c.args.base.now c.args.places.now c.args.numbers.now c.args.tokens.now c.args.len c.requires.len_in_bounds.0 c.requires.len_in_bounds.1 c.requires.len_in_bounds.2 c.requires.len_bound.0 (sym c.requires.len_bound.1) _ _ c.copy.ensures)) c.requires.len_in_bounds.1);
+  places_in_bounds = (c.requires.len_in_bounds.2, c.requires.len_bound.1);
+  work_in_bounds = omega (arith, c.copy.auto.out, c.requires.len_in_bounds_2.1);
+}
 
 pub returns-in_err-n : goal.returns-in_err-n
 returns-in_err-n c = let k = none_by_err _ _ _ (sym c.ok_or.ensures.value ∙ c.in_err-n.was) in
