@@ -15,6 +15,11 @@ use Rattle.cse_flat.specs.Answers.{extraction_answer}
 use Rattle.cse_flat.specs.Extraction as extraction
 use Rattle.load.specs.Loaded.{Loaded}
 use Rattle.load.specs.Loaded as loaded
+use Rattle.load.specs.Loaded.{told as load_told}
+use Rattle.std.specs.Prelude.{Result, Ok, Err}
+use Rattle.refusal.specs.Numbers.{number_of}
+use Rattle.load.specs.declared.Table as counts
+use Rattle.load.specs.declared.Refused as refusing
 use Rattle.load.specs.Loads.{answered, Loads}
 use Rattle.flat_sheet.specs.FlatSheet.{extracted_from, from_extract, flat_answer, flat_table, Flattened}
 use Rattle.flat_sheet.specs.Flat.{Flat}
@@ -108,6 +113,34 @@ module _ (words places : ℕ) (sheet old_rows old_roots new_rows new_roots : Lis
         roots_are = L.roots_are;
         table_is = subst (λ (o : Outcome Table). new ≡ flat_table o (extracted_from work text (length old)) old) (sym R.loads) b;
       }
+
+-- ---- the same by what `load` returned, by which of the two it is
+
+module _ (words places : ℕ) (sheet old_rows old_roots new_rows new_roots : List ℕ) where
+  abbrev FitsBy : Result counts.Table refusing.Refused → Type 0
+  FitsBy (Ok t) = (t.rows ≤ 1024) × ((35 * t.rows ≤ length new_rows) × (t.roots ≤ length new_roots))
+  FitsBy (Err e) = Unit {0}
+
+  abbrev FlattenedBy : ℕ → ℕ → List ℕ → List ℕ → Flat → Result counts.Table refusing.Refused → Type 0
+  FlattenedBy work text old new r (Ok t) =
+      (r ≡ from_extract (length (take (35 * t.rows) new_rows)) (extract_call false work text (take (35 * t.rows) new_rows) (take t.roots new_roots) (length old)))
+      × (new ≡ table_after (extract_call false work text (take (35 * t.rows) new_rows) (take t.roots new_roots) (length old)) old)
+      → Flattened (load_call words places sheet) (extracted_from work text (length old)) old_rows old_roots old r new_rows new_roots new
+  FlattenedBy work text old new r (Err e) =
+      Flattened (load_call words places sheet) (extracted_from work text (length old)) old_rows old_roots old (flat.Refused (number_of e.refusal) e.record) new_rows new_roots old
+
+  pub fits_by : (got : Result counts.Table refusing.Refused) → Loads (load_call words places sheet) old_rows old_roots (load_told got) new_rows new_roots → FitsBy got
+  fits_by (Ok t) L =
+      let f = read_fits words places sheet old_rows old_roots new_rows new_roots _ L t.rows t.roots refl in
+      (read_few words places sheet old_rows old_roots new_rows new_roots _ L t.rows t.roots refl, (f.0, f.1))
+  fits_by (Err e) L = tt
+
+  pub flattened_by :
+      (work text : ℕ) (old new : List ℕ) (r : Flat) (got : Result counts.Table refusing.Refused)
+      → Loads (load_call words places sheet) old_rows old_roots (load_told got) new_rows new_roots → FlattenedBy work text old new r got
+  flattened_by work text old new r (Ok t) L = flattened words places sheet old_rows old_roots new_rows new_roots _ L t.rows t.roots work text old new r refl
+  flattened_by work text old new r (Err e) L =
+      not_loaded words places sheet old_rows old_roots new_rows new_roots _ L (extracted_from work text (length old)) old (number_of e.refusal) e.record refl
 
 -- ---- for those who call `flat_sheet`: both parts are inside what was lent
 

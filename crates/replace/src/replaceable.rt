@@ -10,6 +10,7 @@ use node_rows::kinds::operands_ok;
 use words::layout::{CONST, KINDS, SELECT, SELECT_OR};
 
 // Whether a word is a leaf's, or an operation's with as many operands as its kind has.
+#[tactic(auto, using(crate::proofs::replaceable::Tests::word_tests))]
 fn is_formed(w: u64) -> bool
     ensures { result ≡ formed_word w }
 {

@@ -21,9 +21,17 @@ use Rattle.spec_cse.specs.Call.{Extracted, work_words, work_bytes, extract_call,
 use Rattle.laws.proofs.cse.Refusals.{refused_by_10_11_or_23}
 use Rattle.spec_program.specs.Print.{print_call, buffer_after}
 use Rattle.cse_flat.specs.Answers.{extraction_answer}
+use Rattle.cse_flat.specs.Answers.{told as extract_told}
 use Rattle.cse_flat.specs.Extraction as extraction
+use Rattle.cse_flat.specs.declared.Extracted as counts
 use Rattle.load.specs.Loaded.{Loaded}
 use Rattle.load.specs.Loaded as loaded
+use Rattle.load.specs.Loaded.{told as load_told}
+use Rattle.load.specs.declared.Table as tables
+use Rattle.load.specs.declared.Refused as refusing
+use Rattle.refusal.specs.Numbers.{number_of}
+use Rattle.refusal.specs.declared.Refusal as because
+use Rattle.std.specs.Prelude.{Result, Ok, Err}
 use Rattle.load.specs.Loads.{answered, Loads}
 use Rattle.print.specs.Printing.{printed}
 use Rattle.print.specs.Printing as printer
@@ -125,6 +133,35 @@ module _ (work text : ℕ) (node_rows roots old_table : List ℕ) where
             let b : take n new_table ≡ x.words = ap₂ take a h ∙ front x.words old_table in
             subst (λ (l : List ℕ). Says (print_call node_rows l (length old)) old r new) b s
 
+-- the same by what `cse_scoped` returned, by which of the two it is
+module _ (work text : ℕ) (node_rows roots old_table new_table : List ℕ) where
+  abbrev InsideBy : Result counts.Extracted because.Refusal → Type 0
+  InsideBy (Ok x) = x.rows ≤ length new_table
+  InsideBy (Err e) = Unit {0}
+
+  abbrev SaysBy : List ℕ → List ℕ → Said → Result counts.Extracted because.Refusal → Type 0
+  SaysBy old new r (Ok x) =
+      Says (print_call node_rows (take x.rows new_table) (length old)) old r new
+      → Says (rows_text work text (length old_table) (length old) node_rows roots) old r new
+  SaysBy old new r (Err e) = Says (rows_text work text (length old_table) (length old) node_rows roots) old (said.Refused (number_of e) 0) old
+
+  module _
+      (got : Result counts.Extracted because.Refusal) (e : extract_told got ≡ extraction_answer (call work text node_rows roots old_table))
+      (g : new_table ≡ table_after (call work text node_rows roots old_table) old_table) where
+    pub inside_by : InsideBy got
+    inside_by = go got e
+      where
+        go : (got : Result counts.Extracted because.Refusal) → extract_told got ≡ extraction_answer (call work text node_rows roots old_table) → InsideBy got
+        go (Ok x) e = rows_inside work text node_rows roots old_table new_table g x.rows x.count e
+        go (Err r) e = tt
+
+    pub says_by : (old new : List ℕ) (r : Said) → SaysBy old new r got
+    says_by old new r = go got e
+      where
+        go : (got : Result counts.Extracted because.Refusal) → extract_told got ≡ extraction_answer (call work text node_rows roots old_table) → SaysBy old new r got
+        go (Ok x) e = rows_printed work text node_rows roots old_table new_table g x.rows x.count e old new r
+        go (Err i) e = extract_refused work text node_rows roots old_table (number_of i) old e
+
 -- ---- load's
 
 module _
@@ -213,3 +250,34 @@ module _
           roots_are = L.roots_are;
           table_is = s.1 ∙ ap (λ (o : Outcome Extracted). table_after o old_table) b;
         }
+
+-- the same by what `load` returned, by which of the two it is
+module _ (sheet old_rows old_roots new_rows new_roots : List ℕ) where
+  abbrev FitsBy : Result tables.Table refusing.Refused → Type 0
+  FitsBy (Ok t) = (t.rows ≤ 1024) × ((35 * t.rows ≤ length new_rows) × (t.roots ≤ length new_roots))
+  FitsBy (Err e) = Unit {0}
+
+  abbrev ScopedBy : ℕ → ℕ → List ℕ → List ℕ → List ℕ → List ℕ → Said → Result tables.Table refusing.Refused → Type 0
+  ScopedBy work text old_table old_out new_table new_out r (Ok t) =
+      Says (rows_text work text (length old_table) (length old_out) (take (35 * t.rows) new_rows) (take t.roots new_roots)) old_out r new_out
+      × (new_table ≡ table_after (extract_call true work text (take (35 * t.rows) new_rows) (take t.roots new_roots) (length old_table)) old_table)
+      → Scoped sheet work text old_rows old_roots old_table old_out r new_rows new_roots new_table new_out
+  ScopedBy work text old_table old_out new_table new_out r (Err e) =
+      Scoped sheet work text old_rows old_roots old_table old_out (said.Refused (number_of e.refusal) e.record) new_rows new_roots old_table old_out
+
+  pub fits_by :
+      (got : Result tables.Table refusing.Refused) → Loads (load_call (length old_rows) (length old_roots) sheet) old_rows old_roots (load_told got) new_rows new_roots
+      → FitsBy got
+  fits_by (Ok t) L =
+      let f = read_fits sheet old_rows old_roots new_rows new_roots _ L t.rows t.roots refl in
+      (read_few sheet old_rows old_roots new_rows new_roots _ L t.rows t.roots refl, (f.0, f.1))
+  fits_by (Err e) L = tt
+
+  pub scoped_by :
+      (work text : ℕ) (old_table old_out new_table new_out : List ℕ) (r : Said) (got : Result tables.Table refusing.Refused)
+      → Loads (load_call (length old_rows) (length old_roots) sheet) old_rows old_roots (load_told got) new_rows new_roots
+      → ScopedBy work text old_table old_out new_table new_out r got
+  scoped_by work text old_table old_out new_table new_out r (Ok t) L =
+      loaded_says sheet old_rows old_roots new_rows new_roots _ L work text old_table old_out t.rows t.roots new_table new_out r refl
+  scoped_by work text old_table old_out new_table new_out r (Err e) L =
+      load_refused sheet old_rows old_roots new_rows new_roots _ L work text old_table old_out (number_of e.refusal) e.record refl

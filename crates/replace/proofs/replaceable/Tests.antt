@@ -1,5 +1,5 @@
 -- A test of every word, and of one word by its kind. Assumes nothing.
-use Rattle.std.proofs.Common.{◌≡◌, ℕ, ◌<◌, ◌≤◌, Bool, true, false, cond, ◌&&◌, ◌||◌, T, eqb, ltb, leb, List, [], ◌∷◌, sym, refl, ap, ◌∙◌, arith, le-ltb, eqb-true, le-leb, leb-false, leb-true}
+use Rattle.std.proofs.Common.{◌≡◌, ℕ, ◌%◌, ◌/◌, ◌<◌, ◌≤◌, Bool, true, false, cond, ◌&&◌, ◌||◌, T, eqb, ltb, leb, List, [], ◌∷◌, sym, refl, ap, ◌∙◌, arith, le-ltb, eqb-true, le-leb, leb-false, leb-true}
 use Rattle.std.specs.List.{list_all}
 use borrow.Author.Tests.{lt-leb}
 use Rattle.spec_tree.specs.Bytes.{every}
@@ -45,6 +45,22 @@ other_formed w h n l b e = e ∙ ap (λ (j : ℕ). arity_ok j (below_of w)) (num
         go : (b : Bool) → eqb k 27 ≡ b → cond b (cond false 28 27) (cond (ltb 27 k) 29 k) ≡ k
         go true e = sym (eqb-true k 27 e)
         go false e = ap (λ (c : Bool). cond c 29 k) (le-ltb 27 k (less k n l))
+
+-- ---- what a word's test is, by its kind
+
+pub formed_leaf : (w : ℕ) → w % 64 ≤ 1 → formed_word w ≡ true
+formed_leaf w h = sym (leaf_formed w h)
+
+pub formed_select : (w : ℕ) → w % 64 ≡ 28 → formed_word w ≡ arity_ok (kind_number 27 true) (w / 64)
+formed_select w k = sym (select_formed w k _ refl)
+
+pub formed_other : (w : ℕ) → 1 < w % 64 → w % 64 < 28 → formed_word w ≡ arity_ok (kind_number (w % 64) false) (w / 64)
+formed_other w h l = sym (other_formed w h (λ e. omega arith) (omega arith) _ refl)
+
+pub formed_past : (w : ℕ) → 28 < w % 64 → formed_word w ≡ false
+formed_past w h = sym (past_formed w h)
+
+pub ruleset word_tests = (formed_leaf, formed_select, formed_other, formed_past)
 
 -- ---- the tests together
 
